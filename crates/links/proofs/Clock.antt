@@ -58,7 +58,7 @@ module _ (L : Links) where
   news-own zero p = rw (eq-eqb p p refl)
   news-own (suc u) p = rw (eq-eqb p p refl)
 
-  news-start : (p q : ℕ) → (p ≡ q → ⊥) → news L 0 p q ≡ 0
+  pub news-start : (p q : ℕ) → (p ≡ q → ⊥) → news L 0 p q ≡ 0
   unfolding news
   news-start p q d = rw (ne-eqb p q d)
 

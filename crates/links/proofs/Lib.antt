@@ -1,1 +1,4 @@
 pub mod Clock
+pub mod Number
+pub mod Got
+pub mod Bounds
