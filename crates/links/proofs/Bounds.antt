@@ -34,10 +34,10 @@ module _ (L : Links) where
       ⊎-elim
       (λ (e : start L u s ≡ 0). omega (arith, first-number L u s e))
       (λ (e : (a : ℕ) × (start L u s ≡ suc a)).
-       ⊎-elim
-       (λ (f : start L (e .0) s ≡ 0). omega (arith, began L u s (e .0) (e .1) .0, first-number L (e .0) s f))
-       (λ (f : (b : ℕ) × (start L (e .0) s ≡ suc b)). go (e .0) (e .1) (f .0) (f .1))
-       (version L (start L (e .0) s)))
+      ⊎-elim
+      (λ (f : start L (e .0) s ≡ 0). omega (arith, began L u s (e .0) (e .1) .0, first-number L (e .0) s f))
+      (λ (f : (b : ℕ) × (start L (e .0) s ≡ suc b)). go (e .0) (e .1) (f .0) (f .1))
+      (version L (start L (e .0) s)))
       (version L (start L u s))
     where
       go : (a : ℕ) → start L u s ≡ suc a → (b : ℕ) → start L a s ≡ suc b → num L u s ≤ gotOf L q s (news L u p q) + 2
@@ -46,18 +46,19 @@ module _ (L : Links) where
           let n = began L a s b f .0 in
           let c : news L (suc b) s q ≤ news L u p q = news-carries-earlier L u p s q (suc b) (rw f at (previous L u p s a lp e)) in
           elim (ℕ-discrete q s) [
-            yes i ↦
-              rw i
-              (let x : suc b < news L u p s = rw f at (previous L u p s a lp e) in
-               let y : b < news L u p s = omega arith in
-               omega (arith, gotOf-news s s (news L u p s) b y, got-some L b s s b (news-own L b s)))
-          | no d ↦
-              (let k = full-answer L (suc b) s (start L b s) (began L a s b f .1) q lq d in
-               omega
-               (arith,
-                gotOf-news q s (news L u p q) (k .then) (omega (arith, k .known)),
-                got-news L (k .then) q s (start L b s) (k .had),
-                num-start L b s))
+            | yes i ↦
+                rw i
+                (let x : suc b < news L u p s = rw f at (previous L u p s a lp e) in
+                let y : b < news L u p s = omega arith in
+                omega (arith, gotOf-news s s (news L u p s) b y, got-some L b s s b (news-own L b s)))
+            | no d ↦
+                (let k = full-answer L (suc b) s (start L b s) (began L a s b f .1) q lq d in
+                omega (
+                  arith,
+                  gotOf-news q s (news L u p q) (k .then) (omega (arith, k .known)),
+                  got-news L (k .then) q s (start L b s) (k .had),
+                  num-start L b s,
+                ))
           ]
 
   -- While a broadcast goes on it is not answered by all.
@@ -73,35 +74,37 @@ module _ (L : Links) where
   pub within : (u s r : ℕ) → s < L .size → r < L .size → (r ≡ s → ⊥) → got L u s r ≤ got L (start L u s) s r + 2
   within u s r ls lr d =
       elim (decLe (got L u s r) (got L (start L u s) s r + 2)) [
-        yes h ↦ h
-      | no h ↦
-          ⊎-elim
-          (λ (e : news L u s r ≡ 0). absurd (omega (arith, got-none L u s r e)))
-          (λ (e : (w : ℕ) × (news L u s r ≡ suc w)).
-           three (e .0) (e .1) (omega (arith, got-some L u s r (e .0) (e .1))))
-          (version L (news L u s r))
+        | yes h ↦ h
+        | no h ↦
+            ⊎-elim
+            (λ (e : news L u s r ≡ 0). absurd (omega (arith, got-none L u s r e)))
+            (λ (e : (w : ℕ) × (news L u s r ≡ suc w)).
+            three (e .0) (e .1) (omega (arith, got-some L u s r (e .0) (e .1))))
+            (version L (news L u s r))
       ]
     where
       t : ℕ
       t = start L u s
+
       answered : (w b c : ℕ) → news L u s r ≡ suc w → start L w r ≡ suc b → start L b r ≡ suc c
-        → got L t s r < num L c r
-        → full L u s t ≡ true
+          → got L t s r < num L c r
+          → full L u s t ≡ true
       answered w b c e f g h =
           let lw = start-limit L w r in
           let lb = start-limit L b r in
           let k = full-answer L (suc c) r (start L c r) (began L b r c g .1) s ls (λ q. d (sym q)) in
           let y : t < k .then =
-              elim (decLe (suc t) (k .then)) [
-                yes l ↦ l
-              | no l ↦
-                  absurd
-                  (omega
-                   (arith,
-                    got-news L (k .then) s r (start L c r) (k .had),
-                    num-start L c r,
-                    got-mono L (k .then) t s r (omega arith)))
-              ] in
+          elim (decLe (suc t) (k .then)) [
+            | yes l ↦ l
+            | no l ↦
+                absurd
+                (omega (
+                  arith,
+                  got-news L (k .then) s r (start L c r) (k .had),
+                  num-start L c r,
+                  got-mono L (k .then) t s r (omega arith),
+                ))
+          ] in
           let z : t < news L (suc c) r s = omega (arith, k .known) in
           answer-full L u s t (λ p lp n. one p lp n (ℕ-discrete p r) lw lb z)
         where
@@ -116,22 +119,23 @@ module _ (L : Links) where
               record {
                 then = news L u s p - 1;
                 known = omega arith;
-                had = omega (arith, news-mono L (k .then) (news L u s p - 1) p s (omega arith))
+                had = omega (arith, news-mono L (k .then) (news L u s p - 1) p s (omega arith));
               }
+
       three : (w : ℕ) → news L u s r ≡ suc w → got L t s r + 2 < num L w r → got L u s r ≤ got L t s r + 2
       three w e h =
           ⊎-elim
           (λ (f : start L w r ≡ 0). absurd (omega (arith, first-number L w r f)))
           (λ (f : (b : ℕ) × (start L w r ≡ suc b)).
-           ⊎-elim
-           (λ (g : start L (f .0) r ≡ 0). absurd (omega (arith, began L w r (f .0) (f .1) .0, first-number L (f .0) r g)))
-           (λ (g : (c : ℕ) × (start L (f .0) r ≡ suc c)).
-            let i : got L t s r < num L (g .0) r = omega (arith, began L w r (f .0) (f .1) .0, began L (f .0) r (g .0) (g .1) .0) in
-            elim (decLe u t) [
-              yes l ↦ omega (arith, got-mono L u t s r l)
+          ⊎-elim
+          (λ (g : start L (f .0) r ≡ 0). absurd (omega (arith, began L w r (f .0) (f .1) .0, first-number L (f .0) r g)))
+          (λ (g : (c : ℕ) × (start L (f .0) r ≡ suc c)).
+          let i : got L t s r < num L (g .0) r = omega (arith, began L w r (f .0) (f .1) .0, began L (f .0) r (g .0) (g .1) .0) in
+          elim (decLe u t) [
+            | yes l ↦ omega (arith, got-mono L u t s r l)
             | no l ↦ absurd (true≢false (sym (answered w (f .0) (g .0) e (f .1) (g .1) i) ∙ not-full u s (omega arith)))
-            ])
-           (version L (start L (f .0) r)))
+          ])
+          (version L (start L (f .0) r)))
           (version L (start L w r))
 
   fresh-step : (u p n : ℕ) → p < L .size → n < L .size → (fresh L u p (suc n) ≤ fresh L u p n + 2) × (n ≡ p → fresh L u p (suc n) ≡ fresh L u p n)
@@ -154,8 +158,8 @@ module _ (L : Links) where
   fresh-past u p zero lp ln h = absurd (omega arith)
   fresh-past u p (suc n) lp ln h =
       elim (ℕ-discrete n p) [
-        yes e ↦ omega (arith, fresh-two u p n lp (omega arith), fresh-step u p n lp ln .1 e)
-      | no d ↦ omega (arith, fresh-past u p n lp (omega arith) (omega arith), fresh-step u p n lp ln .0)
+        | yes e ↦ omega (arith, fresh-two u p n lp (omega arith), fresh-step u p n lp ln .1 e)
+        | no d ↦ omega (arith, fresh-past u p n lp (omega arith) (omega arith), fresh-step u p n lp ln .0)
       ]
 
   -- So at most two for each other station in all.

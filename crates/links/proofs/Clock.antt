@@ -40,14 +40,16 @@ module _ (heard : ℕ → Bool) (f : ℕ → ℕ) (x : ℕ) where
     where
       From : ℕ → ℕ → Type 0
       From k v = (v ≡ x) ⊎ ((j : ℕ) × (j < k) × (heard j ≡ true) × (v ≡ f j))
+
       wider : (v : ℕ) → From n v → From (suc n) v
       wider v (inl e) = inl e
       wider v (inr w) = inr (w .0, omega (arith, w .1), w .2, w .3)
+
       go : (b : Bool) → heard n ≡ b → From n (latest n heard f x) → From (suc n) (cond b (max (latest n heard f x) (f n)) (latest n heard f x))
       go true e before =
           elim (decLe (f n) (latest n heard f x)) [
-            yes l ↦ let q : max (latest n heard f x) (f n) ≡ latest n heard f x = omega arith in rw q (wider (latest n heard f x) before)
-          | no g ↦ inr (n, omega arith, e, omega arith)
+            | yes l ↦ let q : max (latest n heard f x) (f n) ≡ latest n heard f x = omega arith in rw q (wider (latest n heard f x) before)
+            | no g ↦ inr (n, omega arith, e, omega arith)
           ]
       go false e before = wider (latest n heard f x) before
 
@@ -63,13 +65,13 @@ module _ (L : Links) where
   news-start p q d = rw (ne-eqb p q d)
 
   pub news-step : (u p q : ℕ) → (p ≡ q → ⊥)
-    → news L (suc u) p q ≡ latest (L .size) (λ j. L .hears (suc u) p j) (λ j. news L u j q) (news L u p q)
+      → news L (suc u) p q ≡ latest (L .size) (λ j. L .hears (suc u) p j) (λ j. news L u j q) (news L u p q)
   unfolding news
   news-step u p q d = rw (ne-eqb p q d)
 
   -- One round: where news comes from, and that it is kept.
   pub news-from : (u p q : ℕ) → (p ≡ q → ⊥)
-    → (news L (suc u) p q ≡ news L u p q) ⊎ ((j : ℕ) × (j < L .size) × (L .hears (suc u) p j ≡ true) × (news L (suc u) p q ≡ news L u j q))
+      → (news L (suc u) p q ≡ news L u p q) ⊎ ((j : ℕ) × (j < L .size) × (L .hears (suc u) p j ≡ true) × (news L (suc u) p q ≡ news L u j q))
   news-from u p q d = rw (news-step u p q d) (latest-from (λ j. L .hears (suc u) p j) (λ j. news L u j q) (news L u p q) (L .size))
 
   -- Of another, at most how the round before left it.
@@ -77,12 +79,12 @@ module _ (L : Links) where
   news-other zero p q d = omega (arith, news-start p q d)
   news-other (suc u) p q d =
       elim (news-from u p q d) [
-        inl e ↦ omega (arith, news-other u p q d)
-      | inr w ↦
-          elim (ℕ-discrete (w .0) q) [
-            yes k ↦ omega (arith, w .3, rw k at (news-own u (w .0)), ap (λ (j : ℕ). news L u j q) k)
-          | no k ↦ omega (arith, w .3, news-other u (w .0) q k)
-          ]
+        | inl e ↦ omega (arith, news-other u p q d)
+        | inr w ↦
+            elim (ℕ-discrete (w .0) q) [
+              | yes k ↦ omega (arith, w .3, rw k at (news-own u (w .0)), ap (λ (j : ℕ). news L u j q) k)
+              | no k ↦ omega (arith, w .3, news-other u (w .0) q k)
+            ]
       ]
 
   pub news-limit : (u p q : ℕ) → news L u p q ≤ suc u
@@ -92,17 +94,17 @@ module _ (L : Links) where
   pub news-keeps : (u p q : ℕ) → news L u p q ≤ news L (suc u) p q
   news-keeps u p q =
       elim (ℕ-discrete p q) [
-        yes e ↦ rw e (omega (arith, news-own u q, news-own (suc u) q))
-      | no d ↦ rw (news-step u p q d) (latest-keeps (λ j. L .hears (suc u) p j) (λ j. news L u j q) (news L u p q) (L .size))
+        | yes e ↦ rw e (omega (arith, news-own u q, news-own (suc u) q))
+        | no d ↦ rw (news-step u p q d) (latest-keeps (λ j. L .hears (suc u) p j) (λ j. news L u j q) (news L u p q) (L .size))
       ]
 
   pub news-hears : (u p j q : ℕ) → L .hears (suc u) p j ≡ true → news L u j q ≤ news L (suc u) p q
   news-hears u p j q h =
       elim (ℕ-discrete p q) [
-        yes e ↦ rw e (omega (arith, news-own (suc u) q, news-limit u j q))
-      | no d ↦
-          rw (news-step u p q d)
-          (latest-hears (λ i. L .hears (suc u) p i) (λ i. news L u i q) (news L u p q) (L .size) j (L .inside (suc u) p j h .1) h)
+        | yes e ↦ rw e (omega (arith, news-own (suc u) q, news-limit u j q))
+        | no d ↦
+            rw (news-step u p q d)
+            (latest-hears (λ i. L .hears (suc u) p i) (λ i. news L u i q) (news L u p q) (L .size) j (L .inside (suc u) p j h .1) h)
       ]
 
   news-later : (d u p q : ℕ) → news L u p q ≤ news L (d + u) p q
@@ -116,19 +118,19 @@ module _ (L : Links) where
   pub news-carries : (u p s q w : ℕ) → news L u p s ≡ suc w → news L w s q ≤ news L u p q
   news-carries zero p s q w h =
       elim (ℕ-discrete p s) [
-        yes e ↦ (let k : w ≡ 0 = omega (arith, h, rw e at (news-own 0 p), ap (λ (i : ℕ). news L 0 i s) e) in rw (k, e) (le-refl (news L 0 s q)))
-      | no d ↦ absurd (omega (arith, h, news-start p s d))
+        | yes e ↦ (let k : w ≡ 0 = omega (arith, h, rw e at (news-own 0 p), ap (λ (i : ℕ). news L 0 i s) e) in rw (k, e) (le-refl (news L 0 s q)))
+        | no d ↦ absurd (omega (arith, h, news-start p s d))
       ]
   news-carries (suc u) p s q w h =
       elim (ℕ-discrete p s) [
-        yes e ↦
-          (let k : w ≡ suc u = omega (arith, h, news-own (suc u) s, ap (λ (i : ℕ). news L (suc u) i s) e) in
-           rw (k, e) (le-refl (news L (suc u) s q)))
-      | no d ↦
-          elim (news-from u p s d) [
-            inl e ↦ omega (arith, news-carries u p s q w (sym e ∙ h), news-keeps u p q)
-          | inr j ↦ omega (arith, news-carries u (j .0) s q w (sym (j .3) ∙ h), news-hears u p (j .0) q (j .2))
-          ]
+        | yes e ↦
+            (let k : w ≡ suc u = omega (arith, h, news-own (suc u) s, ap (λ (i : ℕ). news L (suc u) i s) e) in
+            rw (k, e) (le-refl (news L (suc u) s q)))
+        | no d ↦
+            elim (news-from u p s d) [
+              | inl e ↦ omega (arith, news-carries u p s q w (sym e ∙ h), news-keeps u p q)
+              | inr j ↦ omega (arith, news-carries u (j .0) s q w (sym (j .3) ∙ h), news-hears u p (j .0) q (j .2))
+            ]
       ]
 
   -- The same for any earlier state of s.
@@ -154,17 +156,17 @@ module _ (L : Links) where
   news-relay zero s t r d h = absurd (omega (arith, news-start r s d))
   news-relay (suc v) s t r d h =
       elim (news-from v r s d) [
-        inl e ↦ (let k = news-relay v s t r d (omega arith) in record { arrival = k .arrival; by = omega (arith, k .by); relay = k .relay })
-      | inr j ↦
-          elim (ℕ-discrete (j .0) s) [
-            yes q ↦
-              (let l : t < suc v = omega (arith, j .3, news-own v s, ap (λ (i : ℕ). news L v i s) q) in
-               record { arrival = suc v; by = le-refl (suc v); relay = direct l (rw q at (j .2)) })
-          | no n ↦
-              (let k = news-relay v s t (j .0) n (omega (arith, j .3)) in
-               let l : k .arrival < suc v = omega (arith, k .by) in
-               record { arrival = suc v; by = le-refl (suc v); relay = onward (k .relay) l (j .2) })
-          ]
+        | inl e ↦ (let k = news-relay v s t r d (omega arith) in record { arrival = k .arrival; by = omega (arith, k .by); relay = k .relay })
+        | inr j ↦
+            elim (ℕ-discrete (j .0) s) [
+              | yes q ↦
+                  (let l : t < suc v = omega (arith, j .3, news-own v s, ap (λ (i : ℕ). news L v i s) q) in
+                  record { arrival = suc v; by = le-refl (suc v); relay = direct l (rw q at (j .2)) })
+              | no n ↦
+                  (let k = news-relay v s t (j .0) n (omega (arith, j .3)) in
+                  let l : k .arrival < suc v = omega (arith, k .by) in
+                  record { arrival = suc v; by = le-refl (suc v); relay = onward (k .relay) l (j .2) })
+            ]
       ]
 
   pub relayBy-news : (v s t r : ℕ) → RelayBy L s t r v → t < news L v r s

@@ -70,14 +70,15 @@ module _ (L : Links) where
       there : num L u s ≤ got L w r s → start L u s < news L w r s
       there h =
           elim (decLe (suc (start L u s)) (news L w r s)) [
-            yes k ↦ k
-          | no k ↦
-              ⊎-elim
-              (λ (e : news L w r s ≡ 0). absurd (omega (arith, got-none w r s e, num-positive L u s)))
-              (λ (e : (x : ℕ) × (news L w r s ≡ suc x)).
-               absurd (omega (arith, got-some w r s (e .0) (e .1), num-before L u (e .0) s (omega (arith, e .1)))))
-              (version (news L w r s))
+            | yes k ↦ k
+            | no k ↦
+                ⊎-elim
+                (λ (e : news L w r s ≡ 0). absurd (omega (arith, got-none w r s e, num-positive L u s)))
+                (λ (e : (x : ℕ) × (news L w r s ≡ suc x)).
+                absurd (omega (arith, got-some w r s (e .0) (e .1), num-before L u (e .0) s (omega (arith, e .1)))))
+                (version (news L w r s))
           ]
+
       back : start L u s < news L w r s → num L u s ≤ got L w r s
       back h = omega (arith, got-news w r s (start L u s) h, num-start L u s)
 
@@ -100,7 +101,7 @@ module _ (L : Links) where
       ⊎-elim
       (λ (e : news L u r s ≡ 0). omega (arith, got-none u r s e))
       (λ (e : (x : ℕ) × (news L u r s ≡ suc x)).
-       omega (arith, got-some u r s (e .0) (e .1), num-mono L (e .0) u s (omega (arith, e .1, news-limit L u r s))))
+      omega (arith, got-some u r s (e .0) (e .1), num-mono L (e .0) u s (omega (arith, e .1, news-limit L u r s))))
       (version (news L u r s))
 
   -- What r has of the broadcast before the present one: an answer to it that had come when the present one began.
@@ -109,10 +110,10 @@ module _ (L : Links) where
       let b = start-limit L u s in
       let c = start-limit L a s in
       elim (ℕ-discrete r s) [
-        yes q ↦ rw q (omega (arith, news-own L u s))
-      | no d ↦
-          (let k = full-answer L (suc a) s (start L a s) (began u s a e .1) r l d in
-           omega (arith, k .had, k .known, news-limit L (suc a) s r, news-mono L (k .then) u r s (omega (arith, k .known, news-limit L (suc a) s r))))
+        | yes q ↦ rw q (omega (arith, news-own L u s))
+        | no d ↦
+            (let k = full-answer L (suc a) s (start L a s) (began u s a e .1) r l d in
+            omega (arith, k .had, k .known, news-limit L (suc a) s r, news-mono L (k .then) u r s (omega (arith, k .known, news-limit L (suc a) s r))))
       ]
 
   pub num-limit : (u r s : ℕ) → r < L .size → num L u s ≤ got L u r s + 1
@@ -120,24 +121,25 @@ module _ (L : Links) where
       ⊎-elim
       (λ (e : start L u s ≡ 0). omega (arith, first-number u s e))
       (λ (e : (a : ℕ) × (start L u s ≡ suc a)).
-       omega (arith, began u s (e .0) (e .1) .0, got-news u r s (start L (e .0) s) (previous u r s (e .0) l (e .1)), num-start L (e .0) s))
+      omega (arith, began u s (e .0) (e .1) .0, got-news u r s (start L (e .0) s) (previous u r s (e .0) l (e .1)), num-start L (e .0) s))
       (version (start L u s))
 
   -- In one round at most one new broadcast of a station comes to another.
   pub got-step : (u r s : ℕ) → r < L .size → got L (suc u) r s ≤ got L u r s + 1
   got-step u r s l =
       elim (ℕ-discrete r s) [
-        yes e ↦ rw e (omega (arith, got-own u s, got-own (suc u) s, num-step u s))
-      | no d ↦
-          ⊎-elim
-          (λ (e : news L (suc u) r s ≡ 0). omega (arith, got-none (suc u) r s e))
-          (λ (e : (x : ℕ) × (news L (suc u) r s ≡ suc x)).
-           omega
-           (arith,
-            got-some (suc u) r s (e .0) (e .1),
-            num-limit u r s l,
-            num-mono L (e .0) u s (omega (arith, e .1, news-other L (suc u) r s d))))
-          (version (news L (suc u) r s))
+        | yes e ↦ rw e (omega (arith, got-own u s, got-own (suc u) s, num-step u s))
+        | no d ↦
+            ⊎-elim
+            (λ (e : news L (suc u) r s ≡ 0). omega (arith, got-none (suc u) r s e))
+            (λ (e : (x : ℕ) × (news L (suc u) r s ≡ suc x)).
+            omega (
+              arith,
+              got-some (suc u) r s (e .0) (e .1),
+              num-limit u r s l,
+              num-mono L (e .0) u s (omega (arith, e .1, news-other L (suc u) r s d)),
+            ))
+            (version (news L (suc u) r s))
       ]
     where
       num-step : (u s : ℕ) → num L (suc u) s ≤ num L u s + 1

@@ -2,3 +2,5 @@ pub mod Clock
 pub mod Number
 pub mod Got
 pub mod Bounds
+pub mod Relay
+pub mod EndRule

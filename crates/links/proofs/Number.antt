@@ -130,19 +130,19 @@ module _ (L : Links) where
   start-start u s =
       let l = start-limit (start L u s) s in
       elim (decLe (start L u s) (start L (start L u s) s)) [
-        yes h ↦ omega arith
-      | no h ↦
-          absurd (omega (arith, num-before u (start L (start L u s) s) s (omega arith), num-start (start L u s) s, num-start u s))
+        | yes h ↦ omega arith
+        | no h ↦
+            absurd (omega (arith, num-before u (start L (start L u s) s) s (omega arith), num-start (start L u s) s, num-start u s))
       ]
 
   -- The same number has the same start.
   pub start-same : (u w s : ℕ) → num L u s ≡ num L w s → start L u s ≡ start L w s
   start-same u w s e =
       elim (decLe (start L w s) (start L u s)) [
-        yes h ↦
-          elim (decLe (start L u s) (start L w s)) [
-            yes k ↦ omega arith
-          | no k ↦ absurd (omega (arith, num-before u (start L w s) s (omega arith), num-start w s))
-          ]
-      | no h ↦ absurd (omega (arith, num-before w (start L u s) s (omega arith), num-start u s))
+        | yes h ↦
+            elim (decLe (start L u s) (start L w s)) [
+              | yes k ↦ omega arith
+              | no k ↦ absurd (omega (arith, num-before u (start L w s) s (omega arith), num-start w s))
+            ]
+        | no h ↦ absurd (omega (arith, num-before w (start L u s) s (omega arith), num-start u s))
       ]
