@@ -4,3 +4,5 @@ pub mod Got
 pub mod Bounds
 pub mod Relay
 pub mod EndRule
+pub mod Prefix
+pub mod Log
