@@ -6,3 +6,4 @@ pub mod Relay
 pub mod EndRule
 pub mod Prefix
 pub mod Log
+pub mod Examples
