@@ -1,6 +1,7 @@
 pub mod Clock
 pub mod Number
 pub mod Got
+pub mod Tally
 pub mod Bounds
 pub mod Relay
 pub mod EndRule
