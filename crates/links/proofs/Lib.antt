@@ -5,6 +5,7 @@ pub mod Tally
 pub mod Bounds
 pub mod Relay
 pub mod EndRule
+pub mod Version
 pub mod Prefix
 pub mod Log
 pub mod Examples
