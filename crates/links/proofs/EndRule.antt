@@ -179,6 +179,7 @@ module _ (L : Links) where
       there : (u : ℕ) → ends L u s ≡ true → Ended L s u
       there zero e = absurd (false≢true (sym (ends-zero L s) ∙ e))
       there (suc u) e = record { number = num L u s; started = start L u s; starts = starts-num u s; endsIn = ends-rule u s .0 e }
+
       back : (u : ℕ) → Ended L s u → ends L u s ≡ true
       back zero k = absurd (omega (arith, k .endsIn .later))
       back (suc u) k =

@@ -9,3 +9,4 @@ pub mod Version
 pub mod Prefix
 pub mod Log
 pub mod Examples
+pub mod Facts

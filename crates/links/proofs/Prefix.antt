@@ -155,7 +155,7 @@ ended-same L M last same s u l e =
       number = e .number;
       started = e .started;
       starts = starts-same L M last same s (e .number) (e .started) (omega (arith, e .endsIn .later)) (e .starts);
-      endsIn = endsIn-same L M last same s (e .started) u l (e .endsIn)
+      endsIn = endsIn-same L M last same s (e .started) u l (e .endsIn);
     }
 
 -- Rounds added at the end of a log leave what came before.
