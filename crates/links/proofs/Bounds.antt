@@ -1,19 +1,18 @@
 -- How far behind anything can be. An acknowledgement in transit is at most two behind: the answer that ended the broadcast before the last one was with
 -- the sender when the last one started, and everybody has news of that start. And within one broadcast of s at most two new ones of another r come
 -- to s: with a third, the second would have carried s's broadcast to all and the third everybody's answer to s, which would have ended it.
-use mathlib.Core.Bool.{Bool, true, false, cond, true≢false}
-use mathlib.Core.Logic.{_⊎_, inl, inr, ⊎-elim}
-use mathlib.Core.Path.{_≡_, refl, sym, _∙_, ap}
+use mathlib.Core.Bool.{true, false, true≢false}
+use mathlib.Core.Logic.{⊎-elim}
+use mathlib.Core.Path.{_≡_, sym, _∙_}
 use Prim.Native.Nat.{ℕ, zero, suc, _+_, _-_, _*_, _<_, _≤_}
 use native.Mathlib.Decide.{ℕ-discrete, decLe}
-use native.Mathlib.Nat.{le-refl}
 use native.Mathlib.Omega.{arith}
 use Rattle.links.specs.Relay.{Links}
 use Rattle.links.specs.Clock.{news}
-use Rattle.links.specs.Number.{full, start, ends, num, numOf, got, gotOf, tally, fresh}
-use Rattle.links.proofs.Clock.{news-own, news-other, news-limit, news-mono, news-carries-earlier}
-use Rattle.links.proofs.Number.{Answer, full-answer, answer-full, step, start-limit, num-mono, num-start, ends-full, start-zero}
-use Rattle.links.proofs.Got.{version, got-none, got-some, got-mono, got-news, got-limit, began, first-number, previous, got-step}
+use Rattle.links.specs.Number.{full, start, num, got, gotOf, tally, fresh}
+use Rattle.links.proofs.Clock.{news-own, news-mono, news-carries-earlier}
+use Rattle.links.proofs.Number.{Answer, full-answer, answer-full, step, start-limit, num-start, ends-full}
+use Rattle.links.proofs.Got.{version, got-none, got-some, got-mono, got-news, began, first-number, previous, got-step}
 use Rattle.links.proofs.Tally.{tally-limit}
 
 module _ (L : Links) where

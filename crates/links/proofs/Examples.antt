@@ -1,25 +1,24 @@
 -- Worked examples: that the definitions say what they are meant to on small links, and that none of them is empty. A single station; the full mesh of
 -- five; two links in two rounds and in one; a broadcast that never ends; the rounds of document 01's listing.
-use mathlib.Core.Bool.{Bool, true, false, true≢false, false≢true}
+use mathlib.Core.Bool.{true, false, false≢true}
 use mathlib.Core.List.{List, [], _∷_}
 use mathlib.Core.Logic.{⊎-elim}
 use mathlib.Core.Path.{_≡_, refl, sym, _∙_, ap}
-use Prim.Native.Nat.{ℕ, zero, suc, _+_, _*_, _<_, _≤_}
-use native.Mathlib.Decide.{ℕ-discrete}
+use Prim.Native.Nat.{ℕ, zero, suc, _+_, _<_, _≤_}
 use native.Mathlib.Nat.{le-refl}
 use native.Mathlib.Omega.{arith}
 use lib.Dec.{lit<}
 use lib.ListN.{getD}
 use Rattle.links.specs.Log.{bit, hearsIn, masksIn, cut}
 use Rattle.links.specs.Relay.{Links, Relay, direct, onward, ofLog}
-use Rattle.links.specs.EndRule.{RelayBy, Returned, AllReturned, EndsIn, Starts, at-first, after}
+use Rattle.links.specs.EndRule.{RelayBy, Returned, EndsIn, Starts, at-first, after}
 use Rattle.links.specs.Clock.{latest, news}
 use Rattle.links.specs.Number.{answers, every, full, start, ends, num, numOf, got}
 use Rattle.links.specs.Examples.{all-five, mesh, two-rounds, one-round, one-way, listing, listing-sixteen}
 use Rattle.links.proofs.Clock.{relay-news, news-mono}
 use Rattle.links.proofs.EndRule.{alone, num-starts, ends-rule, ends-once, never-ends}
 use Rattle.links.proofs.Log.{hearsIn-bit, hearsIn-silent, relay-in-log}
-use Rattle.links.proofs.Number.{step, num-zero, start-zero}
+use Rattle.links.proofs.Number.{step, num-zero}
 use Rattle.links.proofs.Relay.{relay-after, relay-heard}
 
 -- A single station starts a broadcast in every round, whatever its masks are.

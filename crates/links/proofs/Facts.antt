@@ -7,7 +7,7 @@ use mathlib.Core.Path.{_≡_}
 use Prim.Native.Nat.{ℕ, suc, _+_, _*_, _-_, _<_, _≤_}
 use lib.ListN.{length}
 use Rattle.links.specs.Relay.{Links, Relay, ofLog}
-use Rattle.links.specs.EndRule.{RelayBy, AllReturned, EndsIn, Starts, Ended}
+use Rattle.links.specs.EndRule.{RelayBy, EndsIn, Starts, Ended}
 use Rattle.links.specs.Clock.{news}
 use Rattle.links.specs.Number.{start, ends, num, got, gotOf, fresh}
 use Rattle.links.proofs.Clock.{news-own, news-other, news-mono, news-carries, news-relay, relayBy-news}

@@ -1,18 +1,17 @@
 -- What a station has of another's broadcasts. News of s from round w on has at least the number that s had then, so what is had never falls. When s
 -- started its present broadcast it had everybody's answer to the one before; so everybody has the present one or the one before, and two behind is
 -- never seen.
-use mathlib.Core.Bool.{Bool, true, false}
+use mathlib.Core.Bool.{true}
 use mathlib.Core.Logic.{_⊎_, inl, inr, ⊎-elim, _↔_}
 use mathlib.Core.Path.{_≡_, refl, sym, _∙_, ap}
 use Prim.Native.Nat.{ℕ, zero, suc, _+_, _-_, _<_, _≤_}
 use native.Mathlib.Decide.{ℕ-discrete, decLe}
-use native.Mathlib.Nat.{le-refl}
 use native.Mathlib.Omega.{arith}
 use Rattle.links.specs.Relay.{Links}
 use Rattle.links.specs.Clock.{news}
-use Rattle.links.specs.Number.{full, start, ends, num, numOf, got, gotOf}
-use Rattle.links.proofs.Clock.{news-own, news-other, news-limit, news-mono, news-carries-earlier}
-use Rattle.links.proofs.Number.{Answer, full-answer, step, start-limit, num-mono, num-positive, num-start, num-before, start-start, ends-full, start-zero, num-zero}
+use Rattle.links.specs.Number.{full, start, num, numOf, got}
+use Rattle.links.proofs.Clock.{news-own, news-other, news-limit, news-mono}
+use Rattle.links.proofs.Number.{full-answer, step, start-limit, num-mono, num-positive, num-start, num-before, start-start, ends-full, num-zero}
 
 module _ (L : Links) where
   -- A version: none, or the state of a round.

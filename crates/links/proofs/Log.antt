@@ -1,19 +1,19 @@
 -- Logs as lists: a mask that is not there hears nobody, so nothing is heard past the end of a log and no relay arrives there; and the masks of a log
 -- that was cut from one list are found by counting.
 use mathlib.Core.Bool.{Bool, true, false, not, _&&_, false≢true}
-use mathlib.Core.List.{List, [], _∷_}
+use mathlib.Core.List.{List, []}
 use mathlib.Core.Path.{_≡_, refl, sym, _∙_, ap}
-use Prim.Native.Nat.{ℕ, zero, suc, _+_, _*_, _/_, _%_, _^_, _<_, _≤_}
+use Prim.Native.Nat.{ℕ, zero, suc, _+_, _*_, _/_, _^_, _<_, _≤_}
 use native.Mathlib.Decide.{decLe}
 use native.Mathlib.Nat.{zero-div, zero-mul, one-mul, suc-mul, zero-add, pow-le-pow-right, div-lt-iff-lt-mul}
 use native.Mathlib.Omega.{arith}
 use borrow.Author.Tests.{lt-ltb, le-ltb, eq-eqb, ne-eqb}
 use lib.Dec.{eqb, ltb}
 use lib.Pow.{pow-pos}
-use lib.ListN.{length, getD, take, drop, List·getD-eq-default}
+use lib.ListN.{length, getD, drop, List·getD-eq-default}
 use lib.Seq.{getD-take, getD-drop}
 use Rattle.links.specs.Log.{bit, hearsIn, masksIn, cut}
-use Rattle.links.specs.Relay.{Links, Relay, ofLog}
+use Rattle.links.specs.Relay.{Relay, ofLog}
 use Rattle.links.proofs.Relay.{relay-heard}
 
 pub bit-zero : (j : ℕ) → bit 0 j ≡ false

@@ -1,19 +1,18 @@
 -- Broadcast numbers and starts. A number rises by one exactly where a broadcast ends, and the start is the round of the last rise; so a state of s has
 -- the present number exactly from the present start on. When s went to its present number each other station had answered the one before, so everybody
 -- holds the present or the previous broadcast of everybody.
-use mathlib.Core.Bool.{Bool, true, false, cond, _&&_, _||_, and-eq-true-iff, false≢true, true≢false}
+use mathlib.Core.Bool.{Bool, true, false, _||_, and-eq-true-iff, false≢true}
 use mathlib.Core.Logic.{_⊎_, inl, inr, ⊎-elim}
-use mathlib.Core.Path.{_≡_, refl, sym, _∙_, ap, subst}
+use mathlib.Core.Path.{_≡_, refl}
 use Prim.Native.Nat.{ℕ, zero, suc, _+_, _-_, _<_, _≤_}
 use native.Mathlib.Decide.{ℕ-discrete, decLe}
 use native.Mathlib.Nat.{le-refl, zero-add, suc-add}
 use native.Mathlib.Omega.{arith}
-use borrow.Author.Tests.{eq-eqb, ne-eqb, leb-true, le-leb, eqb-true}
-use lib.Dec.{eqb, leb}
+use borrow.Author.Tests.{eq-eqb, ne-eqb, leb-true, le-leb}
+use lib.Dec.{eqb}
 use Rattle.links.specs.Relay.{Links}
 use Rattle.links.specs.Clock.{news}
-use Rattle.links.specs.Number.{answers, every, full, start, ends, num, numOf, got, gotOf}
-use Rattle.links.proofs.Clock.{news-own, news-other, news-limit, news-mono, news-carries-earlier}
+use Rattle.links.specs.Number.{answers, every, full, start, ends, num}
 
 pub every-all : (test : ℕ → Bool) (n : ℕ) → every n test ≡ true → (k : ℕ) → k < n → test k ≡ true
 unfolding every

@@ -1,17 +1,16 @@
 -- What is known after round u rests on the rounds up to u alone. Two links that agree up to a round have the same clocks, numbers, relays and ends
 -- up to it, by induction over rounds; so rounds that are added at the end of a log change nothing that came before.
-use mathlib.Core.Bool.{Bool, true, false, cond, _&&_, _||_}
-use mathlib.Core.List.{List, [], _∷_, _++_}
-use mathlib.Core.Path.{_≡_, refl, sym, _∙_, ap, ap₂}
-use Prim.Native.Nat.{ℕ, zero, suc, max, _+_, _-_, _<_, _≤_}
+use mathlib.Core.Bool.{Bool, _||_}
+use mathlib.Core.List.{List, [], _++_}
+use mathlib.Core.Path.{_≡_, refl, sym, _∙_, ap}
+use Prim.Native.Nat.{ℕ, zero, suc, _≤_}
 use native.Mathlib.Decide.{ℕ-discrete, decLe}
-use native.Mathlib.Nat.{le-refl}
 use native.Mathlib.Omega.{arith}
-use lib.Dec.{eqb, leb}
+use lib.Dec.{eqb}
 use lib.ListN.{length, List·getD-append}
 use Rattle.links.specs.Log.{masksIn, hearsIn}
 use Rattle.links.specs.Relay.{Links, Relay, ofLog}
-use Rattle.links.specs.EndRule.{RelayBy, Returned, AllReturned, EndsIn, Starts, at-first, after, Ended}
+use Rattle.links.specs.EndRule.{RelayBy, AllReturned, EndsIn, Starts, at-first, after, Ended}
 use Rattle.links.specs.Clock.{latest, news}
 use Rattle.links.specs.Number.{answers, every, full, start, ends, num, numOf, got, gotOf}
 use Rattle.links.proofs.Clock.{news-own, news-start, news-step, news-limit}

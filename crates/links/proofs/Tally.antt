@@ -1,13 +1,11 @@
 -- Sums over all stations but one of what was added since: they go up with their parts, by as much; where two such sums are equal, and no part fell, no
 -- part changed. Inductions over the number of stations.
-use mathlib.Core.Bool.{Bool, true, false, cond}
-use mathlib.Core.Path.{_≡_, refl, sym, _∙_, ap}
+use mathlib.Core.Path.{_≡_, refl, sym, _∙_}
 use Prim.Native.Nat.{ℕ, zero, suc, _+_, _-_, _*_, _<_, _≤_}
 use native.Mathlib.Decide.{ℕ-discrete}
-use native.Mathlib.Nat.{mul-suc, mul-zero}
+use native.Mathlib.Nat.{mul-suc}
 use native.Mathlib.Omega.{arith}
 use borrow.Author.Tests.{eq-eqb, ne-eqb}
-use lib.Dec.{eqb}
 use Rattle.links.specs.Number.{tally}
 
 tally-zero : (p : ℕ) (now before : ℕ → ℕ) → tally 0 p now before ≡ 0

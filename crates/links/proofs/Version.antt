@@ -1,23 +1,22 @@
 -- The laws for versions, as they are needed while a round is heard: a version is 0 for none, or w + 1 for a station as round w left it. In round u + 1
 -- everything in flight is a version of at most u + 1, and whatever p holds is at least what it had after round u; between these two bounds numbers are
 -- at most one apart and answers at most two behind. So an answer to the present broadcast is one with the present number.
-use mathlib.Core.Bool.{Bool, true, false, _||_}
-use mathlib.Core.Logic.{_⊎_, inl, inr, ⊎-elim, _↔_}
+use mathlib.Core.Bool.{Bool, _||_}
+use mathlib.Core.Logic.{⊎-elim, _↔_}
 use mathlib.Core.Path.{_≡_, refl, sym, _∙_, ap}
-use Prim.Native.Nat.{ℕ, zero, suc, _+_, _-_, _<_, _≤_}
+use Prim.Native.Nat.{ℕ, zero, suc, _+_, _<_, _≤_}
 use native.Mathlib.Decide.{ℕ-discrete, decLe}
-use native.Mathlib.Nat.{le-refl}
 use native.Mathlib.Omega.{arith}
 use borrow.Author.Tests.{le-leb, lt-leb, eq-eqb, ne-eqb}
-use lib.Dec.{eqb, leb}
+use lib.Dec.{eqb}
 use Rattle.links.specs.Relay.{Links}
 use Rattle.links.specs.EndRule.{RelayBy, Starts}
 use Rattle.links.specs.Clock.{news}
 use Rattle.links.specs.Number.{answers, every, full, start, ends, num, numOf, got, gotOf, fresh}
 use Rattle.links.proofs.Bounds.{behind, gotOf-some, gotOf-news}
-use Rattle.links.proofs.Clock.{news-other, news-limit, news-carries-earlier, news-relay, relayBy-news}
+use Rattle.links.proofs.Clock.{news-other, news-carries-earlier, news-relay, relayBy-news}
 use Rattle.links.proofs.EndRule.{num-starts}
-use Rattle.links.proofs.Got.{got-numOf, version, numOf-none, numOf-some, numOf-mono, got-none, got-some, got-mono, got-news, got-start, got-limit, num-limit}
+use Rattle.links.proofs.Got.{got-numOf, version, numOf-some, numOf-mono, got-none, got-some, got-mono, got-news, got-start, got-limit, num-limit}
 use Rattle.links.proofs.Number.{ends-full, num-mono, num-positive, num-before, start-same, start-limit, every-same}
 use Rattle.links.proofs.Tally.{tally-mono, tally-pins}
 
