@@ -142,8 +142,8 @@ module _ (L : Links) where
   fresh-limit u p l =
       tally-limit 2 p (L .size) (λ r. got L u p r) (λ r. got L (start L u p) p r) l (λ r lr d. within u p r l lr d)
 
-  pub hearing-limit : (u p : ℕ) → p < L .size
+  pub fresh-hearing-limit : (u p : ℕ) → p < L .size
       → tally (L .size) p (λ r. got L (suc u) p r) (λ r. got L (start L u p) p r) ≤ 3 * (L .size - 1)
-  hearing-limit u p l =
+  fresh-hearing-limit u p l =
       tally-limit 3 p (L .size) (λ r. got L (suc u) p r) (λ r. got L (start L u p) p r) l
       (λ r lr d. omega (arith, within u p r l lr d, got-step L u p r l))

@@ -6,6 +6,7 @@ pub mod Bounds
 pub mod Relay
 pub mod EndRule
 pub mod Version
+pub mod Hearing
 pub mod Prefix
 pub mod Log
 pub mod Examples
