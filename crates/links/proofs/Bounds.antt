@@ -35,8 +35,8 @@ module _ (L : Links) where
       ⊎-elim
       (λ (f : start L (e .0) s ≡ 0). omega (arith, began L u s (e .0) (e .1) .0, first-number L (e .0) s f))
       (λ (f : (b : ℕ) × (start L (e .0) s ≡ suc b)). go (e .0) (e .1) (f .0) (f .1))
-      (version L (start L (e .0) s)))
-      (version L (start L u s))
+      (version (start L (e .0) s)))
+      (version (start L u s))
     where
       go : (a : ℕ) → start L u s ≡ suc a → (b : ℕ) → start L a s ≡ suc b → num L u s ≤ gotOf L q s (news L u p q) + 2
       go a e b f =
@@ -78,7 +78,7 @@ module _ (L : Links) where
             (λ (e : news L u s r ≡ 0). absurd (omega (arith, got-none L u s r e)))
             (λ (e : (w : ℕ) × (news L u s r ≡ suc w)).
             three (e .0) (e .1) (omega (arith, got-some L u s r (e .0) (e .1))))
-            (version L (news L u s r))
+            (version (news L u s r))
       ]
     where
       t : ℕ
@@ -133,8 +133,8 @@ module _ (L : Links) where
             | yes l ↦ omega (arith, got-mono L u t s r l)
             | no l ↦ absurd (true≢false (sym (answered w (f .0) (g .0) e (f .1) (g .1) i) ∙ not-full u s (omega arith)))
           ])
-          (version L (start L (f .0) r)))
-          (version L (start L w r))
+          (version (start L (f .0) r)))
+          (version (start L w r))
 
   -- So at most two for each other station in all, and at most three while the next round is heard.
   pub fresh-limit : (u p : ℕ) → p < L .size → fresh L u p ≤ 2 * (L .size - 1)

@@ -13,7 +13,7 @@ use Rattle.links.specs.EndRule.{RelayBy, Returned, AllReturned, EndsIn, 
 use Rattle.links.specs.Clock.{news}
 use Rattle.links.specs.Number.{full, start, ends, num}
 use Rattle.links.proofs.Clock.{news-mono, news-relay, relayBy-news}
-use Rattle.links.proofs.Number.{Answer, full-answer, answer-full, step, start-limit, ends-full, num-zero, start-zero, start-same, start-ends, num-ends, ends-zero}
+use Rattle.links.proofs.Number.{Answer, full-answer, answer-full, step, start-limit, ends-full, num-zero, start-zero, same-start, start-ends, num-ends, ends-zero}
 use Rattle.links.proofs.Bounds.{not-full}
 
 module _ (L : Links) where
@@ -196,7 +196,7 @@ module _ (L : Links) where
             (let h = never-ends u s none w (omega arith) in
             ⊎-elim
             (λ (c : (ends L (suc w) s ≡ true) × (start L (suc w) s ≡ suc w) × (num L (suc w) s ≡ suc (num L w s))).
-            absurd (none (suc w) (rw (start-same L w u s h) at (ends-rule w s .0 (c .0)))))
+            absurd (none (suc w) (rw (same-start L w u s h) at (ends-rule w s .0 (c .0)))))
             (λ (c : (ends L (suc w) s ≡ false) × (start L (suc w) s ≡ start L w s) × (num L (suc w) s ≡ num L w s)). c .2 ∙ h)
             (step L w s))
       ]

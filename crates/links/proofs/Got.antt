@@ -13,15 +13,15 @@ use Rattle.links.specs.Number.{full, start, num, numOf, got}
 use Rattle.links.proofs.Clock.{news-own, news-other, news-limit, news-mono}
 use Rattle.links.proofs.Number.{full-answer, step, start-limit, num-mono, num-positive, num-start, num-before, start-start, ends-full, num-zero}
 
+-- A version: none, or the state of a round.
+abbrev Version : ℕ → Type 0
+Version v = (v ≡ 0) ⊎ ((w : ℕ) × (v ≡ suc w))
+
+pub version : (v : ℕ) → Version v
+version zero = inl refl
+version (suc w) = inr (w, refl)
+
 module _ (L : Links) where
-  -- A version: none, or the state of a round.
-  abbrev Version : ℕ → Type 0
-  Version v = (v ≡ 0) ⊎ ((w : ℕ) × (v ≡ suc w))
-
-  pub version : (v : ℕ) → Version v
-  version zero = inl refl
-  version (suc w) = inr (w, refl)
-
   pub numOf-none : (s v : ℕ) → v ≡ 0 → numOf L s v ≡ 0
   unfolding numOf
   numOf-none s v e = rw e

@@ -144,8 +144,8 @@ module _ (L : Links) where
       ]
 
   -- The same number has the same start.
-  pub start-same : (u w s : ℕ) → num L u s ≡ num L w s → start L u s ≡ start L w s
-  start-same u w s e =
+  pub same-start : (u w s : ℕ) → num L u s ≡ num L w s → start L u s ≡ start L w s
+  same-start u w s e =
       elim (decLe (start L w s) (start L u s)) [
         | yes h ↦
             elim (decLe (start L u s) (start L w s)) [

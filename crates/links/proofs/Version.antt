@@ -17,7 +17,7 @@ use Rattle.links.proofs.Bounds.{behind, gotOf-some, gotOf-news}
 use Rattle.links.proofs.Clock.{news-other, news-carries-earlier, news-relay, relayBy-news}
 use Rattle.links.proofs.EndRule.{num-starts}
 use Rattle.links.proofs.Got.{got-numOf, version, numOf-some, numOf-mono, got-none, got-some, got-mono, got-news, got-start, got-limit, num-limit}
-use Rattle.links.proofs.Number.{ends-full, num-mono, num-positive, num-before, start-same, start-limit, every-same}
+use Rattle.links.proofs.Number.{ends-full, num-mono, num-positive, num-before, same-start, start-limit, every-same}
 use Rattle.links.proofs.Tally.{tally-mono, tally-pins}
 
 module _ (L : Links) where
@@ -130,7 +130,7 @@ module _ (L : Links) where
                 absurd
                 (omega (arith, got-some L u r s (z .0) (z .1), num-before L t (z .0) s (omega (arith, e .1)), e .0))
           ])
-          (version L (news L u r s)))
+          (version (news L u r s)))
 
       back : RelayBy L s t r u → k ≤ got L u r s
       back h = omega (arith, num-starts L s k t b .0, got-news L u r s t (relayBy-news L u s t r h))
@@ -139,7 +139,7 @@ module _ (L : Links) where
   pub fresh-mono : (u w p : ℕ) → u ≤ w → num L u p ≡ num L w p → fresh L u p ≤ fresh L w p
   unfolding fresh
   fresh-mono u w p l e =
-      rw (start-same L u w p e)
+      rw (same-start L u w p e)
       (tally-mono p (L .size) (λ r. got L u p r) (λ r. got L w p r) (λ r. got L (start L w p) p r) (λ r lr d. got-mono L u w p r l))
 
   pub fresh-pins : (u w p : ℕ) → u ≤ w → num L u p ≡ num L w p → fresh L u p ≡ fresh L w p
@@ -147,6 +147,6 @@ module _ (L : Links) where
   unfolding fresh
   fresh-pins u w p l e h r lr d =
       tally-pins p (L .size) (λ q. got L u p q) (λ q. got L w p q) (λ q. got L (start L w p) p q)
-      (λ q lq f. (rw (← start-same L u w p e) (got-mono L (start L u p) u p q (start-limit L u p)), got-mono L u w p q l))
-      (rw (start-same L u w p e) at h)
+      (λ q lq f. (rw (← same-start L u w p e) (got-mono L (start L u p) u p q (start-limit L u p)), got-mono L u w p q l))
+      (rw (same-start L u w p e) at h)
       r lr d
