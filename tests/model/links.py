@@ -5,9 +5,9 @@ here knows of labels, bodies or stations' state.
 """
 
 
-def hears(log, u, p, j):
-    """Station p hears j in round u."""
-    return p != j and log[u - 1][p] >> j & 1 == 1
+def heard_by(log, u, p):
+    """The set of stations that p hears in round u, as bits; bits from N up are left to the caller."""
+    return log[u - 1][p] & ~(1 << p)
 
 
 class Links:
@@ -16,27 +16,29 @@ class Links:
         self.log = log
         self.known = {}
 
-    def arrivals(self, a, t):
-        """For each station the first round in which a relay from a after round t arrives there.
+    def first_arrivals(self, a, t):
+        """For each station that some relay from a after round t reaches, the first round it arrives.
 
-        Found round by round: a station is reached in the round in which it hears a, or one that was
-        reached in an earlier round.
+        Found round by round: a relay arrives where a is heard, or a station at which one arrived in
+        an earlier round.
         """
-        if (a, t) not in self.known:
-            first = {}
-            for u in range(t + 1, len(self.log) + 1):
-                sources = [a] + list(first)
-                for p in range(self.n):
-                    if p not in first and any(hears(self.log, u, p, j) for j in sources):
-                        first[p] = u
-                if len(first) == self.n:
-                    break
-            self.known[a, t] = first
-        return self.known[a, t]
+        first = {}
+        sources = 1 << a
+        for u in range(t + 1, len(self.log) + 1):
+            arrived = [p for p in range(self.n)
+                       if p not in first and heard_by(self.log, u, p) & sources]
+            for p in arrived:
+                first[p] = u
+                sources |= 1 << p
+            if len(first) == self.n:
+                break
+        return first
 
     def relay_by(self, a, t, b, u):
         """Some relay from a to b after round t arrives by round u."""
-        return self.arrivals(a, t).get(b, u + 1) <= u
+        if (a, t) not in self.known:
+            self.known[a, t] = self.first_arrivals(a, t)
+        return self.known[a, t].get(b, u + 1) <= u
 
     def answered_by(self, s, t, r, u):
         """For some v a relay from s reaches r after t by v, and one from r comes back after v by u."""

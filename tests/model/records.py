@@ -50,8 +50,8 @@ def count_limit(n):
 
 
 def labels_in_limits(labels, n):
-    """Only the first n labels are read."""
-    return all(0 <= label <= 2 for label in labels[:n])
+    """Only the first n labels are read, and n is at least 1; labels are never negative."""
+    return max(labels[:n]) <= 2
 
 
 def record_in_limits(record, n, most):

@@ -5,7 +5,7 @@ from typing import NamedTuple
 from .bodies import EMPTY, EMPTY_KIND, Body, body_in_limits, is_edit
 from .frames import frame_bytes, frame_size, numbers_valid
 from .queues import (LANE_LIMIT, NO_LANE, NO_WAITING, OWN_LANE_LIMIT, QUEUE_LIMIT, Queue,
-                     contents, put_last, replaced)
+                     contents, put_last)
 from .records import (NO_RECORD, PLACES, Record, count_limit, labels_in_limits,
                       record_in_limits)
 from .refusals import (BAD_NUMBER, BUFFER_SHORT, COUNT_TOO_LARGE, DONE, NOT_AN_EDIT,
@@ -30,13 +30,16 @@ class Station(NamedTuple):
 
 # Limits.
 
+def is_lane_body(body):
+    return body.kind != EMPTY_KIND and body_in_limits(body)
+
+
 def lane_in_limits(lane, most):
-    return (lane.length <= most
-            and all(body.kind != EMPTY_KIND and body_in_limits(body) for body in contents(lane)))
+    return lane.length <= most and all(map(is_lane_body, contents(lane)))
 
 
 def waiting_in_limits(waiting):
-    return waiting.length <= QUEUE_LIMIT and all(is_edit(body) for body in contents(waiting))
+    return waiting.length <= QUEUE_LIMIT and all(map(is_edit, contents(waiting)))
 
 
 def place_in_limits(station, k):
