@@ -134,10 +134,10 @@ def at_place(station, field, k, value):
     return station._replace(**{field: replaced(getattr(station, field), k, value)})
 
 
-def with_record(station, k, **changes):
-    record = station.table[k]._replace(station=k, count=0, body=EMPTY, labels=(0,) * PLACES)
-    station = at_place(station, "table", k, record._replace(**changes))
-    return at_place(station, "held", k, True)
+def with_record(holder, k, **changes):
+    """The holder with a plain record of station k, but for the changes."""
+    record = Record(k, 0, EMPTY, (0,) * PLACES)._replace(**changes)
+    return at_place(at_place(holder, "table", k, record), "held", k, True)
 
 
 def with_lane(station, k, *bodies):
