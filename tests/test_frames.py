@@ -6,12 +6,9 @@ import unittest
 from model import frames, states
 from model.bodies import EMPTY, INSERT, SHIFT, Body
 from model.records import Record, pack, unpack
+from model.states import labels
 
 INSERT_7 = Body(INSERT, 7, 100)
-
-
-def labels(*values):
-    return values + (0,) * (16 - len(values))
 
 
 def random_frame(rng):

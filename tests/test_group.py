@@ -3,17 +3,14 @@
 import random
 import unittest
 
-from model import group, states, station
+from model import group, outside, states, station
 from model.bodies import DROP, EMPTY, NEUTRAL, Body
 from model.hearing import Taking
 from model.queues import contents
 from model.records import Record
+from model.states import labels
 
 EDIT = Body(DROP, 5, 0)
-
-
-def labels(*values):
-    return values + (0,) * (16 - len(values))
 
 
 def masks(*values):
@@ -53,10 +50,10 @@ class Limits(unittest.TestCase):
         self.assertEqual(group.round_of(bad, masks()), (2, bad, (group.NO_REPORT,) * 16), name)
 
     def test_a_station_outside(self):
-        for n in (2, 5, 16):
+        for n, places in ((2, (0, 1)), (16, (0, 7, 15))):
             good = group.fresh(n).group
-            for place in range(n):
-                for name, spoil in states.OUTSIDE.items():
+            for place in places:
+                for name, spoil in outside.OUTSIDE.items():
                     bad = spoil(good[place], place, (place + 1) % n)
                     self.refused(good[:place] + (bad,) + good[place + 1:], name)
 
@@ -132,7 +129,7 @@ class Round(unittest.TestCase):
     def test_10(self):
         """A station that nobody hears writes its frame too."""
         one = group.fresh(3).group
-        one = one[:2] + (states.with_record(one[2], 2, count=5),) + one[3:]
+        one = one[:2] + (outside.with_record(one[2], 2, count=5),) + one[3:]
         self.assertEqual(group.round_of(one, masks()), group.refused_round(10, one))
 
     def relayed(self):
@@ -142,9 +139,9 @@ class Round(unittest.TestCase):
         own with label 2, both with a body; so station 0 takes two bodies of 2 in one round.
         """
         zero, one, two = group.fresh(3).group[:3]
-        one = states.with_record(one, 1, body=EMPTY, labels=labels(0, 1))
-        one = states.with_record(one, 2, body=EDIT, labels=labels(0, 0, 1))
-        two = states.with_record(two, 2, body=NEUTRAL, labels=labels(0, 0, 2))
+        one = outside.with_record(one, 1, body=EMPTY, labels=labels(0, 1))
+        one = outside.with_record(one, 2, body=EDIT, labels=labels(0, 0, 1))
+        two = outside.with_record(two, 2, body=NEUTRAL, labels=labels(0, 0, 2))
         return (zero, one, two) + group.fresh(3).group[3:]
 
     def test_two_takings_of_one_source(self):
@@ -158,13 +155,13 @@ class Round(unittest.TestCase):
     def test_8(self):
         """With a body in the lane before, the second taking would be the third in it."""
         zero, *others = self.relayed()
-        full = (states.with_lane(zero, 2, NEUTRAL),) + tuple(others)
+        full = (outside.with_lane(zero, 2, NEUTRAL),) + tuple(others)
         self.assertEqual(group.round_of(full, masks(6)), group.refused_round(8, full))
         self.assertEqual(group.round_of(full, masks(2)).refusal, 0)
 
     def test_10_before_8(self):
         zero, one, two = self.relayed()[:3]
-        full = (states.with_lane(zero, 2, NEUTRAL), one, two._replace(
+        full = (outside.with_lane(zero, 2, NEUTRAL), one, two._replace(
             table=two.table[:2] + (two.table[2]._replace(count=255),) + two.table[3:]))
         full += group.fresh(3).group[3:]
         self.assertEqual(group.round_of(full, masks(6)), group.refused_round(10, full))
@@ -175,7 +172,7 @@ class Round(unittest.TestCase):
         for sender, label, body in ((1, 1, NEUTRAL), (2, 2, EDIT)):
             for k in range(1, 16):
                 with_label = tuple(label if place == k else 0 for place in range(16))
-                stations[sender] = states.with_record(stations[sender], k, body=body,
+                stations[sender] = outside.with_record(stations[sender], k, body=body,
                                                       labels=with_label)
         result = group.round_of(tuple(stations), masks(0b110))
         self.assertEqual(result.refusal, 0)

@@ -6,7 +6,7 @@ import sys
 import unittest
 from unittest import mock
 
-from model import listing, scripts
+from model import listing, malformed, scripts
 
 TESTS = pathlib.Path(__file__).resolve().parent
 EXAMPLES = TESTS.parent / "examples"
@@ -73,12 +73,13 @@ class Posts(unittest.TestCase):
         self.assertEqual(self.listing_of(silent, *posts), refusal_line(1, 1, 3) * 2 + b"END\n")
 
     def test_last_station(self):
-        self.assertEqual(self.listing_of(self.post(15, 1, 0, 0), n=16), refusal_line(0, 15, 4) + b"END\n")
+        self.assertEqual(self.listing_of(self.post(15, 1, 0, 0), n=16),
+                         refusal_line(0, 15, 4) + b"END\n")
 
 
 class Malformed(unittest.TestCase):
     def test_every_form(self):
-        for name, script, rounds in scripts.malformed_scripts():
+        for name, script, rounds in malformed.malformed_scripts():
             with self.subTest(name):
                 got = listing.listing(script)
                 self.assertTrue(got.endswith(refusal_line(rounds, 0, 11) + b"END\n"), got)

@@ -14,9 +14,10 @@ from unittest import mock
 import test_demand3
 import test_frames
 import test_group
+import test_hearing
 import test_listing
 import test_marked_examples
-import test_station
+import test_turns
 from model import bodies, hearing, lines, records, station, turns
 from model.bodies import EMPTY, INSERT, NEUTRAL, SHIFT
 from model.frames import read_frame
@@ -42,11 +43,9 @@ def first_noticed_run():
     return None
 
 
-def failures(test_class):
-    """The names of the tests of a class that fail."""
-    suite = unittest.defaultTestLoader.loadTestsFromTestCase(test_class)
-    result = unittest.TextTestRunner(stream=io.StringIO()).run(suite)
-    return {test.id().split(".")[-1].split(" ")[0] for test, _ in result.failures + result.errors}
+def passes(test_class, name):
+    """Whether one test, run here and now, passes."""
+    return unittest.TextTestRunner(stream=io.StringIO()).run(test_class(name)).wasSuccessful()
 
 
 class Broken(unittest.TestCase):
@@ -59,7 +58,16 @@ class Broken(unittest.TestCase):
         self.assertRegex(fault, re.compile(r"^R[ \d]+$", re.MULTILINE))
 
     def assert_test_fails(self, test_class, *names):
-        self.assertLessEqual(set(names), failures(test_class))
+        for name in names:
+            self.assertFalse(passes(test_class, name), name)
+
+
+class NotBroken(Broken):
+    def test_a_right_copy_passes(self):
+        """What is noticed below comes from the fault and not from the copying."""
+        with broken("may_start", lambda one: one.lanes[one.own].length == 0):
+            self.assertTrue(passes(test_marked_examples.OneStation, "test_m12"))
+            self.assertIsNone(test_demand3.check_seed(5))
 
 
 class FaultsToShutOut(Broken):
@@ -90,12 +98,12 @@ class FaultsToShutOut(Broken):
         right = hearing.hear_record
         with broken("hear_record", lambda hearer, record: right(
                 hearing.acknowledge(hearer, record), record)):
-            self.assert_test_fails(test_station.Hear, "test_not_newer_acknowledges_nothing")
+            self.assert_test_fails(test_hearing.Hear, "test_not_newer_acknowledges_nothing")
 
     def test_start_while_the_own_lane_is_full(self):
         with broken("may_start", lambda one: True):
             self.assert_runs_notice("is refused with 2")
-            self.assert_test_fails(test_station.Turn, "test_starts_empty_while_the_own_lane_is_full")
+            self.assert_test_fails(test_turns.Turn, "test_starts_empty_while_the_own_lane_is_full")
 
 
 class IdleRelays(Broken):

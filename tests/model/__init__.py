@@ -18,8 +18,10 @@ Read it beside document 01, in this order:
 
 For tests only:
 
-    scripts.py    random lists of calls and scripts, and every malformed form by name
-    states.py     random stations and groups, inside their limits and outside
+    scripts.py    random lists of calls and scripts, each from its seed
+    malformed.py  every malformed form of a script, by name
+    states.py     random records, frames, stations and groups inside their limits
+    outside.py    stations outside their limits, by name
 
 Every value is a tuple and never changes, so a refused call returns the very state it was given.
 """

@@ -5,7 +5,7 @@ the group that the list leaves, and at the link log; the end rule is worked out 
 """
 
 from . import group as groups
-from .bodies import edit_kind
+from .bodies import EMPTY_KIND, edit_kind
 from .hearing import Taking
 from .lines import PostLine
 from .links import Links
@@ -45,7 +45,7 @@ class Run:
                               if edit_kind(body)]
         if report.ended:
             self.ends[place].append(len(self.log))
-        if report.started_body.kind != 0:
+        if report.started_body.kind != EMPTY_KIND:
             self.started[place].append(report.started_body)
             self.taken[place][place].append(report.started_body)
 

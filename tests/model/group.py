@@ -6,7 +6,7 @@ call reads or changes.
 
 from typing import NamedTuple
 
-from .bodies import EMPTY
+from .bodies import EMPTY, Body
 from .frames import numbers_valid, read_frame
 from .hearing import LaneOverflow, Taking, hear_records
 from .queues import replaced
@@ -67,12 +67,12 @@ def post(group, place, body):
 
 class Report(NamedTuple):
     """What one station's round brought."""
-    takings: tuple      # thirty entries, the used ones first; an unused one is of 0 and Empty
-    aired: bool
+    takings: tuple      # thirty Takings, the used ones first; an unused one is of 0 and Empty
+    aired: bool         # this and the rest: the turn's results
     row: tuple
     ended: bool
-    ended_body: tuple
-    started_body: tuple
+    ended_body: Body
+    started_body: Body
 
 
 NO_TAKING = Taking(0, EMPTY)

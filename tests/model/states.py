@@ -1,9 +1,22 @@
-"""Random bodies, records, stations and groups, inside their limits and outside. For tests."""
+"""Random bodies, records, frames, stations and groups, all inside their limits. For tests."""
+
+import random
 
 from .bodies import DROP, EMPTY, INSERT, KINDS, NEUTRAL, SHIFT, Body
-from .queues import LANE_LIMIT, QUEUE_LIMIT, Queue, contents, replaced
+from .frames import frame_bytes
+from .queues import LANE_LIMIT, NO_LANE, QUEUE_LIMIT, Queue, contents
 from .records import NO_RECORD, PLACES, Record, count_limit
 from .station import LARGEST_COUNT, Station
+
+
+# Sixteen entries of which the first are given.
+
+def labels(*values):
+    return values + (0,) * (PLACES - len(values))
+
+
+def flags(*values):
+    return values + (False,) * (PLACES - len(values))
 
 
 # Bodies and records.
@@ -28,8 +41,8 @@ def random_body(rng):
 
 def random_labels(rng, n, high):
     """n labels; the entries from n up are zero, or any bytes where high is true."""
-    low = tuple(rng.randrange(3) for _ in range(n))
-    return low + tuple(rng.randrange(256) if high else 0 for _ in range(PLACES - n))
+    rest = PLACES - n
+    return tuple(rng.choices(range(3), k=n)) + tuple(rng.randbytes(rest) if high else bytes(rest))
 
 
 def random_record(rng, n, station, high=False):
@@ -46,13 +59,13 @@ def random_records(rng, n, sender):
 
 def any_record(rng):
     """Any record that sixteen entries can hold, mostly outside its limits."""
-    return Record(rng.randrange(256), rng.randrange(256), random_body(rng),
-                  tuple(rng.randrange(256) for _ in range(PLACES)))
+    return Record(*rng.randbytes(2), random_body(rng), tuple(rng.randbytes(PLACES)))
 
 
 def any_slots(rng, bodies, size):
     """The bodies, and anything in the slots after them."""
-    return tuple(bodies) + tuple(random_body(rng) for _ in range(size - len(bodies)))
+    anything = (EMPTY, NEUTRAL, random_edit(rng))
+    return tuple(bodies) + tuple(rng.choices(anything, k=size - len(bodies)))
 
 
 def random_lane(rng, most):
@@ -88,10 +101,23 @@ def random_station(rng, n, own):
 
 
 def random_group(rng, n):
-    """Inside its limits; places from n up hold stations of any size."""
+    """Inside its limits; places from n up hold a station of any size."""
     stations = [random_station(rng, n, own) for own in range(n)]
-    return tuple(stations + [random_station(rng, rng.randint(1, PLACES), 0)
-                             for _ in range(PLACES - n)])
+    return tuple(stations + [random_station(rng, rng.randint(1, PLACES), 0)] * (PLACES - n))
+
+
+def some_stations(number, least_n=1):
+    """Random stations, each with the generator that made it."""
+    for seed in range(number):
+        rng = random.Random(seed)
+        n = rng.randint(least_n, PLACES)
+        yield rng, random_station(rng, n, rng.randrange(n))
+
+
+def some_frame(rng, hearer):
+    """A frame that the hearer's check accepts; its N is at least 2."""
+    sender = rng.choice([k for k in range(hearer.n) if k != hearer.own])
+    return frame_bytes(hearer.n, sender, random_records(rng, hearer.n, sender))
 
 
 # What is part of the state, and what is only carried along.
@@ -115,7 +141,7 @@ def state_part(station):
         acked=station.acked[:n] + (False,) * rest,
         held=station.held[:n] + (False,) * rest,
         table=tuple(clear_record(k) for k in range(n)) + (NO_RECORD,) * rest,
-        lanes=tuple(map(clear_slots, station.lanes[:n])) + (Queue(0, (EMPTY,) * LANE_LIMIT),) * rest,
+        lanes=tuple(map(clear_slots, station.lanes[:n])) + (NO_LANE,) * rest,
         waiting=clear_slots(station.waiting))
 
 
@@ -125,65 +151,3 @@ def carried_part(station, held):
     return (station.labels[n:], station.acked[n:], station.held[n:], station.table[n:],
             station.lanes[n:],
             [station.table[k].labels[n:] for k in range(n) if held[k]])
-
-
-# Stations outside their limits, by name. Each takes one inside and breaks one limit; below, own is
-# the station's own place and other the place of another station, which needs N to be at least 2.
-
-def at_place(station, field, k, value):
-    return station._replace(**{field: replaced(getattr(station, field), k, value)})
-
-
-def with_record(holder, k, **changes):
-    """The holder with a plain record of station k, but for the changes."""
-    record = Record(k, 0, EMPTY, (0,) * PLACES)._replace(**changes)
-    return at_place(at_place(holder, "table", k, record), "held", k, True)
-
-
-def with_lane(station, k, *bodies):
-    slots = tuple(bodies) + (EMPTY,) * (LANE_LIMIT - len(bodies))
-    return at_place(station, "lanes", k, Queue(len(bodies), slots))
-
-
-def with_waiting(station, length, first):
-    slots = (first,) + (Body(DROP, 1, 0),) * (QUEUE_LIMIT - 1)
-    return station._replace(waiting=Queue(length, slots))
-
-
-BAD_BODY = Body(DROP, 0, 0)
-TOO_LATE = Body(INSERT, 1, KINDS[INSERT].argument_most + 1)
-
-OUTSIDE = {
-    "N is 0": lambda s, own, other: s._replace(n=0),
-    "N is 17": lambda s, own, other: s._replace(n=17),
-    "N is 255": lambda s, own, other: s._replace(n=255),
-    "own number is N": lambda s, own, other: s._replace(own=s.n),
-    "own number is 255": lambda s, own, other: s._replace(own=255),
-    "self not acknowledged": lambda s, own, other: at_place(s, "acked", own, False),
-    "own record not held": lambda s, own, other: at_place(s, "held", own, False),
-    "own label 3": lambda s, own, other: at_place(s, "labels", own, 3),
-    "other label 255": lambda s, own, other: at_place(s, "labels", other, 255),
-    "last label 3": lambda s, own, other: at_place(s, "labels", s.n - 1, 3),
-    "present body": lambda s, own, other: s._replace(body=BAD_BODY),
-    "present body, too late": lambda s, own, other: s._replace(body=TOO_LATE),
-    "own record's station": lambda s, own, other: with_record(s, own, station=other),
-    "own record's body": lambda s, own, other: with_record(s, own, body=BAD_BODY),
-    "own record's label": lambda s, own, other: with_record(s, own, labels=(3,) + (0,) * 15),
-    "other record's station": lambda s, own, other: with_record(s, other, station=own),
-    "other record's count": lambda s, own, other: with_record(s, other, count=count_limit(s.n) + 1),
-    "other record's count 255": lambda s, own, other: with_record(s, other, count=255),
-    "other record's body": lambda s, own, other: with_record(s, other, body=TOO_LATE),
-    "other record's last label": lambda s, own, other: with_record(
-        s, other, labels=(0,) * (s.n - 1) + (3,) * (PLACES - s.n + 1)),
-    "Empty in the own lane": lambda s, own, other: with_lane(s, own, EMPTY),
-    "two in the own lane": lambda s, own, other: with_lane(s, own, NEUTRAL, NEUTRAL),
-    "Empty in a lane": lambda s, own, other: with_lane(s, other, NEUTRAL, EMPTY),
-    "bad body in a lane": lambda s, own, other: with_lane(s, other, BAD_BODY),
-    "three in a lane": lambda s, own, other: at_place(s, "lanes", other, Queue(3, (NEUTRAL,) * 2)),
-    "255 in a lane": lambda s, own, other: at_place(s, "lanes", other, Queue(255, (NEUTRAL,) * 2)),
-    "Neutral waiting": lambda s, own, other: with_waiting(s, 2, NEUTRAL),
-    "Empty waiting": lambda s, own, other: with_waiting(s, 1, EMPTY),
-    "bad edit waiting": lambda s, own, other: with_waiting(s, 32, TOO_LATE),
-    "33 waiting": lambda s, own, other: with_waiting(s, 33, Body(DROP, 1, 0)),
-    "255 waiting": lambda s, own, other: with_waiting(s, 255, Body(DROP, 1, 0)),
-}

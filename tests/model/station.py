@@ -1,4 +1,4 @@
-"""A station: its state and limits, fresh, post and write frame (document 01, "A station and its calls")."""
+"""A station: state, limits, fresh, post, write frame (document 01, "A station and its calls")."""
 
 from typing import NamedTuple
 
