@@ -32,7 +32,7 @@ class WhatTheRunsReach(unittest.TestCase):
     @classmethod
     def setUpClass(cls):
         cls.refusals, cls.runs, cls.sizes = set(), [], set()
-        for seed in range(0, RUNS, 5):
+        for seed in range(0, RUNS, 7):
             n, calls = scripts.seeded_calls(seed)
             run = demand3.Run(n)
             for call in calls:

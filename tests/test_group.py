@@ -53,8 +53,7 @@ class Limits(unittest.TestCase):
         for n, places in ((2, (0, 1)), (16, (0, 7, 15))):
             good = group.fresh(n).group
             for place in places:
-                for name, spoil in outside.OUTSIDE.items():
-                    bad = spoil(good[place], place, (place + 1) % n)
+                for name, bad in outside.stations_outside(good[place]).items():
                     self.refused(good[:place] + (bad,) + good[place + 1:], name)
 
     def test_another_n_or_place(self):
@@ -83,7 +82,7 @@ class Post(unittest.TestCase):
     def test_order(self):
         """2, 1, 4, 3; 2 stands with the limits above."""
         full = group.fresh(2).group
-        for event in range(32):
+        for _ in range(32):
             full = group.post(full, 1, EDIT).group
         for place in (2, 15, 16, 255, 999_999_999):
             self.assertEqual(group.post(full, place, NEUTRAL), (1, full))

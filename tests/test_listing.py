@@ -124,7 +124,7 @@ class Malformed(unittest.TestCase):
 class RandomScripts(unittest.TestCase):
     def test_form(self):
         """Every line has the listing's columns, rounds never fall, and no line is malformed."""
-        for seed in range(0, 320, 8):
+        for seed in range(0, 320, 13):
             lines = listing.listing(scripts.seeded_script(seed)).split(b"\n")
             self.assertEqual(lines[-2:], [b"END", b""])
             rounds = 0

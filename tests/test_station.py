@@ -54,10 +54,8 @@ class Limits(unittest.TestCase):
 
     def test_outside_every_call_gives_2(self):
         for rng, one in some_stations(30, least_n=2):
-            other = (one.own + 1) % one.n
             data = some_frame(rng, one)
-            for name, spoil in outside.OUTSIDE.items():
-                bad = spoil(one, one.own, other)
+            for name, bad in outside.stations_outside(one).items():
                 self.assertFalse(station.in_limits(bad), name)
                 self.assertEqual(station.post(bad, NEUTRAL), (2, bad), name)
                 self.assertEqual(station.write_frame(bad, b""), (2, 0, b""), name)
@@ -68,7 +66,7 @@ class Limits(unittest.TestCase):
 
     def test_stays_inside_its_limits(self):
         for rng, one in some_stations(250, least_n=2):
-            for refusal, after, _ in all_calls(one, some_frame(rng, one)):
+            for _, after, _ in all_calls(one, some_frame(rng, one)):
                 self.assertTrue(station.in_limits(after))
 
     def test_own_count_up_to_255(self):

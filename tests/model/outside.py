@@ -27,43 +27,44 @@ def with_waiting(station, length, first):
     return station._replace(waiting=Queue(length, slots))
 
 
-# Each takes a station inside its limits and breaks one. Own is the station's own place, other that of
-# another station, so N is at least 2.
-
 BAD_BODY = Body(DROP, 0, 0)
 TOO_LATE = Body(INSERT, 1, KINDS[INSERT].argument_most + 1)
 
-OUTSIDE = {
-    "N is 0": lambda s, own, other: s._replace(n=0),
-    "N is 17": lambda s, own, other: s._replace(n=17),
-    "N is 255": lambda s, own, other: s._replace(n=255),
-    "own number is N": lambda s, own, other: s._replace(own=s.n),
-    "own number is 255": lambda s, own, other: s._replace(own=255),
-    "self not acknowledged": lambda s, own, other: at_place(s, "acked", own, False),
-    "own record not held": lambda s, own, other: at_place(s, "held", own, False),
-    "own label 3": lambda s, own, other: at_place(s, "labels", own, 3),
-    "other label 255": lambda s, own, other: at_place(s, "labels", other, 255),
-    "last label 3": lambda s, own, other: at_place(s, "labels", s.n - 1, 3),
-    "present body": lambda s, own, other: s._replace(body=BAD_BODY),
-    "present body, too late": lambda s, own, other: s._replace(body=TOO_LATE),
-    "own record's station": lambda s, own, other: with_record(s, own, station=other),
-    "own record's body": lambda s, own, other: with_record(s, own, body=BAD_BODY),
-    "own record's label": lambda s, own, other: with_record(s, own, labels=(3,) + (0,) * 15),
-    "other record's station": lambda s, own, other: with_record(s, other, station=own),
-    "other record's count": lambda s, own, other: with_record(s, other, count=count_limit(s.n) + 1),
-    "other record's count 255": lambda s, own, other: with_record(s, other, count=255),
-    "other record's body": lambda s, own, other: with_record(s, other, body=TOO_LATE),
-    "other record's last label": lambda s, own, other: with_record(
-        s, other, labels=(0,) * (s.n - 1) + (3,) * (PLACES - s.n + 1)),
-    "Empty in the own lane": lambda s, own, other: with_lane(s, own, EMPTY),
-    "two in the own lane": lambda s, own, other: with_lane(s, own, NEUTRAL, NEUTRAL),
-    "Empty in a lane": lambda s, own, other: with_lane(s, other, NEUTRAL, EMPTY),
-    "bad body in a lane": lambda s, own, other: with_lane(s, other, BAD_BODY),
-    "three in a lane": lambda s, own, other: at_place(s, "lanes", other, Queue(3, (NEUTRAL,) * 2)),
-    "255 in a lane": lambda s, own, other: at_place(s, "lanes", other, Queue(255, (NEUTRAL,) * 2)),
-    "Neutral waiting": lambda s, own, other: with_waiting(s, 2, NEUTRAL),
-    "Empty waiting": lambda s, own, other: with_waiting(s, 1, EMPTY),
-    "bad edit waiting": lambda s, own, other: with_waiting(s, 32, TOO_LATE),
-    "33 waiting": lambda s, own, other: with_waiting(s, 33, Body(DROP, 1, 0)),
-    "255 waiting": lambda s, own, other: with_waiting(s, 255, Body(DROP, 1, 0)),
-}
+
+def stations_outside(s):
+    """From a station inside its limits, of N at least 2: stations with one limit broken, by name."""
+    own, other = s.own, (s.own + 1) % s.n
+    return {
+        "N is 0": s._replace(n=0),
+        "N is 17": s._replace(n=17),
+        "N is 255": s._replace(n=255),
+        "own number is N": s._replace(own=s.n),
+        "own number is 255": s._replace(own=255),
+        "self not acknowledged": at_place(s, "acked", own, False),
+        "own record not held": at_place(s, "held", own, False),
+        "own label 3": at_place(s, "labels", own, 3),
+        "other label 255": at_place(s, "labels", other, 255),
+        "last label 3": at_place(s, "labels", s.n - 1, 3),
+        "present body": s._replace(body=BAD_BODY),
+        "present body, too late": s._replace(body=TOO_LATE),
+        "own record's station": with_record(s, own, station=other),
+        "own record's body": with_record(s, own, body=BAD_BODY),
+        "own record's label": with_record(s, own, labels=(3,) + (0,) * 15),
+        "other record's station": with_record(s, other, station=own),
+        "other record's count": with_record(s, other, count=count_limit(s.n) + 1),
+        "other record's count 255": with_record(s, other, count=255),
+        "other record's body": with_record(s, other, body=TOO_LATE),
+        "other record's last label": with_record(
+            s, other, labels=(0,) * (s.n - 1) + (3,) * (PLACES - s.n + 1)),
+        "Empty in the own lane": with_lane(s, own, EMPTY),
+        "two in the own lane": with_lane(s, own, NEUTRAL, NEUTRAL),
+        "Empty in a lane": with_lane(s, other, NEUTRAL, EMPTY),
+        "bad body in a lane": with_lane(s, other, BAD_BODY),
+        "three in a lane": at_place(s, "lanes", other, Queue(3, (NEUTRAL,) * 2)),
+        "255 in a lane": at_place(s, "lanes", other, Queue(255, (NEUTRAL,) * 2)),
+        "Neutral waiting": with_waiting(s, 2, NEUTRAL),
+        "Empty waiting": with_waiting(s, 1, EMPTY),
+        "bad edit waiting": with_waiting(s, 32, TOO_LATE),
+        "33 waiting": with_waiting(s, 33, Body(DROP, 1, 0)),
+        "255 waiting": with_waiting(s, 255, Body(DROP, 1, 0)),
+    }

@@ -13,12 +13,12 @@ def successor(label):
 
 def pack(labels):
     """The label of station k at bits 2k and 2k + 1 of one number."""
-    return sum(label << (2 * k) for k, label in enumerate(labels))
+    return sum([label << (2 * k) for k, label in enumerate(labels)])
 
 
 def unpack(word):
     """The sixteen two-bit fields of a packed word; a field may be 3, which no label is."""
-    return tuple((word >> (2 * k)) & 3 for k in range(PLACES))
+    return tuple([(word >> (2 * k)) & 3 for k in range(PLACES)])
 
 
 class Record(NamedTuple):

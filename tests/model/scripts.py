@@ -114,10 +114,13 @@ def random_calls(rng, shape):
     return calls + random_posts(rng, shape, events)
 
 
+SIZES = tuple(range(1, 17)) + tuple(range(1, 9))  # small groups twice, for they run fast
+
+
 def random_shape(seed):
-    """N from 1 to 16 in turn; sparse and dense links, few and many posts."""
+    """The sizes in turn; sparse and dense links, few and many posts."""
     rng = random.Random(f"shape {seed}")
-    return Shape(n=seed % PLACES + 1,
+    return Shape(n=SIZES[seed % len(SIZES)],
                  rounds=rng.randint(6, 30),
                  density=rng.choice((0.03, 0.08, 0.15, 0.3, 0.6, 0.9, 1.0)),
                  post_rate=rng.choice((0.0, 0.5, 1.5, 4.0)),

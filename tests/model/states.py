@@ -57,15 +57,18 @@ def random_records(rng, n, sender):
 
 # Stations. Entries from N up, slots past a length and records that are not held hold anything.
 
+ANY_BODIES = (EMPTY, NEUTRAL, Body(DROP, 5, 0), Body(DROP, 0, 0),
+              Body(INSERT, 2**32 - 1, 2**31 - 1), Body(SHIFT, 1, -2**31))
+
+
 def any_record(rng):
-    """Any record that sixteen entries can hold, mostly outside its limits."""
-    return Record(*rng.randbytes(2), random_body(rng), tuple(rng.randbytes(PLACES)))
+    """Any record, mostly outside its limits."""
+    return Record(*rng.randbytes(2), rng.choice(ANY_BODIES), tuple(rng.randbytes(PLACES)))
 
 
 def any_slots(rng, bodies, size):
     """The bodies, and anything in the slots after them."""
-    anything = (EMPTY, NEUTRAL, random_edit(rng))
-    return tuple(bodies) + tuple(rng.choices(anything, k=size - len(bodies)))
+    return tuple(bodies) + tuple(rng.choices(ANY_BODIES, k=size - len(bodies)))
 
 
 def random_lane(rng, most):
@@ -101,9 +104,10 @@ def random_station(rng, n, own):
 
 
 def random_group(rng, n):
-    """Inside its limits; places from n up hold a station of any size."""
+    """Inside its limits; places from n up hold a station with any N and number."""
     stations = [random_station(rng, n, own) for own in range(n)]
-    return tuple(stations + [random_station(rng, rng.randint(1, PLACES), 0)] * (PLACES - n))
+    beyond = random_station(rng, 1, 0)._replace(n=rng.randrange(256), own=rng.randrange(256))
+    return tuple(stations + [beyond] * (PLACES - n))
 
 
 def some_stations(number, least_n=1):
