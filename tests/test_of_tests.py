@@ -27,10 +27,12 @@ from model.group import heard_stations
 @contextlib.contextmanager
 def broken(name, copy):
     """The model with a broken copy of one function, in every module that uses it."""
+    users = [module for key, module in sys.modules.items()
+             if key.startswith("model.") and hasattr(module, name)]
+    assert users, name
     with contextlib.ExitStack() as stack:
-        for module in [module for key, module in sys.modules.items() if key.startswith("model.")]:
-            if hasattr(module, name):
-                stack.enter_context(mock.patch.object(module, name, copy))
+        for module in users:
+            stack.enter_context(mock.patch.object(module, name, copy))
         yield
 
 
