@@ -4,7 +4,7 @@ from typing import NamedTuple
 
 from .bodies import EMPTY, EMPTY_KIND, Body
 from .frames import frame_refusal, read_frame
-from .queues import LANE_LIMIT, put_last, replaced
+from .queues import LANE_LIMIT, lane_with, replaced
 from .records import newer, own_label, successor
 from .refusals import DONE, LANE_FULL, OUTSIDE_LIMITS
 from .station import LARGEST_COUNT, Station, in_limits
@@ -30,11 +30,9 @@ def held_record(station, k):
 
 
 def hold(station, record):
-    """The record in its table place. Label entries from N up stay those of the record it replaces,
-    and are 0 where none was held."""
+    """The record in its table place, whose label entries from N up stay as they are."""
     k, n = record.station, station.n
-    high = station.table[k].labels[n:] if station.held[k] else record.labels[n:]
-    stored = record._replace(labels=record.labels[:n] + high)
+    stored = record._replace(labels=record.labels[:n] + station.table[k].labels[n:])
     return station._replace(table=replaced(station.table, k, stored),
                             held=replaced(station.held, k, True))
 
@@ -57,7 +55,7 @@ def take(station, k, body):
     lane = station.lanes[k]
     if lane.length >= LANE_LIMIT:
         raise LaneOverflow
-    return station._replace(lanes=replaced(station.lanes, k, put_last(lane, body)))
+    return station._replace(lanes=replaced(station.lanes, k, lane_with(lane, body)))
 
 
 def hear_record(station, record):

@@ -1,7 +1,6 @@
 """Waiting edits and lanes: slots with a length, oldest first (document 01, "A station and its calls").
 
-Slots past the length are no part of the state: nothing reads them, and the slot that a removal
-leaves free becomes Empty.
+Slots past the length are no part of the state: no limit looks at them.
 """
 
 from typing import NamedTuple
@@ -36,5 +35,19 @@ def put_last(queue, body):
 
 
 def without_oldest(queue):
-    kept = queue.slots[1:queue.length] + (EMPTY,)
-    return Queue(queue.length - 1, kept + queue.slots[queue.length:])
+    """Every place moves up by one, and the last becomes Empty."""
+    return Queue(queue.length - 1, queue.slots[1:] + (EMPTY,))
+
+
+# A lane that is changed has Empty in its unused places.
+
+def lane_of(bodies):
+    return Queue(len(bodies), tuple(bodies) + (EMPTY,) * (LANE_LIMIT - len(bodies)))
+
+
+def lane_with(lane, body):
+    return lane_of(contents(lane) + (body,))
+
+
+def lane_without_oldest(lane):
+    return lane_of(contents(lane)[1:])

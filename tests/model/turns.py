@@ -3,7 +3,7 @@
 from typing import NamedTuple
 
 from .bodies import EMPTY, EMPTY_KIND, NEUTRAL, Body
-from .queues import put_last, replaced, without_oldest
+from .queues import lane_with, lane_without_oldest, replaced, without_oldest
 from .records import PLACES, Record, successor
 from .refusals import DONE, OUTSIDE_LIMITS
 from .station import Station, in_limits
@@ -33,7 +33,7 @@ def air(station):
         return station, False, NO_ROW
     n = station.n
     row = tuple(lane.slots[0] for lane in station.lanes[:n])
-    lanes = tuple(without_oldest(lane) for lane in station.lanes[:n]) + station.lanes[n:]
+    lanes = tuple(lane_without_oldest(lane) for lane in station.lanes[:n]) + station.lanes[n:]
     return station._replace(lanes=lanes), True, row + NO_ROW[n:]
 
 
@@ -62,7 +62,7 @@ def take_own(station, body):
     """A started body other than Empty goes into the own lane."""
     if body.kind == EMPTY_KIND:
         return station
-    lane = put_last(station.lanes[station.own], body)
+    lane = lane_with(station.lanes[station.own], body)
     return station._replace(lanes=replaced(station.lanes, station.own, lane))
 
 
