@@ -85,10 +85,10 @@ pub fn body_of(kind: u32, event: u32, argument: i32) -> Body
 pub fn numbers_inside(kind: u32, event: u32, argument: i32) -> bool
     ensures { λ r. ⌜ r ≡ numbersInside kind event argument ⌝ }
 {
-    if 5 <= kind {
+    let at = kind as usize;
+    if KINDS.len() <= at {
         return false;
     }
-    let at = kind as usize;
     let row = KINDS[at];
     if event < row.least_event {
         return false;
@@ -96,10 +96,10 @@ pub fn numbers_inside(kind: u32, event: u32, argument: i32) -> bool
     if row.most_event < event {
         return false;
     }
-    if argument < row.least_argument {
-        return false;
+    if row.least_argument <= argument {
+        return argument <= row.most_argument;
     }
-    argument <= row.most_argument
+    false
 }
 
 // Is the body inside the limits of its kind?
