@@ -1,7 +1,7 @@
 // Bodies, the one table of kinds with their limits, and the refusal numbers.
 
 ghost use mathlib.Core.Path.{_≡_};
-ghost use Rattle.kinds.specs.Body.{kindOf, eventOf, argumentOf, bodyOf};
+ghost use Rattle.kinds.specs.Body.{kindOf, eventOf, argumentOf, bodyOf, isEmpty};
 ghost use Rattle.kinds.specs.Limits.{numbersInside, bodyInside, isEdit};
 
 pub mod refusals;
@@ -25,11 +25,36 @@ pub struct Limits {
 
 // The table of kinds, a row for each of 0 to 4.
 pub const KINDS: [Limits; 5] = [
-    Limits { least_event: 0, most_event: 0, least_argument: 0, most_argument: 0 },
-    Limits { least_event: 0, most_event: 0, least_argument: 0, most_argument: 0 },
-    Limits { least_event: 1, most_event: 99_999_999, least_argument: 0, most_argument: 2_159_999 },
-    Limits { least_event: 1, most_event: 99_999_999, least_argument: 0, most_argument: 0 },
-    Limits { least_event: 1, most_event: 99_999_999, least_argument: -90_000, most_argument: 90_000 },
+    Limits {
+        least_event: 0,
+        most_event: 0,
+        least_argument: 0,
+        most_argument: 0,
+    },
+    Limits {
+        least_event: 0,
+        most_event: 0,
+        least_argument: 0,
+        most_argument: 0,
+    },
+    Limits {
+        least_event: 1,
+        most_event: 99_999_999,
+        least_argument: 0,
+        most_argument: 2_159_999,
+    },
+    Limits {
+        least_event: 1,
+        most_event: 99_999_999,
+        least_argument: 0,
+        most_argument: 0,
+    },
+    Limits {
+        least_event: 1,
+        most_event: 99_999_999,
+        least_argument: -90_000,
+        most_argument: 90_000,
+    },
 ];
 
 pub fn kind_of(body: Body) -> u32
@@ -40,7 +65,10 @@ pub fn kind_of(body: Body) -> u32
         Body::Neutral => 1,
         Body::Insert { event: _, start: _ } => 2,
         Body::Drop { event: _ } => 3,
-        Body::Shift { event: _, frames: _ } => 4,
+        Body::Shift {
+            event: _,
+            frames: _,
+        } => 4,
     }
 }
 
@@ -68,15 +96,28 @@ pub fn argument_of(body: Body) -> i32
     }
 }
 
+// Is the body Empty?
+pub fn is_empty(body: Body) -> bool
+    ensures { λ r. ⌜ r ≡ isEmpty body ⌝ }
+{
+    kind_of(body) == 0
+}
+
 // The body with these numbers; where no kind has them the answer is Empty.
 pub fn body_of(kind: u32, event: u32, argument: i32) -> Body
     ensures { λ r. ⌜ r ≡ bodyOf kind event argument ⌝ }
 {
     match kind {
         1 => Body::Neutral,
-        2 => Body::Insert { event: event, start: argument },
+        2 => Body::Insert {
+            event: event,
+            start: argument,
+        },
         3 => Body::Drop { event: event },
-        4 => Body::Shift { event: event, frames: argument },
+        4 => Body::Shift {
+            event: event,
+            frames: argument,
+        },
         _ => Body::Empty,
     }
 }
