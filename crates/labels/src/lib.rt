@@ -2,9 +2,9 @@
 
 ghost use mathlib.Core.Path.{_≡_};
 ghost use mathlib.Core.Bool.{true};
-ghost use Prim.Native.Nat.{_<_, _≤_};
+ghost use Prim.Native.Nat.{_≤_};
 ghost use lib.ListN.{take};
-ghost use Rattle.labels.specs.Label.{isLabel, successor};
+ghost use Rattle.labels.specs.Label.{successor};
 ghost use Rattle.labels.specs.Packing.{packed, unpacked, allLabels, wordInside};
 ghost use Rattle.labels.specs.Newer.{isNewer, ageOf};
 
@@ -16,13 +16,29 @@ pub enum Age {
 
 // The label after this one.
 pub fn successor(label: u8) -> u8
-    requires { ⌜ isLabel label ≡ true ⌝ }
     ensures { λ r. ⌜ r ≡ successor label ⌝ }
 {
-    if label == 2 {
-        return 0;
+    (((label as u32) + 1) % 3) as u8
+}
+
+// Is a seen record with this own label and count newer than the held one, if one is held?
+pub fn newer(held: bool, held_label: u8, held_count: u8, seen_label: u8, seen_count: u8) -> Age
+    ensures { λ r. ⌜ r ≡ ageOf (isNewer held «held_label» «held_count» «seen_label» «seen_count») ⌝ }
+{
+    if !held {
+        return Age::Newer;
     }
-    label + 1
+    let next = successor(held_label);
+    if seen_label == next {
+        return Age::Newer;
+    }
+    if seen_label != held_label {
+        return Age::NotNewer;
+    }
+    if held_count < seen_count {
+        return Age::Newer;
+    }
+    Age::NotNewer
 }
 
 // The first n labels as one word, two bits each.
@@ -52,4 +68,17 @@ pub fn unpack(word: u32) -> [u8; 16]
         i += 1;
     }
     labels
+}
+
+// Does the word hold n labels and nothing above them? A label is no 3, so of its two bits one is 0.
+pub fn word_inside(word: u32, n: usize) -> bool
+    requires { ⌜ n ≤ 16 ⌝ }
+    ensures { λ r. ⌜ r ≡ wordInside n word ⌝ }
+{
+    let threes = (word & (word >> 1)) & 0x5555_5555;
+    if threes != 0 {
+        return false;
+    }
+    let wide = word as usize;
+    (wide >> (2 * n)) == 0
 }
