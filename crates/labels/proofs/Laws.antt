@@ -85,11 +85,12 @@ pub packed-less : (labels : List ℕ) → allLabels labels ≡ true → packed l
 unfolding packed
 packed-less [] h = omega arith
 packed-less (label ∷ labels) h =
-    omega
-    ( arith
-    , packed-less labels (all-tail label labels h)
-    , all-head label labels h
-    , pow-succ' 4 (length labels) )
+    omega (
+      arith,
+      packed-less labels (all-tail label labels h),
+      all-head label labels h,
+      pow-succ' 4 (length labels),
+    )
 
 -- and sixteen fit a word
 pub packed-fits : (labels : List ℕ) → allLabels labels ≡ true → length labels ≤ 16 → packed labels < 2 ^ 32
@@ -146,11 +147,12 @@ pub packed-inside :
     wordInside n (packed (take n labels)) ≡ true
 packed-inside n labels h l a =
     let e = length-take-le n labels l in
-    rw
-    ( unpack-pack-take n labels h l a
-    , take-at (take n labels) (replicate (16 - n) 0) n e
-    , drop-at (take n labels) (replicate (16 - n) 0) n e
-    , a )
+    rw (
+      unpack-pack-take n labels h l a,
+      take-at (take n labels) (replicate (16 - n) 0) n e,
+      drop-at (take n labels) (replicate (16 - n) 0) n e,
+      a,
+    )
     (zeros (16 - n))
 
 -- the word of zeros alone is 0
@@ -163,8 +165,8 @@ zero-word (suc n) word h =
     (eqb (word % 4) 0 && eqb (word / 4) 0)
     (eqb word 0)
     (λ t.
-        let p = both (eqb (word % 4) 0) (eqb (word / 4) 0) t in
-        eq-eqb word 0 (omega (arith, eqb-true (word % 4) 0 (p .0), eqb-true (word / 4) 0 (p .1))))
+    let p = both (eqb (word % 4) 0) (eqb (word / 4) 0) t in
+    eq-eqb word 0 (omega (arith, eqb-true (word % 4) 0 (p .0), eqb-true (word / 4) 0 (p .1))))
     (λ t. rw (eqb-true word 0 t)))
 
 pack-unpack-of :

@@ -36,12 +36,13 @@ threes-step : (n word : ℕ) → threes (suc n) word ≡ 4 * threes n (word / 4)
 threes-step n word =
     let m = evens n in
     let e : (1 + 4 * evens n) / 2 / 2 ≡ evens n = omega arith in
-    omega
-    ( arith
-    , and-step (shared word) (1 + 4 * evens n)
-    , and-step (shared word / 2) ((1 + 4 * evens n) / 2)
-    , ap₂ bitAnd (shared-quarter word) e
-    , and-step word (word / 2) )
+    omega (
+      arith,
+      and-step (shared word) (1 + 4 * evens n),
+      and-step (shared word / 2) ((1 + 4 * evens n) / 2),
+      ap₂ bitAnd (shared-quarter word) e,
+      and-step word (word / 2),
+    )
 
 all-threes : (n word : ℕ) → allLabels (unpacked n word) ≡ eqb (threes n word) 0
 unfolding allLabels unpacked
@@ -53,20 +54,21 @@ all-threes (suc n) word =
     (leb (word % 4) 2 && eqb (threes n (word / 4)) 0)
     (eqb (threes (suc n) word) 0)
     (λ t.
-        let p = both (leb (word % 4) 2) (eqb (threes n (word / 4)) 0) t in
-        eq-eqb
-        (threes (suc n) word)
-        0
-        (omega
-        ( arith
-        , threes-step n word
-        , leb-true (word % 4) 2 (p .0)
-        , eqb-true (threes n (word / 4)) 0 (p .1) )))
+    let p = both (leb (word % 4) 2) (eqb (threes n (word / 4)) 0) t in
+    eq-eqb
+    (threes (suc n) word)
+    0
+    (omega (
+      arith,
+      threes-step n word,
+      leb-true (word % 4) 2 (p .0),
+      eqb-true (threes n (word / 4)) 0 (p .1),
+    )))
     (λ t.
-        let z : threes (suc n) word ≡ 0 = eqb-true (threes (suc n) word) 0 t in
-        let low : word % 4 ≤ 2 = omega (arith, threes-step n word) in
-        let rest : threes n (word / 4) ≡ 0 = omega (arith, threes-step n word) in
-        rw (le-leb (word % 4) 2 low) (eq-eqb (threes n (word / 4)) 0 rest)))
+    let z : threes (suc n) word ≡ 0 = eqb-true (threes (suc n) word) 0 t in
+    let low : word % 4 ≤ 2 = omega (arith, threes-step n word) in
+    let rest : threes n (word / 4) ≡ 0 = omega (arith, threes-step n word) in
+    rw (le-leb (word % 4) 2 low) (eq-eqb (threes n (word / 4)) 0 rest)))
 
 four : (n : ℕ) → 2 ^ (2 * n) ≡ 4 ^ n
 four zero = refl

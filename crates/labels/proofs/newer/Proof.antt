@@ -25,30 +25,32 @@ returns-3 : tie.Need-returns-3
 returns-3 c =
     let a = c .before .before .before .before .args in
     let n : a .seen-label ≡ successor (a .held-label) → ⊥ =
-            λ e. c .before .if2 .left (e ∙ sym (c .before .before .successor .ensures)) in
+    λ e. c .before .if2 .left (e ∙ sym (c .before .before .successor .ensures)) in
     simp (c .before .before .before .if1 .left, ne-eqb _ _ n, ne-eqb _ _ (c .if3 .taken))
 
 returns-4 : tie.Need-returns-4
 returns-4 c =
     let a = c .before .before .before .before .before .args in
     let n : a .seen-label ≡ successor (a .held-label) → ⊥ =
-            λ e. c .before .before .if2 .left (e ∙ sym (c .before .before .before .successor .ensures)) in
-    simp
-    ( c .before .before .before .before .if1 .left
-    , ne-eqb _ _ n
-    , eq-eqb _ _ (c .before .if3 .left)
-    , lt-ltb _ _ (c .if4 .taken) )
+    λ e. c .before .before .if2 .left (e ∙ sym (c .before .before .before .successor .ensures)) in
+    simp (
+      c .before .before .before .before .if1 .left,
+      ne-eqb _ _ n,
+      eq-eqb _ _ (c .before .if3 .left),
+      lt-ltb _ _ (c .if4 .taken),
+    )
 
 returns-5 : tie.Need-returns-5
 returns-5 c =
     let a = c .before .before .before .before .before .args in
     let n : a .seen-label ≡ successor (a .held-label) → ⊥ =
-            λ e. c .before .before .if2 .left (e ∙ sym (c .before .before .before .successor .ensures)) in
-    simp
-    ( c .before .before .before .before .if1 .left
-    , ne-eqb _ _ n
-    , eq-eqb _ _ (c .before .if3 .left)
-    , le-ltb _ _ (c .if4 .left) )
+    λ e. c .before .before .if2 .left (e ∙ sym (c .before .before .before .successor .ensures)) in
+    simp (
+      c .before .before .before .before .if1 .left,
+      ne-eqb _ _ n,
+      eq-eqb _ _ (c .before .if3 .left),
+      le-ltb _ _ (c .if4 .left),
+    )
 
 pub newer-spec : {M : Type 1} → statement M
 newer-spec =
