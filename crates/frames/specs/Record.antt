@@ -22,7 +22,7 @@ recordOf bytes =
       station = getD bytes 0 0;
       count = getD bytes 1 0;
       body = bodyOf (getD bytes 2 0) (wordAt bytes 4) (signed (wordAt bytes 8));
-      labels = unpacked 16 (wordAt bytes 12)
+      labels = unpacked 16 (wordAt bytes 12);
     }
 
 -- the sixteen bytes of a record among n stations; its labels from n up are written 0

@@ -1,6 +1,5 @@
 // Bodies, the one table of kinds with their limits, and the refusal numbers.
 
-
 pub mod refusals;
 
 // What a record carries: document 01's five kinds, each with its own numbers.
@@ -22,9 +21,34 @@ pub struct Limits {
 
 // The table of kinds, a row for each of 0 to 4.
 pub const KINDS: [Limits; 5] = [
-    Limits { least_event: 0, most_event: 0, least_argument: 0, most_argument: 0 },
-    Limits { least_event: 0, most_event: 0, least_argument: 0, most_argument: 0 },
-    Limits { least_event: 1, most_event: 99_999_999, least_argument: 0, most_argument: 2_159_999 },
-    Limits { least_event: 1, most_event: 99_999_999, least_argument: 0, most_argument: 0 },
-    Limits { least_event: 1, most_event: 99_999_999, least_argument: -90_000, most_argument: 90_000 },
+    Limits {
+        least_event: 0,
+        most_event: 0,
+        least_argument: 0,
+        most_argument: 0,
+    },
+    Limits {
+        least_event: 0,
+        most_event: 0,
+        least_argument: 0,
+        most_argument: 0,
+    },
+    Limits {
+        least_event: 1,
+        most_event: 99_999_999,
+        least_argument: 0,
+        most_argument: 2_159_999,
+    },
+    Limits {
+        least_event: 1,
+        most_event: 99_999_999,
+        least_argument: 0,
+        most_argument: 0,
+    },
+    Limits {
+        least_event: 1,
+        most_event: 99_999_999,
+        least_argument: -90_000,
+        most_argument: 90_000,
+    },
 ];

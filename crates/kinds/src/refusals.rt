@@ -1,14 +1,25 @@
 // What a call returns: 0 where it is done, else the refusal of document 01's list "Turned down".
 
 pub const DONE: u32 = 0;
+
 pub const BAD_NUMBER: u32 = 1;
+
 pub const OUTSIDE_LIMITS: u32 = 2;
+
 pub const QUEUE_FULL: u32 = 3;
+
 pub const NOT_AN_EDIT: u32 = 4;
+
 pub const BAD_SHAPE: u32 = 5;
+
 pub const BAD_ADDRESS: u32 = 6;
+
 pub const BAD_RECORD: u32 = 7;
+
 pub const LANE_FULL: u32 = 8;
+
 pub const SHORT_BUFFER: u32 = 9;
+
 pub const COUNT_TOO_HIGH: u32 = 10;
+
 pub const MALFORMED_LINE: u32 = 11;

@@ -44,7 +44,7 @@ posted s b =
       labels = s .labels;
       held = s .held;
       table = s .table;
-      lanes = s .lanes
+      lanes = s .lanes;
     }
 
 -- 4, 3: what a post judges of the body and the queue
@@ -93,9 +93,9 @@ unfoldable pub hearCall : Station → List ℕ → Heard
 hearCall s bytes =
     let h = hearRecords (silent s) (recordsOf bytes) in
     let refusal =
-      refuse (not (stationInside s)) outsideLimits
-      (refuse (not (eqb (frameRefusal bytes (s .n) (s .own)) done)) (frameRefusal bytes (s .n) (s .own))
-      (refuse (h .overfull) laneFull done)) in
+    refuse (not (stationInside s)) outsideLimits
+    (refuse (not (eqb (frameRefusal bytes (s .n) (s .own)) done)) (frameRefusal bytes (s .n) (s .own))
+    (refuse (h .overfull) laneFull done)) in
     cond (eqb refusal done)
     (record { refusal = done; station = h .station; taken = sourcesOf (h .takings) })
     (record { refusal = refusal; station = s; taken = replicate 16 false })

@@ -53,7 +53,7 @@ heardNewer s r =
       labels = set (s .labels) k (cond (advances s r) (successor (labelOf s k)) (labelOf s k));
       held = set (s .held) k true;
       table = set (s .table) k (replaced (s .n) (recordOf s k) r);
-      lanes = set (s .lanes) k (cond (takes s r) (pushed (laneAt s k) (r .body)) (laneAt s k))
+      lanes = set (s .lanes) k (cond (takes s r) (pushed (laneAt s k) (r .body)) (laneAt s k));
     }
 
 -- a station while it hears: what it took so far, in the order heard, and whether a lane that held two would have got a third
@@ -73,7 +73,7 @@ hearRecord h r =
     (record {
       station = heardNewer s r;
       takings = h .takings ++ cond (takes s r) (record { source = r .station; body = r .body } ∷ []) [];
-      overfull = h .overfull || (takes s r && leb 2 ((laneAt s (r .station)) .len))
+      overfull = h .overfull || (takes s r && leb 2 ((laneAt s (r .station)) .len));
     })
     h
 

@@ -65,5 +65,5 @@ freshStation n own =
       labels = freshLabels own;
       held = set (replicate 16 false) own true;
       table = set (replicate 16 zeroRecord) own (record { station = own; count = 0; body = Empty; labels = freshLabels own });
-      lanes = replicate 16 noLane
+      lanes = replicate 16 noLane;
     }

@@ -15,7 +15,7 @@ use Rattle.station.specs.declared.Queue.{Queue}
 use Rattle.station.specs.declared.Slot.{Slot}
 use Rattle.station.specs.declared.Station.{Station}
 use Rattle.station.specs.declared.TurnReport.{TurnReport}
-use Rattle.station.specs.Lane.{pushed, popped}
+use Rattle.station.specs.Lane.{noLane, pushed, popped}
 use Rattle.station.specs.Queue.{noSlot, oldest, unqueued}
 use Rattle.station.specs.State.{labelOf, ackedOf, recordOf, laneAt}
 
@@ -37,7 +37,7 @@ ends s = allBelow (s .n) (ackedOf s)
 
 -- the own lane is empty after the airing step, so a body may start (H3)
 abbrev pub mayStart : Station → Bool
-mayStart s = eqb ((getD (lanesAfter s) (s .own) Rattle.station.specs.Lane.noLane) .len) 0
+mayStart s = eqb ((getD (lanesAfter s) (s .own) noLane) .len) 0
 
 -- an edit waits, and may start
 abbrev pub startsEdit : Station → Bool
@@ -62,9 +62,9 @@ passed s =
       held = s .held;
       table = s .table;
       lanes =
-        cond (eqb (kindOf (startedBody s)) 0)
-        (lanesAfter s)
-        (set (lanesAfter s) (s .own) (pushed (getD (lanesAfter s) (s .own) Rattle.station.specs.Lane.noLane) (startedBody s)))
+          cond (eqb (kindOf (startedBody s)) 0)
+          (lanesAfter s)
+          (set (lanesAfter s) (s .own) (pushed (getD (lanesAfter s) (s .own) noLane) (startedBody s)));
     }
 
 -- the own record with the station's present values; its labels from n up stay
@@ -74,7 +74,7 @@ ownRecord s =
       station = s .own;
       count = s .count;
       body = s .body;
-      labels = fill (s .n) (labelOf s) ((recordOf s (s .own)) .labels)
+      labels = fill (s .n) (labelOf s) ((recordOf s (s .own)) .labels);
     }
 
 unfoldable pub rewritten : Station → Station
@@ -89,7 +89,7 @@ rewritten s =
       labels = s .labels;
       held = s .held;
       table = set (s .table) (s .own) (ownRecord s);
-      lanes = s .lanes
+      lanes = s .lanes;
     }
 
 -- the station after its turn
@@ -104,5 +104,5 @@ turnReport s =
       row = cond (airs s) (rowOf s) (replicate 16 noSlot);
       ended = ends s;
       «ended_body» = cond (ends s) (s .body) Empty;
-      «started_body» = startedBody s
+      «started_body» = startedBody s;
     }

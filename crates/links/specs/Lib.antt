@@ -1,0 +1,5 @@
+pub mod Log
+pub mod Relay
+pub mod EndRule
+pub mod Clock
+pub mod Number

@@ -1,0 +1,4 @@
+// Links between stations: who hears whom in a round.
+pub fn two() -> u8 {
+    2
+}
