@@ -1,0 +1,140 @@
+-- Laws of lists read by place: what holds at every place below n, what a filled list holds below n and from n up, and what is gathered.
+-- Each is an induction on n, whose last place is looked at first.
+use mathlib.Core.Path.{_≡_, refl, sym, ap, _∙_}
+use mathlib.Core.Bool.{Bool, true, false, cond, _&&_, _||_}
+use mathlib.Core.List.{List, [], _∷_, _++_}
+use Prim.Native.Nat.{ℕ, zero, suc, _≤_, _<_}
+use native.Mathlib.Decide.{ℕ-discrete}
+use native.Mathlib.Omega.{arith}
+use lib.ListN.{getD, set, length, length-set, length-append, List·getD-append}
+use lib.Seq.{getD-set-same, getD-set-other, getD-at}
+use Rattle.places.specs.Places.{allBelow, anyBelow, fill, gather, tabulate}
+
+pub and-both : {a b : Bool} → a ≡ true → b ≡ true → (a && b) ≡ true
+and-both p q = rw (p, q)
+
+pub and-left : (a b : Bool) → (a && b) ≡ true → a ≡ true
+and-left true b h = refl
+and-left false b h = h
+
+pub and-right : (a b : Bool) → (a && b) ≡ true → b ≡ true
+and-right true b h = h
+and-right false b h = let z : false ≡ true = h in absurd (mathlib.Core.Bool.false≢true z)
+
+pub or-left : (a b : Bool) → (a || b) ≡ false → a ≡ false
+or-left true b h = h
+or-left false b h = refl
+
+pub or-right : (a b : Bool) → (a || b) ≡ false → b ≡ false
+or-right true b h = let z : true ≡ false = h in absurd (mathlib.Core.Bool.true≢false z)
+or-right false b h = h
+
+pub allBelow-at : (n : ℕ) (test : ℕ → Bool) → allBelow n test ≡ true → (k : ℕ) → k < n → test k ≡ true
+unfolding allBelow
+allBelow-at zero test h k l = absurd (omega arith)
+allBelow-at (suc n) test h k l =
+    elim (ℕ-discrete k n) [
+      | yes e ↦ rw e (and-right (allBelow n test) (test n) h)
+      | no d ↦ allBelow-at n test (and-left (allBelow n test) (test n) h) k (omega arith)
+    ]
+
+pub allBelow-make : (n : ℕ) (test : ℕ → Bool) → ((k : ℕ) → k < n → test k ≡ true) → allBelow n test ≡ true
+unfolding allBelow
+allBelow-make zero test h = refl
+allBelow-make (suc n) test h = and-both (allBelow-make n test (λ k l. h k (omega arith))) (h n (omega arith))
+
+-- two tests that agree below n
+pub allBelow-ext : (n : ℕ) (f g : ℕ → Bool) → ((k : ℕ) → k < n → f k ≡ g k) → allBelow n f ≡ allBelow n g
+unfolding allBelow
+allBelow-ext zero f g h = refl
+allBelow-ext (suc n) f g h = rw (allBelow-ext n f g (λ k l. h k (omega arith)), h n (omega arith))
+
+-- one place at which the test fails
+pub allBelow-fails : (n : ℕ) (test : ℕ → Bool) (k : ℕ) → k < n → test k ≡ false → allBelow n test ≡ false
+allBelow-fails n test k l e = go (allBelow n test) refl
+  where
+    go : (b : Bool) → allBelow n test ≡ b → b ≡ false
+    go true h = sym (allBelow-at n test h k l) ∙ e
+    go false h = refl
+
+pub anyBelow-none : (n : ℕ) (test : ℕ → Bool) → ((k : ℕ) → k < n → test k ≡ false) → anyBelow n test ≡ false
+unfolding anyBelow
+anyBelow-none zero test h = refl
+anyBelow-none (suc n) test h = rw (anyBelow-none n test (λ k l. h k (omega arith)), h n (omega arith))
+
+pub anyBelow-at : (n : ℕ) (test : ℕ → Bool) → anyBelow n test ≡ false → (k : ℕ) → k < n → test k ≡ false
+unfolding anyBelow
+anyBelow-at zero test h k l = absurd (omega arith)
+anyBelow-at (suc n) test h k l =
+    elim (ℕ-discrete k n) [
+      | yes e ↦ rw e (or-right (anyBelow n test) (test n) h)
+      | no d ↦ anyBelow-at n test (or-left (anyBelow n test) (test n) h) k (omega arith)
+    ]
+
+pub anyBelow-hit : (n : ℕ) (test : ℕ → Bool) (k : ℕ) → k < n → test k ≡ true → anyBelow n test ≡ true
+anyBelow-hit n test k l e = go (anyBelow n test) refl
+  where
+    go : (b : Bool) → anyBelow n test ≡ b → b ≡ true
+    go true h = refl
+    go false h = sym (anyBelow-at n test h k l) ∙ e
+
+pub anyBelow-ext : (n : ℕ) (f g : ℕ → Bool) → ((k : ℕ) → k < n → f k ≡ g k) → anyBelow n f ≡ anyBelow n g
+unfolding anyBelow
+anyBelow-ext zero f g h = refl
+anyBelow-ext (suc n) f g h = rw (anyBelow-ext n f g (λ k l. h k (omega arith)), h n (omega arith))
+
+module _ {A : Type 0} where
+  pub length-fill : (n : ℕ) (f : ℕ → A) (l : List A) → length (fill n f l) ≡ length l
+  unfolding fill
+  length-fill zero f l = refl
+  length-fill (suc n) f l = simp length-set (length-fill n f l)
+
+  -- a place below n
+  pub fill-below : (n : ℕ) (f : ℕ → A) (l : List A) (k : ℕ) (d : A) → k < n → k < length l → getD (fill n f l) k d ≡ f k
+  unfolding fill
+  fill-below zero f l k d h b = absurd (omega arith)
+  fill-below (suc n) f l k d h b =
+      elim (ℕ-discrete k n) [
+        | yes e ↦ rw e (getD-set-same (fill n f l) n (f n) d (rw length-fill (rw e at b)))
+        | no ne ↦ getD-set-other (fill n f l) n k (f n) d ne ∙ fill-below n f l k d (omega arith) b
+      ]
+
+  -- a place from n up
+  pub fill-above : (n : ℕ) (f : ℕ → A) (l : List A) (k : ℕ) (d : A) → n ≤ k → getD (fill n f l) k d ≡ getD l k d
+  unfolding fill
+  fill-above zero f l k d h = refl
+  fill-above (suc n) f l k d h =
+      getD-set-other (fill n f l) n k (f n) d (λ e. absurd (omega arith)) ∙ fill-above n f l k d (omega arith)
+
+  -- two functions that agree below n
+  pub fill-ext : (n : ℕ) (f g : ℕ → A) (l : List A) → ((k : ℕ) → k < n → f k ≡ g k) → fill n f l ≡ fill n g l
+  unfolding fill
+  fill-ext zero f g l h = refl
+  fill-ext (suc n) f g l h = rw (fill-ext n f g l (λ k b. h k (omega arith)), h n (omega arith))
+
+  pub gather-ext :
+      (n : ℕ) (t₁ t₂ : ℕ → Bool) (f g : ℕ → A) → ((k : ℕ) → k < n → t₁ k ≡ t₂ k) → ((k : ℕ) → k < n → f k ≡ g k) →
+      gather n t₁ f ≡ gather n t₂ g
+  unfolding gather
+  gather-ext zero t₁ t₂ f g h e = refl
+  gather-ext (suc n) t₁ t₂ f g h e =
+      rw (gather-ext n t₁ t₂ f g (λ k b. h k (omega arith)) (λ k b. e k (omega arith)), h n (omega arith), e n (omega arith))
+
+  pub length-tabulate : (n : ℕ) (f : ℕ → A) → length (tabulate n f) ≡ n
+  unfolding tabulate
+  length-tabulate zero f = refl
+  length-tabulate (suc n) f = simp (length-append, length-tabulate n f) (omega arith)
+
+  pub tabulate-at : (n : ℕ) (f : ℕ → A) (k : ℕ) (d : A) → k < n → getD (tabulate n f) k d ≡ f k
+  unfolding tabulate
+  tabulate-at zero f k d h = absurd (omega arith)
+  tabulate-at (suc n) f k d h =
+      elim (ℕ-discrete k n) [
+        | yes e ↦ rw e (getD-at (tabulate n f) (f n) [] d n (length-tabulate n f))
+        | no ne ↦ List·getD-append (tabulate n f) (f n ∷ []) d k (rw length-tabulate (omega arith)) ∙ tabulate-at n f k d (omega arith)
+      ]
+
+  pub tabulate-ext : (n : ℕ) (f g : ℕ → A) → ((k : ℕ) → k < n → f k ≡ g k) → tabulate n f ≡ tabulate n g
+  unfolding tabulate
+  tabulate-ext zero f g h = refl
+  tabulate-ext (suc n) f g h = rw (tabulate-ext n f g (λ k b. h k (omega arith)), h n (omega arith))
