@@ -3,3 +3,7 @@ pub mod HearRecord
 pub mod Shape
 pub mod LimitsQueue
 pub mod Limits
+pub mod LimitsFresh
+pub mod HeardNewer
+pub mod LimitsHear
+pub mod LimitsHearing

@@ -44,7 +44,7 @@ lane-second most l h p =
     (and-right (leb (l .len) most && (eqb (l .len) 0 || takeable (l .first))) (leb (l .len) 1 || takeable (l .second)) h)
     (lt-leb (l .len) 1 p)
 
-lane-none : (most : ℕ) (a b : Body) → laneInside most (lane 0 a b) ≡ true
+pub lane-none : (most : ℕ) (a b : Body) → laneInside most (lane 0 a b) ≡ true
 unfolding laneInside
 lane-none most a b = and-both (and-both (leb·zero most) refl) refl
 
