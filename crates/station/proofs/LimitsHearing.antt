@@ -74,3 +74,101 @@ module _ (s : Station) (r : Record) (other : r .station ≡ s .own → ⊥) wher
       (total-raised (s .n) (otherLen s) (otherLen (heardNewer s r)) (r .station) l
       (rw (heard-own s r, ne-eqb (r .station) (s .own) other, heard-lane s r b, e) (pushed-len (laneAt s (r .station)) (r .body) room))
       (λ k m ne. otherLen-same k ne))
+
+-- what holds of a hearing that began silent at s
+pub record Hears (s : Station) (h : Hearing) : Type 0 where
+  pub n : h .station .n ≡ s .n
+  pub own : h .station .own ≡ s .own
+  pub waiting : h .station .waiting ≡ s .waiting
+  pub body : h .station .body ≡ s .body
+  pub lane : laneAt (h .station) (s .own) ≡ laneAt s (s .own)
+  pub shaped : Shaped (h .station)
+  pub inside : h .overfull ≡ false → Inside (h .station)
+  pub takings : h .overfull ≡ false → length (h .takings) ≤ otherLens (h .station)
+
+-- every record of a list may stand in a frame among n
+abbrev pub AllCarried : ℕ → List Record → Type 0
+AllCarried n [] = Unit {0}
+AllCarried n (r ∷ rs) = Carried n r × AllCarried n rs
+
+module _ (s : Station) (c : Inside s) where
+  pub hears-silent : Shaped s → Hears s (silent s)
+  hears-silent shape =
+      record {
+        n = refl;
+        own = refl;
+        waiting = refl;
+        body = refl;
+        lane = refl;
+        shaped = shape;
+        inside = λ f. c;
+        takings = λ f. omega arith;
+      }
+
+  module _ (h : Hearing) (r : Record) (hs : Hears s h) (carry : Carried (s .n) r) where
+    here : Carried (h .station .n) r
+    here = subst (λ (m : ℕ). Carried m r) (sym (hs .n)) carry
+
+    below : r .station < 16
+    below = omega (arith, c .high, carry .station)
+
+    fits : r .station < length (h .station .lanes)
+    fits = rw (hs .shaped .lanes) below
+
+    takings-most :
+        counts (h .station) r ≡ true → (h .overfull || (takes (h .station) r && leb 2 ((laneAt (h .station) (r .station)) .len))) ≡ false →
+        length (h .takings ++ cond (takes (h .station) r) (record { source = r .station; body = r .body } ∷ []) [])
+        ≤ otherLens (heardNewer (h .station) r)
+    takings-most e f = go (takes (h .station) r) refl
+      where
+        full : Bool
+        full = takes (h .station) r && leb 2 ((laneAt (h .station) (r .station)) .len)
+
+        so-far : length (h .takings) ≤ otherLens (h .station)
+        so-far = hs .takings (or-left (h .overfull) full f)
+
+        go :
+            (t : Bool) → takes (h .station) r ≡ t →
+            length (h .takings ++ cond t (record { source = r .station; body = r .body } ∷ []) []) ≤ otherLens (heardNewer (h .station) r)
+        go true taken =
+            let room : (laneAt (h .station) (r .station)) .len < 2 =
+                leb-false 2 ((laneAt (h .station) (r .station)) .len) (rw taken at (or-right (h .overfull) full f)) in
+            let more : otherLens (heardNewer (h .station) r) ≡ suc (otherLens (h .station)) =
+                otherLens-raised (h .station) r (counts-other (h .station) r e) (here .station) fits taken room in
+            rw (length-append (h .takings) (record { source = r .station; body = r .body } ∷ [])) (omega (arith, so-far))
+        go false passed =
+            let same : otherLens (heardNewer (h .station) r) ≡ otherLens (h .station) =
+                otherLens-kept (h .station) r (counts-other (h .station) r e) fits passed in
+            rw (append-nil (h .takings)) (omega (arith, so-far))
+
+    hears-newer : counts (h .station) r ≡ true → Hears s (heardOne h r)
+    unfolding heardOne
+    hears-newer e =
+        let full = takes (h .station) r && leb 2 ((laneAt (h .station) (r .station)) .len) in
+        record {
+          n = heard-n (h .station) r ∙ hs .n;
+          own = heard-own (h .station) r ∙ hs .own;
+          waiting = heard-waiting (h .station) r ∙ hs .waiting;
+          body = heard-body (h .station) r ∙ hs .body;
+          lane = heard-lane-other (h .station) r (s .own) (λ z. counts-other (h .station) r e (sym z ∙ sym (hs .own))) ∙ hs .lane;
+          shaped = heardNewer-shaped (h .station) r below (hs .shaped);
+          inside =
+              λ f. heard-holds (h .station) r (hs .shaped) (hs .inside (or-left (h .overfull) full f)) here e (or-right (h .overfull) full f);
+          takings = takings-most e;
+        }
+
+    pub hears-record : Hears s (hearRecord h r)
+    hears-record = go (counts (h .station) r) refl
+      where
+        go : (t : Bool) → counts (h .station) r ≡ t → Hears s (hearRecord h r)
+        go true e = rw (hearRecord-counts h r e) (hears-newer e)
+        go false e = rw (hearRecord-skips h r e) hs
+
+  pub hears-records : (h : Hearing) (rs : List Record) → Hears s h → AllCarried (s .n) rs → Hears s (hearRecords h rs)
+  unfolding hearRecords
+  hears-records h [] hs all = hs
+  hears-records h (r ∷ rs) hs all = hears-records (hearRecord h r) rs (hears-record h r hs (all .0)) (all .1)
+
+-- at most two in the lane of each of at most fifteen others
+pub takings-bounded : (s : Station) (h : Hearing) → Hears s h → h .overfull ≡ false → length (h .takings) ≤ 30
+takings-bounded s h hs f = omega (arith, hs .takings f, otherLens-most (h .station) (hs .inside f))
