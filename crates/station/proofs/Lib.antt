@@ -7,3 +7,5 @@ pub mod LimitsFresh
 pub mod HeardNewer
 pub mod LimitsHear
 pub mod LimitsHearing
+pub mod LimitsSent
+pub mod TurnLaws
