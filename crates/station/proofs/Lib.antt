@@ -9,3 +9,4 @@ pub mod LimitsHear
 pub mod LimitsHearing
 pub mod LimitsSent
 pub mod TurnLaws
+pub mod LimitsTurn

@@ -99,7 +99,7 @@ hearRecord-shaped h r b c = go (counts (h .station) r) refl
     go true e = rw (hearRecord-counts h r e, heardOne-station h r) (heardNewer-shaped (h .station) r b c)
     go false e = rw (hearRecord-skips h r e) c
 
-lanesAfter-length : (s : Station) → length (lanesAfter s) ≡ length (s .lanes)
+pub lanesAfter-length : (s : Station) → length (lanesAfter s) ≡ length (s .lanes)
 unfolding lanesAfter
 lanesAfter-length s =
     cond-keeps (λ (l : List Lane). length l ≡ length (s .lanes)) (airs s) (fill (s .n) (λ k. popped (laneAt s k)) (s .lanes)) (s .lanes)
