@@ -75,25 +75,25 @@ module _ (s : Station) (r : Record) (other : r .station ≡ s .own → ⊥) wher
       (rw (heard-own s r, ne-eqb (r .station) (s .own) other, heard-lane s r b, e) (pushed-len (laneAt s (r .station)) (r .body) room))
       (λ k m ne. otherLen-same k ne))
 
--- what holds of a hearing that began silent at s
-pub record Hears (s : Station) (h : Hearing) : Type 0 where
-  pub n : h .station .n ≡ s .n
-  pub own : h .station .own ≡ s .own
-  pub waiting : h .station .waiting ≡ s .waiting
-  pub body : h .station .body ≡ s .body
-  pub lane : laneAt (h .station) (s .own) ≡ laneAt s (s .own)
+-- what holds of a hearing h that began as a
+pub record Hears (a h : Hearing) : Type 0 where
+  pub n : h .station .n ≡ a .station .n
+  pub own : h .station .own ≡ a .station .own
+  pub waiting : h .station .waiting ≡ a .station .waiting
+  pub body : h .station .body ≡ a .station .body
+  pub lane : laneAt (h .station) (a .station .own) ≡ laneAt (a .station) (a .station .own)
   pub shaped : Shaped (h .station)
   pub inside : h .overfull ≡ false → Inside (h .station)
-  pub takings : h .overfull ≡ false → length (h .takings) ≤ otherLens (h .station)
+  pub takings : h .overfull ≡ false → length (h .takings) ≤ length (a .takings) + otherLens (h .station)
 
 -- every record of a list may stand in a frame among n
 abbrev pub AllCarried : ℕ → List Record → Type 0
 AllCarried n [] = Unit {0}
 AllCarried n (r ∷ rs) = Carried n r × AllCarried n rs
 
-module _ (s : Station) (c : Inside s) where
-  pub hears-silent : Shaped s → Hears s (silent s)
-  hears-silent shape =
+module _ (a : Hearing) (c : Inside (a .station)) where
+  pub hears-none : Shaped (a .station) → Hears a a
+  hears-none shape =
       record {
         n = refl;
         own = refl;
@@ -105,7 +105,7 @@ module _ (s : Station) (c : Inside s) where
         takings = λ f. omega arith;
       }
 
-  module _ (h : Hearing) (r : Record) (hs : Hears s h) (carry : Carried (s .n) r) where
+  module _ (h : Hearing) (r : Record) (hs : Hears a h) (carry : Carried (a .station .n) r) where
     here : Carried (h .station .n) r
     here = subst (λ (m : ℕ). Carried m r) (sym (hs .n)) carry
 
@@ -118,18 +118,19 @@ module _ (s : Station) (c : Inside s) where
     takings-most :
         counts (h .station) r ≡ true → (h .overfull || (takes (h .station) r && leb 2 ((laneAt (h .station) (r .station)) .len))) ≡ false →
         length (h .takings ++ cond (takes (h .station) r) (record { source = r .station; body = r .body } ∷ []) [])
-        ≤ otherLens (heardNewer (h .station) r)
+        ≤ length (a .takings) + otherLens (heardNewer (h .station) r)
     takings-most e f = go (takes (h .station) r) refl
       where
         full : Bool
         full = takes (h .station) r && leb 2 ((laneAt (h .station) (r .station)) .len)
 
-        so-far : length (h .takings) ≤ otherLens (h .station)
+        so-far : length (h .takings) ≤ length (a .takings) + otherLens (h .station)
         so-far = hs .takings (or-left (h .overfull) full f)
 
         go :
             (t : Bool) → takes (h .station) r ≡ t →
-            length (h .takings ++ cond t (record { source = r .station; body = r .body } ∷ []) []) ≤ otherLens (heardNewer (h .station) r)
+            length (h .takings ++ cond t (record { source = r .station; body = r .body } ∷ []) [])
+            ≤ length (a .takings) + otherLens (heardNewer (h .station) r)
         go true taken =
             let room : (laneAt (h .station) (r .station)) .len < 2 =
                 leb-false 2 ((laneAt (h .station) (r .station)) .len) (rw taken at (or-right (h .overfull) full f)) in
@@ -141,7 +142,7 @@ module _ (s : Station) (c : Inside s) where
                 otherLens-kept (h .station) r (counts-other (h .station) r e) fits passed in
             rw (append-nil (h .takings)) (omega (arith, so-far))
 
-    hears-newer : counts (h .station) r ≡ true → Hears s (heardOne h r)
+    hears-newer : counts (h .station) r ≡ true → Hears a (heardOne h r)
     unfolding heardOne
     hears-newer e =
         let full = takes (h .station) r && leb 2 ((laneAt (h .station) (r .station)) .len) in
@@ -150,25 +151,48 @@ module _ (s : Station) (c : Inside s) where
           own = heard-own (h .station) r ∙ hs .own;
           waiting = heard-waiting (h .station) r ∙ hs .waiting;
           body = heard-body (h .station) r ∙ hs .body;
-          lane = heard-lane-other (h .station) r (s .own) (λ z. counts-other (h .station) r e (sym z ∙ sym (hs .own))) ∙ hs .lane;
+          lane =
+              heard-lane-other (h .station) r (a .station .own) (λ z. counts-other (h .station) r e (sym z ∙ sym (hs .own))) ∙ hs .lane;
           shaped = heardNewer-shaped (h .station) r below (hs .shaped);
           inside =
               λ f. heard-holds (h .station) r (hs .shaped) (hs .inside (or-left (h .overfull) full f)) here e (or-right (h .overfull) full f);
           takings = takings-most e;
         }
 
-    pub hears-record : Hears s (hearRecord h r)
+    pub hears-record : Hears a (hearRecord h r)
     hears-record = go (counts (h .station) r) refl
       where
-        go : (t : Bool) → counts (h .station) r ≡ t → Hears s (hearRecord h r)
+        go : (t : Bool) → counts (h .station) r ≡ t → Hears a (hearRecord h r)
         go true e = rw (hearRecord-counts h r e) (hears-newer e)
         go false e = rw (hearRecord-skips h r e) hs
 
-  pub hears-records : (h : Hearing) (rs : List Record) → Hears s h → AllCarried (s .n) rs → Hears s (hearRecords h rs)
+  pub hears-records : (h : Hearing) (rs : List Record) → Hears a h → AllCarried (a .station .n) rs → Hears a (hearRecords h rs)
   unfolding hearRecords
   hears-records h [] hs all = hs
   hears-records h (r ∷ rs) hs all = hears-records (hearRecord h r) rs (hears-record h r hs (all .0)) (all .1)
 
 -- at most two in the lane of each of at most fifteen others
-pub takings-bounded : (s : Station) (h : Hearing) → Hears s h → h .overfull ≡ false → length (h .takings) ≤ 30
+pub takings-bounded : (s : Station) (h : Hearing) → Hears (silent s) h → h .overfull ≡ false → length (h .takings) ≤ 30
 takings-bounded s h hs f = omega (arith, hs .takings f, otherLens-most (h .station) (hs .inside f))
+
+pub hearRecord-inside :
+    (h : Hearing) (r : Record) → Shaped (h .station) → stationInside (h .station) ≡ true → Carried (h .station .n) r →
+    (hearRecord h r) .overfull ≡ false → stationInside ((hearRecord h r) .station) ≡ true
+hearRecord-inside h r shape i carry f =
+    let c = inside-open (h .station) i in
+    inside-make ((hearRecord h r) .station) (hears-record h c h r (hears-none h c shape) carry .inside f)
+
+pub hearRecords-inside :
+    (h : Hearing) (rs : List Record) → Shaped (h .station) → stationInside (h .station) ≡ true → AllCarried (h .station .n) rs →
+    (hearRecords h rs) .overfull ≡ false → stationInside ((hearRecords h rs) .station) ≡ true
+hearRecords-inside h rs shape i all f =
+    let c = inside-open (h .station) i in
+    inside-make ((hearRecords h rs) .station) (hears-records h c h rs (hears-none h c shape) all .inside f)
+
+-- the takings of one frame
+pub frame-takings-bounded :
+    (s : Station) (rs : List Record) → Shaped s → stationInside s ≡ true → AllCarried (s .n) rs →
+    (hearRecords (silent s) rs) .overfull ≡ false → length ((hearRecords (silent s) rs) .takings) ≤ 30
+frame-takings-bounded s rs shape i all f =
+    let c = inside-open s i in
+    takings-bounded s (hearRecords (silent s) rs) (hears-records (silent s) c (silent s) rs (hears-none (silent s) c shape) all) f
