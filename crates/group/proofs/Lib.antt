@@ -1,1 +1,4 @@
 pub mod Run
+pub mod Members
+pub mod MembersPost
+pub mod MembersRound

@@ -67,7 +67,7 @@ module _ (n own : ℕ) (high : n ≤ 16) (below : own < n) where
         lane = rw (getD-replicate 16 k noLane noLane (omega arith)) (lane-none (cond (eqb k own) 1 2) Empty Empty);
       }
 
-  fresh-holds : Inside (freshStation n own)
+  pub fresh-holds : Inside (freshStation n own)
   unfolding freshStation noneWaiting queueInside Rattle.places.specs.Places.allBelow
   fresh-holds =
       record {
@@ -92,20 +92,20 @@ posted-place : (s : Station) (b : Body) (k : ℕ) → PlaceHolds s k → PlaceHo
 unfolding posted
 posted-place s b k c = record { label = c .label; held = c .held; lane = c .lane }
 
+pub posted-holds : (s : Station) (b : Body) → Shaped s → Inside s → isEdit b ≡ true → s .waiting .len < 32 → Inside (posted s b)
+unfolding posted
+posted-holds s b shape c e l =
+    record {
+      low = c .low;
+      high = c .high;
+      own = c .own;
+      acked = c .acked;
+      held = c .held;
+      body = c .body;
+      waiting = queued-inside (s .waiting) b (shape .slots) (c .waiting) l e;
+      places = λ k m. posted-place s b k (c .places k m);
+    }
+
 pub posted-inside :
     (s : Station) (b : Body) → Shaped s → stationInside s ≡ true → isEdit b ≡ true → s .waiting .len < 32 → stationInside (posted s b) ≡ true
-posted-inside s b shape h e l = inside-make (posted s b) (go (inside-open s h))
-  where
-    go : Inside s → Inside (posted s b)
-    go c =
-        unfold posted in
-        record {
-          low = c .low;
-          high = c .high;
-          own = c .own;
-          acked = c .acked;
-          held = c .held;
-          body = c .body;
-          waiting = queued-inside (s .waiting) b (shape .slots) (c .waiting) l e;
-          places = λ k m. posted-place s b k (c .places k m);
-        }
+posted-inside s b shape h e l = inside-make (posted s b) (posted-holds s b shape (inside-open s h) e l)
