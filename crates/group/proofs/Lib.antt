@@ -2,3 +2,4 @@ pub mod Run
 pub mod Members
 pub mod MembersPost
 pub mod MembersRound
+pub mod TurnAccount
