@@ -3,3 +3,4 @@ pub mod Members
 pub mod MembersPost
 pub mod MembersRound
 pub mod TurnAccount
+pub mod PostsAccounted
