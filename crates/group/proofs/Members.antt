@@ -1,14 +1,14 @@
 -- The limits of a group as facts about its stations, and the other way round; the fresh group is inside them. The group's arrays have their lengths by
 -- type, and every call keeps them.
-use Prim.Native.Nat.{ℕ, zero, suc, _≤_, _<_}
-use mathlib.Core.Bool.{Bool, true, false, cond, not, _&&_}
-use mathlib.Core.List.{List, []}
-use mathlib.Core.Path.{_≡_, refl, sym, ap, subst, _∙_}
+use Prim.Native.Nat.{ℕ, _≤_, _<_}
+use mathlib.Core.Bool.{true, _&&_}
+use mathlib.Core.List.{List}
+use mathlib.Core.Path.{_≡_, refl, sym, ap, _∙_}
 use native.Mathlib.Omega.{arith}
 use lib.Dec.{eqb}
-use lib.ListN.{getD, replicate, length, getD-replicate}
+use lib.ListN.{replicate, length, getD-replicate}
 use borrow.Author.Tests.{eqb-true, eq-eqb}
-use Rattle.places.specs.Places.{allBelow, fill}
+use Rattle.places.specs.Places.{allBelow}
 use Rattle.places.proofs.Laws.{and-both, and-left, and-right, allBelow-at, allBelow-make, length-fill, fill-below}
 use Rattle.places.proofs.Keeps.{fill-keeps}
 use Rattle.station.specs.declared.Station.{Station}

@@ -1,13 +1,13 @@
 -- A group post that is accepted puts an edit into the queue of one station and leaves the others; one that is refused leaves the group. So a group
 -- inside its limits stays so.
-use Prim.Native.Nat.{ℕ, zero, suc, _≤_, _<_}
-use mathlib.Core.Bool.{Bool, true, false, cond, not, _&&_}
-use mathlib.Core.List.{List, []}
-use mathlib.Core.Path.{_≡_, refl, sym, ap, subst, _∙_}
+use Prim.Native.Nat.{ℕ, _<_}
+use mathlib.Core.Bool.{Bool, true, false, cond, not, false≢true}
+use mathlib.Core.List.{List}
+use mathlib.Core.Path.{_≡_, refl, sym, subst, _∙_}
 use native.Mathlib.Decide.{ℕ-discrete}
 use native.Mathlib.Omega.{arith}
 use lib.Dec.{eqb, leb, ltb}
-use lib.ListN.{getD, set, length, length-set}
+use lib.ListN.{set, length-set}
 use lib.Seq.{getD-set-same, getD-set-other}
 use borrow.Author.Tests.{ltb-true, leb-false}
 use Rattle.kinds.specs.declared.Body.{Body}
@@ -17,7 +17,6 @@ use Rattle.places.proofs.Keeps.{set-keeps}
 use Rattle.station.specs.declared.Station.{Station}
 use Rattle.station.specs.Calls.{posted}
 use Rattle.station.proofs.Shape.{Shaped, posted-shaped}
-use Rattle.station.proofs.Limits.{Inside}
 use Rattle.station.proofs.LimitsFresh.{posted-holds}
 use Rattle.group.specs.State.{noStation, stationAt, sizeOf, groupInside}
 use Rattle.group.specs.Calls.{groupPostRefusal, postCall}
@@ -34,18 +33,18 @@ pub accepted : (g : List Station) (k : ℕ) (b : Body) → eqb (groupPostRefusal
 unfolding groupPostRefusal
 accepted g k b h = go (groupInside g) (ltb k (sizeOf g)) (isEdit b) (leb 32 (stationAt g k .waiting .len)) refl refl refl refl h
   where
-    no : {A : Type 0} → false ≡ true → A
-    no e = absurd (mathlib.Core.Bool.false≢true e)
+    never : {A : Type 0} → false ≡ true → A
+    never e = absurd (false≢true e)
 
     go :
         (a c d e : Bool) → groupInside g ≡ a → ltb k (sizeOf g) ≡ c → isEdit b ≡ d → leb 32 (stationAt g k .waiting .len) ≡ e →
         eqb (cond (not a) 2 (cond (not c) 1 (cond (not d) 4 (cond e 3 0)))) 0 ≡ true → Accepted g k b
     go true true true false p q r s z =
         record { inside = p; below = ltb-true k (sizeOf g) q; edit = r; room = leb-false 32 (stationAt g k .waiting .len) s }
-    go true true true true p q r s z = no z
-    go true true false e p q r s z = no z
-    go true false d e p q r s z = no z
-    go false c d e p q r s z = no z
+    go true true true true p q r s z = never z
+    go true true false e p q r s z = never z
+    go true false d e p q r s z = never z
+    go false c d e p q r s z = never z
 
 pub post-accepted :
     (g : List Station) (k : ℕ) (b : Body) → eqb ((postCall g k b) .refusal) done ≡ true →

@@ -1,25 +1,24 @@
 -- A round that is not refused leaves every station inside its limits: each hears records that a frame may carry, with no lane overfull, and then takes
 -- its turn. A refused round leaves the group.
 use Prim.Native.Nat.{ℕ, zero, suc, _≤_, _<_}
-use mathlib.Core.Bool.{Bool, true, false, cond, not, _&&_}
-use mathlib.Core.List.{List, []}
-use mathlib.Core.Path.{_≡_, refl, sym, ap, subst, _∙_}
-use native.Mathlib.Decide.{ℕ-discrete, decLe}
+use mathlib.Core.Bool.{Bool, true, false, cond, not, false≢true}
+use mathlib.Core.List.{List}
+use mathlib.Core.Path.{_≡_, refl, sym, subst, _∙_}
+use native.Mathlib.Decide.{decLe}
 use native.Mathlib.Omega.{arith}
-use lib.Dec.{eqb, leb, ltb}
-use lib.ListN.{getD, set, length, length-set}
-use borrow.Author.Tests.{ltb-true, leb-false, not-false}
+use lib.Dec.{eqb}
+use lib.ListN.{length}
+use borrow.Author.Tests.{not-false}
 use Rattle.kinds.specs.Refusals.{done}
 use Rattle.links.specs.Log.{hearsIn}
-use Rattle.places.specs.Places.{anyBelow, fill}
+use Rattle.places.specs.Places.{anyBelow}
 use Rattle.places.proofs.Laws.{anyBelow-at, length-fill, fill-below, fill-above}
 use Rattle.station.specs.declared.Station.{Station}
 use Rattle.station.specs.State.{sentRecords}
 use Rattle.station.specs.Calls.{ownCountInside}
-use Rattle.station.specs.Hearing.{Hearing, silent, hearRecords}
+use Rattle.station.specs.Hearing.{silent, hearRecords}
 use Rattle.station.specs.Turn.{passed, rewritten, afterTurn}
 use Rattle.station.proofs.Shape.{Shaped, afterTurn-shaped}
-use Rattle.station.proofs.Limits.{Inside}
 use Rattle.station.proofs.LimitsHearing.{Hears, AllCarried, hears-none, hears-records, takings-bounded}
 use Rattle.station.proofs.LimitsSent.{sent-carried}
 use Rattle.station.proofs.LimitsTurn.{turn-holds}
@@ -39,8 +38,8 @@ runs g masks h =
     go (groupInside g) (anyBelow (sizeOf g) (λ k. not (ownCountInside (stationAt g k)))) (anyBelow (sizeOf g) (λ i. (heard g masks i) .overfull))
     refl refl refl h
   where
-    no : {A : Type 0} → false ≡ true → A
-    no e = absurd (mathlib.Core.Bool.false≢true e)
+    never : {A : Type 0} → false ≡ true → A
+    never e = absurd (false≢true e)
 
     go :
         (a b c : Bool) → groupInside g ≡ a → anyBelow (sizeOf g) (λ k. not (ownCountInside (stationAt g k))) ≡ b →
@@ -53,9 +52,9 @@ runs g masks h =
               λ k l. not-false (ownCountInside (stationAt g k)) (anyBelow-at (sizeOf g) (λ k. not (ownCountInside (stationAt g k))) q k l);
           room = anyBelow-at (sizeOf g) (λ i. (heard g masks i) .overfull) r;
         }
-    go true false true p q r z = no z
-    go true true c p q r z = no z
-    go false b c p q r z = no z
+    go true false true p q r z = never z
+    go true true c p q r z = never z
+    go false b c p q r z = never z
 
 module _ (n : ℕ) (g : List Station) (c : Members n g) (masks : List ℕ) (counts : (k : ℕ) → k < n → ownCountInside (stationAt g k) ≡ true) where
   carried : (i j : ℕ) → i < n → j < n → AllCarried (stationAt g i .n) (sentRecords (stationAt g j))

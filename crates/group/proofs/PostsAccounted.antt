@@ -1,22 +1,23 @@
 -- Accepted posts are all accounted for, after every list of calls: each waits, stands in the own lane, or was aired. One invariant is carried from call to
 -- call: the group is inside its limits, and the count comes out. A post adds one waiting edit; a turn moves edits on; a refused call changes nothing.
-use Prim.Native.Nat.{ℕ, zero, suc, _+_, _-_, _≤_, _<_}
-use mathlib.Core.Bool.{Bool, true, false, cond, not, _&&_}
+use Prim.Native.Nat.{ℕ, suc, _+_, _≤_, _<_}
+use mathlib.Core.Bool.{Bool, true, false, cond}
 use mathlib.Core.List.{List, [], _∷_, _++_, append-nil, append-assoc}
 use mathlib.Core.Path.{_≡_, refl, sym, ap, subst, _∙_}
-use native.Mathlib.Decide.{ℕ-discrete, decLe}
+use native.Mathlib.Decide.{ℕ-discrete}
 use native.Mathlib.Omega.{arith}
 use lib.Dec.{eqb}
-use lib.ListN.{getD, set, length, replicate, getD-replicate}
+use lib.ListN.{getD, set, replicate, getD-replicate}
 use borrow.Author.Tests.{ne-eqb, eq-eqb}
 use Rattle.kinds.specs.declared.Body.{Body}
 use Rattle.kinds.specs.Refusals.{done}
 use Rattle.places.specs.Places.{fill}
 use Rattle.places.proofs.Laws.{fill-below}
 use Rattle.station.specs.declared.Station.{Station}
+use Rattle.station.specs.declared.Taking.{Taking}
 use Rattle.station.specs.Lane.{bodies, noLane}
 use Rattle.station.specs.State.{laneAt, freshStation}
-use Rattle.station.specs.Hearing.{Hearing, silent}
+use Rattle.station.specs.Hearing.{silent}
 use Rattle.station.specs.Turn.{airs, rowOf, turnReport, afterTurn}
 use Rattle.station.specs.Queue.{noSlot, noneWaiting}
 use Rattle.station.specs.Calls.{posted, noTurn}
@@ -24,11 +25,11 @@ use Rattle.station.proofs.LimitsQueue.{queued-len}
 use Rattle.station.proofs.LimitsHearing.{Hears}
 use Rattle.group.specs.declared.Report.{Report}
 use Rattle.group.specs.declared.RoundDone.{RoundDone}
-use Rattle.group.specs.State.{stationAt, sizeOf, groupInside, freshGroup}
-use Rattle.group.specs.Calls.{postCall, heard, noReport, reportOf, roundRefusal, afterRound, roundCall}
+use Rattle.group.specs.State.{stationAt, sizeOf, groupInside}
+use Rattle.group.specs.Calls.{postCall, heard, noReport, reportOf, roundRefusal, roundCall}
 use Rattle.group.specs.History.{History, Call, Call.post, Call.round, next, begun, continued, historyOf, reportIn, collect, editsOf, airedList, occurrences, editsIn, airedOwn}
 use Rattle.group.proofs.Members.{Members, members-inside, fresh-members, fresh-at}
-use Rattle.group.proofs.MembersPost.{Accepted, accepted, post-accepted, post-refused, post-refusal, posted-at, posted-other, post-members}
+use Rattle.group.proofs.MembersPost.{accepted, post-accepted, post-refused, post-refusal, posted-at, posted-other, post-members}
 use Rattle.group.proofs.MembersRound.{Runs, runs, run-hears, run-room, after-at, round-done, round-refused, round-members}
 use Rattle.group.proofs.TurnAccount.{oneFor, ownEdits, turn-account, airedOwn-append, row-account}
 
@@ -48,7 +49,7 @@ abbrev kept : Station → ℕ → ℕ
 kept s p = s .waiting .len + ownEdits s p
 
 -- what a round's report adds to the aired list
-abbrev airedOf : ℕ → Report → List Rattle.station.specs.declared.Taking.Taking
+abbrev airedOf : ℕ → Report → List Taking
 airedOf n r = cond (r .turn .aired) (editsOf n (r .turn .row)) []
 
 abbrev Accounted : ℕ → History → ℕ → Type 0
@@ -74,7 +75,7 @@ module _ (n : ℕ) (g : List Station) (c : Members n g) (k : ℕ) (b : Body) whe
           kept (stationAt ((postCall g k b) .group) p) p ≡ kept (stationAt g p) p + occurrences p (cond t (k ∷ []) [])
       go true e =
           let below : k < n =
-              omega (arith, c .size, accepted g k b (rw (post-refusal g k b) at e) .below) in
+          omega (arith, c .size, accepted g k b (rw (post-refusal g k b) at e) .below) in
           elim (ℕ-discrete p k) [
             | yes same ↦
                 ap (λ (h : List Station). kept (stationAt h p) p) (post-accepted g k b e)
@@ -162,17 +163,17 @@ module _ (n : ℕ) (g : List Station) (c : Members n g) (masks : List ℕ) (p : 
           let own : s .own ≡ p = hs .own ∙ c .member p below .own in
           let moved = turn-account s (hs .shaped) (hs .inside (run-room n g c masks run p below)) p own in
           let lane : laneAt s p ≡ laneAt (stationAt g p) p =
-              subst (λ (j : ℕ). laneAt s j ≡ laneAt (stationAt g p) j) (c .member p below .own) (hs .lane) in
+          subst (λ (j : ℕ). laneAt s j ≡ laneAt (stationAt g p) j) (c .member p below .own) (hs .lane) in
           let same : kept s p ≡ kept (stationAt g p) p = rw (hs .waiting, lane) in
           let group : kept (stationAt ((roundCall g masks) .group) p) p ≡ kept (afterTurn s) p =
-              ap (λ (h : List Station). kept (stationAt h p) p) (round-done g masks e)
-              ∙ ap (λ (x : Station). kept x p) (after-at n g c masks run p below) in
+          ap (λ (h : List Station). kept (stationAt h p) p) (round-done g masks e)
+          ∙ ap (λ (x : Station). kept x p) (after-at n g c masks run p below) in
           let aired : airedOwn p (airedOf n (reportIn (roundCall g masks) p)) ≡ cond (airs s) (oneFor ((laneAt s p) .first)) 0 =
-              ap (airedOwn p) (done-aired e) ∙ report-aired run in
+          ap (airedOwn p) (done-aired e) ∙ report-aired run in
           omega arith
       go false e =
           let group : kept (stationAt ((roundCall g masks) .group) p) p ≡ kept (stationAt g p) p =
-              ap (λ (h : List Station). kept (stationAt h p) p) (round-refused g masks e) in
+          ap (λ (h : List Station). kept (stationAt h p) p) (round-refused g masks e) in
           let aired : airedOwn p (airedOf n (reportIn (roundCall g masks) p)) ≡ 0 = ap (airedOwn p) (refused-aired e) in
           omega arith
 

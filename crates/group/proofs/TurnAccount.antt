@@ -1,19 +1,19 @@
 -- Posts in a turn: an edit that starts leaves the waiting ones for the own lane, and one that is aired leaves the own lane for the row. So waiting edits,
 -- edits in the own lane and own edits in the row together stay as many.
-use Prim.Native.Nat.{ℕ, zero, suc, _+_, _-_, _≤_, _<_}
-use mathlib.Core.Bool.{Bool, true, false, cond, not, _&&_, _||_}
+use Prim.Native.Nat.{ℕ, zero, suc, _+_, _≤_, _<_}
+use mathlib.Core.Bool.{Bool, true, false, cond}
 use mathlib.Core.List.{List, [], _∷_, _++_}
-use mathlib.Core.Path.{_≡_, refl, sym, ap, subst, _∙_}
+use mathlib.Core.Path.{_≡_, refl, ap, subst, _∙_}
 use native.Mathlib.Decide.{ℕ-discrete}
 use native.Mathlib.Omega.{arith}
 use lib.Dec.{eqb, leb, ltb}
 use lib.ListN.{getD, replicate, length}
 use borrow.Author.Tests.{ltb-true, leb-true, ne-eqb, eq-eqb}
 use Rattle.kinds.specs.declared.Body.{Body}
-use Rattle.kinds.specs.declared.Body.the-variants.{Empty, Neutral}
+use Rattle.kinds.specs.declared.Body.the-variants.{Neutral}
 use Rattle.kinds.specs.Body.{kindOf}
 use Rattle.kinds.specs.Limits.{isEdit, bodyInside}
-use Rattle.places.specs.Places.{gather, fill}
+use Rattle.places.specs.Places.{gather}
 use Rattle.places.proofs.Laws.{and-left, allBelow-at, fill-below}
 use Rattle.station.specs.declared.Lane.{Lane}
 use Rattle.station.specs.declared.Slot.{Slot}
@@ -22,7 +22,7 @@ use Rattle.station.specs.declared.Taking.{Taking}
 use Rattle.station.specs.Lane.{bodies, laneOf, pushed, popped}
 use Rattle.station.specs.Queue.{noSlot, oldest, unqueued}
 use Rattle.station.specs.State.{laneAt}
-use Rattle.station.specs.Turn.{airs, rowOf, lanesAfter, startsEdit, startedBody, passed, rewritten, afterTurn}
+use Rattle.station.specs.Turn.{airs, rowOf, startsEdit, startedBody, passed, rewritten, afterTurn}
 use Rattle.station.proofs.Shape.{Shaped, lanesAfter-length}
 use Rattle.station.proofs.LimitsLane.{lane-most}
 use Rattle.station.proofs.LimitsQueue.{unqueued-len, oldest-edit}

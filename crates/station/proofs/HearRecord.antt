@@ -1,10 +1,9 @@
 -- What one record does to a hearing: nothing where it does not count, and else the three parts of it, each by itself.
-use mathlib.Core.Bool.{Bool, true, false, cond, _&&_, _||_}
-use mathlib.Core.List.{List, [], _∷_, _++_}
-use mathlib.Core.Path.{_≡_, refl, ap}
+use mathlib.Core.Bool.{true, false, cond, _&&_, _||_}
+use mathlib.Core.List.{[], _∷_, _++_}
+use mathlib.Core.Path.{_≡_, refl}
 use lib.Dec.{leb}
 use Rattle.frames.specs.declared.Record.{Record}
-use Rattle.station.specs.declared.Taking.{Taking}
 use Rattle.station.specs.State.{laneAt}
 use Rattle.station.specs.Hearing.{Hearing, counts, takes, heardNewer, hearRecord}
 

@@ -1,15 +1,14 @@
 -- What a station has after a newer record, place by place: at the record's place the new values, at the others what was there.
-use Prim.Native.Nat.{ℕ, suc, _+_, _≤_, _<_}
-use mathlib.Core.Bool.{Bool, true, false, cond, not, _&&_, _||_}
+use Prim.Native.Nat.{ℕ, _<_}
+use mathlib.Core.Bool.{true, false, cond}
 use mathlib.Core.Path.{_≡_, refl}
-use lib.Dec.{eqb}
-use lib.ListN.{getD, set, length}
+use lib.ListN.{length}
 use lib.Seq.{getD-set-same, getD-set-other}
 use Rattle.labels.specs.Label.{successor}
 use Rattle.frames.specs.declared.Record.{Record}
 use Rattle.station.specs.declared.Station.{Station}
 use Rattle.station.specs.Lane.{pushed, noLane}
-use Rattle.station.specs.State.{labelOf, ackedOf, heldOf, recordOf, laneAt, recordLabel, noRecord}
+use Rattle.station.specs.State.{labelOf, ackedOf, heldOf, recordOf, laneAt, noRecord}
 use Rattle.station.specs.Hearing.{advances, takes, replaced, heardNewer}
 
 module _ (s : Station) (r : Record) where

@@ -1,34 +1,20 @@
--- The limits of a station as facts: what the test says of each place, and the other way round. A fresh station is inside its limits, and so is one
--- that accepts a post.
-use Prim.Native.Nat.{ℕ, suc, _+_, _≤_, _<_}
-use mathlib.Core.Bool.{Bool, true, false, cond, not, _&&_, _||_}
-use mathlib.Core.List.{List, [], _∷_}
-use mathlib.Core.Path.{_≡_, refl, sym, ap, subst, _∙_}
-use native.Mathlib.Decide.{ℕ-discrete}
-use native.Mathlib.Omega.{arith}
+-- The limits of a station as facts: what the test says of the station and of each place, and the other way round. Laws about the limits are proved on
+-- the facts.
+use Prim.Native.Nat.{ℕ, _≤_, _<_}
+use mathlib.Core.Bool.{Bool, true, false, cond, not, _&&_, _||_, false≢true}
+use mathlib.Core.Path.{_≡_, refl}
 use lib.Dec.{leb, ltb, eqb}
-use lib.ListN.{getD, set, replicate, length, length-set, getD-replicate}
-use lib.Seq.{getD-set-same, getD-set-other}
 use borrow.Author.Tests.{leb-true, ltb-true, le-leb, lt-ltb, eqb-true, eq-eqb}
-use Rattle.kinds.specs.declared.Body.{Body}
-use Rattle.kinds.specs.declared.Body.the-variants.{Empty}
-use Rattle.kinds.specs.Limits.{bodyInside, isEdit}
+use Rattle.kinds.specs.Limits.{bodyInside}
 use Rattle.labels.specs.Label.{isLabel}
 use Rattle.frames.specs.declared.Record.{Record}
 use Rattle.frames.specs.Record.{countInside}
 use Rattle.frames.specs.Frame.{validNumber}
 use Rattle.places.specs.Places.{allBelow}
 use Rattle.places.proofs.Laws.{and-both, and-left, and-right, allBelow-at, allBelow-make}
-use Rattle.places.proofs.Keeps.{set-keeps}
-use Rattle.station.specs.declared.Lane.{Lane}
 use Rattle.station.specs.declared.Station.{Station}
-use Rattle.station.specs.Lane.{noLane}
-use Rattle.station.specs.Queue.{noneWaiting}
-use Rattle.station.specs.State.{labelOf, ackedOf, heldOf, recordOf, laneAt, recordLabel, noRecord, zeroRecord, freshLabels, freshStation}
+use Rattle.station.specs.State.{labelOf, ackedOf, heldOf, recordOf, laneAt, recordLabel}
 use Rattle.station.specs.Limits.{laneInside, queueInside, recordInside, placeInside, stationInside}
-use Rattle.station.specs.Calls.{posted}
-use Rattle.station.proofs.Shape.{Shaped}
-use Rattle.station.proofs.LimitsQueue.{queued-inside}
 
 -- a record of station k inside the limits of the table of station own
 pub record RecordHolds (n own k : ℕ) (r : Record) : Type 0 where
@@ -60,7 +46,7 @@ or-not-make false b h = refl
 
 or-not-use : (a b : Bool) → (not a || b) ≡ true → a ≡ true → b ≡ true
 or-not-use true b h e = h
-or-not-use false b h e = absurd (mathlib.Core.Bool.false≢true e)
+or-not-use false b h e = absurd (false≢true e)
 
 record-open : (n own k : ℕ) (r : Record) → recordInside n own k r ≡ true → RecordHolds n own k r
 unfolding recordInside

@@ -1,28 +1,25 @@
 -- A fresh station is inside its limits, and so is a station that accepts a post: it only gets one more waiting edit.
-use Prim.Native.Nat.{ℕ, suc, _+_, _≤_, _<_}
-use mathlib.Core.Bool.{Bool, true, false, cond, not, _&&_, _||_}
-use mathlib.Core.List.{List, [], _∷_}
-use mathlib.Core.Path.{_≡_, refl, sym, ap, subst, _∙_}
+use Prim.Native.Nat.{ℕ, _≤_, _<_}
+use mathlib.Core.Bool.{true, false, cond, _&&_, true≢false}
+use mathlib.Core.Path.{_≡_, refl, sym, subst, _∙_}
 use native.Mathlib.Decide.{ℕ-discrete}
 use native.Mathlib.Omega.{arith}
 use lib.Dec.{leb, ltb, eqb}
-use lib.ListN.{getD, set, replicate, length, getD-replicate}
+use lib.ListN.{getD, replicate, getD-replicate}
 use lib.Seq.{getD-set-same, getD-set-other}
 use borrow.Author.Tests.{leb-true, ltb-true, eq-eqb}
 use Rattle.kinds.specs.declared.Body.{Body}
 use Rattle.kinds.specs.declared.Body.the-variants.{Empty}
 use Rattle.kinds.specs.Limits.{isEdit}
 use Rattle.labels.specs.Label.{isLabel}
-use Rattle.frames.specs.declared.Record.{Record}
 use Rattle.frames.specs.Frame.{validNumber}
 use Rattle.places.proofs.Laws.{and-left, and-right}
 use Rattle.places.proofs.Keeps.{set-keeps}
-use Rattle.station.specs.declared.Lane.{Lane}
 use Rattle.station.specs.declared.Station.{Station}
 use Rattle.station.specs.Lane.{noLane}
 use Rattle.station.specs.Queue.{noneWaiting}
-use Rattle.station.specs.State.{labelOf, ackedOf, heldOf, recordOf, laneAt, recordLabel, noRecord, zeroRecord, freshLabels, freshStation}
-use Rattle.station.specs.Limits.{laneInside, queueInside, stationInside}
+use Rattle.station.specs.State.{heldOf, recordOf, noRecord, zeroRecord, freshLabels, freshStation}
+use Rattle.station.specs.Limits.{queueInside, stationInside}
 use Rattle.station.specs.Calls.{posted}
 use Rattle.station.proofs.Shape.{Shaped}
 use Rattle.station.proofs.LimitsLane.{lane-none}
@@ -62,7 +59,7 @@ module _ (n own : ℕ) (high : n ≤ 16) (below : own < n) where
         held =
             λ e. elim (ℕ-discrete k own) [
               | yes same ↦ subst (λ (j : ℕ). RecordHolds n own j (recordOf (freshStation n own) j)) (sym same) fresh-own
-              | no ne ↦ absurd (mathlib.Core.Bool.true≢false (sym e ∙ fresh-other k l ne))
+              | no ne ↦ absurd (true≢false (sym e ∙ fresh-other k l ne))
             ];
         lane = rw (getD-replicate 16 k noLane noLane (omega arith)) (lane-none (cond (eqb k own) 1 2) Empty Empty);
       }

@@ -1,15 +1,12 @@
 -- Hearing keeps the limits: a record that a frame may carry, heard by a station inside its limits, leaves it inside, unless a lane that holds two would
 -- get a third. Only the record's own place changes, and it is never the hearer's.
-use Prim.Native.Nat.{ℕ, suc, _+_, _%_, _≤_, _<_}
+use Prim.Native.Nat.{ℕ, _+_, _%_, _<_}
 use mathlib.Core.Bool.{Bool, true, false, cond, not, _&&_, _||_}
-use mathlib.Core.List.{List, [], _∷_}
-use mathlib.Core.Path.{_≡_, refl, sym, ap, subst, _∙_}
+use mathlib.Core.Path.{_≡_, refl, sym, subst, _∙_}
 use native.Mathlib.Decide.{ℕ-discrete}
 use native.Mathlib.Omega.{arith}
-use lib.Dec.{leb, ltb, eqb}
-use lib.ListN.{length}
-use borrow.Author.Tests.{leb-false, le-leb, lt-leb, eq-eqb, ne-eqb, eqb-false, not-true}
-use Rattle.kinds.specs.declared.Body.{Body}
+use lib.Dec.{leb, eqb}
+use borrow.Author.Tests.{leb-false, le-leb, ne-eqb, eqb-false, not-true}
 use Rattle.kinds.specs.Body.{kindOf}
 use Rattle.kinds.specs.Limits.{bodyInside}
 use Rattle.labels.specs.Label.{isLabel, successor}
@@ -18,11 +15,10 @@ use Rattle.frames.specs.declared.Record.{Record}
 use Rattle.frames.specs.Record.{countInside}
 use Rattle.places.proofs.Laws.{and-both, and-left, and-right, fill-below}
 use Rattle.places.proofs.Keeps.{cond-keeps}
-use Rattle.station.specs.declared.Lane.{Lane}
 use Rattle.station.specs.declared.Station.{Station}
 use Rattle.station.specs.Lane.{pushed}
-use Rattle.station.specs.State.{labelOf, ackedOf, heldOf, recordOf, laneAt, recordLabel}
-use Rattle.station.specs.Limits.{laneInside, takeable, stationInside}
+use Rattle.station.specs.State.{labelOf, heldOf, recordOf, laneAt, recordLabel}
+use Rattle.station.specs.Limits.{laneInside, takeable}
 use Rattle.station.specs.Hearing.{counts, advances, takes, replaced, heardNewer}
 use Rattle.station.proofs.Shape.{Shaped}
 use Rattle.station.proofs.LimitsLane.{pushed-inside}
@@ -51,8 +47,8 @@ counts-other s r h =
 takes-takeable : (s : Station) (r : Record) → bodyInside (r .body) ≡ true → takes s r ≡ true → takeable (r .body) ≡ true
 takes-takeable s r b h =
     let ne : kindOf (r .body) ≡ 0 → ⊥ =
-        eqb-false (kindOf (r .body)) 0
-        (not-true (eqb (kindOf (r .body)) 0) (and-right (advances s r) (not (eqb (kindOf (r .body)) 0)) h)) in
+    eqb-false (kindOf (r .body)) 0
+    (not-true (eqb (kindOf (r .body)) 0) (and-right (advances s r) (not (eqb (kindOf (r .body)) 0)) h)) in
     and-both (le-leb 1 (kindOf (r .body)) (omega arith)) b
 
 module _ (s : Station) (r : Record) (shape : Shaped s) (c : Inside s) (carry : Carried (s .n) r) where

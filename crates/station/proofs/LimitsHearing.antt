@@ -1,25 +1,22 @@
 -- A station while it hears, from silence on. One fold carries all of it: N, the own number, the waiting edits, the body and the own lane stay; the shape
 -- and the limits are kept as long as no lane is overfull; and every taking stands in a lane of another station, so there are at most 30.
-use Prim.Native.Nat.{ℕ, zero, suc, _+_, _*_, _-_, _≤_, _<_}
-use mathlib.Core.Bool.{Bool, true, false, cond, not, _&&_, _||_}
+use Prim.Native.Nat.{ℕ, suc, _+_, _*_, _≤_, _<_}
+use mathlib.Core.Bool.{Bool, true, false, cond, _&&_, _||_}
 use mathlib.Core.List.{List, [], _∷_, _++_, append-nil}
-use mathlib.Core.Path.{_≡_, refl, sym, ap, subst, _∙_}
+use mathlib.Core.Path.{_≡_, refl, sym, subst, _∙_}
 use native.Mathlib.Decide.{ℕ-discrete}
 use native.Mathlib.Omega.{arith}
-use lib.Dec.{leb, ltb, eqb}
+use lib.Dec.{leb, eqb}
 use lib.ListN.{length, length-append}
-use borrow.Author.Tests.{leb-false, eq-eqb, ne-eqb, eqb-true, eqb-false}
+use borrow.Author.Tests.{leb-false, eq-eqb, ne-eqb}
 use Rattle.frames.specs.declared.Record.{Record}
 use Rattle.places.proofs.Laws.{or-left, or-right}
 use Rattle.places.proofs.Total.{total, total-ext, total-gap, total-raised}
-use Rattle.station.specs.declared.Lane.{Lane}
 use Rattle.station.specs.declared.Station.{Station}
-use Rattle.station.specs.declared.Taking.{Taking}
-use Rattle.station.specs.Lane.{pushed}
 use Rattle.station.specs.State.{laneAt}
 use Rattle.station.specs.Limits.{stationInside}
 use Rattle.station.specs.Hearing.{Hearing, silent, counts, takes, heardNewer, hearRecord, hearRecords}
-use Rattle.station.proofs.HearRecord.{heardOne, heardOne-station, hearRecord-counts, hearRecord-skips}
+use Rattle.station.proofs.HearRecord.{heardOne, hearRecord-counts, hearRecord-skips}
 use Rattle.station.proofs.Shape.{Shaped, heardNewer-shaped}
 use Rattle.station.proofs.LimitsLane.{pushed-len, lane-most}
 use Rattle.station.proofs.Limits.{Inside, inside-open, inside-make}
@@ -37,7 +34,7 @@ pub otherLens-most : (s : Station) → Inside s → otherLens s ≤ 30
 unfolding otherLens
 otherLens-most s c =
     let gap : total (s .n) (otherLen s) + 2 ≤ s .n * 2 =
-        total-gap (s .n) 2 (otherLen s) each (s .own) (c .own) (rw (eq-eqb (s .own) (s .own) refl)) in
+    total-gap (s .n) 2 (otherLen s) each (s .own) (c .own) (rw (eq-eqb (s .own) (s .own) refl)) in
     omega (arith, c .high)
   where
     each : (k : ℕ) → k < s .n → otherLen s k ≤ 2
@@ -133,13 +130,13 @@ module _ (a : Hearing) (c : Inside (a .station)) where
             ≤ length (a .takings) + otherLens (heardNewer (h .station) r)
         go true taken =
             let room : (laneAt (h .station) (r .station)) .len < 2 =
-                leb-false 2 ((laneAt (h .station) (r .station)) .len) (rw taken at (or-right (h .overfull) full f)) in
+            leb-false 2 ((laneAt (h .station) (r .station)) .len) (rw taken at (or-right (h .overfull) full f)) in
             let more : otherLens (heardNewer (h .station) r) ≡ suc (otherLens (h .station)) =
-                otherLens-raised (h .station) r (counts-other (h .station) r e) (here .station) fits taken room in
+            otherLens-raised (h .station) r (counts-other (h .station) r e) (here .station) fits taken room in
             rw (length-append (h .takings) (record { source = r .station; body = r .body } ∷ [])) (omega (arith, so-far))
         go false passed =
             let same : otherLens (heardNewer (h .station) r) ≡ otherLens (h .station) =
-                otherLens-kept (h .station) r (counts-other (h .station) r e) fits passed in
+            otherLens-kept (h .station) r (counts-other (h .station) r e) fits passed in
             rw (append-nil (h .takings)) (omega (arith, so-far))
 
     hears-newer : counts (h .station) r ≡ true → Hears a (heardOne h r)

@@ -1,14 +1,12 @@
 -- Lanes inside their limits: a body that a lane may hold can be put into one that has a place, and the oldest can be removed from any. A lane has
 -- none, one or two bodies; each law looks at the three cases.
 use Prim.Native.Nat.{ℕ, zero, suc, _≤_, _<_}
-use mathlib.Core.Bool.{Bool, true, false, _&&_, _||_}
-use mathlib.Core.List.{List, [], _∷_, _++_}
-use mathlib.Core.Path.{_≡_, refl, sym, ap, _∙_}
+use mathlib.Core.Bool.{Bool, true, false, true≢false, _&&_, _||_}
+use mathlib.Core.Path.{_≡_, refl}
 use native.Mathlib.Omega.{arith}
 use lib.Dec.{leb, eqb, leb·zero}
-use lib.ListN.{take, drop, length}
 use lib.Seq.{take-nil}
-use borrow.Author.Tests.{leb-true, leb-false, lt-leb, le-leb}
+use borrow.Author.Tests.{leb-true, lt-leb, le-leb, ne-eqb}
 use Rattle.kinds.specs.declared.Body.{Body}
 use Rattle.places.proofs.Laws.{and-both, and-left, and-right}
 use Rattle.station.specs.declared.Lane.{Lane}
@@ -16,7 +14,7 @@ use Rattle.station.specs.Lane.{bodies, laneOf, pushed, popped}
 use Rattle.station.specs.Limits.{laneInside, takeable}
 
 or-second : (a b : Bool) → (a || b) ≡ true → a ≡ false → b ≡ true
-or-second true b h e = absurd (mathlib.Core.Bool.true≢false e)
+or-second true b h e = absurd (true≢false e)
 or-second false b h e = h
 
 abbrev lane : ℕ → Body → Body → Lane
@@ -35,7 +33,7 @@ lane-first most l h p =
     or-second (eqb (l .len) 0) (takeable (l .first))
     (and-right (leb (l .len) most) (eqb (l .len) 0 || takeable (l .first))
     (and-left (leb (l .len) most && (eqb (l .len) 0 || takeable (l .first))) (leb (l .len) 1 || takeable (l .second)) h))
-    (borrow.Author.Tests.ne-eqb (l .len) 0 (λ e. absurd (omega arith)))
+    (ne-eqb (l .len) 0 (λ e. absurd (omega arith)))
 
 pub lane-second : (most : ℕ) (l : Lane) → laneInside most l ≡ true → 1 < l .len → takeable (l .second) ≡ true
 unfolding laneInside

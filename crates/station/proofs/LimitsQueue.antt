@@ -1,18 +1,19 @@
 -- A queue inside its limits stays so when an edit is put last where there is a place, and when the oldest is removed; what is oldest is an edit.
-use Prim.Native.Nat.{ℕ, suc, _+_, _-_, _≤_, _<_}
-use mathlib.Core.Bool.{Bool, true, _&&_}
-use mathlib.Core.List.{List, [], _∷_, _++_}
-use mathlib.Core.Path.{_≡_, refl, sym, ap, _∙_}
+use Prim.Native.Nat.{ℕ, suc, _-_, _≤_, _<_}
+use mathlib.Core.Bool.{true}
+use mathlib.Core.List.{[], _∷_}
+use mathlib.Core.Path.{_≡_, refl, ap, _∙_}
 use native.Mathlib.Decide.{ℕ-discrete}
 use native.Mathlib.Omega.{arith}
 use lib.Dec.{leb}
-use lib.ListN.{getD, set, drop, length, length-drop, List·getD-append}
+use lib.ListN.{getD, drop, length, length-drop, List·getD-append}
 use lib.Seq.{getD-set-same, getD-set-other, getD-drop}
 use borrow.Author.Tests.{leb-true, le-leb}
 use Rattle.kinds.specs.declared.Body.{Body}
 use Rattle.kinds.specs.Limits.{isEdit}
 use Rattle.places.specs.Places.{allBelow}
 use Rattle.places.proofs.Laws.{and-both, and-left, and-right, allBelow-at, allBelow-make}
+use Rattle.station.specs.declared.Slot.{Slot}
 use Rattle.station.specs.declared.Queue.{Queue}
 use Rattle.station.specs.Queue.{noSlot, queued, oldest, unqueued}
 use Rattle.station.specs.Limits.{queueInside}
@@ -44,12 +45,12 @@ unqueued-len q = refl
 
 queued-last : (q : Queue) (b : Body) → q .len < length (q .slots) → slotBody (queued q b) (q .len) ≡ b
 unfolding queued
-queued-last q b l = ap (λ (x : Rattle.station.specs.declared.Slot.Slot). x .body) (getD-set-same (q .slots) (q .len) (record { body = b }) noSlot l)
+queued-last q b l = ap (λ (x : Slot). x .body) (getD-set-same (q .slots) (q .len) (record { body = b }) noSlot l)
 
 queued-before : (q : Queue) (b : Body) (i : ℕ) → i < q .len → slotBody (queued q b) i ≡ slotBody q i
 unfolding queued
 queued-before q b i l =
-    ap (λ (x : Rattle.station.specs.declared.Slot.Slot). x .body)
+    ap (λ (x : Slot). x .body)
     (getD-set-other (q .slots) (q .len) i (record { body = b }) noSlot (λ e. absurd (omega arith)))
 
 pub queued-inside :
@@ -66,7 +67,7 @@ queued-inside q b shape h l e = queue-make (queued q b) (omega (arith, queued-le
 unqueued-slot : (q : Queue) (i : ℕ) → suc i < length (q .slots) → slotBody (unqueued q) i ≡ slotBody q (suc i)
 unfolding unqueued
 unqueued-slot q i l =
-    ap (λ (x : Rattle.station.specs.declared.Slot.Slot). x .body)
+    ap (λ (x : Slot). x .body)
     (List·getD-append (drop 1 (q .slots)) (noSlot ∷ []) noSlot i (rw length-drop (omega arith))
     ∙ getD-drop 1 (q .slots) i noSlot
     ∙ ap (λ (k : ℕ). getD (q .slots) k noSlot) (omega arith))

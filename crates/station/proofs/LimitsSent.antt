@@ -2,12 +2,11 @@
 use Prim.Native.Nat.{ℕ, zero, suc, _≤_, _<_}
 use mathlib.Core.Bool.{Bool, true, false, cond, _||_}
 use mathlib.Core.List.{List, [], _∷_, _++_}
-use mathlib.Core.Path.{_≡_, refl, sym, ap, subst, _∙_}
+use mathlib.Core.Path.{_≡_, refl, sym, subst}
 use native.Mathlib.Omega.{arith}
 use lib.Dec.{eqb}
-use lib.ListN.{getD, replicate, length}
+use lib.ListN.{replicate}
 use borrow.Author.Tests.{eqb-true}
-use Rattle.labels.specs.Label.{isLabel}
 use Rattle.frames.specs.declared.Record.{Record}
 use Rattle.frames.specs.Record.{countInside, framed}
 use Rattle.places.specs.Places.{gather}

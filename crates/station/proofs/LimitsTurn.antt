@@ -1,32 +1,31 @@
 -- A turn keeps the limits: airing removes from lanes, what starts is inside its limits and goes into an own lane that is empty, the own label becomes a
 -- label, and the own record gets the station's present values.
-use Prim.Native.Nat.{ℕ, zero, suc, _≤_, _<_}
-use mathlib.Core.Bool.{Bool, true, false, cond, not, _&&_, _||_}
-use mathlib.Core.List.{List, [], _∷_}
-use mathlib.Core.Path.{_≡_, refl, sym, ap, subst, _∙_}
+use Prim.Native.Nat.{ℕ, _≤_, _<_}
+use mathlib.Core.Bool.{Bool, true, false, cond}
+use mathlib.Core.List.{List}
+use mathlib.Core.Path.{_≡_, refl, sym, subst, _∙_}
 use native.Mathlib.Decide.{ℕ-discrete}
 use native.Mathlib.Omega.{arith}
-use lib.Dec.{leb, ltb, eqb}
+use lib.Dec.{leb, eqb}
 use lib.ListN.{getD, set, length}
 use lib.Seq.{getD-set-same, getD-set-other}
-use borrow.Author.Tests.{leb-true, le-leb, eq-eqb, eqb-true}
+use borrow.Author.Tests.{leb-true, le-leb, eq-eqb}
 use Rattle.kinds.specs.declared.Body.{Body}
 use Rattle.kinds.specs.declared.Body.the-variants.{Empty, Neutral}
 use Rattle.kinds.specs.Body.{kindOf}
 use Rattle.kinds.specs.Limits.{bodyInside, isEdit}
 use Rattle.labels.specs.Label.{isLabel, successor}
-use Rattle.frames.specs.declared.Record.{Record}
 use Rattle.places.specs.Places.{fill}
 use Rattle.places.proofs.Laws.{and-both, and-left, and-right, fill-below}
 use Rattle.places.proofs.Keeps.{cond-keeps, set-keeps}
 use Rattle.station.specs.declared.Lane.{Lane}
 use Rattle.station.specs.declared.Queue.{Queue}
 use Rattle.station.specs.declared.Station.{Station}
-use Rattle.station.specs.Lane.{noLane, pushed, popped}
+use Rattle.station.specs.Lane.{pushed}
 use Rattle.station.specs.Queue.{oldest, unqueued}
-use Rattle.station.specs.State.{labelOf, ackedOf, heldOf, recordOf, laneAt, recordLabel, noRecord}
+use Rattle.station.specs.State.{labelOf, heldOf, recordOf, laneAt, noRecord}
 use Rattle.station.specs.Limits.{laneInside, takeable, queueInside, stationInside}
-use Rattle.station.specs.Turn.{airs, lanesAfter, ends, startsEdit, startedBody, passed, ownRecord, rewritten, afterTurn}
+use Rattle.station.specs.Turn.{airs, ends, startsEdit, startedBody, passed, ownRecord, rewritten, afterTurn}
 use Rattle.station.proofs.Shape.{Shaped, lanesAfter-length, passed-shaped}
 use Rattle.station.proofs.LimitsLane.{popped-inside, pushed-inside}
 use Rattle.station.proofs.LimitsQueue.{unqueued-inside, oldest-edit}
@@ -71,7 +70,7 @@ module _ (s : Station) (shape : Shaped s) (c : Inside s) where
   own-inside =
       let most : _≡_ {A = ℕ} (cond (eqb (s .own) (s .own)) 1 2) 1 = rw (eq-eqb (s .own) (s .own) refl) in
       let after : laneInside 1 (laneAfter s (s .own)) ≡ true =
-          after-inside (s .own) 1 (c .own) (rw most at (c .places (s .own) (c .own) .lane)) in
+      after-inside (s .own) 1 (c .own) (rw most at (c .places (s .own) (c .own) .lane)) in
       rw (passed-own-lane s (rw (lanesAfter-length s) (fits (s .own) (c .own))))
       (started-cases
       (λ b. laneInside 1 (cond (eqb (kindOf b) 0) (laneAfter s (s .own)) (pushed (laneAfter s (s .own)) b)) ≡ true)

@@ -1,11 +1,10 @@
 -- The lengths that a station's arrays have by their types: sixteen places, thirty-two slots, sixteen labels in each record of the table. Every step of
 -- a station keeps them, for it only changes entries.
 use Prim.Native.Nat.{ℕ, _<_}
-use mathlib.Core.Bool.{Bool, true, false, cond}
-use mathlib.Core.List.{List, [], _∷_, _++_}
-use mathlib.Core.Path.{_≡_, refl, sym, _∙_}
-use native.Mathlib.Omega.{arith}
-use lib.ListN.{getD, set, length, drop, length-set, length-append, length-drop, length-replicate, replicate, getD-replicate}
+use mathlib.Core.Bool.{Bool, true, false}
+use mathlib.Core.List.{List}
+use mathlib.Core.Path.{_≡_, refl, _∙_}
+use lib.ListN.{getD, set, length, length-set, length-append, length-drop, replicate, getD-replicate}
 use lib.Dec.{eqb}
 use Rattle.kinds.specs.declared.Body.{Body}
 use Rattle.kinds.specs.Body.{kindOf}
@@ -18,9 +17,9 @@ use Rattle.station.specs.declared.Lane.{Lane}
 use Rattle.station.specs.declared.Queue.{Queue}
 use Rattle.station.specs.declared.Station.{Station}
 use Rattle.station.specs.Lane.{noLane, pushed, popped}
-use Rattle.station.specs.Queue.{noSlot, queued, unqueued, noneWaiting}
+use Rattle.station.specs.Queue.{queued, unqueued, noneWaiting}
 use Rattle.station.specs.State.{noRecord, recordOf, recordLabel, labelOf, laneAt, freshStation, zeroRecord}
-use Rattle.station.specs.Hearing.{Hearing, counts, replaced, heardNewer, hearRecord, hearRecords}
+use Rattle.station.specs.Hearing.{Hearing, counts, replaced, heardNewer, hearRecord}
 use Rattle.station.specs.Turn.{airs, ends, startsEdit, startedBody, lanesAfter, passed, ownRecord, rewritten, afterTurn}
 use Rattle.station.specs.Calls.{posted}
 use Rattle.station.proofs.HearRecord.{hearRecord-counts, hearRecord-skips, heardOne-station}
