@@ -1,3 +1,4 @@
+pub mod BodyLaws
 pub mod LimitsLane
 pub mod HearRecord
 pub mod Shape
