@@ -6,15 +6,15 @@ use mathlib.Core.List.{List, [], _∷_, _++_}
 use mathlib.Core.Path.{_≡_, refl, ap, subst, _∙_}
 use native.Mathlib.Decide.{ℕ-discrete}
 use native.Mathlib.Omega.{arith}
-use lib.Dec.{eqb, leb, ltb}
+use lib.Dec.{eqb, ltb}
 use lib.ListN.{getD, replicate, length}
-use borrow.Author.Tests.{ltb-true, leb-true, ne-eqb, eq-eqb}
+use borrow.Author.Tests.{ltb-true, ne-eqb, eq-eqb}
 use Rattle.kinds.specs.declared.Body.{Body}
 use Rattle.kinds.specs.declared.Body.the-variants.{Neutral}
 use Rattle.kinds.specs.Body.{kindOf}
-use Rattle.kinds.specs.Limits.{isEdit, bodyInside}
+use Rattle.kinds.specs.Limits.{isEdit}
 use Rattle.places.specs.Places.{gather}
-use Rattle.places.proofs.Laws.{and-left, allBelow-at, fill-below}
+use Rattle.places.proofs.Laws.{allBelow-at, fill-below}
 use Rattle.station.specs.declared.Lane.{Lane}
 use Rattle.station.specs.declared.Slot.{Slot}
 use Rattle.station.specs.declared.Station.{Station}
@@ -23,6 +23,7 @@ use Rattle.station.specs.Lane.{bodies, laneOf, pushed, popped}
 use Rattle.station.specs.Queue.{noSlot, oldest, unqueued}
 use Rattle.station.specs.State.{laneAt}
 use Rattle.station.specs.Turn.{airs, rowOf, startsEdit, startedBody, passed, rewritten, afterTurn}
+use Rattle.station.proofs.BodyLaws.{edit-not-empty, neutral-no-edit}
 use Rattle.station.proofs.Shape.{Shaped, lanesAfter-length}
 use Rattle.station.proofs.LimitsLane.{lane-most}
 use Rattle.station.proofs.LimitsQueue.{unqueued-len, oldest-edit}
@@ -56,11 +57,6 @@ popped-edits l low high = go (l .len) (l .first) (l .second) low high
 pushed-edits : (l : Lane) (b : Body) → l .len ≡ 0 → editsIn (bodies (pushed l b)) ≡ oneFor b
 unfolding bodies laneOf editsIn
 pushed-edits l b e = rw e (omega arith)
-
-edit-kind : (b : Body) → isEdit b ≡ true → eqb (kindOf b) 0 ≡ false
-edit-kind b h =
-    let two : 2 ≤ kindOf b = leb-true 2 (kindOf b) (and-left (leb 2 (kindOf b)) (bodyInside b) h) in
-    ne-eqb (kindOf b) 0 (λ e. absurd (omega arith))
 
 -- the edits in the own lane
 abbrev pub ownEdits : Station → ℕ → ℕ
@@ -107,9 +103,9 @@ module _ (s : Station) (shape : Shaped s) (c : Inside s) where
           ≡ s .waiting .len + editsIn (bodies after)
       go (anEdit e room w b) =
           let edit : isEdit (oldest (s .waiting)) ≡ true = oldest-edit (s .waiting) (c .waiting) w in
-          rw (e, b, edit-kind (oldest (s .waiting)) edit, pushed-edits after (oldest (s .waiting)) room, edit, none-edits after room)
+          rw (e, b, edit-not-empty (oldest (s .waiting)) edit, pushed-edits after (oldest (s .waiting)) room, edit, none-edits after room)
           (omega (arith, unqueued-len (s .waiting)))
-      go (aNeutral e room b) = rw (e, b, pushed-edits after Neutral room, none-edits after room)
+      go (aNeutral e room b) = rw (e, b, pushed-edits after Neutral room, neutral-no-edit, none-edits after room)
       go (nothing e b) = rw (e, b)
 
   rewritten-same : (afterTurn s) .waiting .len + ownEdits (afterTurn s) (s .own) ≡ (passed s) .waiting .len + ownEdits (passed s) (s .own)

@@ -21,6 +21,7 @@ use Rattle.station.specs.Queue.{noneWaiting}
 use Rattle.station.specs.State.{heldOf, recordOf, noRecord, zeroRecord, freshLabels, freshStation}
 use Rattle.station.specs.Limits.{queueInside, stationInside}
 use Rattle.station.specs.Calls.{posted}
+use Rattle.station.proofs.BodyLaws.{empty-inside}
 use Rattle.station.proofs.Shape.{Shaped}
 use Rattle.station.proofs.LimitsLane.{lane-none}
 use Rattle.station.proofs.LimitsQueue.{queued-inside}
@@ -43,7 +44,7 @@ module _ (n own : ℕ) (high : n ≤ 16) (below : own < n) where
       (record {
         station = refl;
         count = rw (eq-eqb own own refl);
-        body = refl;
+        body = empty-inside;
         labels = λ j l. freshLabels-label own j (omega arith);
       })
 
@@ -73,7 +74,7 @@ module _ (n own : ℕ) (high : n ≤ 16) (below : own < n) where
         own = below;
         acked = getD-set-same (replicate 16 false) own true false (omega arith);
         held = getD-set-same (replicate 16 false) own true false (omega arith);
-        body = refl;
+        body = empty-inside;
         waiting = refl;
         places = fresh-place;
       }

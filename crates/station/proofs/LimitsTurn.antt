@@ -1,22 +1,22 @@
 -- A turn keeps the limits: airing removes from lanes, what starts is inside its limits and goes into an own lane that is empty, the own label becomes a
 -- label, and the own record gets the station's present values.
-use Prim.Native.Nat.{ℕ, _≤_, _<_}
+use Prim.Native.Nat.{ℕ, _<_}
 use mathlib.Core.Bool.{Bool, true, false, cond}
 use mathlib.Core.List.{List}
 use mathlib.Core.Path.{_≡_, refl, sym, subst, _∙_}
 use native.Mathlib.Decide.{ℕ-discrete}
 use native.Mathlib.Omega.{arith}
-use lib.Dec.{leb, eqb}
+use lib.Dec.{eqb}
 use lib.ListN.{getD, set, length}
 use lib.Seq.{getD-set-same, getD-set-other}
-use borrow.Author.Tests.{leb-true, le-leb, eq-eqb}
+use borrow.Author.Tests.{eq-eqb}
 use Rattle.kinds.specs.declared.Body.{Body}
 use Rattle.kinds.specs.declared.Body.the-variants.{Empty, Neutral}
 use Rattle.kinds.specs.Body.{kindOf}
-use Rattle.kinds.specs.Limits.{bodyInside, isEdit}
+use Rattle.kinds.specs.Limits.{bodyInside}
 use Rattle.labels.specs.Label.{isLabel, successor}
 use Rattle.places.specs.Places.{fill}
-use Rattle.places.proofs.Laws.{and-both, and-left, and-right, fill-below}
+use Rattle.places.proofs.Laws.{fill-below}
 use Rattle.places.proofs.Keeps.{cond-keeps, set-keeps}
 use Rattle.station.specs.declared.Lane.{Lane}
 use Rattle.station.specs.declared.Queue.{Queue}
@@ -26,20 +26,13 @@ use Rattle.station.specs.Queue.{oldest, unqueued}
 use Rattle.station.specs.State.{labelOf, heldOf, recordOf, laneAt, noRecord}
 use Rattle.station.specs.Limits.{laneInside, takeable, queueInside, stationInside}
 use Rattle.station.specs.Turn.{airs, ends, startsEdit, startedBody, passed, ownRecord, rewritten, afterTurn}
+use Rattle.station.proofs.BodyLaws.{edit-takeable, takeable-inside, empty-inside, neutral-takeable}
 use Rattle.station.proofs.Shape.{Shaped, lanesAfter-length, passed-shaped}
 use Rattle.station.proofs.LimitsLane.{popped-inside, pushed-inside}
 use Rattle.station.proofs.LimitsQueue.{unqueued-inside, oldest-edit}
 use Rattle.station.proofs.Limits.{RecordHolds, PlaceHolds, Inside, inside-open, inside-make}
 use Rattle.station.proofs.LimitsHear.{successor-label}
 use Rattle.station.proofs.TurnLaws.{laneAfter, after-aired, after-kept, Start, Start.anEdit, Start.aNeutral, Start.nothing, start, passed-own-lane, passed-other-lane}
-
-edit-takeable : (b : Body) → isEdit b ≡ true → takeable b ≡ true
-edit-takeable b h =
-    let two : 2 ≤ kindOf b = leb-true 2 (kindOf b) (and-left (leb 2 (kindOf b)) (bodyInside b) h) in
-    and-both (le-leb 1 (kindOf b) (omega arith)) (and-right (leb 2 (kindOf b)) (bodyInside b) h)
-
-takeable-inside : (b : Body) → takeable b ≡ true → bodyInside b ≡ true
-takeable-inside b h = and-right (leb 1 (kindOf b)) (bodyInside b) h
 
 module _ (s : Station) (shape : Shaped s) (c : Inside s) where
   -- what starts is Empty, or is put into an empty own lane, which may hold it
@@ -50,11 +43,11 @@ module _ (s : Station) (shape : Shaped s) (c : Inside s) where
       go : Start s → P (startedBody s)
       go (anEdit e room w b) =
           subst P (sym b) (some (oldest (s .waiting)) (edit-takeable (oldest (s .waiting)) (oldest-edit (s .waiting) (c .waiting) w)) room)
-      go (aNeutral e room b) = subst P (sym b) (some Neutral refl room)
+      go (aNeutral e room b) = subst P (sym b) (some Neutral neutral-takeable room)
       go (nothing e b) = subst P (sym b) none
 
   started-inside : bodyInside (startedBody s) ≡ true
-  started-inside = started-cases (λ b. bodyInside b ≡ true) refl (λ b h room. takeable-inside b h)
+  started-inside = started-cases (λ b. bodyInside b ≡ true) empty-inside (λ b h room. takeable-inside b h)
 
   fits : (k : ℕ) → k < s .n → k < length (s .lanes)
   fits k l = rw (shape .lanes) (omega (arith, c .high))
