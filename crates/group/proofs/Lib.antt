@@ -1,1 +1,6 @@
 pub mod Run
+pub mod Members
+pub mod MembersPost
+pub mod MembersRound
+pub mod TurnAccount
+pub mod PostsAccounted

@@ -1,0 +1,13 @@
+pub mod BodyLaws
+pub mod LimitsLane
+pub mod HearRecord
+pub mod Shape
+pub mod LimitsQueue
+pub mod Limits
+pub mod LimitsFresh
+pub mod HeardNewer
+pub mod LimitsHear
+pub mod LimitsHearing
+pub mod LimitsSent
+pub mod TurnLaws
+pub mod LimitsTurn
