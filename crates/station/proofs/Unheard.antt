@@ -1,0 +1,100 @@
+-- What hearing leaves as it was: N, the own number, the waiting edits and the present body; and a turn leaves N and the own number. A record touches
+-- one place of each list, so the lists keep their lengths.
+use mathlib.Core.Bool.{Bool, true, false, cond}
+use mathlib.Core.List.{List, [], _∷_, _++_}
+use mathlib.Core.Path.{_≡_, refl, sym, ap, _∙_}
+use Prim.Native.Nat.{ℕ}
+use lib.ListN.{length, length-set, set, getD}
+use lib.Dec.{eqb}
+use Rattle.kinds.specs.Body.{kindOf}
+use Rattle.frames.specs.declared.Record.{Record}
+use Rattle.places.specs.Places.{fill}
+use Rattle.places.proofs.Laws.{length-fill}
+use Rattle.station.specs.declared.Lane.{Lane}
+use Rattle.station.specs.declared.Station.{Station}
+use Rattle.station.specs.declared.Taking.{Taking}
+use Rattle.station.specs.Lane.{noLane, pushed, popped}
+use Rattle.station.specs.State.{laneAt}
+use Rattle.station.specs.Hearing.{Hearing, counts, heardNewer, hearRecord, hearRecords}
+use Rattle.station.specs.Turn.{airs, lanesAfter, startedBody, passed, rewritten, afterTurn}
+
+-- two stations that agree in what hearing leaves alone
+pub record Unheard (s t : Station) : Type 0 where
+  pub n : s .n ≡ t .n
+  pub own : s .own ≡ t .own
+  pub waiting : s .waiting ≡ t .waiting
+  pub body : s .body ≡ t .body
+  pub lanes : length (s .lanes) ≡ length (t .lanes)
+
+pub unheard-refl : (s : Station) → Unheard s s
+unheard-refl s = record { n = refl; own = refl; waiting = refl; body = refl; lanes = refl }
+
+pub unheard-trans : (s t r : Station) → Unheard s t → Unheard t r → Unheard s r
+unheard-trans s t r a b =
+    record {
+      n = a .n ∙ b .n;
+      own = a .own ∙ b .own;
+      waiting = a .waiting ∙ b .waiting;
+      body = a .body ∙ b .body;
+      lanes = a .lanes ∙ b .lanes;
+    }
+
+newer-unheard : (s : Station) (r : Record) → Unheard s (heardNewer s r)
+unfolding heardNewer
+newer-unheard s r =
+    record { n = refl; own = refl; waiting = refl; body = refl; lanes = sym (length-set (s .lanes) (r .station) _) }
+
+pub hearRecord-unheard : (h : Hearing) (r : Record) → Unheard (h .station) ((hearRecord h r) .station)
+unfolding hearRecord
+hearRecord-unheard h r = go (counts (h .station) r) _ _
+  where
+    go : (b : Bool) (ts : List Taking) (o : Bool)
+        → Unheard (h .station) ((cond b (record { station = heardNewer (h .station) r; takings = ts; overfull = o }) h) .station)
+    go true ts o = newer-unheard (h .station) r
+    go false ts o = unheard-refl (h .station)
+
+pub hearRecords-unheard : (h : Hearing) (rs : List Record) → Unheard (h .station) ((hearRecords h rs) .station)
+unfolding hearRecords
+hearRecords-unheard h [] = unheard-refl (h .station)
+hearRecords-unheard h (r ∷ rs) =
+    unheard-trans
+    (h .station)
+    ((hearRecord h r) .station)
+    ((hearRecords (hearRecord h r) rs) .station)
+    (hearRecord-unheard h r)
+    (hearRecords-unheard (hearRecord h r) rs)
+
+-- a turn
+pub afterTurn-n : (s : Station) → (afterTurn s) .n ≡ s .n
+unfolding afterTurn rewritten passed
+afterTurn-n s = refl
+
+pub afterTurn-own : (s : Station) → (afterTurn s) .own ≡ s .own
+unfolding afterTurn rewritten passed
+afterTurn-own s = refl
+
+pub length-lanesAfter : (s : Station) → length (lanesAfter s) ≡ length (s .lanes)
+unfolding lanesAfter
+length-lanesAfter s = go (airs s)
+  where
+    go : (b : Bool) → length (cond b (fill (s .n) (λ k. popped (laneAt s k)) (s .lanes)) (s .lanes)) ≡ length (s .lanes)
+    go true = length-fill (s .n) (λ k. popped (laneAt s k)) (s .lanes)
+    go false = refl
+
+-- the lanes that a turn leaves
+pub afterTurn-lanes : (s : Station)
+    → (afterTurn s) .lanes
+    ≡ cond (eqb (kindOf (startedBody s)) 0)
+    (lanesAfter s)
+    (set (lanesAfter s) (s .own) (pushed (getD (lanesAfter s) (s .own) noLane) (startedBody s)))
+unfolding afterTurn rewritten passed
+afterTurn-lanes s = refl
+
+pub length-afterTurn : (s : Station) → length ((afterTurn s) .lanes) ≡ length (s .lanes)
+length-afterTurn s = rw (afterTurn-lanes s) (go (eqb (kindOf (startedBody s)) 0))
+  where
+    go : (b : Bool)
+        → length (cond b (lanesAfter s) (set (lanesAfter s) (s .own) (pushed (getD (lanesAfter s) (s .own) noLane) (startedBody s))))
+        ≡ length (s .lanes)
+    go true = length-lanesAfter s
+    go false = length-set (lanesAfter s) (s .own) _ ∙ length-lanesAfter s
