@@ -1,3 +1,6 @@
 pub mod Run
 pub mod Counting
 pub mod Shape
+pub mod Begin
+pub mod Lists
+pub mod Taken
