@@ -29,13 +29,14 @@ reached L made u p s = shown made s (min (suc u) (news L (suc u) p s))
 abbrev pub airsRow : Links → (ℕ → ℕ → ℕ) → (ℕ → ℕ → ℕ) → ℕ → ℕ → Bool
 airsRow L made rows u p = allBelow (L .size) (λ s. ltb (rows u p) (reached L made u p s))
 
--- the two rules, in the rounds up to `last`: `made u s` bodies were started by s and `rows u p` rows aired by p by the end of round u
+-- the two rules, in the rounds up to `last`: `made u s` bodies were started by s and `rows u p` rows aired by p by the end of round u; a body starts only
+-- where none of its station's own is left to air, and a row is aired exactly where there is one more of everybody
 pub record Counting (L : Links) (made rows : ℕ → ℕ → ℕ) (last : ℕ) : Type 0 where
   pub made-zero : (s : ℕ) → s < L .size → made 0 s ≡ 0
   pub rows-zero : (p : ℕ) → p < L .size → rows 0 p ≡ 0
   pub made-step :
       (u s : ℕ) → u < last → s < L .size →
-      (made (suc u) s ≡ made u s) ⊎ ((made u s ≡ rows (suc u) s) × (made (suc u) s ≡ suc (made u s)))
+      (made (suc u) s ≡ made u s) ⊎ ((made u s ≤ rows (suc u) s) × (made (suc u) s ≡ suc (made u s)))
   pub rows-step :
       (u p : ℕ) → u < last → p < L .size → rows (suc u) p ≡ cond (airsRow L made rows u p) (suc (rows u p)) (rows u p)
 

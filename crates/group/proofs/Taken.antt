@@ -164,19 +164,25 @@ module _ (R : Run) (S : Simulated R) where
   unfolding got
   got-numOf u p s = refl
 
-  pub heard-version : (u p s : ℕ) → p < R .n → s < R .n → (p ≡ s → ⊥) → heardBy R u p s ≡ startedAt R s (news L u p s)
-  heard-version zero p s lp ls d =
-      heardBy-none p s ∙ sym (ap (λ (v : ℕ). startedAt R s v) (news-start L p s d) ∙ startedAt-none s)
-  heard-version (suc u) p s lp ls d =
+  pub version-step : (u p s : ℕ) → p < R .n → s < R .n
+      → startedAt R s (news L (suc u) p s)
+      ≡ startedAt R s (news L u p s) ++ cond (rises R u p s) (unlessEmpty (bodyAt R s (news L (suc u) p s))) []
+  version-step u p s lp ls =
       let v = news L u p s in
       let v′ = news L (suc u) p s in
       let e : v′ - v + v ≡ v′ = omega (arith, news-keeps L u p s) in
       let g : numOf L s (v′ - v + v) ≤ numOf L s v + 1 = rw e (omega (arith, got-step L u p s lp, got-numOf u p s, got-numOf (suc u) p s)) in
+      (rw e at (later (v′ - v) v s ls g))
+      ∙ ap (λ (b : Bool). startedAt R s v ++ cond b (unlessEmpty (bodyAt R s v′)) []) (sym (rises-numOf u p s))
+
+  pub heard-version : (u p s : ℕ) → p < R .n → s < R .n → (p ≡ s → ⊥) → heardBy R u p s ≡ startedAt R s (news L u p s)
+  heard-version zero p s lp ls d =
+      heardBy-none p s ∙ sym (ap (λ (v : ℕ). startedAt R s v) (news-start L p s d) ∙ startedAt-none s)
+  heard-version (suc u) p s lp ls d =
       heardBy-step u p s
       ∙ ap (λ (xs : List Body). xs ++ takingsOf s ((hearingIn R u p) .takings)) (heard-version u p s lp ls d)
-      ∙ ap (λ (xs : List Body). startedAt R s v ++ xs) (S .takings u p s lp ls d)
-      ∙ ap (λ (b : Bool). startedAt R s v ++ cond b (unlessEmpty (bodyAt R s v′)) []) (rises-numOf u p s)
-      ∙ sym (rw e at (later (v′ - v) v s ls g))
+      ∙ ap (λ (xs : List Body). startedAt R s (news L u p s) ++ xs) (S .takings u p s lp ls d)
+      ∙ sym (version-step u p s lp ls)
 
   pub taken-version : (u p s : ℕ) → p < R .n → s < R .n → takenBy R u p s ≡ startedAt R s (news L u p s)
   unfolding takenBy

@@ -1,22 +1,13 @@
--- What hearing leaves as it was: N, the own number, the waiting edits and the present body; and a turn leaves N and the own number. A record touches
--- one place of each list, so the lists keep their lengths.
+-- What hearing leaves as it was: N, the own number, the waiting edits and the present body. A record touches one place of the lanes, so they stay as
+-- many.
 use mathlib.Core.Bool.{Bool, true, false, cond}
 use mathlib.Core.List.{List, [], _∷_, _++_}
 use mathlib.Core.Path.{_≡_, refl, sym, ap, _∙_}
-use Prim.Native.Nat.{ℕ}
-use lib.ListN.{length, length-set, set, getD}
-use lib.Dec.{eqb}
-use Rattle.kinds.specs.Body.{kindOf}
+use lib.ListN.{length, length-set}
 use Rattle.frames.specs.declared.Record.{Record}
-use Rattle.places.specs.Places.{fill}
-use Rattle.places.proofs.Laws.{length-fill}
-use Rattle.station.specs.declared.Lane.{Lane}
 use Rattle.station.specs.declared.Station.{Station}
 use Rattle.station.specs.declared.Taking.{Taking}
-use Rattle.station.specs.Lane.{noLane, pushed, popped}
-use Rattle.station.specs.State.{laneAt}
 use Rattle.station.specs.Hearing.{Hearing, counts, heardNewer, hearRecord, hearRecords}
-use Rattle.station.specs.Turn.{airs, lanesAfter, startedBody, passed, rewritten, afterTurn}
 
 -- two stations that agree in what hearing leaves alone
 pub record Unheard (s t : Station) : Type 0 where
@@ -63,38 +54,3 @@ hearRecords-unheard h (r ∷ rs) =
     ((hearRecords (hearRecord h r) rs) .station)
     (hearRecord-unheard h r)
     (hearRecords-unheard (hearRecord h r) rs)
-
--- a turn
-pub afterTurn-n : (s : Station) → (afterTurn s) .n ≡ s .n
-unfolding afterTurn rewritten passed
-afterTurn-n s = refl
-
-pub afterTurn-own : (s : Station) → (afterTurn s) .own ≡ s .own
-unfolding afterTurn rewritten passed
-afterTurn-own s = refl
-
-pub length-lanesAfter : (s : Station) → length (lanesAfter s) ≡ length (s .lanes)
-unfolding lanesAfter
-length-lanesAfter s = go (airs s)
-  where
-    go : (b : Bool) → length (cond b (fill (s .n) (λ k. popped (laneAt s k)) (s .lanes)) (s .lanes)) ≡ length (s .lanes)
-    go true = length-fill (s .n) (λ k. popped (laneAt s k)) (s .lanes)
-    go false = refl
-
--- the lanes that a turn leaves
-pub afterTurn-lanes : (s : Station)
-    → (afterTurn s) .lanes
-    ≡ cond (eqb (kindOf (startedBody s)) 0)
-    (lanesAfter s)
-    (set (lanesAfter s) (s .own) (pushed (getD (lanesAfter s) (s .own) noLane) (startedBody s)))
-unfolding afterTurn rewritten passed
-afterTurn-lanes s = refl
-
-pub length-afterTurn : (s : Station) → length ((afterTurn s) .lanes) ≡ length (s .lanes)
-length-afterTurn s = rw (afterTurn-lanes s) (go (eqb (kindOf (startedBody s)) 0))
-  where
-    go : (b : Bool)
-        → length (cond b (lanesAfter s) (set (lanesAfter s) (s .own) (pushed (getD (lanesAfter s) (s .own) noLane) (startedBody s))))
-        ≡ length (s .lanes)
-    go true = length-lanesAfter s
-    go false = length-set (lanesAfter s) (s .own) _ ∙ length-lanesAfter s
