@@ -4,3 +4,5 @@ pub mod Shape
 pub mod Begin
 pub mod Lists
 pub mod Taken
+pub mod Lanes
+pub mod Aired

@@ -43,7 +43,7 @@ module _ (R : Run) (S : Simulated R) where
   abbrev L : Links
   L = linksOf R
 
-  startedBy-step : (u s : ℕ) → startedBy R (suc u) s ≡ startedBy R u s ++ unlessEmpty (startedBody ((hearingIn R u s) .station))
+  pub startedBy-step : (u s : ℕ) → startedBy R (suc u) s ≡ startedBy R u s ++ unlessEmpty (startedBody ((hearingIn R u s) .station))
   unfolding startedBy
   startedBy-step u s = ap (λ (b : Body). startedBy R u s ++ unlessEmpty b) (report-started ((hearingIn R u s) .station))
 
@@ -55,15 +55,15 @@ module _ (R : Run) (S : Simulated R) where
   unfolding heardBy
   heardBy-none p s = refl
 
-  startedAt-some : (s w : ℕ) → startedAt R s (suc w) ≡ startedBy R w s
+  pub startedAt-some : (s w : ℕ) → startedAt R s (suc w) ≡ startedBy R w s
   unfolding startedAt
   startedAt-some s w = refl
 
-  startedAt-none : (s : ℕ) → startedAt R s 0 ≡ []
+  pub startedAt-none : (s : ℕ) → startedAt R s 0 ≡ []
   unfolding startedAt
   startedAt-none s = refl
 
-  startedBy-none : (s : ℕ) → startedBy R 0 s ≡ []
+  pub startedBy-none : (s : ℕ) → startedBy R 0 s ≡ []
   unfolding startedBy
   startedBy-none s = refl
 
