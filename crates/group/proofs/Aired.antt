@@ -26,7 +26,7 @@ use Rattle.station.specs.Queue.{noSlot}
 use Rattle.station.specs.State.{laneAt}
 use Rattle.station.specs.Turn.{airs, rowOf}
 use Rattle.station.proofs.LaneLaws.{holds-first}
-use Rattle.station.proofs.TurnLaws.{report-aired, report-row, row-at}
+use Rattle.station.proofs.TurnParts.{report-aired, report-row, row-at}
 use Rattle.group.specs.History.{editsOf}
 use Rattle.group.specs.Demand.{Begins}
 use Rattle.group.proofs.Run.{Run, Simulated, linksOf, hearingIn}

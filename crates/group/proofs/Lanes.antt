@@ -26,7 +26,7 @@ use Rattle.station.specs.Lane.{noLane, bodies, pushed, popped}
 use Rattle.station.specs.State.{laneAt, freshStation}
 use Rattle.station.specs.Turn.{airs, lanesAfter, mayStart, startedBody, afterTurn}
 use Rattle.station.proofs.LaneLaws.{Holds, holds-none, holds-pushed, holds-popped}
-use Rattle.station.proofs.TurnLaws.{started-waits, report-aired, lanesAfter-at, lane-other, lane-own}
+use Rattle.station.proofs.TurnParts.{started-waits, report-aired, lanesAfter-at, lane-other, lane-own}
 use Rattle.group.specs.State.{stationAt}
 use Rattle.group.specs.History.{unlessEmpty}
 use Rattle.group.proofs.Run.{Run, Simulated, linksOf, hearingIn, bodyAt, rises, comes}

@@ -6,3 +6,5 @@ pub mod Lists
 pub mod Taken
 pub mod Lanes
 pub mod Aired
+pub mod CallRun
+pub mod HistoryRun

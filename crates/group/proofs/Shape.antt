@@ -15,7 +15,7 @@ use Rattle.station.specs.State.{freshStation, sentRecords}
 use Rattle.station.specs.Hearing.{Hearing, hearRecords}
 use Rattle.station.specs.Turn.{afterTurn}
 use Rattle.station.proofs.Unheard.{Unheard, unheard-refl, unheard-trans, hearRecords-unheard}
-use Rattle.station.proofs.TurnLaws.{afterTurn-n, afterTurn-own, length-afterTurn}
+use Rattle.station.proofs.TurnParts.{afterTurn-n, afterTurn-own, length-afterTurn}
 use Rattle.group.specs.State.{noStation, stationAt, sizeOf, freshGroup}
 use Rattle.group.specs.Calls.{hearing, heard, afterRound}
 use Rattle.group.proofs.Run.{Run, SameButWaiting, hearingIn}

@@ -25,7 +25,7 @@ use Rattle.station.specs.declared.Station.{Station}
 use Rattle.station.specs.State.{freshStation}
 use Rattle.station.specs.Turn.{startedBody}
 use Rattle.station.specs.Turn as turn
-use Rattle.station.proofs.TurnLaws.{started-stays, body-ends, body-stays, report-started}
+use Rattle.station.proofs.TurnParts.{started-stays, body-ends, body-stays, report-started}
 use Rattle.group.specs.State.{stationAt}
 use Rattle.group.specs.History.{takingsOf, unlessEmpty}
 use Rattle.group.specs.Demand.{Begins}

@@ -1,3 +1,3 @@
 pub mod LaneLaws
 pub mod Unheard
-pub mod TurnLaws
+pub mod TurnParts
