@@ -2,15 +2,18 @@
 -- with what is still to come; a post goes on to the next round's group, a round is the run's next one.
 use mathlib.Core.Bool.{Bool, true, false, cond}
 use mathlib.Core.List.{List, [], _∷_, _++_}
-use mathlib.Core.Path.{_≡_, refl, sym, ap, _∙_}
-use Prim.Native.Nat.{ℕ, zero, suc, _+_, _≤_, _<_}
-use native.Mathlib.Decide.{ℕ-discrete}
+use mathlib.Core.Path.{_≡_, refl, sym, ap, ap₂, subst, fun-ext, _∙_}
+use Prim.Native.Nat.{ℕ, zero, suc, _+_, _-_, _≤_, _<_}
+use native.Mathlib.Decide.{ℕ-discrete, decLe}
+use native.Mathlib.Nat.{zero-add, suc-add}
 use native.Mathlib.Omega.{arith}
 use lib.Dec.{eqb}
-use lib.ListN.{length, getD, replicate, length-append, List·getD-append}
+use lib.ListN.{length, getD, replicate, length-append, List·getD-append, List·getD-eq-default}
 use lib.Seq.{getD-at}
+use Rattle.kinds.specs.declared.Body.{Body}
 use Rattle.kinds.specs.Refusals.{done}
 use Rattle.links.specs.Log.{masksIn}
+use Rattle.links.specs.Relay.{ofMasks, ofLog}
 use Rattle.places.specs.Places.{fill}
 use Rattle.places.proofs.Laws.{fill-below}
 use Rattle.station.specs.declared.Station.{Station}
@@ -19,7 +22,7 @@ use Rattle.group.specs.declared.RoundDone.{RoundDone}
 use Rattle.group.specs.State.{stationAt, sizeOf, freshGroup}
 use Rattle.group.specs.Calls.{noReport, reportOf, roundRefusal, afterRound, postCall, roundCall}
 use Rattle.group.specs.History.{History, Call, post, round, next, begun, continued, historyOf, noRound, reportIn}
-use Rattle.group.proofs.Run.{Run}
+use Rattle.group.proofs.Run.{Run, linksOf}
 use Rattle.group.proofs.Shape.{shape}
 use Rattle.group.proofs.CallRun.{afterPosts, nextMasks, afterNext, callsAfter, masksOf, groupAfter, runOf}
 
@@ -97,3 +100,132 @@ module _ (n : ℕ) (low : 1 ≤ n) (high : n ≤ 16) (calls : List Call) (free :
     group : afterPosts (H .group) todo ≡ R .ready u
     rest : afterNext todo ≡ callsAfter calls (suc u)
     masks : nextMasks todo ≡ R .masks (suc u)
+
+  tied-first : Tied 0 (begun n) calls
+  unfolding begun roundsBy logBy groupAfter callsAfter masksOf
+  tied-first = record { rounds = refl; log = refl; group = refl; rest = refl; masks = refl }
+
+  tied-post : (u : ℕ) (H : History) (k : ℕ) (b : Body) (todo : List Call) → Tied u H (post k b ∷ todo) → Tied u (next H (post k b)) todo
+  unfolding next afterPosts afterNext nextMasks
+  tied-post u H k b todo t = record { rounds = t .rounds; log = t .log; group = t .group; rest = t .rest; masks = t .masks }
+
+  -- the next group, calls and masks of the run
+  run-ready : (u : ℕ) → R .ready (suc u) ≡ afterPosts (R .after (suc u)) (callsAfter calls (suc u))
+  run-ready u = refl
+
+  calls-step : (u : ℕ) → callsAfter calls (suc (suc u)) ≡ afterNext (callsAfter calls (suc u))
+  unfolding callsAfter
+  calls-step u = refl
+
+  masks-step : (u : ℕ) → R .masks (suc (suc u)) ≡ nextMasks (callsAfter calls (suc u))
+  unfolding masksOf
+  masks-step u = refl
+
+  round-parts : (g : List Station) (masks : List ℕ) (todo : List Call)
+      → (afterPosts g (round masks ∷ todo) ≡ g) × (afterNext (round masks ∷ todo) ≡ todo) × (nextMasks (round masks ∷ todo) ≡ masks)
+  unfolding afterPosts afterNext nextMasks
+  round-parts g masks todo = (refl, refl, refl)
+
+  round-next : (H : History) (masks : List ℕ)
+      → next H (round masks)
+      ≡ record {
+        group = (roundCall (H .group) masks) .group;
+        rounds = H .rounds ++ (roundCall (H .group) masks ∷ []);
+        log = H .log ++ (masks ∷ []);
+        accepted = H .accepted;
+      }
+  unfolding next
+  round-next H masks = refl
+
+  rounds-step : (u : ℕ) → roundsBy R (suc u) ≡ roundsBy R u ++ (roundIn R u ∷ [])
+  unfolding roundsBy
+  rounds-step u = refl
+
+  log-step : (u : ℕ) → logBy R (suc u) ≡ logBy R u ++ (R .masks (suc u) ∷ [])
+  unfolding logBy
+  log-step u = refl
+
+  roundIn-group : (u : ℕ) → (roundIn R u) .group ≡ R .after (suc u)
+  unfolding roundIn
+  roundIn-group u = refl
+
+  tied-round : (u : ℕ) (H : History) (masks : List ℕ) (todo : List Call) → Tied u H (round masks ∷ todo) → Tied (suc u) (next H (round masks)) todo
+  tied-round u H masks todo t =
+      let parts = round-parts (H .group) masks todo in
+      let g : H .group ≡ R .ready u = sym (parts .0) ∙ t .group in
+      let m : masks ≡ R .masks (suc u) = sym (parts .2) ∙ t .masks in
+      let c : todo ≡ callsAfter calls (suc u) = sym (parts .1) ∙ t .rest in
+      let e : roundCall (H .group) masks ≡ roundIn R u = ap₂ roundCall g m ∙ round-call R u (free u) in
+      rw (round-next H masks)
+      (record {
+        rounds = ap₂ (λ (l : List RoundDone) (r : RoundDone). l ++ (r ∷ [])) (t .rounds) e ∙ sym (rounds-step u);
+        log = ap₂ (λ (l : List (List ℕ)) (r : List ℕ). l ++ (r ∷ [])) (t .log) m ∙ sym (log-step u);
+        group = ap₂ afterPosts (ap (λ (r : RoundDone). r .group) e ∙ roundIn-group u) c;
+        rest = ap afterNext c ∙ sym (calls-step u);
+        masks = ap nextMasks c ∙ sym (masks-step u);
+      })
+
+  tied-last : (u : ℕ) (H : History) (todo : List Call) → Tied u H todo → (v : ℕ) × Tied v (continued H todo) []
+  unfolding continued
+  tied-last u H [] t = (u, t)
+  tied-last u H (post k b ∷ todo) t = tied-last u (next H (post k b)) todo (tied-post u H k b todo t)
+  tied-last u H (round masks ∷ todo) t = tied-last (suc u) (next H (round masks)) todo (tied-round u H masks todo t)
+
+  abbrev H : History
+  H = historyOf n calls
+
+  tied : Tied (length (H .rounds)) H []
+  tied =
+      let t = tied-last 0 (begun n) calls tied-first in
+      let e : t .0 ≡ length (H .rounds) = sym (ap length (t .1 .rounds) ∙ length-rounds R (t .0)) in
+      subst (λ (v : ℕ). Tied v H []) e (t .1)
+
+  -- what the list of calls leaves, as its run has it
+  pub history-rounds : H .rounds ≡ roundsBy R (length (H .rounds))
+  history-rounds = tied .rounds
+
+  pub history-log : H .log ≡ logBy R (length (H .rounds))
+  history-log = tied .log
+
+  pub history-group : H .group ≡ R .ready (length (H .rounds))
+  unfolding afterPosts
+  history-group = tied .group
+
+  -- past its end the log is silent, as the run is
+  calls-none : (d u : ℕ) → callsAfter calls u ≡ [] → callsAfter calls (d + u) ≡ []
+  unfolding callsAfter
+  calls-none zero u e = rw (zero-add u) e
+  calls-none (suc d) u e = rw (suc-add d u) (ap afterNext (calls-none d u e) ∙ none)
+    where
+      none : afterNext [] ≡ []
+      none = unfold afterNext in refl
+
+  masks-none : (u : ℕ) → callsAfter calls u ≡ [] → R .masks (suc u) ≡ []
+  unfolding masksOf nextMasks
+  masks-none u e = rw e
+
+  log-none : (u : ℕ) → length (H .rounds) ≤ u → R .masks (suc u) ≡ []
+  unfolding nextMasks afterNext
+  log-none u h =
+      let last = length (H .rounds) in
+      elim (ℕ-discrete u last) [
+        | yes e ↦ rw e (sym (tied .masks))
+        | no d ↦
+            (let e : u - suc last + suc last ≡ u = omega arith in
+            masks-none u (rw e at (calls-none (u - suc last) (suc last) (sym (tied .rest)))))
+      ]
+
+  pub history-masks : (u : ℕ) → masksIn (H .log) u ≡ R .masks u
+  unfolding masksIn masksOf
+  history-masks zero = refl
+  history-masks (suc u) =
+      let last = length (H .rounds) in
+      elim (decLe (suc u) last) [
+        | yes l ↦ ap (λ (l : List (List ℕ)). getD l u []) history-log ∙ log-at R last u l
+        | no l ↦
+            List·getD-eq-default (H .log) [] {n = u} (omega (arith, ap length history-log, length-log R last))
+            ∙ sym (log-none u (omega arith))
+      ]
+
+  pub history-links : ofLog n (H .log) ≡ linksOf R
+  history-links = ap (λ (m : ℕ → List ℕ). ofMasks n m) (fun-ext history-masks)
