@@ -8,3 +8,4 @@ pub mod Lanes
 pub mod Aired
 pub mod CallRun
 pub mod HistoryRun
+pub mod HistoryLists
