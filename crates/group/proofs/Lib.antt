@@ -9,3 +9,4 @@ pub mod Aired
 pub mod CallRun
 pub mod HistoryRun
 pub mod HistoryLists
+pub mod FromRun
