@@ -2,7 +2,7 @@
 -- aired list is a beginning of one list of rows, and of two aired lists one is a beginning of the other.
 use mathlib.Core.Bool.{Bool, true, false, cond}
 use mathlib.Core.Logic.{_⊎_, inl, inr}
-use mathlib.Core.List.{List, [], _∷_, _++_}
+use mathlib.Core.List.{List, [], _++_}
 use mathlib.Core.Path.{_≡_, refl, sym, ap, _∙_}
 use Prim.Native.Nat.{ℕ, zero, suc, min, _+_, _-_, _≤_, _<_}
 use native.Mathlib.Decide.{decLe}
@@ -10,7 +10,7 @@ use native.Mathlib.Nat.{zero-add, suc-add, add-zero}
 use native.Mathlib.Omega.{arith}
 use borrow.Author.Tests.{ltb-true}
 use lib.Dec.{ltb}
-use lib.ListN.{length, getD, drop, length-drop}
+use lib.ListN.{getD, drop, length-drop}
 use lib.Seq.{getD-drop}
 use Rattle.kinds.specs.declared.Body.{Body}
 use Rattle.kinds.specs.declared.Body.the-variants.{Empty}
@@ -20,11 +20,10 @@ use Rattle.links.specs.Clock.{news}
 use Rattle.places.specs.Places.{gather}
 use Rattle.places.proofs.Laws.{allBelow-at, gather-ext}
 use Rattle.station.specs.declared.Slot.{Slot}
-use Rattle.station.specs.declared.Station.{Station}
 use Rattle.station.specs.declared.Taking.{Taking}
 use Rattle.station.specs.Queue.{noSlot}
 use Rattle.station.specs.State.{laneAt}
-use Rattle.station.specs.Turn.{airs, rowOf}
+use Rattle.station.specs.Turn.{airs}
 use Rattle.station.proofs.LaneLaws.{holds-first}
 use Rattle.station.proofs.TurnParts.{report-aired, report-row, row-at}
 use Rattle.group.specs.History.{editsOf}

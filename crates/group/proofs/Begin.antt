@@ -1,8 +1,7 @@
 -- Beginnings of lists: a list begins itself and whatever is put after it, a beginning of a beginning is one, and its entries are the list's.
 use mathlib.Core.List.{List, [], _∷_, _++_}
-use mathlib.Core.List as list
 use mathlib.Core.Path.{_≡_, refl, sym, ap, _∙_}
-use Prim.Native.Nat.{ℕ, zero, suc, _<_}
+use Prim.Native.Nat.{ℕ, _<_}
 use lib.ListN.{length, getD, List·getD-append}
 use Rattle.group.specs.Demand.{Begins}
 

@@ -1,16 +1,15 @@
 -- What the run of a list of calls gives of demand 3: no round is refused where the group stays inside its limits and the own counts fit a frame, and
 -- then the sentences about what is taken, aired and held in lanes, and the end rule.
-use mathlib.Core.Bool.{Bool, true, false, not, cond}
+use mathlib.Core.Bool.{true, false, not}
 use mathlib.Core.Logic.{_⊎_, _↔_}
 use mathlib.Core.List.{List}
-use mathlib.Core.Path.{_≡_, refl, sym, ap, _∙_}
+use mathlib.Core.Path.{_≡_, refl, ap, _∙_}
 use Prim.Native.Nat.{ℕ, suc, _≤_, _<_}
 use native.Mathlib.Omega.{arith}
 use lib.ListN.{getD, length}
 use Rattle.kinds.specs.Refusals.{done}
 use Rattle.links.specs.Relay.{ofLog}
 use Rattle.links.specs.EndRule.{EndsIn}
-use Rattle.links.specs.Number as number
 use Rattle.links.proofs.EndRule.{ends-rule}
 use Rattle.places.specs.Places.{anyBelow}
 use Rattle.places.proofs.Laws.{anyBelow-none}
@@ -22,7 +21,7 @@ use Rattle.group.specs.State.{stationAt, sizeOf, groupInside}
 use Rattle.group.specs.Calls.{heard, roundRefusal}
 use Rattle.group.specs.History.{History, Call, historyOf, noRound, started, takenFrom, airedList, endsAt, startedIn}
 use Rattle.group.specs.Demand.{Begins}
-use Rattle.group.proofs.Run.{Run, Simulated, linksOf, hearingIn}
+use Rattle.group.proofs.Run.{Run, Simulated, linksOf}
 use Rattle.group.proofs.Shape.{shape}
 use Rattle.group.proofs.Taken as taken
 use Rattle.group.proofs.Lanes.{never-overfull, ready-limit}

@@ -7,7 +7,6 @@ use Prim.Native.Nat.{ℕ, zero, suc, _-_, _≤_, _<_}
 use native.Mathlib.Decide.{ℕ-discrete}
 use native.Mathlib.Omega.{arith}
 use borrow.Author.Tests.{eq-eqb, ne-eqb}
-use lib.Dec.{eqb}
 use lib.ListN.{length, getD, take, replicate}
 use lib.Seq.{take-append-seam}
 use Rattle.kinds.specs.declared.Body.{Body}
@@ -17,7 +16,6 @@ use Rattle.station.specs.declared.Station.{Station}
 use Rattle.station.specs.declared.Taking.{Taking}
 use Rattle.station.specs.declared.TurnReport.{TurnReport}
 use Rattle.station.specs.Turn.{turnReport}
-use Rattle.station.specs.Turn as turn
 use Rattle.station.proofs.TurnParts.{report-ended}
 use Rattle.group.specs.declared.Report.{Report}
 use Rattle.group.specs.declared.RoundDone.{RoundDone}

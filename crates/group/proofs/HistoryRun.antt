@@ -1,13 +1,11 @@
 -- From a list of calls to its run: if no round is refused then the history's group, log and rounds are those of the run. One induction over the calls,
 -- with what is still to come; a post goes on to the next round's group, a round is the run's next one.
-use mathlib.Core.Bool.{Bool, true, false, cond}
 use mathlib.Core.List.{List, [], _∷_, _++_}
 use mathlib.Core.Path.{_≡_, refl, sym, ap, ap₂, subst, fun-ext, _∙_}
 use Prim.Native.Nat.{ℕ, zero, suc, _+_, _-_, _≤_, _<_}
 use native.Mathlib.Decide.{ℕ-discrete, decLe}
 use native.Mathlib.Nat.{zero-add, suc-add}
 use native.Mathlib.Omega.{arith}
-use lib.Dec.{eqb}
 use lib.ListN.{length, getD, replicate, length-append, List·getD-append, List·getD-eq-default}
 use lib.Seq.{getD-at}
 use Rattle.kinds.specs.declared.Body.{Body}
@@ -17,10 +15,9 @@ use Rattle.links.specs.Relay.{ofMasks, ofLog}
 use Rattle.places.specs.Places.{fill}
 use Rattle.places.proofs.Laws.{fill-below}
 use Rattle.station.specs.declared.Station.{Station}
-use Rattle.group.specs.declared.Report.{Report}
 use Rattle.group.specs.declared.RoundDone.{RoundDone}
-use Rattle.group.specs.State.{stationAt, sizeOf, freshGroup}
-use Rattle.group.specs.Calls.{noReport, reportOf, roundRefusal, afterRound, postCall, roundCall}
+use Rattle.group.specs.State.{sizeOf}
+use Rattle.group.specs.Calls.{noReport, reportOf, roundRefusal, roundCall}
 use Rattle.group.specs.History.{History, Call, post, round, next, begun, continued, historyOf, noRound, reportIn}
 use Rattle.group.proofs.Run.{Run, linksOf}
 use Rattle.group.proofs.Shape.{shape}

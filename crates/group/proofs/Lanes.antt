@@ -1,28 +1,26 @@
 -- T2 to T4 of a run: a lane holds what was taken beyond the rows aired, round after round. The counts of bodies and rows then follow the two rules of
 -- counting, so no lane has more than one body after a round or two while hearing, and none is ever overfull.
 use mathlib.Core.Bool.{Bool, true, false, cond, not, _&&_, true≢false}
-use mathlib.Core.Logic.{_⊎_, inl, inr, ⊎-elim}
+use mathlib.Core.Logic.{_⊎_, inl, inr}
 use mathlib.Core.List.{List, [], _∷_, _++_}
 use mathlib.Core.Path.{_≡_, refl, sym, ap, subst, _∙_}
 use Prim.Native.Nat.{ℕ, zero, suc, min, _+_, _-_, _≤_, _<_}
 use native.Mathlib.Decide.{ℕ-discrete, decLe}
-use native.Mathlib.Nat.{sub-zero}
 use native.Mathlib.Omega.{arith}
-use borrow.Author.Tests.{eq-eqb, ne-eqb, lt-ltb, le-ltb, lt-leb, eqb-true}
+use borrow.Author.Tests.{lt-ltb, le-ltb, lt-leb, eqb-true}
 use lib.Dec.{eqb, ltb, leb}
-use lib.ListN.{length, getD, drop, replicate, length-drop, length-append, getD-replicate}
-use lib.Seq.{drop-drop, drop-append-le, drop-nil}
+use lib.ListN.{length, getD, drop, length-drop, length-append, getD-replicate}
+use lib.Seq.{drop-drop, drop-append-le}
 use Rattle.kinds.specs.declared.Body.{Body}
-use Rattle.kinds.specs.declared.Body.the-variants.{Empty}
 use Rattle.kinds.specs.Body.{kindOf}
 use Rattle.links.specs.Relay.{Links}
 use Rattle.links.specs.Clock.{news}
-use Rattle.links.proofs.Clock.{news-own, news-other, news-start, news-limit}
-use Rattle.places.specs.Places.{allBelow, anyBelow}
+use Rattle.links.proofs.Clock.{news-own, news-other, news-start}
+use Rattle.places.specs.Places.{allBelow}
 use Rattle.places.proofs.Laws.{allBelow-ext, anyBelow-none}
 use Rattle.station.specs.declared.Lane.{Lane}
 use Rattle.station.specs.declared.Station.{Station}
-use Rattle.station.specs.Lane.{noLane, bodies, pushed, popped}
+use Rattle.station.specs.Lane.{noLane, pushed, popped}
 use Rattle.station.specs.State.{laneAt, freshStation}
 use Rattle.station.specs.Turn.{airs, lanesAfter, mayStart, startedBody, afterTurn}
 use Rattle.station.proofs.LaneLaws.{Holds, holds-none, holds-pushed, holds-popped}
@@ -31,10 +29,10 @@ use Rattle.group.specs.State.{stationAt}
 use Rattle.group.specs.History.{unlessEmpty}
 use Rattle.group.proofs.Run.{Run, Simulated, linksOf, hearingIn, bodyAt, rises, comes}
 use Rattle.group.proofs.Begin.{append-nil}
-use Rattle.group.proofs.Shape.{Member, first-at, after-at, shape, hearing-member}
-use Rattle.group.proofs.Lists.{startedBy, takenBy, rowsBy, madeBy, startedAt, turnIn}
+use Rattle.group.proofs.Shape.{Member, first-at, after-at, hearing-member}
+use Rattle.group.proofs.Lists.{startedBy, takenBy, rowsBy, madeBy, startedAt}
 use Rattle.group.proofs.Taken.{startedBy-step, version-step, taken-version, length-version, startedAt-some, startedAt-none, startedBy-none}
-use Rattle.group.proofs.Counting.{Counting, reached, airsRow, shown, ahead, rows-limit, rows-reached, made-ahead, rows-keeps, hearing-ahead}
+use Rattle.group.proofs.Counting.{Counting, reached, airsRow, ahead, rows-limit, rows-reached, made-ahead, rows-keeps, hearing-ahead}
 
 -- A lane that holds all of a list but its first k, and may get one more body, or Empty.
 grown : (l : Lane) (k : ℕ) (xs : List Body) (b : Body) (more empty : Bool)

@@ -7,18 +7,17 @@ use Prim.Native.Nat.{ℕ, zero, suc, _≤_, _<_}
 use native.Mathlib.Omega.{arith}
 use lib.ListN.{length, replicate, length-replicate}
 use Rattle.links.specs.Log.{hearsIn}
-use Rattle.places.specs.Places.{fill}
 use Rattle.places.proofs.Laws.{length-fill, fill-below}
 use Rattle.station.specs.declared.Station.{Station}
 use Rattle.station.specs.Lane.{noLane}
 use Rattle.station.specs.State.{freshStation, sentRecords}
-use Rattle.station.specs.Hearing.{Hearing, hearRecords}
+use Rattle.station.specs.Hearing.{hearRecords}
 use Rattle.station.specs.Turn.{afterTurn}
 use Rattle.station.proofs.Unheard.{Unheard, unheard-refl, unheard-trans, hearRecords-unheard}
 use Rattle.station.proofs.TurnParts.{afterTurn-n, afterTurn-own, length-afterTurn}
 use Rattle.group.specs.State.{noStation, stationAt, sizeOf, freshGroup}
 use Rattle.group.specs.Calls.{hearing, heard, afterRound}
-use Rattle.group.proofs.Run.{Run, SameButWaiting, hearingIn}
+use Rattle.group.proofs.Run.{Run, hearingIn}
 
 -- hearing a round's frames leaves what a record leaves
 pub hearing-unheard : (g : List Station) (masks : List ℕ) (i k : ℕ) → Unheard (stationAt g i) ((hearing g masks i k) .station)

@@ -16,7 +16,7 @@ use Rattle.kinds.specs.declared.Body.the-variants.{Empty}
 use Rattle.kinds.specs.Body.{kindOf}
 use Rattle.links.specs.Relay.{Links}
 use Rattle.links.specs.Clock.{news}
-use Rattle.links.specs.Number.{num, numOf, got}
+use Rattle.links.specs.Number.{numOf, got}
 use Rattle.links.specs.Number as number
 use Rattle.links.proofs.Clock.{news-own, news-start, news-limit, news-keeps}
 use Rattle.links.proofs.Number.{step, num-zero}
@@ -24,7 +24,6 @@ use Rattle.links.proofs.Got.{numOf-none, numOf-some, numOf-mono, got-step}
 use Rattle.station.specs.declared.Station.{Station}
 use Rattle.station.specs.State.{freshStation}
 use Rattle.station.specs.Turn.{startedBody}
-use Rattle.station.specs.Turn as turn
 use Rattle.station.proofs.TurnParts.{started-stays, body-ends, body-stays, report-started}
 use Rattle.group.specs.State.{stationAt}
 use Rattle.group.specs.History.{takingsOf, unlessEmpty}
@@ -32,7 +31,7 @@ use Rattle.group.specs.Demand.{Begins}
 use Rattle.group.proofs.Run.{Run, Simulated, linksOf, hearingIn, bodyAt, rises}
 use Rattle.group.proofs.Begin.{append-nil, begins-nil, begins-refl, begins-append, begins-trans}
 use Rattle.group.proofs.Shape.{first-at, after-at, hearing-unheardIn}
-use Rattle.group.proofs.Lists.{startedBy, heardBy, takenBy, startedAt, turnIn, madeBy}
+use Rattle.group.proofs.Lists.{startedBy, heardBy, takenBy, startedAt, madeBy}
 use Rattle.group.proofs.Counting.{shown}
 
 fresh-body : (n p : ℕ) → (freshStation n p) .body ≡ Empty

@@ -1,8 +1,8 @@
 -- What hearing leaves as it was: N, the own number, the waiting edits and the present body. A record touches one place of the lanes, so they stay as
 -- many.
 use mathlib.Core.Bool.{Bool, true, false, cond}
-use mathlib.Core.List.{List, [], _∷_, _++_}
-use mathlib.Core.Path.{_≡_, refl, sym, ap, _∙_}
+use mathlib.Core.List.{List, [], _∷_}
+use mathlib.Core.Path.{_≡_, refl, sym, _∙_}
 use lib.ListN.{length, length-set}
 use Rattle.frames.specs.declared.Record.{Record}
 use Rattle.station.specs.declared.Station.{Station}
