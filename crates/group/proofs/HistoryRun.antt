@@ -106,10 +106,7 @@ module _ (n : ℕ) (low : 1 ≤ n) (high : n ≤ 16) (calls : List Call) (free :
   unfolding next afterPosts afterNext nextMasks
   tied-post u H k b todo t = record { rounds = t .rounds; log = t .log; group = t .group; rest = t .rest; masks = t .masks }
 
-  -- the next group, calls and masks of the run
-  run-ready : (u : ℕ) → R .ready (suc u) ≡ afterPosts (R .after (suc u)) (callsAfter calls (suc u))
-  run-ready u = refl
-
+  -- the next calls and masks of the run
   calls-step : (u : ℕ) → callsAfter calls (suc (suc u)) ≡ afterNext (callsAfter calls (suc u))
   unfolding callsAfter
   calls-step u = refl
