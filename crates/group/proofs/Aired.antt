@@ -89,23 +89,27 @@ module _ (R : Run) (S : Simulated R) where
       ∙ ap (λ (i : ℕ). getD (startedAt R s w) i Empty) (add-zero k)
       ∙ begins-getD (startedAt R s w) (startedBy R v s) (version-begins R S w v s (omega arith)) k Empty (omega arith)
 
-  -- a row that is aired
+  -- T2: the row that p airs after k others has the k-th body that each station started.
+  pub row-body : (u v p s : ℕ) → u ≤ v → p < R .n → s < R .n → airs ((hearingIn R u p) .station) ≡ true
+      → (getD ((turnIn R u p) .row) s noSlot) .body ≡ getD (startedBy R v s) (rowsBy R u p) Empty
+  row-body u v p s h lp ls e =
+      let t = (hearingIn R u p) .station in
+      let m = hearing-member R u p lp in
+      ap (λ (row : List Slot). (getD row s noSlot) .body) (report-row t e)
+      ∙ row-at t s (omega (arith, m .size)) (omega (arith, m .size, R .high))
+      ∙ oldest-at u v p s h lp ls e
+
   row-aired : (u v p : ℕ) → u ≤ v → p < R .n → airs ((hearingIn R u p) .station) ≡ true
       → editsOf (R .n) ((turnIn R u p) .row) ≡ rowBy R v (rowsBy R u p)
   unfolding rowBy
   row-aired u v p h lp e =
-      let t = (hearingIn R u p) .station in
-      let m = hearing-member R u p lp in
       edits-ext
       (R .n)
       ((turnIn R u p) .row)
       (λ s. getD (startedBy R v s) (rowsBy R u p) Empty)
-      (λ s ls.
-      ap (λ (row : List Slot). (getD row s noSlot) .body) (report-row t e)
-      ∙ row-at t s (omega (arith, m .size)) (omega (arith, m .size, R .high))
-      ∙ oldest-at u v p s h lp ls e)
+      (λ s ls. row-body u v p s h lp ls e)
 
-  -- T2: by the end of round u a station has aired the first rows, as far as it has come.
+  -- By the end of round u a station has aired the first rows, as far as it has come.
   pub aired-rows : (u v p : ℕ) → u ≤ v → p < R .n → airedBy R u p ≡ rowsOf R v (rowsBy R u p)
   unfolding airedBy rowsBy rowsOf
   aired-rows zero v p h lp = refl
