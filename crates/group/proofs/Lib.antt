@@ -4,3 +4,14 @@ pub mod MembersPost
 pub mod MembersRound
 pub mod TurnAccount
 pub mod PostsAccounted
+pub mod Counting
+pub mod Shape
+pub mod Begin
+pub mod Lists
+pub mod Taken
+pub mod Lanes
+pub mod Aired
+pub mod CallRun
+pub mod HistoryRun
+pub mod HistoryLists
+pub mod FromRun

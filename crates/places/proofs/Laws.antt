@@ -57,6 +57,20 @@ allBelow-fails n test k l e = go (allBelow n test) refl
     go true h = sym (allBelow-at n test h k l) ∙ e
     go false h = refl
 
+-- a test that does not hold at every place fails at some place
+pub allBelow-not : (n : ℕ) (test : ℕ → Bool) → allBelow n test ≡ false → (k : ℕ) × (k < n) × (test k ≡ false)
+unfolding allBelow
+allBelow-not zero test h = let z : true ≡ false = h in absurd (mathlib.Core.Bool.true≢false z)
+allBelow-not (suc n) test h = go (allBelow n test) refl (λ e. allBelow-not n test e) h
+  where
+    go : (b : Bool)
+        → allBelow n test ≡ b
+        → (allBelow n test ≡ false → (k : ℕ) × (k < n) × (test k ≡ false))
+        → (b && test n) ≡ false
+        → (k : ℕ) × (k < suc n) × (test k ≡ false)
+    go true e before h = (n, omega arith, h)
+    go false e before h = let r = before e in (r .0, omega (arith, r .1), r .2)
+
 pub anyBelow-none : (n : ℕ) (test : ℕ → Bool) → ((k : ℕ) → k < n → test k ≡ false) → anyBelow n test ≡ false
 unfolding anyBelow
 anyBelow-none zero test h = refl

@@ -11,3 +11,6 @@ pub mod LimitsHearing
 pub mod LimitsSent
 pub mod TurnLaws
 pub mod LimitsTurn
+pub mod LaneLaws
+pub mod Unheard
+pub mod TurnParts
