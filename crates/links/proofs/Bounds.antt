@@ -8,14 +8,13 @@ use Prim.Native.Nat.{ℕ, zero, suc, _+_, _-_, _*_, _<_, _≤_}
 use native.Mathlib.Decide.{ℕ-discrete, decLe}
 use native.Mathlib.Nat.{le-refl}
 use native.Mathlib.Omega.{arith}
-use borrow.Author.Tests.{eq-eqb, ne-eqb}
-use lib.Dec.{eqb}
 use Rattle.links.specs.Relay.{Links}
 use Rattle.links.specs.Clock.{news}
-use Rattle.links.specs.Number.{full, start, ends, num, numOf, got, gotOf, fresh}
+use Rattle.links.specs.Number.{full, start, ends, num, numOf, got, gotOf, tally, fresh}
 use Rattle.links.proofs.Clock.{news-own, news-other, news-limit, news-mono, news-carries-earlier}
 use Rattle.links.proofs.Number.{Answer, full-answer, answer-full, step, start-limit, num-mono, num-start, ends-full, start-zero}
-use Rattle.links.proofs.Got.{version, got-none, got-some, got-mono, got-news, got-limit, began, first-number, previous}
+use Rattle.links.proofs.Got.{version, got-none, got-some, got-mono, got-news, got-limit, began, first-number, previous, got-step}
+use Rattle.links.proofs.Tally.{tally-limit}
 
 module _ (L : Links) where
   pub gotOf-some : (q s v w : ℕ) → v ≡ suc w → gotOf L q s v ≡ got L w q s
@@ -138,30 +137,14 @@ module _ (L : Links) where
           (version L (start L (f .0) r)))
           (version L (start L w r))
 
-  fresh-step : (u p n : ℕ) → p < L .size → n < L .size → (fresh L u p (suc n) ≤ fresh L u p n + 2) × (n ≡ p → fresh L u p (suc n) ≡ fresh L u p n)
+  -- So at most two for each other station in all, and at most three while the next round is heard.
+  pub fresh-limit : (u p : ℕ) → p < L .size → fresh L u p ≤ 2 * (L .size - 1)
   unfolding fresh
-  fresh-step u p n lp ln = (go (ℕ-discrete n p), λ e. rw (eq-eqb n p e) (omega arith))
-    where
-      go : Dec (n ≡ p) → fresh L u p n + cond (eqb n p) 0 (got L u p n - got L (start L u p) p n) ≤ fresh L u p n + 2
-      go (yes e) = rw (eq-eqb n p e) (omega arith)
-      go (no d) = rw (ne-eqb n p d) (omega (arith, within u p n lp ln d))
+  fresh-limit u p l =
+      tally-limit 2 p (L .size) (λ r. got L u p r) (λ r. got L (start L u p) p r) l (λ r lr d. within u p r l lr d)
 
-  fresh-zero : (u p : ℕ) → fresh L u p 0 ≡ 0
-  unfolding fresh
-  fresh-zero u p = refl
-
-  fresh-two : (u p n : ℕ) → p < L .size → n ≤ L .size → fresh L u p n ≤ 2 * n
-  fresh-two u p zero lp ln = omega (arith, fresh-zero u p)
-  fresh-two u p (suc n) lp ln = omega (arith, fresh-two u p n lp (omega arith), fresh-step u p n lp ln .0)
-
-  fresh-past : (u p n : ℕ) → p < L .size → n ≤ L .size → p < n → fresh L u p n + 2 ≤ 2 * n
-  fresh-past u p zero lp ln h = absurd (omega arith)
-  fresh-past u p (suc n) lp ln h =
-      elim (ℕ-discrete n p) [
-        | yes e ↦ omega (arith, fresh-two u p n lp (omega arith), fresh-step u p n lp ln .1 e)
-        | no d ↦ omega (arith, fresh-past u p n lp (omega arith) (omega arith), fresh-step u p n lp ln .0)
-      ]
-
-  -- So at most two for each other station in all.
-  pub fresh-limit : (u p : ℕ) → p < L .size → fresh L u p (L .size) ≤ 2 * (L .size - 1)
-  fresh-limit u p lp = omega (arith, fresh-past u p (L .size) lp (le-refl (L .size)) lp)
+  pub hearing-limit : (u p : ℕ) → p < L .size
+      → tally (L .size) p (λ r. got L (suc u) p r) (λ r. got L (start L u p) p r) ≤ 3 * (L .size - 1)
+  hearing-limit u p l =
+      tally-limit 3 p (L .size) (λ r. got L (suc u) p r) (λ r. got L (start L u p) p r) l
+      (λ r lr d. omega (arith, within u p r l lr d, got-step L u p r l))

@@ -40,7 +40,7 @@ module _ (L : Links) where
       go (inr a) (inr b) =
           omega (arith, numOf-some s v (a .0) (a .1), numOf-some s v′ (b .0) (b .1), num-mono L (a .0) (b .0) s (omega (arith, a .1, b .1)))
 
-  got-numOf : (u r s : ℕ) → got L u r s ≡ numOf L s (news L u r s)
+  pub got-numOf : (u r s : ℕ) → got L u r s ≡ numOf L s (news L u r s)
   unfolding got
   got-numOf u r s = refl
 

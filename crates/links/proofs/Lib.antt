@@ -1,8 +1,12 @@
 pub mod Clock
 pub mod Number
 pub mod Got
+pub mod Tally
 pub mod Bounds
 pub mod Relay
 pub mod EndRule
+pub mod Version
 pub mod Prefix
 pub mod Log
+pub mod Examples
+pub mod Facts

@@ -27,6 +27,11 @@ unfolding every
 all-every test zero h = refl
 all-every test (suc n) h = and-eq-true-iff (every n test) (test n) .1 (all-every test n (λ k l. h k (omega arith)), h n (omega arith))
 
+pub every-same : (h k : ℕ → Bool) (n : ℕ) → ((j : ℕ) → h j ≡ k j) → every n h ≡ every n k
+unfolding every
+every-same h k zero e = refl
+every-same h k (suc n) e = rw (e n, every-same h k n e)
+
 module _ (L : Links) where
   -- An answer is news of a station in which it has news of s from after round t.
   pub record Answer (u s t r : ℕ) : Type 0 where
@@ -78,6 +83,10 @@ module _ (L : Links) where
   pub ends-full : (u s : ℕ) → ends L (suc u) s ≡ full L (suc u) s (start L u s)
   unfolding ends
   ends-full u s = refl
+
+  pub ends-zero : (s : ℕ) → ends L 0 s ≡ false
+  unfolding ends
+  ends-zero s = refl
 
   pub num-zero : (s : ℕ) → num L 0 s ≡ 1
   unfolding num
