@@ -1,3 +1,4 @@
 pub mod Run
 pub mod Version
 pub mod Outcome
+pub mod Standing

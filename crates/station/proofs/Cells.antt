@@ -20,27 +20,22 @@ use Rattle.station.specs.Lane.{noLane, pushed}
 use Rattle.station.specs.State.{labelOf, ackedOf, heldOf, recordOf, laneAt, recordLabel, noRecord}
 use Rattle.station.specs.Hearing.{Hearing, counts, advances, takes, raised, replaced, heardNewer, hearRecord, hearRecords}
 
--- one record: nothing, or each of the three parts
+-- one record: nothing, or what a newer one does
 module _ (h : Hearing) (r : Record) where
   pub skips : counts (h .station) r ≡ false → hearRecord h r ≡ h
   unfolding hearRecord
   skips e = rw e
 
-  pub counts-station : counts (h .station) r ≡ true → (hearRecord h r) .station ≡ heardNewer (h .station) r
-  unfolding hearRecord
-  counts-station e = rw e
-
-  pub counts-takings :
+  pub hears :
       counts (h .station) r ≡ true →
-      (hearRecord h r) .takings ≡ h .takings ++ cond (takes (h .station) r) (record { source = r .station; body = r .body } ∷ []) []
+      hearRecord h r
+      ≡ record {
+        station = heardNewer (h .station) r;
+        takings = h .takings ++ cond (takes (h .station) r) (record { source = r .station; body = r .body } ∷ []) [];
+        overfull = h .overfull || (takes (h .station) r && leb 2 ((laneAt (h .station) (r .station)) .len));
+      }
   unfolding hearRecord
-  counts-takings e = rw e
-
-  pub counts-overfull :
-      counts (h .station) r ≡ true →
-      (hearRecord h r) .overfull ≡ (h .overfull || (takes (h .station) r && leb 2 ((laneAt (h .station) (r .station)) .len)))
-  unfolding hearRecord
-  counts-overfull e = rw e
+  hears e = rw e
 
 -- the labels below n of a record as a frame carries it, and of one put in the place of another
 pub framed-label : (n : ℕ) (r : Record) (k : ℕ) → k < n → n ≤ 16 → recordLabel (framed n r) k ≡ recordLabel r k
