@@ -2,3 +2,4 @@ pub mod Run
 pub mod Version
 pub mod Outcome
 pub mod Standing
+pub mod HearStep
