@@ -353,3 +353,51 @@ module _ (R : Run) where
           (λ q l.
           let e = number-after q l (ℕ-discrete q (r .station)) f in
           rw (e, shown-same R q (vs′ q) (vs q) e))))
+
+      standing-counted : counts (h .station) r ≡ true → Standing R u p first (hearRecord h r) vs′
+      standing-counted e =
+          subst (λ x. Standing R u p first x vs′) (sym (Cells.hears h r e))
+          (record {
+            formed = formed-heard p (h .station) r lk (c .formed);
+            body = Cells.heard-body (h .station) r ∙ c .body;
+            own-version = rest p (λ q. other (sym q)) ∙ c .own-version;
+            low = λ q l. low-after q l (ℕ-discrete q (r .station));
+            high = λ q l. high-after q l (ℕ-discrete q (r .station));
+            cells = λ q l. cells-after q l (ℕ-discrete q (r .station));
+            caught = λ q l. caught-after q l (ℕ-discrete q (r .station));
+            count = count-after;
+            overfull = overfull-after b refl;
+          })
+        where
+          low-after : (q : ℕ) → q < R .n → Dec (q ≡ r .station) → news (linksOf R) u p q ≤ vs′ q
+          low-after q l (yes i) =
+              subst (λ x. news (linksOf R) u p x ≤ vs′ x) (sym i) (omega (arith, c .low (r .station) lk, here))
+          low-after q l (no d) = omega (arith, c .low q l, rest q d)
+
+          high-after : (q : ℕ) → q < R .n → Dec (q ≡ r .station) → vs′ q ≤ suc u
+          high-after q l (yes i) = subst (λ x. vs′ x ≤ suc u) (sym i) (omega (arith, here, within-round))
+          high-after q l (no d) = omega (arith, c .high q l, rest q d)
+
+    -- the step
+    pub hear-step : vs′ (r .station) ≡ max (vs (r .station)) (suc w) → Standing R u p first (hearRecord h r) vs′
+    hear-step here =
+        go (outcome R u p lp (h .station) r (c .formed .own) other lk (vs (r .station)) w j lj (c .cells (r .station) lk) t (c .low (r .station) lk) (c .high (r .station) lk) from)
+      where
+        go : Outcome R (h .station) r (r .station) (vs (r .station)) w → Standing R u p first (hearRecord h r) vs′
+        go (skipped e a) =
+            subst (λ x. Standing R u p first x vs′) (sym (Cells.skips h r e))
+            (standing-alike R u p first h vs vs′ lp (λ q l. alike q (ℕ-discrete q (r .station)))
+            (λ q l. below q l (ℕ-discrete q (r .station))) c)
+          where
+            alike : (q : ℕ) → Dec (q ≡ r .station) → Alike R q (vs q) (vs′ q)
+            alike q (yes i) =
+                subst (λ x. Alike R x (vs x) (vs′ x)) (sym i) (subst (λ v. Alike R (r .station) (vs (r .station)) v) (sym here) a)
+            alike q (no d) = inl (rest q d)
+
+            below : (q : ℕ) → q < R .n → Dec (q ≡ r .station) → vs′ q ≤ suc u
+            below q l (yes i) =
+                subst (λ x. vs′ x ≤ suc u) (sym i)
+                (omega (arith, here, c .high (r .station) lk, news-limit (linksOf R) u j (r .station)))
+            below q l (no d) = omega (arith, c .high q l, rest q d)
+        go (renewed e adv later number) = standing-counted (omega arith) false adv later number e
+        go (advanced e adv later number) = standing-counted (omega arith) true adv later number e
