@@ -3,3 +3,4 @@ pub mod Version
 pub mod Outcome
 pub mod Standing
 pub mod HearStep
+pub mod RoundHeard
