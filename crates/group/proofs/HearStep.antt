@@ -46,7 +46,7 @@ acked-mod g₀ g m a b c =
       | no d ↦ rw (ne-eqb g m d, ne-eqb (g % 3) (m % 3) (omega arith), ne-eqb g₀ m (omega arith))
     ]
 
-label-step : (b : Bool) (l a a′ : ℕ) → l ≡ a % 3 → a′ ≡ cond b (suc a) a → cond b (successor l) l ≡ a′ % 3
+pub label-step : (b : Bool) (l a a′ : ℕ) → l ≡ a % 3 → a′ ≡ cond b (suc a) a → cond b (successor l) l ≡ a′ % 3
 label-step true l a a′ e f = omega arith
 label-step false l a a′ e f = e ∙ ap (λ (i : ℕ). i % 3) (sym f)
 

@@ -4,3 +4,4 @@ pub mod Outcome
 pub mod Standing
 pub mod HearStep
 pub mod RoundHeard
+pub mod TurnStep
