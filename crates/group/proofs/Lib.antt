@@ -5,3 +5,4 @@ pub mod Standing
 pub mod HearStep
 pub mod RoundHeard
 pub mod TurnStep
+pub mod Rounds
