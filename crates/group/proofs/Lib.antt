@@ -6,3 +6,4 @@ pub mod HearStep
 pub mod RoundHeard
 pub mod TurnStep
 pub mod Rounds
+pub mod Simulation
