@@ -1,12 +1,11 @@
 -- One step of hearing: a cell that stands for version v, given a record of version w + 1, stands for the later of the two, and the number rises, by one,
 -- exactly if the record advances it; label, count, lane, taking and overflow all hang on that one test.
-use Prim.Native.Nat.{ℕ, zero, suc, max, _+_, _*_, _-_, _%_, _≤_, _<_}
-use mathlib.Core.Bool.{Bool, true, false, cond, not, _&&_, _||_, or-true, or-false, and-false}
+use Prim.Native.Nat.{ℕ, suc, max, _+_, _%_, _≤_, _<_}
+use mathlib.Core.Bool.{Bool, true, false, cond, not, _&&_, _||_, or-true, or-false}
 use mathlib.Core.List.{List, [], _∷_, _++_, append-nil, append-assoc}
-use mathlib.Core.Logic.{_⊎_, inl, inr, ⊎-elim}
+use mathlib.Core.Logic.{inl}
 use mathlib.Core.Path.{_≡_, refl, sym, ap, _∙_, subst}
 use native.Mathlib.Decide.{ℕ-discrete}
-use native.Mathlib.Nat.{le-refl}
 use native.Mathlib.Omega.{arith}
 use borrow.Author.Tests.{lt-ltb, le-ltb, eq-eqb, ne-eqb}
 use lib.ListN.{length}
@@ -32,7 +31,7 @@ use Rattle.station.specs.Lane.{pushed}
 use Rattle.station.specs.State.{labelOf, ackedOf, heldOf, recordOf, laneAt, recordLabel}
 use Rattle.station.specs.Hearing.{Hearing, counts, advances, takes, raised, replaced, heardNewer, hearRecord}
 use Rattle.station.proofs.Cells
-use Rattle.group.specs.History.{takingsOf, unlessEmpty}
+use Rattle.group.specs.History.{takingsOf}
 use Rattle.group.proofs.Run.{Run, linksOf}
 use Rattle.group.proofs.Version.{Stands, Cell, Caught, Alike, shown, gains, shown-same, caught-same}
 use Rattle.group.proofs.Outcome.{Outcome, skipped, renewed, advanced, outcome}
@@ -332,9 +331,10 @@ module _ (R : Run) where
           let e : numOf (linksOf R) (r .station) (suc w) ≡ suc (numOf (linksOf R) (r .station) (vs (r .station))) = rw f at number in
           let x =
           lane-before u p (r .station) (vs (r .station)) w (laneAt first (r .station)) (laneAt (h .station) (r .station))
-          (takingsOf (r .station) (h .takings)) e near (c .caught (r .station) lk) in
-          (rw (not-risen u p (r .station) (vs (r .station)) w e near),
-          rw (here, risen u p (r .station) (vs (r .station)) w e had, takes-is, f, t .body, x))
+          (takingsOf (r .station) (h .takings)) e near (c .caught (r .station) lk) in (
+            rw (not-risen u p (r .station) (vs (r .station)) w e near),
+            rw (here, risen u p (r .station) (vs (r .station)) w e had, takes-is, f, t .body, x),
+          )
 
       overfull-after :
           (x : Bool) → b ≡ x →

@@ -1,19 +1,18 @@
 -- What "newer" decides. The versions of a station that are in flight in one round have numbers at most one apart, so labels modulo 3 tell the same, the
 -- next and the previous number apart; and within one number a later version has no smaller count. So a record counts exactly if it is later than what
 -- the cell stands for, or else the cell stands for it already; and it advances exactly if its number is the next one.
-use Prim.Native.Nat.{ℕ, zero, suc, max, _+_, _%_, _≤_, _<_}
-use mathlib.Core.Bool.{Bool, true, false, cond, not, _&&_, _||_}
-use mathlib.Core.Logic.{_⊎_, inl, inr, ⊎-elim}
-use mathlib.Core.Path.{_≡_, refl, sym, ap, _∙_, subst}
+use Prim.Native.Nat.{ℕ, zero, suc, max, _%_, _≤_, _<_}
+use mathlib.Core.Bool.{Bool, true, false, not, _&&_}
+use mathlib.Core.Logic.{inl, inr}
+use mathlib.Core.Path.{_≡_, refl, sym, ap, _∙_}
 use native.Mathlib.Decide.{ℕ-discrete, decLe}
-use native.Mathlib.Nat.{le-refl, le-of-eq}
 use native.Mathlib.Omega.{arith}
 use borrow.Author.Tests.{lt-ltb, le-ltb, eq-eqb, ne-eqb}
-use lib.Dec.{ltb, eqb}
+use lib.Dec.{ltb}
 use Rattle.labels.specs.Label.{successor}
 use Rattle.labels.specs.Newer.{isNewer}
 use Rattle.links.specs.Clock.{news}
-use Rattle.links.specs.Number.{num, numOf, got, fresh}
+use Rattle.links.specs.Number.{num, numOf, fresh}
 use Rattle.links.proofs.Number.{num-positive, num-mono}
 use Rattle.links.proofs.Got.{numOf-none, numOf-some, got-own}
 use Rattle.links.proofs.Version.{numOf-close, fresh-mono}

@@ -1,33 +1,33 @@
 -- A whole round's hearing. A frame carries of each station of which its sender holds a record that very record, so hearing it lifts each cell to the
 -- later of its version and the sender's; and the senders of the mask, one after the other, lift it to the latest of all, which is the clock.
-use Prim.Native.Nat.{ℕ, zero, suc, max, _+_, _%_, _≤_, _<_}
-use mathlib.Core.Bool.{Bool, true, false, cond, not, _&&_, _||_, and-false, true≢false}
-use mathlib.Core.List.{List, [], _∷_, _++_}
-use mathlib.Core.Logic.{_⊎_, inl, inr, ⊎-elim}
+use Prim.Native.Nat.{ℕ, zero, suc, max, _≤_, _<_}
+use mathlib.Core.Bool.{Bool, true, false, cond, _&&_}
+use mathlib.Core.List.{[], _∷_}
+use mathlib.Core.Logic.{inl, ⊎-elim}
 use mathlib.Core.Path.{_≡_, refl, sym, ap, _∙_, subst}
 use native.Mathlib.Decide.{ℕ-discrete, decLe}
 use native.Mathlib.Nat.{le-refl}
 use native.Mathlib.Omega.{arith}
-use borrow.Author.Tests.{lt-ltb, le-ltb, ltb-true, ltb-false, eq-eqb, ne-eqb}
-use lib.Dec.{leb, ltb, eqb}
+use borrow.Author.Tests.{lt-ltb, le-ltb, ltb-true, ltb-false, eq-eqb}
+use lib.Dec.{leb, ltb}
 use Rattle.links.specs.Log.{hearsIn}
 use Rattle.links.specs.Clock.{latest, news}
-use Rattle.links.specs.Number.{start, num, numOf, got, fresh, tally}
+use Rattle.links.specs.Number.{numOf, got, fresh}
 use Rattle.links.proofs.Clock.{news-own, news-limit, news-step}
 use Rattle.links.proofs.Got.{got-numOf, version}
 use Rattle.frames.specs.declared.Record.{Record}
 use Rattle.frames.specs.Record.{framed}
-use Rattle.places.specs.Places.{anyBelow, gather}
+use Rattle.places.specs.Places.{gather}
 use Rattle.places.proofs.Laws.{anyBelow-none}
 use Rattle.station.specs.declared.Station.{Station}
-use Rattle.station.specs.State.{labelOf, ackedOf, heldOf, recordOf, laneAt, recordLabel, sentRecords}
-use Rattle.station.specs.Hearing.{Hearing, counts, silent, hearRecord, hearRecords}
+use Rattle.station.specs.State.{labelOf, ackedOf, heldOf, recordOf, laneAt, sentRecords}
+use Rattle.station.specs.Hearing.{Hearing, silent, hearRecord, hearRecords}
 use Rattle.station.proofs.Cells
 use Rattle.group.specs.State.{stationAt, sizeOf}
-use Rattle.group.specs.Calls.{hearing, heard}
+use Rattle.group.specs.Calls.{hearing}
 use Rattle.group.specs.History.{takingsOf}
 use Rattle.group.proofs.Run.{Run, linksOf, hearingIn}
-use Rattle.group.proofs.Version.{Stands, Cell, Caught, Alike, shown, gains}
+use Rattle.group.proofs.Version.{Stands, Cell, shown, gains}
 use Rattle.group.proofs.Standing.{Formed, Standing, standing-alike}
 use Rattle.group.proofs.HearStep.{hear-step}
 

@@ -1,32 +1,30 @@
 -- All rounds: the fresh group is as round 0 leaves it, what happens between two rounds touches no cell, and a round's hearing and turn lead on. One
 -- induction over the rounds.
-use Prim.Native.Nat.{ℕ, zero, suc, pred, _+_, _%_, _≤_, _<_}
-use mathlib.Core.Bool.{Bool, true, false, cond}
-use mathlib.Core.List.{List, []}
+use Prim.Native.Nat.{ℕ, zero, suc, _%_, _<_}
+use mathlib.Core.Bool.{Bool, true, false}
+use mathlib.Core.List.{List}
 use mathlib.Core.Path.{_≡_, refl, sym, ap, _∙_, subst}
 use native.Mathlib.Decide.{ℕ-discrete}
 use native.Mathlib.Omega.{arith}
 use borrow.Author.Tests.{eq-eqb}
 use lib.ListN.{getD, set, length, length-set, replicate, getD-replicate}
 use lib.Seq.{getD-set-same, getD-set-other}
-use lib.Dec.{ltb, eqb}
+use lib.Dec.{eqb}
 use Rattle.links.specs.Clock.{news}
-use Rattle.links.specs.Number.{start, num, numOf, got, gotOf, fresh}
+use Rattle.links.specs.Number.{num, numOf, got, gotOf}
 use Rattle.links.proofs.Clock.{news-own, news-start}
 use Rattle.links.proofs.Number.{num-zero, start-zero}
-use Rattle.links.proofs.Got.{got-none, got-own, numOf-none, numOf-some}
-use Rattle.links.proofs.Bounds.{gotOf-some}
+use Rattle.links.proofs.Got.{got-none, got-own}
 use Rattle.frames.specs.declared.Record.{Record}
-use Rattle.places.specs.Places.{fill}
 use Rattle.places.proofs.Laws.{fill-below, length-fill}
 use Rattle.station.specs.declared.Station.{Station}
-use Rattle.station.specs.State.{labelOf, ackedOf, heldOf, recordOf, recordLabel, noRecord, zeroRecord, freshStation}
+use Rattle.station.specs.State.{labelOf, ackedOf, heldOf, recordOf, noRecord, zeroRecord, freshStation}
 use Rattle.station.specs.Turn.{afterTurn}
 use Rattle.group.specs.State.{stationAt, sizeOf, freshGroup}
 use Rattle.group.specs.Calls.{heard, afterRound}
 use Rattle.group.proofs.Run.{Run, SameButWaiting, linksOf, hearingIn}
-use Rattle.group.proofs.Version.{Stands, Cell, shown}
-use Rattle.group.proofs.Standing.{Formed, Standing}
+use Rattle.group.proofs.Version.{Stands, Cell}
+use Rattle.group.proofs.Standing.{Formed}
 use Rattle.group.proofs.HearStep.{cell-move}
 use Rattle.group.proofs.RoundHeard.{After, hear-round, heard-version}
 use Rattle.group.proofs.TurnStep.{fresh-start, turn-step}

@@ -1,13 +1,12 @@
 -- The simulation: what the rounds of a run do is what the clocks and the broadcast numbers say. The invariant of all rounds gives the table, the labels,
 -- the acknowledgements and the counts; the hearing of each round gives the takings, the lanes and the overflow, and its turn the ends.
-use Prim.Native.Nat.{ℕ, zero, suc, pred, _+_, _*_, _-_, _%_, _≤_, _<_}
-use mathlib.Core.Bool.{Bool, true, false, cond, not, _&&_, _||_}
-use mathlib.Core.List.{List, []}
+use Prim.Native.Nat.{ℕ, suc, pred, _*_, _-_, _%_, _≤_, _<_}
+use mathlib.Core.Bool.{Bool, true, false, cond, not, _&&_}
+use mathlib.Core.List.{[]}
 use mathlib.Core.Path.{_≡_, refl, sym, ap, ap₂, _∙_, subst}
 use native.Mathlib.Decide.{ℕ-discrete}
 use native.Mathlib.Omega.{arith}
 use borrow.Author.Tests.{lt-ltb, le-ltb, le-leb, ltb-true, eq-eqb, ne-eqb}
-use lib.ListN.{length}
 use lib.Dec.{ltb, leb, eqb}
 use Rattle.kinds.specs.declared.Body.{Body}
 use Rattle.kinds.specs.Body.{kindOf}
@@ -15,24 +14,20 @@ use Rattle.links.specs.Clock.{news}
 use Rattle.links.specs.Number as number
 use Rattle.links.specs.Number.{num, numOf, got, gotOf, fresh}
 use Rattle.links.proofs.Clock.{news-own}
-use Rattle.links.proofs.Got.{got-numOf, got-own, numOf-some, version}
+use Rattle.links.proofs.Got.{got-numOf, got-own, numOf-some}
 use Rattle.links.proofs.Bounds.{fresh-limit}
 use Rattle.frames.specs.declared.Record.{Record}
-use Rattle.frames.specs.Record.{countInside}
-use Rattle.places.specs.Places.{anyBelow}
 use Rattle.places.proofs.Laws.{anyBelow-ext}
-use Rattle.station.specs.declared.Lane.{Lane}
-use Rattle.station.specs.declared.Station.{Station}
 use Rattle.station.specs.Lane.{pushed}
 use Rattle.station.specs.State.{labelOf, ackedOf, heldOf, recordOf, recordLabel, laneAt}
 use Rattle.station.specs.Calls.{ownCountInside}
 use Rattle.station.specs.Turn as turn
-use Rattle.group.specs.State.{stationAt, sizeOf}
+use Rattle.group.specs.State.{stationAt}
 use Rattle.group.specs.History.{takingsOf, unlessEmpty}
-use Rattle.group.proofs.Run.{Run, Simulated, linksOf, hearingIn, bodyAt, rises, comes}
-use Rattle.group.proofs.Version.{Stands, Cell, Caught, shown, gains}
+use Rattle.group.proofs.Run.{Run, Simulated, linksOf, hearingIn, bodyAt, comes}
+use Rattle.group.proofs.Version.{Stands, Caught, shown, gains}
 use Rattle.group.proofs.Standing.{Formed, Standing}
-use Rattle.group.proofs.RoundHeard.{After, heardVersion, hear-round, heard-version}
+use Rattle.group.proofs.RoundHeard.{heardVersion, hear-round, heard-version}
 use Rattle.group.proofs.TurnStep.{ends-agree}
 use Rattle.group.proofs.Rounds.{after-all, ready-all}
 

@@ -1,12 +1,12 @@
 -- The invariant of a round's hearing: of every station the hearer's cell stands for some version, and the count, the lanes, the takings and whether a
 -- lane overflowed are what those versions say. Versions are a function of the station, compared place by place.
-use Prim.Native.Nat.{ℕ, zero, suc, _+_, _*_, _-_, _≤_, _<_}
-use mathlib.Core.Bool.{Bool, true, false, cond, not, _&&_, _||_}
-use mathlib.Core.Logic.{_⊎_, inl, inr, ⊎-elim}
-use mathlib.Core.Path.{_≡_, refl, sym, ap, _∙_, subst}
+use Prim.Native.Nat.{ℕ, suc, _*_, _-_, _≤_, _<_}
+use mathlib.Core.Bool.{Bool, _&&_}
+use mathlib.Core.Logic.{inl, inr}
+use mathlib.Core.Path.{_≡_, refl, sym, _∙_, subst}
 use native.Mathlib.Omega.{arith}
 use lib.ListN.{length}
-use lib.Dec.{leb, ltb, eqb}
+use lib.Dec.{leb}
 use Rattle.links.specs.Clock.{news}
 use Rattle.links.specs.Number.{start, numOf, got, tally}
 use Rattle.links.proofs.Got.{num-limit}

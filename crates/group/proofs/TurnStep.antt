@@ -1,8 +1,8 @@
 -- The turn of a round: a station whose cells stand for the clocks of the round ends its broadcast exactly if the clocks say so, and is afterwards as the
 -- round leaves it, its own record being the newest version of itself.
-use Prim.Native.Nat.{ℕ, zero, suc, _+_, _*_, _-_, _%_, _≤_, _<_}
-use mathlib.Core.Bool.{Bool, true, false, cond, not, _&&_, _||_}
-use mathlib.Core.Logic.{_⊎_, inl, inr, ⊎-elim}
+use Prim.Native.Nat.{ℕ, zero, suc, _%_, _<_}
+use mathlib.Core.Bool.{Bool, true, false, cond, _||_}
+use mathlib.Core.Logic.{⊎-elim}
 use mathlib.Core.Path.{_≡_, refl, sym, ap, _∙_, subst}
 use native.Mathlib.Decide.{ℕ-discrete}
 use native.Mathlib.Omega.{arith}
@@ -12,7 +12,7 @@ use lib.Dec.{ltb, eqb}
 use Rattle.labels.specs.Label.{successor}
 use Rattle.links.specs.Clock.{news}
 use Rattle.links.specs.Number as number
-use Rattle.links.specs.Number.{start, num, numOf, got, gotOf, every, fresh, tally}
+use Rattle.links.specs.Number.{start, num, numOf, got, gotOf, every, fresh}
 use Rattle.links.proofs.Clock.{news-own}
 use Rattle.links.proofs.Number.{step}
 use Rattle.links.proofs.Got.{got-numOf, got-own, numOf-some}
@@ -22,14 +22,14 @@ use Rattle.links.proofs.Tally.{tally-same, tally-limit}
 use Rattle.frames.specs.declared.Record.{Record}
 use Rattle.places.specs.Places.{allBelow}
 use Rattle.station.specs.declared.Station.{Station}
-use Rattle.station.specs.State.{labelOf, ackedOf, heldOf, recordOf, recordLabel}
+use Rattle.station.specs.State.{labelOf, ackedOf, heldOf, recordOf}
 use Rattle.station.specs.Hearing.{Hearing}
 use Rattle.station.specs.Turn as turn
 use Rattle.station.specs.Turn.{passed, ownRecord, afterTurn, startedBody}
 use Rattle.station.proofs.TurnCells
 use Rattle.group.specs.State.{stationAt}
 use Rattle.group.proofs.Run.{Run, linksOf}
-use Rattle.group.proofs.Version.{Stands, Cell, shown}
+use Rattle.group.proofs.Version.{Stands, shown}
 use Rattle.group.proofs.Standing.{Formed, Standing}
 use Rattle.group.proofs.HearStep.{label-step}
 use Rattle.group.proofs.RoundHeard.{After}
@@ -47,7 +47,7 @@ module _ (R : Run) where
       omega (
         arith,
         tally-limit 0 p (R .n) (λ q. got (linksOf R) u p q) (λ q. got (linksOf R) (start (linksOf R) u p) p q) lp
-        (λ q l d. rw e (omega arith)),
+            (λ q l d. rw e (omega arith)),
       )
 
   module _
@@ -125,9 +125,10 @@ module _ (R : Run) where
               c .count
               ∙ tally-same p (R .n) (λ q. numOf (linksOf R) q (vs q)) (λ q. got (linksOf R) (suc u) p q)
               (λ q. got (linksOf R) (start (linksOf R) u p) p q) (λ q. got (linksOf R) (start (linksOf R) (suc u) p) p q)
-              (λ q l d.
-              (ap (λ (v : ℕ). numOf (linksOf R) q v) (clock q d) ∙ sym (got-numOf (linksOf R) (suc u) p q),
-              ap (λ (t : ℕ). got (linksOf R) t p q) (sym e)))
+              (λ q l d. (
+                ap (λ (v : ℕ). numOf (linksOf R) q v) (clock q d) ∙ sym (got-numOf (linksOf R) (suc u) p q),
+                ap (λ (t : ℕ). got (linksOf R) t p q) (sym e),
+              ))
 
       body-turn : (afterTurn (h .station)) .body ≡ shown R p (suc (suc u))
       body-turn = go b ended start-now

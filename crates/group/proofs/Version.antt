@@ -1,10 +1,10 @@
 -- What a record, and the cell of a station, mean: a version of that station, 0 for none and w + 1 for the station as round w left it. All that a version
 -- shows is said by links alone, save the body, which is said by the round in which the broadcast began. So two versions with the same number and the
 -- same count show the same, and a cell that stands for the one stands for the other.
-use Prim.Native.Nat.{ℕ, zero, suc, pred, _+_, _%_, _≤_, _<_}
-use mathlib.Core.Bool.{Bool, true, false, cond, not, _&&_, _||_}
+use Prim.Native.Nat.{ℕ, zero, suc, pred, _%_, _≤_, _<_}
+use mathlib.Core.Bool.{Bool, cond, not, _&&_}
 use mathlib.Core.List.{List, []}
-use mathlib.Core.Logic.{_⊎_, inl, inr, ⊎-elim}
+use mathlib.Core.Logic.{_⊎_, inl, inr}
 use mathlib.Core.Path.{_≡_, refl, sym, ap, _∙_, subst}
 use native.Mathlib.Decide.{ℕ-discrete}
 use native.Mathlib.Omega.{arith}
@@ -12,10 +12,9 @@ use borrow.Author.Tests.{lt-ltb}
 use lib.Dec.{ltb, eqb}
 use Rattle.kinds.specs.declared.Body.{Body}
 use Rattle.kinds.specs.Body.{kindOf}
-use Rattle.links.specs.Relay.{Links}
 use Rattle.links.specs.Number.{start, num, numOf, got, gotOf, fresh}
 use Rattle.links.proofs.Number.{num-positive, start-same}
-use Rattle.links.proofs.Got.{version, numOf-none, numOf-some, got-own}
+use Rattle.links.proofs.Got.{numOf-none, numOf-some, got-own}
 use Rattle.links.proofs.Bounds.{gotOf-some}
 use Rattle.links.proofs.Version.{fresh-pins}
 use Rattle.frames.specs.declared.Record.{Record}

@@ -1,21 +1,18 @@
 -- Hearing cell by cell: the cell of station k is the entry at k of each array of the hearer. A record that does not count changes nothing; one that
 -- does changes the cell of its own station and the count, and no other cell.
-use Prim.Native.Nat.{ℕ, zero, suc, _<_, _≤_}
-use mathlib.Core.Bool.{Bool, true, false, cond, not, _&&_, _||_}
+use Prim.Native.Nat.{ℕ, _<_, _≤_}
+use mathlib.Core.Bool.{true, false, cond, _&&_, _||_}
 use mathlib.Core.List.{List, [], _∷_, _++_}
-use mathlib.Core.Path.{_≡_, refl, sym, ap, _∙_}
-use native.Mathlib.Decide.{ℕ-discrete}
+use mathlib.Core.Path.{_≡_, refl}
 use native.Mathlib.Omega.{arith}
-use lib.ListN.{getD, set, length, length-set, replicate}
+use lib.ListN.{getD, length, length-set, replicate}
 use lib.Seq.{getD-set-same, getD-set-other}
 use lib.Dec.{leb, eqb}
 use Rattle.labels.specs.Label.{successor}
 use Rattle.frames.specs.declared.Record.{Record}
 use Rattle.frames.specs.Record.{framed}
-use Rattle.places.specs.Places.{fill}
 use Rattle.places.proofs.Laws.{fill-below, length-fill}
 use Rattle.station.specs.declared.Station.{Station}
-use Rattle.station.specs.declared.Taking.{Taking}
 use Rattle.station.specs.Lane.{noLane, pushed}
 use Rattle.station.specs.State.{labelOf, ackedOf, heldOf, recordOf, laneAt, recordLabel, noRecord}
 use Rattle.station.specs.Hearing.{Hearing, counts, advances, takes, raised, replaced, heardNewer, hearRecord, hearRecords}
