@@ -13,6 +13,7 @@ use lib.Dec.{leb, ltb, eqb}
 use Rattle.kinds.specs.declared.Body.{Body}
 use Rattle.kinds.specs.Body.{kindOf}
 use Rattle.labels.specs.Label.{successor}
+use Rattle.links.specs.Relay.{Links}
 use Rattle.links.specs.Clock.{news}
 use Rattle.links.specs.Number.{start, num, numOf, got, gotOf, tally}
 use Rattle.links.proofs.Clock.{news-limit}
@@ -75,6 +76,9 @@ taking-here k true body = rw (eq-eqb k k refl)
 taking-here k false body = refl
 
 module _ (R : Run) where
+  abbrev L : Links
+  L = linksOf R
+
   -- the same values, the same cell
   pub cell-move :
       {u p q v : ℕ} {held held′ acked acked′ : Bool} {label label′ : ℕ} {r r′ : Record} → held′ ≡ held → acked′ ≡ acked → label′ ≡ label →
@@ -93,21 +97,21 @@ module _ (R : Run) where
   caught-move a b x = record { lane-now = a ∙ x .lane-now; taken-now = b ∙ x .taken-now }
 
   -- a body that comes with a number: not yet risen before, risen after
-  not-risen : (u p k v w : ℕ) → numOf (linksOf R) k (suc w) ≡ suc (numOf (linksOf R) k v) → numOf (linksOf R) k (suc w) ≤ got (linksOf R) u p k + 1 → ltb (got (linksOf R) u p k) (numOf (linksOf R) k v) ≡ false
-  not-risen u p k v w e l = le-ltb (got (linksOf R) u p k) (numOf (linksOf R) k v) (omega arith)
+  not-risen : (u p k v w : ℕ) → numOf L k (suc w) ≡ suc (numOf L k v) → numOf L k (suc w) ≤ got L u p k + 1 → ltb (got L u p k) (numOf L k v) ≡ false
+  not-risen u p k v w e l = le-ltb (got L u p k) (numOf L k v) (omega arith)
 
-  risen : (u p k v w : ℕ) → numOf (linksOf R) k (suc w) ≡ suc (numOf (linksOf R) k v) → got (linksOf R) u p k ≤ numOf (linksOf R) k v → ltb (got (linksOf R) u p k) (numOf (linksOf R) k (suc w)) ≡ true
-  risen u p k v w e l = lt-ltb (got (linksOf R) u p k) (numOf (linksOf R) k (suc w)) (omega arith)
+  risen : (u p k v w : ℕ) → numOf L k (suc w) ≡ suc (numOf L k v) → got L u p k ≤ numOf L k v → ltb (got L u p k) (numOf L k (suc w)) ≡ true
+  risen u p k v w e l = lt-ltb (got L u p k) (numOf L k (suc w)) (omega arith)
 
   lane-before :
-      (u p k v w : ℕ) (before lane : Lane) (taken : List Body) → numOf (linksOf R) k (suc w) ≡ suc (numOf (linksOf R) k v) →
-      numOf (linksOf R) k (suc w) ≤ got (linksOf R) u p k + 1 → Caught R u p k v before lane taken → lane ≡ before
+      (u p k v w : ℕ) (before lane : Lane) (taken : List Body) → numOf L k (suc w) ≡ suc (numOf L k v) →
+      numOf L k (suc w) ≤ got L u p k + 1 → Caught R u p k v before lane taken → lane ≡ before
   lane-before u p k v w before lane taken e l c = c .lane-now ∙ rw (not-risen u p k v w e l)
 
   caught-step :
       (u p k v w : ℕ) (b : Bool) (body : Body) (before lane : Lane) (taken : List Body) →
-      numOf (linksOf R) k (suc w) ≡ cond b (suc (numOf (linksOf R) k v)) (numOf (linksOf R) k v) →
-      got (linksOf R) u p k ≤ numOf (linksOf R) k v → numOf (linksOf R) k (suc w) ≤ got (linksOf R) u p k + 1 →
+      numOf L k (suc w) ≡ cond b (suc (numOf L k v)) (numOf L k v) →
+      got L u p k ≤ numOf L k v → numOf L k (suc w) ≤ got L u p k + 1 →
       body ≡ shown R k (suc w) → Caught R u p k v before lane taken →
       Caught R u p k (suc w) before (cond (b && not (eqb (kindOf body) 0)) (pushed lane body) lane)
       (taken ++ cond (b && not (eqb (kindOf body) 0)) (body ∷ []) [])
@@ -161,47 +165,47 @@ module _ (R : Run) where
   module _
       (u p : ℕ) (lp : p < R .n) (first : Station) (h : Hearing) (vs vs′ : ℕ → ℕ) (c : Standing R u p first h vs)
       (r : Record) (w j : ℕ) (lk : r .station < R .n) (other : r .station ≡ p → ⊥) (lj : j < R .n)
-      (t : Stands R r (r .station) w) (from : suc w ≡ news (linksOf R) u j (r .station))
+      (t : Stands R r (r .station) w) (from : suc w ≡ news L u j (r .station))
       (rest : (q : ℕ) → (q ≡ r .station → ⊥) → vs′ q ≡ vs q) where
     module _
         (here : vs′ (r .station) ≡ suc w) (b : Bool) (adv : advances (h .station) r ≡ b) (later : vs (r .station) < suc w)
-        (number : numOf (linksOf R) (r .station) (suc w) ≡ cond b (suc (numOf (linksOf R) (r .station) (vs (r .station)))) (numOf (linksOf R) (r .station) (vs (r .station)))) where
+        (number : numOf L (r .station) (suc w) ≡ cond b (suc (numOf L (r .station) (vs (r .station)))) (numOf L (r .station) (vs (r .station)))) where
       within-round : suc w ≤ suc u
-      within-round = omega (arith, news-limit (linksOf R) u j (r .station))
+      within-round = omega (arith, news-limit L u j (r .station))
 
       takes-is : takes (h .station) r ≡ (b && not (eqb (kindOf (r .body)) 0))
       takes-is = ap (λ (x : Bool). x && not (eqb (kindOf (r .body)) 0)) adv
 
-      had : got (linksOf R) u p (r .station) ≤ numOf (linksOf R) (r .station) (vs (r .station))
+      had : got L u p (r .station) ≤ numOf L (r .station) (vs (r .station))
       had =
           omega (
             arith,
-            got-numOf (linksOf R) u p (r .station),
-            numOf-mono (linksOf R) (r .station) (news (linksOf R) u p (r .station)) (vs (r .station)) (c .low (r .station) lk),
+            got-numOf L u p (r .station),
+            numOf-mono L (r .station) (news L u p (r .station)) (vs (r .station)) (c .low (r .station) lk),
           )
 
-      near : numOf (linksOf R) (r .station) (suc w) ≤ got (linksOf R) u p (r .station) + 1
-      near = omega (arith, numOf-limit (linksOf R) u (r .station) (suc w) within-round, num-limit (linksOf R) u p (r .station) lp)
+      near : numOf L (r .station) (suc w) ≤ got L u p (r .station) + 1
+      near = omega (arith, numOf-limit L u (r .station) (suc w) within-round, num-limit L u p (r .station) lp)
 
-      own-label : labelOf (h .station) p ≡ num (linksOf R) u p % 3
+      own-label : labelOf (h .station) p ≡ num L u p % 3
       own-label =
           c .cells p lp .is-label
-          ∙ ap (λ (i : ℕ). i % 3) (numOf-some (linksOf R) p (vs p) u (c .own-version))
+          ∙ ap (λ (i : ℕ). i % 3) (numOf-some L p (vs p) u (c .own-version))
 
       ack :
           (ackedOf (h .station) (r .station) || eqb (recordLabel r ((h .station) .own)) (labelOf (h .station) ((h .station) .own)))
-          ≡ eqb (gotOf (linksOf R) (r .station) p (suc w)) (num (linksOf R) u p)
+          ≡ eqb (gotOf L (r .station) p (suc w)) (num L u p)
       ack =
           subst
           (λ i.
           (ackedOf (h .station) (r .station) || eqb (recordLabel r i) (labelOf (h .station) i))
-          ≡ eqb (gotOf (linksOf R) (r .station) p (suc w)) (num (linksOf R) u p))
+          ≡ eqb (gotOf L (r .station) p (suc w)) (num L u p))
           (sym (c .formed .own))
-          (rw (c .cells (r .station) lk .is-acked, t .labels p lp ∙ ap (λ (i : ℕ). i % 3) (sym (gotOf-some (linksOf R) (r .station) p (suc w) w refl)), own-label)
-          (acked-mod (gotOf (linksOf R) (r .station) p (vs (r .station))) (gotOf (linksOf R) (r .station) p (suc w)) (num (linksOf R) u p)
-          (gotOf-mono (linksOf R) (r .station) p (vs (r .station)) (suc w) (omega arith))
-          (gotOf-limit (linksOf R) u (r .station) p (suc w) within-round)
-          (gotOf-close (linksOf R) u p (r .station) p (suc w) lp lk (omega (arith, c .low (r .station) lk)))))
+          (rw (c .cells (r .station) lk .is-acked, t .labels p lp ∙ ap (λ (i : ℕ). i % 3) (sym (gotOf-some L (r .station) p (suc w) w refl)), own-label)
+          (acked-mod (gotOf L (r .station) p (vs (r .station))) (gotOf L (r .station) p (suc w)) (num L u p)
+          (gotOf-mono L (r .station) p (vs (r .station)) (suc w) (omega arith))
+          (gotOf-limit L u (r .station) p (suc w) within-round)
+          (gotOf-close L u p (r .station) p (suc w) lp lk (omega (arith, c .low (r .station) lk)))))
 
       cell-here :
           Cell R u p (r .station) (suc w) (heldOf (heardNewer (h .station) r) (r .station)) (ackedOf (heardNewer (h .station) r) (r .station))
@@ -215,8 +219,8 @@ module _ (R : Run) where
             is-label =
                 Cells.label-here (h .station) r (omega (arith, f .labels))
                 ∙ ap (λ (x : Bool). cond x (successor (labelOf (h .station) (r .station))) (labelOf (h .station) (r .station))) adv
-                ∙ label-step b (labelOf (h .station) (r .station)) (numOf (linksOf R) (r .station) (vs (r .station)))
-                (numOf (linksOf R) (r .station) (suc w)) (c .cells (r .station) lk .is-label) number;
+                ∙ label-step b (labelOf (h .station) (r .station)) (numOf L (r .station) (vs (r .station)))
+                (numOf L (r .station) (suc w)) (c .cells (r .station) lk .is-label) number;
             stands =
                 λ x e.
                 subst (λ i. Stands R (recordOf (heardNewer (h .station) r) (r .station)) (r .station) i) (omega (arith, e))
@@ -280,38 +284,38 @@ module _ (R : Run) where
           ∙ append-nil (takingsOf q (h .takings)))
           (subst (λ v. Caught R u p q v (laneAt first q) (laneAt (h .station) q) (takingsOf q (h .takings))) (sym (rest q d)) (c .caught q l))
 
-      number-after : (q : ℕ) → q < R .n → Dec (q ≡ r .station) → b ≡ false → numOf (linksOf R) q (vs′ q) ≡ numOf (linksOf R) q (vs q)
+      number-after : (q : ℕ) → q < R .n → Dec (q ≡ r .station) → b ≡ false → numOf L q (vs′ q) ≡ numOf L q (vs q)
       number-after q l (yes e) f =
-          subst (λ i. numOf (linksOf R) i (vs′ i) ≡ numOf (linksOf R) i (vs i)) (sym e)
-          (ap (λ (v : ℕ). numOf (linksOf R) (r .station) v) here ∙ rw f at number)
-      number-after q l (no d) f = ap (λ (v : ℕ). numOf (linksOf R) q v) (rest q d)
+          subst (λ i. numOf L i (vs′ i) ≡ numOf L i (vs i)) (sym e)
+          (ap (λ (v : ℕ). numOf L (r .station) v) here ∙ rw f at number)
+      number-after q l (no d) f = ap (λ (v : ℕ). numOf L q v) (rest q d)
 
       tally-after :
           (x : Bool) → b ≡ x →
-          tally (R .n) p (λ q. numOf (linksOf R) q (vs′ q)) (λ q. got (linksOf R) (start (linksOf R) u p) p q)
+          tally (R .n) p (λ q. numOf L q (vs′ q)) (λ q. got L (start L u p) p q)
           ≡ cond x (suc ((h .station) .count)) ((h .station) .count)
       tally-after true f =
-          tally-rises p (R .n) (λ q. numOf (linksOf R) q (vs q)) (λ q. numOf (linksOf R) q (vs′ q))
-          (λ q. got (linksOf R) (start (linksOf R) u p) p q) (r .station) lk other
-          (omega (arith, had, got-mono (linksOf R) (start (linksOf R) u p) u p (r .station) (start-limit (linksOf R) u p)))
-          (ap (λ (v : ℕ). numOf (linksOf R) (r .station) v) here ∙ rw f at number)
-          (λ q d. ap (λ (v : ℕ). numOf (linksOf R) q v) (rest q d))
+          tally-rises p (R .n) (λ q. numOf L q (vs q)) (λ q. numOf L q (vs′ q))
+          (λ q. got L (start L u p) p q) (r .station) lk other
+          (omega (arith, had, got-mono L (start L u p) u p (r .station) (start-limit L u p)))
+          (ap (λ (v : ℕ). numOf L (r .station) v) here ∙ rw f at number)
+          (λ q d. ap (λ (v : ℕ). numOf L q v) (rest q d))
           ∙ ap (λ (i : ℕ). suc i) (sym (c .count))
       tally-after false f =
-          tally-same p (R .n) (λ q. numOf (linksOf R) q (vs′ q)) (λ q. numOf (linksOf R) q (vs q))
-          (λ q. got (linksOf R) (start (linksOf R) u p) p q) (λ q. got (linksOf R) (start (linksOf R) u p) p q)
+          tally-same p (R .n) (λ q. numOf L q (vs′ q)) (λ q. numOf L q (vs q))
+          (λ q. got L (start L u p) p q) (λ q. got L (start L u p) p q)
           (λ q l d. (number-after q l (ℕ-discrete q (r .station)) f, refl))
           ∙ sym (c .count)
 
       count-after :
           (heardNewer (h .station) r) .count
-          ≡ tally (R .n) p (λ q. numOf (linksOf R) q (vs′ q)) (λ q. got (linksOf R) (start (linksOf R) u p) p q)
+          ≡ tally (R .n) p (λ q. numOf L q (vs′ q)) (λ q. got L (start L u p) p q)
       count-after =
           let high = R .high in
           Cells.heard-count (h .station) r
           ∙ ap (λ (x : Bool). cond x (raised ((h .station) .count)) ((h .station) .count)) adv
           ∙ raised-step b ((h .station) .count)
-          (tally (R .n) p (λ q. numOf (linksOf R) q (vs′ q)) (λ q. got (linksOf R) (start (linksOf R) u p) p q))
+          (tally (R .n) p (λ q. numOf L q (vs′ q)) (λ q. got L (start L u p) p q))
           (omega (arith, standing-count R u p first h vs lp c))
           (tally-after b refl)
 
@@ -328,7 +332,7 @@ module _ (R : Run) where
           × (full-at vs′ (r .station) ≡ (takes (h .station) r && leb 2 ((laneAt (h .station) (r .station)) .len)))
       unfolding full-at
       full-here f =
-          let e : numOf (linksOf R) (r .station) (suc w) ≡ suc (numOf (linksOf R) (r .station) (vs (r .station))) = rw f at number in
+          let e : numOf L (r .station) (suc w) ≡ suc (numOf L (r .station) (vs (r .station))) = rw f at number in
           let x =
           lane-before u p (r .station) (vs (r .station)) w (laneAt first (r .station)) (laneAt (h .station) (r .station))
           (takingsOf (r .station) (h .takings)) e near (c .caught (r .station) lk) in (
@@ -369,9 +373,9 @@ module _ (R : Run) where
             overfull = overfull-after b refl;
           })
         where
-          low-after : (q : ℕ) → q < R .n → Dec (q ≡ r .station) → news (linksOf R) u p q ≤ vs′ q
+          low-after : (q : ℕ) → q < R .n → Dec (q ≡ r .station) → news L u p q ≤ vs′ q
           low-after q l (yes i) =
-              subst (λ x. news (linksOf R) u p x ≤ vs′ x) (sym i) (omega (arith, c .low (r .station) lk, here))
+              subst (λ x. news L u p x ≤ vs′ x) (sym i) (omega (arith, c .low (r .station) lk, here))
           low-after q l (no d) = omega (arith, c .low q l, rest q d)
 
           high-after : (q : ℕ) → q < R .n → Dec (q ≡ r .station) → vs′ q ≤ suc u
@@ -397,7 +401,7 @@ module _ (R : Run) where
             below : (q : ℕ) → q < R .n → Dec (q ≡ r .station) → vs′ q ≤ suc u
             below q l (yes i) =
                 subst (λ x. vs′ x ≤ suc u) (sym i)
-                (omega (arith, here, c .high (r .station) lk, news-limit (linksOf R) u j (r .station)))
+                (omega (arith, here, c .high (r .station) lk, news-limit L u j (r .station)))
             below q l (no d) = omega (arith, c .high q l, rest q d)
         go (renewed e adv later number) = standing-counted (omega arith) false adv later number e
         go (advanced e adv later number) = standing-counted (omega arith) true adv later number e

@@ -11,6 +11,7 @@ use native.Mathlib.Omega.{arith}
 use borrow.Author.Tests.{lt-ltb, le-ltb, ltb-true, ltb-false, eq-eqb}
 use lib.Dec.{leb, ltb}
 use Rattle.links.specs.Log.{hearsIn}
+use Rattle.links.specs.Relay.{Links}
 use Rattle.links.specs.Clock.{latest, news}
 use Rattle.links.specs.Number.{numOf, got, fresh}
 use Rattle.links.proofs.Clock.{news-own, news-limit, news-step}
@@ -32,35 +33,38 @@ use Rattle.group.proofs.Standing.{Formed, Standing, standing-alike}
 use Rattle.group.proofs.HearStep.{hear-step}
 
 module _ (R : Run) where
+  abbrev L : Links
+  L = linksOf R
+
   -- station p as round u leaves it
   pub record After (u p : ℕ) (s : Station) : Type 0 where
     pub formed : Formed R p s
     pub body : s .body ≡ shown R p (suc u)
-    pub count : s .count ≡ fresh (linksOf R) u p
+    pub count : s .count ≡ fresh L u p
     pub cells :
-        (q : ℕ) → q < R .n → Cell R u p q (news (linksOf R) u p q) (heldOf s q) (ackedOf s q) (labelOf s q) (recordOf s q)
+        (q : ℕ) → q < R .n → Cell R u p q (news L u p q) (heldOf s q) (ackedOf s q) (labelOf s q) (recordOf s q)
 
   -- it has heard nothing yet
-  standing-silent : (u p : ℕ) (s : Station) → p < R .n → After u p s → Standing R u p s (silent s) (λ q. news (linksOf R) u p q)
+  standing-silent : (u p : ℕ) (s : Station) → p < R .n → After u p s → Standing R u p s (silent s) (λ q. news L u p q)
   unfolding takingsOf fresh got
   standing-silent u p s lp a =
       record {
         formed = a .formed;
         body = refl;
-        own-version = news-own (linksOf R) u p;
-        low = λ q l. le-refl (news (linksOf R) u p q);
-        high = λ q l. news-limit (linksOf R) u p q;
+        own-version = news-own L u p;
+        low = λ q l. le-refl (news L u p q);
+        high = λ q l. news-limit L u p q;
         cells = a .cells;
         caught = λ q l. record { lane-now = rw (still q); taken-now = rw (still q) };
         count = a .count;
         overfull =
             sym
-            (anyBelow-none (R .n) (λ q. gains R u p q (news (linksOf R) u p q) && leb 2 ((laneAt s q) .len)) (λ q l. rw (still q)));
+            (anyBelow-none (R .n) (λ q. gains R u p q (news L u p q) && leb 2 ((laneAt s q) .len)) (λ q l. rw (still q)));
       }
     where
-      still : (q : ℕ) → ltb (got (linksOf R) u p q) (numOf (linksOf R) q (news (linksOf R) u p q)) ≡ false
+      still : (q : ℕ) → ltb (got L u p q) (numOf L q (news L u p q)) ≡ false
       still q =
-          le-ltb (got (linksOf R) u p q) (numOf (linksOf R) q (news (linksOf R) u p q)) (omega (arith, got-numOf (linksOf R) u p q))
+          le-ltb (got L u p q) (numOf L q (news L u p q)) (omega (arith, got-numOf L u p q))
 
   stands-framed : (n : ℕ) (r : Record) (k w : ℕ) → n ≡ R .n → Stands R r k w → Stands R (framed n r) k w
   stands-framed n r k w e t =
@@ -76,9 +80,9 @@ module _ (R : Run) where
   module _ (u p : ℕ) (lp : p < R .n) (first : Station) (j : ℕ) (lj : j < R .n) (s : Station) (a : After u j s) (h : Hearing) (vs : ℕ → ℕ) where
     -- the versions once the records of stations below k are heard
     upTo : ℕ → ℕ → ℕ
-    upTo k q = cond (ltb q k) (max (vs q) (news (linksOf R) u j q)) (vs q)
+    upTo k q = cond (ltb q k) (max (vs q) (news L u j q)) (vs q)
 
-    upTo-below : (k q : ℕ) → q < k → upTo k q ≡ max (vs q) (news (linksOf R) u j q)
+    upTo-below : (k q : ℕ) → q < k → upTo k q ≡ max (vs q) (news L u j q)
     unfolding upTo
     upTo-below k q l = rw (lt-ltb q k l)
 
@@ -95,7 +99,7 @@ module _ (R : Run) where
 
     -- nothing comes with the record of k
     same-versions : (k : ℕ) (x : Hearing) → k < R .n → Standing R u p first x (upTo k)
-        → max (vs k) (news (linksOf R) u j k) ≡ vs k → Standing R u p first x (upTo (suc k))
+        → max (vs k) (news L u j k) ≡ vs k → Standing R u p first x (upTo (suc k))
     same-versions k x lk c e =
         let same : (q : ℕ) → upTo (suc k) q ≡ upTo k q =
         λ q.
@@ -114,16 +118,16 @@ module _ (R : Run) where
     hear-one k x lk c false e =
         subst (λ z. Standing R u p first z (upTo (suc k))) (sym (Cells.hearRecords-none x))
         (same-versions k x lk c
-        (omega (arith, ltb-false 0 (news (linksOf R) u j k) (sym (a .cells k lk .is-held) ∙ e))))
+        (omega (arith, ltb-false 0 (news L u j k) (sym (a .cells k lk .is-held) ∙ e))))
     hear-one k x lk c true e =
         subst (λ z. Standing R u p first z (upTo (suc k))) (sym (Cells.hearRecords-one x (framed (s .n) (recordOf s k))))
         (⊎-elim
-        (λ (z : news (linksOf R) u j k ≡ 0). absurd (omega (arith, ltb-true 0 (news (linksOf R) u j k) (sym (a .cells k lk .is-held) ∙ e))))
-        (λ (z : (w : ℕ) × (news (linksOf R) u j k ≡ suc w)). go (z .0) (z .1) (ℕ-discrete k p))
-        (version (linksOf R) (news (linksOf R) u j k)))
+        (λ (z : news L u j k ≡ 0). absurd (omega (arith, ltb-true 0 (news L u j k) (sym (a .cells k lk .is-held) ∙ e))))
+        (λ (z : (w : ℕ) × (news L u j k ≡ suc w)). go (z .0) (z .1) (ℕ-discrete k p))
+        (version L (news L u j k)))
       where
         go :
-            (w : ℕ) → news (linksOf R) u j k ≡ suc w → Dec (k ≡ p) →
+            (w : ℕ) → news L u j k ≡ suc w → Dec (k ≡ p) →
             Standing R u p first (hearRecord x (framed (s .n) (recordOf s k))) (upTo (suc k))
         go w f (yes i) =
             let t = stands-framed (s .n) (recordOf s k) k w (a .formed .size) (a .cells k lk .stands w f) in
@@ -133,7 +137,7 @@ module _ (R : Run) where
             (rw (eq-eqb ((framed (s .n) (recordOf s k)) .station) ((x .station) .own) (t .station ∙ i ∙ sym (c .formed .own))))))
             (same-versions k x lk c
             (let y : vs k ≡ suc u = sym (upTo-above k k (le-refl k)) ∙ ap (upTo k) i ∙ c .own-version in
-            omega (arith, news-limit (linksOf R) u j k)))
+            omega (arith, news-limit L u j k)))
         go w f (no d) =
             let t = stands-framed (s .n) (recordOf s k) k w (a .formed .size) (a .cells k lk .stands w f) in
             hear-step R u p lp first x (upTo k) (upTo (suc k)) c (framed (s .n) (recordOf s k)) w j
@@ -141,7 +145,7 @@ module _ (R : Run) where
             (λ q. d (sym (t .station) ∙ q))
             lj
             (subst (λ i. Stands R (framed (s .n) (recordOf s k)) i w) (sym (t .station)) t)
-            (subst (λ i. suc w ≡ news (linksOf R) u j i) (sym (t .station)) (sym f))
+            (subst (λ i. suc w ≡ news L u j i) (sym (t .station)) (sym f))
             (λ q n. upTo-rest k q (λ i. n (i ∙ sym (t .station))))
             (subst (λ i. upTo (suc k) i ≡ max (upTo k i) (suc w)) (sym (t .station))
             (rw (upTo-below (suc k) k (omega arith), upTo-above k k (le-refl k), f)))
@@ -164,13 +168,13 @@ module _ (R : Run) where
 
     pub hear-sent :
         Standing R u p first h vs →
-        Standing R u p first (hearRecords h (sentRecords s)) (λ q. max (vs q) (news (linksOf R) u j q))
+        Standing R u p first (hearRecords h (sentRecords s)) (λ q. max (vs q) (news L u j q))
     unfolding sentRecords
     hear-sent c =
         let e = a .formed .size in
         let d = hear-frame (s .n) (omega arith) c in
         standing-alike R u p first (hearRecords h (gather (s .n) (heldOf s) (λ i. framed (s .n) (recordOf s i)))) (upTo (s .n))
-        (λ q. max (vs q) (news (linksOf R) u j q)) lp
+        (λ q. max (vs q) (news L u j q)) lp
         (λ q b. inl (sym (upTo-below (s .n) q (omega arith))))
         (λ q b. omega (arith, d .high q b, upTo-below (s .n) q (omega arith)))
         d
@@ -183,7 +187,7 @@ module _ (R : Run) where
     -- the version of q that p has once it has heard the senders below k
     abbrev pub heardVersion : ℕ → ℕ → ℕ
     heardVersion k q =
-        latest k (λ j. linksOf R .hears (suc u) p j) (λ j. news (linksOf R) u j q) (news (linksOf R) u p q)
+        latest k (λ j. L .hears (suc u) p j) (λ j. news L u j q) (news L u p q)
 
     hear-senders :
         (k : ℕ) → k ≤ R .n →
@@ -197,7 +201,7 @@ module _ (R : Run) where
         (cond b
         (hearRecords (hearing (R .ready u) (R .masks (suc u)) p k) (sentRecords (stationAt (R .ready u) k)))
         (hearing (R .ready u) (R .masks (suc u)) p k))
-        (λ q. cond (hearsIn (R .n) (R .masks (suc u)) p k) (max (heardVersion k q) (news (linksOf R) u k q)) (heardVersion k q)))
+        (λ q. cond (hearsIn (R .n) (R .masks (suc u)) p k) (max (heardVersion k q) (news L u k q)) (heardVersion k q)))
         (ap (λ (m : ℕ). hearsIn m (R .masks (suc u)) p k) (sym ready-size))
         (go (hearsIn (R .n) (R .masks (suc u)) p k) (hear-senders k (omega arith)))
       where
@@ -208,7 +212,7 @@ module _ (R : Run) where
             (cond b
             (hearRecords (hearing (R .ready u) (R .masks (suc u)) p k) (sentRecords (stationAt (R .ready u) k)))
             (hearing (R .ready u) (R .masks (suc u)) p k))
-            (λ q. cond b (max (heardVersion k q) (news (linksOf R) u k q)) (heardVersion k q))
+            (λ q. cond b (max (heardVersion k q) (news L u k q)) (heardVersion k q))
         go true c =
             hear-sent u p lp (stationAt (R .ready u) p) k l (stationAt (R .ready u) k) (all k l)
             (hearing (R .ready u) (R .masks (suc u)) p k) (λ q. heardVersion k q) c
@@ -223,5 +227,5 @@ module _ (R : Run) where
         (sym ready-size) (hear-senders (R .n) (le-refl (R .n)))
 
     -- of another station that is the clock of the round
-    pub heard-version : (q : ℕ) → (p ≡ q → ⊥) → heardVersion (R .n) q ≡ news (linksOf R) (suc u) p q
-    heard-version q d = sym (news-step (linksOf R) u p q d)
+    pub heard-version : (q : ℕ) → (p ≡ q → ⊥) → heardVersion (R .n) q ≡ news L (suc u) p q
+    heard-version q d = sym (news-step L u p q d)

@@ -10,6 +10,7 @@ use borrow.Author.Tests.{eq-eqb}
 use lib.ListN.{getD, set, length, length-set, replicate, getD-replicate}
 use lib.Seq.{getD-set-same, getD-set-other}
 use lib.Dec.{eqb}
+use Rattle.links.specs.Relay.{Links}
 use Rattle.links.specs.Clock.{news}
 use Rattle.links.specs.Number.{num, numOf, got, gotOf}
 use Rattle.links.proofs.Clock.{news-own, news-start}
@@ -38,6 +39,9 @@ module _ {A : Type 0} (a b d : A) (p : ℕ) (lp : p < 16) where
   one-other q l n = getD-set-other (replicate 16 a) p q b d n ∙ getD-replicate 16 q a d l
 
 module _ (R : Run) where
+  abbrev L : Links
+  L = linksOf R
+
   -- the waiting edits play no part
   pub after-same : (u p : ℕ) (s t : Station) → SameButWaiting s t → After R u p s → After R u p t
   after-same u p s t e a =
@@ -76,47 +80,47 @@ module _ (R : Run) where
         ap (λ g. stationAt g p) (R .first)
         ∙ fill-below (R .n) (freshStation (R .n)) (replicate 16 (freshStation 1 0)) p _ lp (omega arith)
 
-    fresh-labels : (q : ℕ) → q < R .n → Dec (q ≡ p) → getD (set (replicate 16 0) p 1) q 0 ≡ got (linksOf R) 0 p q % 3
+    fresh-labels : (q : ℕ) → q < R .n → Dec (q ≡ p) → getD (set (replicate 16 0) p 1) q 0 ≡ got L 0 p q % 3
     fresh-labels q l (yes e) =
         let high = R .high in
-        subst (λ i. getD (set (replicate 16 0) p 1) i 0 ≡ got (linksOf R) 0 p i % 3) (sym e)
-        (one-here 0 1 0 p (omega arith) ∙ ap (λ (i : ℕ). i % 3) (sym (got-own (linksOf R) 0 p ∙ num-zero (linksOf R) p)))
+        subst (λ i. getD (set (replicate 16 0) p 1) i 0 ≡ got L 0 p i % 3) (sym e)
+        (one-here 0 1 0 p (omega arith) ∙ ap (λ (i : ℕ). i % 3) (sym (got-own L 0 p ∙ num-zero L p)))
     fresh-labels q l (no d) =
         let high = R .high in
         one-other 0 1 0 p (omega arith) q (omega arith) d
-        ∙ ap (λ (i : ℕ). i % 3) (sym (got-none (linksOf R) 0 p q (news-start (linksOf R) p q (λ e. d (sym e)))))
+        ∙ ap (λ (i : ℕ). i % 3) (sym (got-none L 0 p q (news-start L p q (λ e. d (sym e)))))
 
     fresh-cell :
         (q : ℕ) → q < R .n → Dec (q ≡ p) →
-        Cell R 0 p q (news (linksOf R) 0 p q) (heldOf (freshStation (R .n) p) q) (ackedOf (freshStation (R .n) p) q)
+        Cell R 0 p q (news L 0 p q) (heldOf (freshStation (R .n) p) q) (ackedOf (freshStation (R .n) p) q)
         (labelOf (freshStation (R .n) p) q) (recordOf (freshStation (R .n) p) q)
     unfolding freshStation gotOf numOf
     fresh-cell q l (yes e) =
         let high = R .high in
         subst
         (λ i.
-        Cell R 0 p i (news (linksOf R) 0 p i) (heldOf (freshStation (R .n) p) i) (ackedOf (freshStation (R .n) p) i)
+        Cell R 0 p i (news L 0 p i) (heldOf (freshStation (R .n) p) i) (ackedOf (freshStation (R .n) p) i)
         (labelOf (freshStation (R .n) p) i) (recordOf (freshStation (R .n) p) i))
         (sym e)
         (subst
         (λ v.
         Cell R 0 p p v (heldOf (freshStation (R .n) p) p) (ackedOf (freshStation (R .n) p) p) (labelOf (freshStation (R .n) p) p)
         (recordOf (freshStation (R .n) p) p))
-        (sym (news-own (linksOf R) 0 p))
+        (sym (news-own L 0 p))
         (record {
           is-held = one-here false true false p (omega arith);
-          is-acked = one-here false true false p (omega arith) ∙ sym (eq-eqb (got (linksOf R) 0 p p) (num (linksOf R) 0 p) (got-own (linksOf R) 0 p));
-          is-label = one-here 0 1 0 p (omega arith) ∙ ap (λ (i : ℕ). i % 3) (sym (num-zero (linksOf R) p));
+          is-acked = one-here false true false p (omega arith) ∙ sym (eq-eqb (got L 0 p p) (num L 0 p) (got-own L 0 p));
+          is-label = one-here 0 1 0 p (omega arith) ∙ ap (λ (i : ℕ). i % 3) (sym (num-zero L p));
           stands =
               λ w f.
               subst (λ i. Stands R (recordOf (freshStation (R .n) p) p) p i) (omega (arith, f))
               (subst (λ r. Stands R r p 0) (sym (one-here zeroRecord _ noRecord p (omega arith)))
               (record {
                 station = refl;
-                count = sym (fresh-start R 0 p lp (start-zero (linksOf R) p));
+                count = sym (fresh-start R 0 p lp (start-zero L p));
                 body =
                     ap (λ (s : Station). s .body) (sym start-station)
-                    ∙ ap (λ (t : ℕ). (stationAt (R .after t) p) .body) (sym (start-zero (linksOf R) p));
+                    ∙ ap (λ (t : ℕ). (stationAt (R .after t) p) .body) (sym (start-zero L p));
                 labels = λ k b. fresh-labels k b (ℕ-discrete k p);
               }));
         }))
@@ -126,11 +130,11 @@ module _ (R : Run) where
         (λ v.
         Cell R 0 p q v (heldOf (freshStation (R .n) p) q) (ackedOf (freshStation (R .n) p) q) (labelOf (freshStation (R .n) p) q)
         (recordOf (freshStation (R .n) p) q))
-        (sym (news-start (linksOf R) p q (λ e. d (sym e))))
+        (sym (news-start L p q (λ e. d (sym e))))
         (record {
           is-held = one-other false true false p (omega arith) q (omega arith) d;
           is-acked =
-              one-other false true false p (omega arith) q (omega arith) d ∙ ap (λ (m : ℕ). eqb 0 m) (sym (num-zero (linksOf R) p));
+              one-other false true false p (omega arith) q (omega arith) d ∙ ap (λ (m : ℕ). eqb 0 m) (sym (num-zero L p));
           is-label = one-other 0 1 0 p (omega arith) q (omega arith) d;
           stands = λ w f. absurd (omega (arith, f));
         })
@@ -164,11 +168,11 @@ module _ (R : Run) where
     fresh-after =
         record {
           formed = subst (λ s. Formed R p s) (sym start-station) fresh-formed;
-          body = ap (λ (t : ℕ). (stationAt (R .after t) p) .body) (sym (start-zero (linksOf R) p));
-          count = ap (λ (s : Station). s .count) start-station ∙ sym (fresh-start R 0 p lp (start-zero (linksOf R) p));
+          body = ap (λ (t : ℕ). (stationAt (R .after t) p) .body) (sym (start-zero L p));
+          count = ap (λ (s : Station). s .count) start-station ∙ sym (fresh-start R 0 p lp (start-zero L p));
           cells =
               λ q l.
-              subst (λ s. Cell R 0 p q (news (linksOf R) 0 p q) (heldOf s q) (ackedOf s q) (labelOf s q) (recordOf s q)) (sym start-station)
+              subst (λ s. Cell R 0 p q (news L 0 p q) (heldOf s q) (ackedOf s q) (labelOf s q) (recordOf s q)) (sym start-station)
               (fresh-cell q l (ℕ-discrete q p));
         }
 

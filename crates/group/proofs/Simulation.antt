@@ -10,6 +10,7 @@ use borrow.Author.Tests.{lt-ltb, le-ltb, le-leb, ltb-true, eq-eqb, ne-eqb}
 use lib.Dec.{ltb, leb, eqb}
 use Rattle.kinds.specs.declared.Body.{Body}
 use Rattle.kinds.specs.Body.{kindOf}
+use Rattle.links.specs.Relay.{Links}
 use Rattle.links.specs.Clock.{news}
 use Rattle.links.specs.Number as number
 use Rattle.links.specs.Number.{num, numOf, got, gotOf, fresh}
@@ -39,6 +40,9 @@ pub record Agree (n : ℕ) (r r′ : Record) : Type 0 where
   pub labels : (k : ℕ) → k < n → recordLabel r k ≡ recordLabel r′ k
 
 module _ (R : Run) where
+  abbrev L : Links
+  L = linksOf R
+
   stands-agree : (r r′ : Record) (q w : ℕ) → Stands R r q w → Stands R r′ q w → Agree (R .n) r r′
   stands-agree r r′ q w a b =
       record {
@@ -57,67 +61,67 @@ module _ (R : Run) where
     ready-formed = ready-all R u p lp .formed
 
     -- S1: nothing is held of a station of which there is no news, and else that station's own record as the round of the news left it
-    pub table-none : (q : ℕ) → q < R .n → news (linksOf R) u p q ≡ 0 → heldOf (stationAt (R .after u) p) q ≡ false
-    table-none q l e = after-all R u p lp .cells q l .is-held ∙ le-ltb 0 (news (linksOf R) u p q) (omega arith)
+    pub table-none : (q : ℕ) → q < R .n → news L u p q ≡ 0 → heldOf (stationAt (R .after u) p) q ≡ false
+    table-none q l e = after-all R u p lp .cells q l .is-held ∙ le-ltb 0 (news L u p q) (omega arith)
 
-    pub table-held : (q w : ℕ) → q < R .n → news (linksOf R) u p q ≡ suc w → heldOf (stationAt (R .after u) p) q ≡ true
-    table-held q w l e = after-all R u p lp .cells q l .is-held ∙ lt-ltb 0 (news (linksOf R) u p q) (omega arith)
+    pub table-held : (q w : ℕ) → q < R .n → news L u p q ≡ suc w → heldOf (stationAt (R .after u) p) q ≡ true
+    table-held q w l e = after-all R u p lp .cells q l .is-held ∙ lt-ltb 0 (news L u p q) (omega arith)
 
     pub table-stands :
-        (q w : ℕ) → q < R .n → news (linksOf R) u p q ≡ suc w → Stands R (recordOf (stationAt (R .after u) p) q) q w
+        (q w : ℕ) → q < R .n → news L u p q ≡ suc w → Stands R (recordOf (stationAt (R .after u) p) q) q w
     table-stands q w l e = after-all R u p lp .cells q l .stands w e
 
     pub table-some :
-        (q w : ℕ) → q < R .n → news (linksOf R) u p q ≡ suc w →
+        (q w : ℕ) → q < R .n → news L u p q ≡ suc w →
         Agree (R .n) (recordOf (stationAt (R .after u) p) q) (recordOf (stationAt (R .after w) q) q)
     table-some q w l e =
         stands-agree (recordOf (stationAt (R .after u) p) q) (recordOf (stationAt (R .after w) q) q) q w (table-stands q w l e)
-        (after-all R w q l .cells q l .stands w (news-own (linksOf R) w q))
+        (after-all R w q l .cells q l .stands w (news-own L w q))
 
     -- S2
-    pub labels-got : (q : ℕ) → q < R .n → labelOf (stationAt (R .after u) p) q ≡ got (linksOf R) u p q % 3
+    pub labels-got : (q : ℕ) → q < R .n → labelOf (stationAt (R .after u) p) q ≡ got L u p q % 3
     labels-got q l =
-        after-all R u p lp .cells q l .is-label ∙ ap (λ (i : ℕ). i % 3) (sym (got-numOf (linksOf R) u p q))
+        after-all R u p lp .cells q l .is-label ∙ ap (λ (i : ℕ). i % 3) (sym (got-numOf L u p q))
 
-    pub own-label : labelOf (stationAt (R .after u) p) p ≡ num (linksOf R) u p % 3
-    own-label = labels-got p lp ∙ ap (λ (i : ℕ). i % 3) (got-own (linksOf R) u p)
+    pub own-label : labelOf (stationAt (R .after u) p) p ≡ num L u p % 3
+    own-label = labels-got p lp ∙ ap (λ (i : ℕ). i % 3) (got-own L u p)
 
     -- S3
     pub acked-number :
         (q : ℕ) → q < R .n →
-        ackedOf (stationAt (R .after u) p) q ≡ eqb (gotOf (linksOf R) q p (news (linksOf R) u p q)) (num (linksOf R) u p)
+        ackedOf (stationAt (R .after u) p) q ≡ eqb (gotOf L q p (news L u p q)) (num L u p)
     acked-number q l = after-all R u p lp .cells q l .is-acked
 
     -- S4
-    pub count-fresh : (stationAt (R .after u) p) .count ≡ fresh (linksOf R) u p
+    pub count-fresh : (stationAt (R .after u) p) .count ≡ fresh L u p
     count-fresh = after-all R u p lp .count
 
     pub count-bounded : (stationAt (R .after u) p) .count ≤ 2 * (R .n - 1)
-    count-bounded = omega (arith, count-fresh, fresh-limit (linksOf R) u p lp)
+    count-bounded = omega (arith, count-fresh, fresh-limit L u p lp)
 
     pub held-count-bounded :
         (q : ℕ) → q < R .n → heldOf (stationAt (R .after u) p) q ≡ true →
         (recordOf (stationAt (R .after u) p) q) .count ≤ 2 * (R .n - 1)
     held-count-bounded q l h =
-        let some = ltb-true 0 (news (linksOf R) u p q) (sym (after-all R u p lp .cells q l .is-held) ∙ h) in
+        let some = ltb-true 0 (news L u p q) (sym (after-all R u p lp .cells q l .is-held) ∙ h) in
         omega (
           arith,
-          table-stands q (pred (news (linksOf R) u p q)) l (omega arith) .count,
-          fresh-limit (linksOf R) (pred (news (linksOf R) u p q)) q l,
+          table-stands q (pred (news L u p q)) l (omega arith) .count,
+          fresh-limit L (pred (news L u p q)) q l,
         )
 
     pub own-count-inside : ownCountInside (stationAt (R .ready u) p) ≡ true
     own-count-inside =
         let a = ready-all R u p lp in
-        let e : (recordOf (stationAt (R .ready u) p) ((stationAt (R .ready u) p) .own)) .count ≡ fresh (linksOf R) u p =
+        let e : (recordOf (stationAt (R .ready u) p) ((stationAt (R .ready u) p) .own)) .count ≡ fresh L u p =
         ap (λ (i : ℕ). (recordOf (stationAt (R .ready u) p) i) .count) (a .formed .own)
-        ∙ a .cells p lp .stands u (news-own (linksOf R) u p) .count in
+        ∙ a .cells p lp .stands u (news-own L u p) .count in
         le-leb ((recordOf (stationAt (R .ready u) p) ((stationAt (R .ready u) p) .own)) .count)
         (2 * ((stationAt (R .ready u) p) .n - 1))
         (subst
         (λ m. (recordOf (stationAt (R .ready u) p) ((stationAt (R .ready u) p) .own)) .count ≤ 2 * (m - 1))
         (sym (a .formed .size))
-        (omega (arith, fresh-limit (linksOf R) u p lp)))
+        (omega (arith, fresh-limit L u p lp)))
 
     -- the body of a version is that of the broadcast that it shows
     pub body-shown : (v : ℕ) → bodyAt R p v ≡ shown R p v
@@ -130,12 +134,12 @@ module _ (R : Run) where
 
     pub heard-clock :
         (q : ℕ) → (p ≡ q → ⊥) →
-        heardVersion R u p lp (λ j l. ready-all R u j l) (R .n) q ≡ news (linksOf R) (suc u) p q
+        heardVersion R u p lp (λ j l. ready-all R u j l) (R .n) q ≡ news L (suc u) p q
     heard-clock = heard-version R u p lp (λ j l. ready-all R u j l)
 
     heard-caught :
         (q : ℕ) → q < R .n → (p ≡ q → ⊥) →
-        Caught R u p q (news (linksOf R) (suc u) p q) (laneAt (stationAt (R .ready u) p) q) (laneAt ((hearingIn R u p) .station) q)
+        Caught R u p q (news L (suc u) p q) (laneAt (stationAt (R .ready u) p) q) (laneAt ((hearingIn R u p) .station) q)
         (takingsOf q ((hearingIn R u p) .takings))
     heard-caught q l d =
         subst
@@ -145,23 +149,23 @@ module _ (R : Run) where
         (heard-clock q d) (heard-standing .caught q l)
 
     own-still :
-        ltb (got (linksOf R) u p p) (numOf (linksOf R) p (heardVersion R u p lp (λ j l. ready-all R u j l) (R .n) p)) ≡ false
+        ltb (got L u p p) (numOf L p (heardVersion R u p lp (λ j l. ready-all R u j l) (R .n) p)) ≡ false
     own-still =
-        le-ltb (got (linksOf R) u p p) (numOf (linksOf R) p (heardVersion R u p lp (λ j l. ready-all R u j l) (R .n) p))
+        le-ltb (got L u p p) (numOf L p (heardVersion R u p lp (λ j l. ready-all R u j l) (R .n) p))
         (omega (
           arith,
-          got-own (linksOf R) u p,
-          numOf-some (linksOf R) p (heardVersion R u p lp (λ j l. ready-all R u j l) (R .n) p) u (heard-standing .own-version),
+          got-own L u p,
+          numOf-some L p (heardVersion R u p lp (λ j l. ready-all R u j l) (R .n) p) u (heard-standing .own-version),
         ))
 
     pub lane-own : laneAt ((hearingIn R u p) .station) p ≡ laneAt (stationAt (R .ready u) p) p
     lane-own = heard-standing .caught p lp .lane-now ∙ rw own-still
 
-  gains-comes : (u p q : ℕ) → q < R .n → gains R u p q (news (linksOf R) (suc u) p q) ≡ comes R u p q
+  gains-comes : (u p q : ℕ) → q < R .n → gains R u p q (news L (suc u) p q) ≡ comes R u p q
   gains-comes u p q l =
-      ap₂ (λ (m : ℕ) (b : Body). ltb (got (linksOf R) u p q) m && not (eqb (kindOf b) 0))
-      (sym (got-numOf (linksOf R) (suc u) p q))
-      (sym (body-shown u q l (news (linksOf R) (suc u) p q)))
+      ap₂ (λ (m : ℕ) (b : Body). ltb (got L u p q) m && not (eqb (kindOf b) 0))
+      (sym (got-numOf L (suc u) p q))
+      (sym (body-shown u q l (news L (suc u) p q)))
 
   pub simulated : Simulated R
   simulated =
@@ -173,16 +177,16 @@ module _ (R : Run) where
         takings =
             λ u p s lp ls d.
             heard-caught u p lp s ls d .taken-now
-            ∙ ap₂ (λ (m : ℕ) (b : Body). cond (ltb (got (linksOf R) u p s) m) (unlessEmpty b) [])
-            (sym (got-numOf (linksOf R) (suc u) p s))
-            (sym (body-shown u s ls (news (linksOf R) (suc u) p s)));
+            ∙ ap₂ (λ (m : ℕ) (b : Body). cond (ltb (got L u p s) m) (unlessEmpty b) [])
+            (sym (got-numOf L (suc u) p s))
+            (sym (body-shown u s ls (news L (suc u) p s)));
         lanes =
             λ u p s lp ls d.
             heard-caught u p lp s ls d .lane-now
             ∙ ap₂
             (λ (g : Bool) (b : Body). cond g (pushed (laneAt (stationAt (R .ready u) p) s) b) (laneAt (stationAt (R .ready u) p) s))
             (gains-comes u p s ls)
-            (sym (body-shown u s ls (news (linksOf R) (suc u) p s)));
+            (sym (body-shown u s ls (news L (suc u) p s)));
         own-lane = λ u p lp. lane-own u p lp;
         overfull =
             λ u p lp.

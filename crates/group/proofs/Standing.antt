@@ -7,6 +7,7 @@ use mathlib.Core.Path.{_≡_, refl, sym, _∙_, subst}
 use native.Mathlib.Omega.{arith}
 use lib.ListN.{length}
 use lib.Dec.{leb}
+use Rattle.links.specs.Relay.{Links}
 use Rattle.links.specs.Clock.{news}
 use Rattle.links.specs.Number.{start, numOf, got, tally}
 use Rattle.links.proofs.Got.{num-limit}
@@ -23,6 +24,9 @@ use Rattle.group.proofs.Run.{Run, linksOf}
 use Rattle.group.proofs.Version.{Cell, Caught, Alike, gains, shown-same, alike-number, cell-alike, caught-same}
 
 module _ (R : Run) where
+  abbrev L : Links
+  L = linksOf R
+
   -- station p with its numbers and with sixteen places in each array
   pub record Formed (p : ℕ) (s : Station) : Type 0 where
     pub size : s .n ≡ R .n
@@ -39,7 +43,7 @@ module _ (R : Run) where
     pub formed : Formed p (h .station)
     pub body : (h .station) .body ≡ first .body
     pub own-version : vs p ≡ suc u
-    pub low : (q : ℕ) → q < R .n → news (linksOf R) u p q ≤ vs q
+    pub low : (q : ℕ) → q < R .n → news L u p q ≤ vs q
     pub high : (q : ℕ) → q < R .n → vs q ≤ suc u
     pub cells :
         (q : ℕ) → q < R .n →
@@ -47,7 +51,7 @@ module _ (R : Run) where
     pub caught : (q : ℕ) → q < R .n → Caught R u p q (vs q) (laneAt first q) (laneAt (h .station) q) (takingsOf q (h .takings))
     pub count :
         (h .station) .count
-        ≡ tally (R .n) p (λ q. numOf (linksOf R) q (vs q)) (λ q. got (linksOf R) (start (linksOf R) u p) p q)
+        ≡ tally (R .n) p (λ q. numOf L q (vs q)) (λ q. got L (start L u p) p q)
     pub overfull : h .overfull ≡ anyBelow (R .n) (λ q. gains R u p q (vs q) && leb 2 ((laneAt first q) .len))
 
   alike-later : (q v v′ : ℕ) → Alike R q v v′ → v ≤ v′
@@ -59,7 +63,7 @@ module _ (R : Run) where
       (u p : ℕ) (first : Station) (h : Hearing) (vs vs′ : ℕ → ℕ) → p < R .n → ((q : ℕ) → q < R .n → Alike R q (vs q) (vs′ q)) →
       ((q : ℕ) → q < R .n → vs′ q ≤ suc u) → Standing u p first h vs → Standing u p first h vs′
   standing-alike u p first h vs vs′ lp same below c =
-      let number : (q : ℕ) → q < R .n → numOf (linksOf R) q (vs q) ≡ numOf (linksOf R) q (vs′ q) =
+      let number : (q : ℕ) → q < R .n → numOf L q (vs q) ≡ numOf L q (vs′ q) =
       λ q l. alike-number R q (vs q) (vs′ q) (same q l) in
       record {
         formed = c .formed;
@@ -71,8 +75,8 @@ module _ (R : Run) where
         caught = λ q l. caught-same R u p q (vs q) (vs′ q) _ _ _ (number q l) (c .caught q l);
         count =
             c .count
-            ∙ tally-same p (R .n) (λ q. numOf (linksOf R) q (vs q)) (λ q. numOf (linksOf R) q (vs′ q))
-            (λ q. got (linksOf R) (start (linksOf R) u p) p q) (λ q. got (linksOf R) (start (linksOf R) u p) p q)
+            ∙ tally-same p (R .n) (λ q. numOf L q (vs q)) (λ q. numOf L q (vs′ q))
+            (λ q. got L (start L u p) p q) (λ q. got L (start L u p) p q)
             (λ q l d. (number q l, refl));
         overfull =
             c .overfull
@@ -82,7 +86,7 @@ module _ (R : Run) where
       }
     where
       gains-same :
-          (q v v′ : ℕ) (b : Bool) → numOf (linksOf R) q v ≡ numOf (linksOf R) q v′ → (gains R u p q v && b) ≡ (gains R u p q v′ && b)
+          (q v v′ : ℕ) (b : Bool) → numOf L q v ≡ numOf L q v′ → (gains R u p q v && b) ≡ (gains R u p q v′ && b)
       gains-same q v v′ b e = rw (e, shown-same R q v v′ e)
 
   -- while hearing, the count is at most three for each other station, so it stays far below 255
@@ -90,11 +94,11 @@ module _ (R : Run) where
       (u p : ℕ) (first : Station) (h : Hearing) (vs : ℕ → ℕ) → p < R .n → Standing u p first h vs → (h .station) .count ≤ 3 * (R .n - 1)
   standing-count u p first h vs lp c =
       subst (λ i. i ≤ 3 * (R .n - 1)) (sym (c .count))
-      (tally-limit 3 p (R .n) (λ q. numOf (linksOf R) q (vs q)) (λ q. got (linksOf R) (start (linksOf R) u p) p q) lp
+      (tally-limit 3 p (R .n) (λ q. numOf L q (vs q)) (λ q. got L (start L u p) p q) lp
       (λ q l d.
       omega (
         arith,
-        numOf-limit (linksOf R) u q (vs q) (c .high q l),
-        num-limit (linksOf R) u p q lp,
-        within (linksOf R) u p q lp l d,
+        numOf-limit L u q (vs q) (c .high q l),
+        num-limit L u p q lp,
+        within L u p q lp l d,
       )))

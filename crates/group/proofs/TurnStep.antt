@@ -10,6 +10,7 @@ use borrow.Author.Tests.{lt-ltb, eq-eqb, ne-eqb}
 use lib.ListN.{length}
 use lib.Dec.{ltb, eqb}
 use Rattle.labels.specs.Label.{successor}
+use Rattle.links.specs.Relay.{Links}
 use Rattle.links.specs.Clock.{news}
 use Rattle.links.specs.Number as number
 use Rattle.links.specs.Number.{start, num, numOf, got, gotOf, every, fresh}
@@ -40,46 +41,49 @@ allBelow-every zero f g h = refl
 allBelow-every (suc n) f g h = rw (allBelow-every n f g (λ k l. h k (omega arith)), h n (omega arith))
 
 module _ (R : Run) where
+  abbrev L : Links
+  L = linksOf R
+
   -- a broadcast that has just begun has counted nothing
-  pub fresh-start : (u p : ℕ) → p < R .n → start (linksOf R) u p ≡ u → fresh (linksOf R) u p ≡ 0
+  pub fresh-start : (u p : ℕ) → p < R .n → start L u p ≡ u → fresh L u p ≡ 0
   unfolding fresh
   fresh-start u p lp e =
       omega (
         arith,
-        tally-limit 0 p (R .n) (λ q. got (linksOf R) u p q) (λ q. got (linksOf R) (start (linksOf R) u p) p q) lp
+        tally-limit 0 p (R .n) (λ q. got L u p q) (λ q. got L (start L u p) p q) lp
             (λ q l d. rw e (omega arith)),
       )
 
   module _
       (u p : ℕ) (lp : p < R .n) (first : Station) (h : Hearing) (vs : ℕ → ℕ) (c : Standing R u p first h vs)
-      (clock : (q : ℕ) → (q ≡ p → ⊥) → vs q ≡ news (linksOf R) (suc u) p q) where
+      (clock : (q : ℕ) → (q ≡ p → ⊥) → vs q ≡ news L (suc u) p q) where
     own-acked : ackedOf (h .station) p ≡ true
     own-acked =
         c .cells p lp .is-acked
-        ∙ eq-eqb (gotOf (linksOf R) p p (vs p)) (num (linksOf R) u p)
-        (gotOf-some (linksOf R) p p (vs p) u (c .own-version) ∙ got-own (linksOf R) u p)
+        ∙ eq-eqb (gotOf L p p (vs p)) (num L u p)
+        (gotOf-some L p p (vs p) u (c .own-version) ∙ got-own L u p)
 
     -- S5
-    pub ends-agree : turn.ends (h .station) ≡ number.ends (linksOf R) (suc u) p
+    pub ends-agree : turn.ends (h .station) ≡ number.ends L (suc u) p
     unfolding turn.ends
     ends-agree =
         ap (λ (m : ℕ). allBelow m (ackedOf (h .station))) (c .formed .size)
         ∙ allBelow-every (R .n) (ackedOf (h .station))
-        (λ q. eqb q p || eqb (gotOf (linksOf R) q p (news (linksOf R) (suc u) p q)) (num (linksOf R) u p)) (λ q l. one q l (ℕ-discrete q p))
-        ∙ sym (ends-numbers (linksOf R) u p)
+        (λ q. eqb q p || eqb (gotOf L q p (news L (suc u) p q)) (num L u p)) (λ q l. one q l (ℕ-discrete q p))
+        ∙ sym (ends-numbers L u p)
       where
         one :
             (q : ℕ) → q < R .n → Dec (q ≡ p) →
             ackedOf (h .station) q
-            ≡ (eqb q p || eqb (gotOf (linksOf R) q p (news (linksOf R) (suc u) p q)) (num (linksOf R) u p))
+            ≡ (eqb q p || eqb (gotOf L q p (news L (suc u) p q)) (num L u p))
         one q l (yes e) =
             ap (λ (i : ℕ). ackedOf (h .station) i) e
             ∙ own-acked
-            ∙ ap (λ (b : Bool). b || eqb (gotOf (linksOf R) q p (news (linksOf R) (suc u) p q)) (num (linksOf R) u p)) (sym (eq-eqb q p e))
+            ∙ ap (λ (b : Bool). b || eqb (gotOf L q p (news L (suc u) p q)) (num L u p)) (sym (eq-eqb q p e))
         one q l (no d) =
             c .cells q l .is-acked
-            ∙ ap (λ (v : ℕ). eqb (gotOf (linksOf R) q p v) (num (linksOf R) u p)) (clock q d)
-            ∙ ap (λ (b : Bool). b || eqb (gotOf (linksOf R) q p (news (linksOf R) (suc u) p q)) (num (linksOf R) u p)) (sym (ne-eqb q p d))
+            ∙ ap (λ (v : ℕ). eqb (gotOf L q p v) (num L u p)) (clock q d)
+            ∙ ap (λ (b : Bool). b || eqb (gotOf L q p (news L (suc u) p q)) (num L u p)) (sym (ne-eqb q p d))
 
     formed-turn : Formed R p (afterTurn (h .station))
     formed-turn =
@@ -109,32 +113,32 @@ module _ (R : Run) where
 
     -- b says whether the broadcast ends
     module _
-        (b : Bool) (ended : turn.ends (h .station) ≡ b) (start-now : start (linksOf R) (suc u) p ≡ cond b (suc u) (start (linksOf R) u p))
-        (num-now : num (linksOf R) (suc u) p ≡ cond b (suc (num (linksOf R) u p)) (num (linksOf R) u p))
+        (b : Bool) (ended : turn.ends (h .station) ≡ b) (start-now : start L (suc u) p ≡ cond b (suc u) (start L u p))
+        (num-now : num L (suc u) p ≡ cond b (suc (num L u p)) (num L u p))
         (began : first .body ≡ shown R p (suc u)) (after : stationAt (R .after (suc u)) p ≡ afterTurn (h .station)) where
-      count-turn : (afterTurn (h .station)) .count ≡ fresh (linksOf R) (suc u) p
+      count-turn : (afterTurn (h .station)) .count ≡ fresh L (suc u) p
       unfolding fresh
       count-turn =
           TurnCells.turn-count (h .station) ∙ ap (λ (x : Bool). cond x 0 ((h .station) .count)) ended ∙ go b start-now
         where
           go :
-              (x : Bool) → start (linksOf R) (suc u) p ≡ cond x (suc u) (start (linksOf R) u p) →
-              cond x 0 ((h .station) .count) ≡ fresh (linksOf R) (suc u) p
+              (x : Bool) → start L (suc u) p ≡ cond x (suc u) (start L u p) →
+              cond x 0 ((h .station) .count) ≡ fresh L (suc u) p
           go true e = sym (fresh-start (suc u) p lp e)
           go false e =
               c .count
-              ∙ tally-same p (R .n) (λ q. numOf (linksOf R) q (vs q)) (λ q. got (linksOf R) (suc u) p q)
-              (λ q. got (linksOf R) (start (linksOf R) u p) p q) (λ q. got (linksOf R) (start (linksOf R) (suc u) p) p q)
+              ∙ tally-same p (R .n) (λ q. numOf L q (vs q)) (λ q. got L (suc u) p q)
+              (λ q. got L (start L u p) p q) (λ q. got L (start L (suc u) p) p q)
               (λ q l d. (
-                ap (λ (v : ℕ). numOf (linksOf R) q v) (clock q d) ∙ sym (got-numOf (linksOf R) (suc u) p q),
-                ap (λ (t : ℕ). got (linksOf R) t p q) (sym e),
+                ap (λ (v : ℕ). numOf L q v) (clock q d) ∙ sym (got-numOf L (suc u) p q),
+                ap (λ (t : ℕ). got L t p q) (sym e),
               ))
 
       body-turn : (afterTurn (h .station)) .body ≡ shown R p (suc (suc u))
       body-turn = go b ended start-now
         where
           go :
-              (x : Bool) → turn.ends (h .station) ≡ x → start (linksOf R) (suc u) p ≡ cond x (suc u) (start (linksOf R) u p) →
+              (x : Bool) → turn.ends (h .station) ≡ x → start L (suc u) p ≡ cond x (suc u) (start L u p) →
               (afterTurn (h .station)) .body ≡ shown R p (suc (suc u))
           go true f e =
               ap (λ (s : Station). s .body) (sym after) ∙ ap (λ (t : ℕ). (stationAt (R .after t) p) .body) (sym e)
@@ -145,31 +149,31 @@ module _ (R : Run) where
               ∙ began
               ∙ ap (λ (t : ℕ). (stationAt (R .after t) p) .body) (sym e)
 
-      own-label-now : labelOf (afterTurn (h .station)) p ≡ num (linksOf R) (suc u) p % 3
+      own-label-now : labelOf (afterTurn (h .station)) p ≡ num L (suc u) p % 3
       own-label-now =
           let high = R .high in
-          subst (λ i. labelOf (afterTurn (h .station)) i ≡ num (linksOf R) (suc u) p % 3) (c .formed .own)
+          subst (λ i. labelOf (afterTurn (h .station)) i ≡ num L (suc u) p % 3) (c .formed .own)
           (TurnCells.turn-label-own (h .station) (omega (arith, c .formed .own, c .formed .labels))
           ∙ ap
           (λ (x : Bool).
           cond x (successor (labelOf (h .station) ((h .station) .own))) (labelOf (h .station) ((h .station) .own)))
           ended
-          ∙ label-step b (labelOf (h .station) ((h .station) .own)) (num (linksOf R) u p) (num (linksOf R) (suc u) p)
+          ∙ label-step b (labelOf (h .station) ((h .station) .own)) (num L u p) (num L (suc u) p)
           (ap (λ (i : ℕ). labelOf (h .station) i) (c .formed .own)
           ∙ c .cells p lp .is-label
-          ∙ ap (λ (i : ℕ). i % 3) (numOf-some (linksOf R) p (vs p) u (c .own-version)))
+          ∙ ap (λ (i : ℕ). i % 3) (numOf-some L p (vs p) u (c .own-version)))
           num-now)
 
       -- S2
-      label-now : (q : ℕ) → q < R .n → Dec (q ≡ p) → labelOf (afterTurn (h .station)) q ≡ got (linksOf R) (suc u) p q % 3
+      label-now : (q : ℕ) → q < R .n → Dec (q ≡ p) → labelOf (afterTurn (h .station)) q ≡ got L (suc u) p q % 3
       label-now q l (yes e) =
-          subst (λ i. labelOf (afterTurn (h .station)) i ≡ got (linksOf R) (suc u) p i % 3) (sym e)
-          (own-label-now ∙ ap (λ (i : ℕ). i % 3) (sym (got-own (linksOf R) (suc u) p)))
+          subst (λ i. labelOf (afterTurn (h .station)) i ≡ got L (suc u) p i % 3) (sym e)
+          (own-label-now ∙ ap (λ (i : ℕ). i % 3) (sym (got-own L (suc u) p)))
       label-now q l (no d) =
           TurnCells.turn-label-other (h .station) q (λ e. d (e ∙ c .formed .own))
           ∙ c .cells q l .is-label
           ∙ ap (λ (i : ℕ). i % 3)
-          (ap (λ (v : ℕ). numOf (linksOf R) q v) (clock q d) ∙ sym (got-numOf (linksOf R) (suc u) p q))
+          (ap (λ (v : ℕ). numOf L q v) (clock q d) ∙ sym (got-numOf L (suc u) p q))
 
       own-stands : Stands R (ownRecord (passed (h .station))) p (suc u)
       own-stands =
@@ -200,18 +204,18 @@ module _ (R : Run) where
       acked-now :
           (q : ℕ) → q < R .n → Dec (q ≡ p) →
           ackedOf (afterTurn (h .station)) q
-          ≡ eqb (gotOf (linksOf R) q p (news (linksOf R) (suc u) p q)) (num (linksOf R) (suc u) p)
+          ≡ eqb (gotOf L q p (news L (suc u) p q)) (num L (suc u) p)
       acked-now q l (yes e) =
           subst
           (λ i.
           ackedOf (afterTurn (h .station)) i
-          ≡ eqb (gotOf (linksOf R) i p (news (linksOf R) (suc u) p i)) (num (linksOf R) (suc u) p))
+          ≡ eqb (gotOf L i p (news L (suc u) p i)) (num L (suc u) p))
           (sym e)
           (acked-turn p lp
           ∙ go b
           ∙ sym
-          (eq-eqb (gotOf (linksOf R) p p (news (linksOf R) (suc u) p p)) (num (linksOf R) (suc u) p)
-          (gotOf-some (linksOf R) p p (news (linksOf R) (suc u) p p) (suc u) (news-own (linksOf R) (suc u) p) ∙ got-own (linksOf R) (suc u) p)))
+          (eq-eqb (gotOf L p p (news L (suc u) p p)) (num L (suc u) p)
+          (gotOf-some L p p (news L (suc u) p p) (suc u) (news-own L (suc u) p) ∙ got-own L (suc u) p)))
         where
           go : (x : Bool) → cond x (eqb p p) (ackedOf (h .station) p) ≡ true
           go true = eq-eqb p p refl
@@ -219,42 +223,42 @@ module _ (R : Run) where
       acked-now q l (no d) = acked-turn q l ∙ go b num-now
         where
           go :
-              (x : Bool) → num (linksOf R) (suc u) p ≡ cond x (suc (num (linksOf R) u p)) (num (linksOf R) u p) →
+              (x : Bool) → num L (suc u) p ≡ cond x (suc (num L u p)) (num L u p) →
               cond x (eqb q p) (ackedOf (h .station) q)
-              ≡ eqb (gotOf (linksOf R) q p (news (linksOf R) (suc u) p q)) (num (linksOf R) (suc u) p)
+              ≡ eqb (gotOf L q p (news L (suc u) p q)) (num L (suc u) p)
           go true e =
               ne-eqb q p d
               ∙ sym
-              (ne-eqb (gotOf (linksOf R) q p (news (linksOf R) (suc u) p q)) (num (linksOf R) (suc u) p)
+              (ne-eqb (gotOf L q p (news L (suc u) p q)) (num L (suc u) p)
               (λ f.
               omega (
                 arith,
-                gotOf-limit (linksOf R) u q p (news (linksOf R) (suc u) p q) (omega (arith, clock q d, c .high q l)),
+                gotOf-limit L u q p (news L (suc u) p q) (omega (arith, clock q d, c .high q l)),
               )))
           go false e =
               c .cells q l .is-acked
-              ∙ ap (λ (v : ℕ). eqb (gotOf (linksOf R) q p v) (num (linksOf R) u p)) (clock q d)
-              ∙ ap (λ (m : ℕ). eqb (gotOf (linksOf R) q p (news (linksOf R) (suc u) p q)) m) (sym e)
+              ∙ ap (λ (v : ℕ). eqb (gotOf L q p v) (num L u p)) (clock q d)
+              ∙ ap (λ (m : ℕ). eqb (gotOf L q p (news L (suc u) p q)) m) (sym e)
 
-      held-now : (q : ℕ) → q < R .n → Dec (q ≡ p) → heldOf (afterTurn (h .station)) q ≡ ltb 0 (news (linksOf R) (suc u) p q)
+      held-now : (q : ℕ) → q < R .n → Dec (q ≡ p) → heldOf (afterTurn (h .station)) q ≡ ltb 0 (news L (suc u) p q)
       held-now q l (yes e) =
-          subst (λ i. heldOf (afterTurn (h .station)) i ≡ ltb 0 (news (linksOf R) (suc u) p i)) (sym e)
+          subst (λ i. heldOf (afterTurn (h .station)) i ≡ ltb 0 (news L (suc u) p i)) (sym e)
           (TurnCells.turn-held (h .station) p
           ∙ c .cells p lp .is-held
           ∙ lt-ltb 0 (vs p) (omega (arith, c .own-version))
-          ∙ sym (lt-ltb 0 (news (linksOf R) (suc u) p p) (omega (arith, news-own (linksOf R) (suc u) p))))
+          ∙ sym (lt-ltb 0 (news L (suc u) p p) (omega (arith, news-own L (suc u) p))))
       held-now q l (no d) =
           TurnCells.turn-held (h .station) q ∙ c .cells q l .is-held ∙ ap (λ (v : ℕ). ltb 0 v) (clock q d)
 
       -- S1
       stands-now :
-          (q : ℕ) → q < R .n → Dec (q ≡ p) → (w : ℕ) → news (linksOf R) (suc u) p q ≡ suc w →
+          (q : ℕ) → q < R .n → Dec (q ≡ p) → (w : ℕ) → news L (suc u) p q ≡ suc w →
           Stands R (recordOf (afterTurn (h .station)) q) q w
       stands-now q l (yes e) w f =
           let high = R .high in
           subst (λ i. Stands R (recordOf (afterTurn (h .station)) i) i w) (sym e)
           (subst (λ i. Stands R (recordOf (afterTurn (h .station)) p) p i)
-          (omega (arith, news-own (linksOf R) (suc u) p, f, ap (λ (i : ℕ). news (linksOf R) (suc u) p i) e))
+          (omega (arith, news-own L (suc u) p, f, ap (λ (i : ℕ). news L (suc u) p i) e))
           (subst (λ x. Stands R x p (suc u))
           (sym
           (ap (λ (i : ℕ). recordOf (afterTurn (h .station)) i) (sym (c .formed .own))
@@ -275,7 +279,7 @@ module _ (R : Run) where
                 record {
                   is-held = held-now q l (ℕ-discrete q p);
                   is-acked = acked-now q l (ℕ-discrete q p);
-                  is-label = label-now q l (ℕ-discrete q p) ∙ ap (λ (i : ℕ). i % 3) (got-numOf (linksOf R) (suc u) p q);
+                  is-label = label-now q l (ℕ-discrete q p) ∙ ap (λ (i : ℕ). i % 3) (got-numOf L (suc u) p q);
                   stands = stands-now q l (ℕ-discrete q p);
                 };
           }
@@ -287,8 +291,8 @@ module _ (R : Run) where
     turn-step began after =
         subst (λ s. After R (suc u) p s) (sym after)
         (⊎-elim
-        (λ (e : (number.ends (linksOf R) (suc u) p ≡ true) × (start (linksOf R) (suc u) p ≡ suc u) × (num (linksOf R) (suc u) p ≡ suc (num (linksOf R) u p))).
+        (λ (e : (number.ends L (suc u) p ≡ true) × (start L (suc u) p ≡ suc u) × (num L (suc u) p ≡ suc (num L u p))).
         after-turn true (ends-agree ∙ e .0) (e .1) (e .2) began after)
-        (λ (e : (number.ends (linksOf R) (suc u) p ≡ false) × (start (linksOf R) (suc u) p ≡ start (linksOf R) u p) × (num (linksOf R) (suc u) p ≡ num (linksOf R) u p)).
+        (λ (e : (number.ends L (suc u) p ≡ false) × (start L (suc u) p ≡ start L u p) × (num L (suc u) p ≡ num L u p)).
         after-turn false (ends-agree ∙ e .0) (e .1) (e .2) began after)
-        (step (linksOf R) u p))
+        (step L u p))

@@ -12,6 +12,7 @@ use borrow.Author.Tests.{lt-ltb}
 use lib.Dec.{ltb, eqb}
 use Rattle.kinds.specs.declared.Body.{Body}
 use Rattle.kinds.specs.Body.{kindOf}
+use Rattle.links.specs.Relay.{Links}
 use Rattle.links.specs.Number.{start, num, numOf, got, gotOf, fresh}
 use Rattle.links.proofs.Number.{num-positive, start-same}
 use Rattle.links.proofs.Got.{numOf-none, numOf-some, got-own}
@@ -26,16 +27,19 @@ use Rattle.group.specs.History.{unlessEmpty}
 use Rattle.group.proofs.Run.{Run, linksOf}
 
 module _ (R : Run) where
+  abbrev L : Links
+  L = linksOf R
+
   -- the body of the broadcast that version v of q shows
   abbrev pub shown : ℕ → ℕ → Body
-  shown q v = (stationAt (R .after (start (linksOf R) (pred v) q)) q) .body
+  shown q v = (stationAt (R .after (start L (pred v) q)) q) .body
 
   -- r is q's own record as round w left it; its labels are looked at below n only
   pub record Stands (r : Record) (q w : ℕ) : Type 0 where
     pub station : r .station ≡ q
-    pub count : r .count ≡ fresh (linksOf R) w q
+    pub count : r .count ≡ fresh L w q
     pub body : r .body ≡ shown q (suc w)
-    pub labels : (k : ℕ) → k < R .n → recordLabel r k ≡ got (linksOf R) w q k % 3
+    pub labels : (k : ℕ) → k < R .n → recordLabel r k ≡ got L w q k % 3
 
   -- two versions of q of which the second is the first, or later with the same number and count
   abbrev pub Alike : ℕ → ℕ → ℕ → Type 0
@@ -46,31 +50,31 @@ module _ (R : Run) where
       × (v ≡ suc x)
       × (v′ ≡ suc w)
       × (x ≤ w)
-      × (num (linksOf R) x q ≡ num (linksOf R) w q)
-      × (fresh (linksOf R) x q ≡ fresh (linksOf R) w q))
+      × (num L x q ≡ num L w q)
+      × (fresh L x q ≡ fresh L w q))
 
   -- the same number: the same body
-  pub shown-same : (q v v′ : ℕ) → numOf (linksOf R) q v ≡ numOf (linksOf R) q v′ → shown q v ≡ shown q v′
+  pub shown-same : (q v v′ : ℕ) → numOf L q v ≡ numOf L q v′ → shown q v ≡ shown q v′
   shown-same q zero zero e = refl
   shown-same q zero (suc w) e =
-      absurd (omega (arith, numOf-none (linksOf R) q 0 refl, numOf-some (linksOf R) q (suc w) w refl, num-positive (linksOf R) w q))
+      absurd (omega (arith, numOf-none L q 0 refl, numOf-some L q (suc w) w refl, num-positive L w q))
   shown-same q (suc x) zero e =
-      absurd (omega (arith, numOf-none (linksOf R) q 0 refl, numOf-some (linksOf R) q (suc x) x refl, num-positive (linksOf R) x q))
+      absurd (omega (arith, numOf-none L q 0 refl, numOf-some L q (suc x) x refl, num-positive L x q))
   shown-same q (suc x) (suc w) e =
       ap (λ (t : ℕ). (stationAt (R .after t) q) .body)
-      (start-same (linksOf R) x w q (sym (numOf-some (linksOf R) q (suc x) x refl) ∙ e ∙ numOf-some (linksOf R) q (suc w) w refl))
+      (start-same L x w q (sym (numOf-some L q (suc x) x refl) ∙ e ∙ numOf-some L q (suc w) w refl))
 
   pub got-alike :
-      (q x w : ℕ) → x ≤ w → num (linksOf R) x q ≡ num (linksOf R) w q → fresh (linksOf R) x q ≡ fresh (linksOf R) w q →
-      (k : ℕ) → k < R .n → got (linksOf R) x q k ≡ got (linksOf R) w q k
+      (q x w : ℕ) → x ≤ w → num L x q ≡ num L w q → fresh L x q ≡ fresh L w q →
+      (k : ℕ) → k < R .n → got L x q k ≡ got L w q k
   got-alike q x w l e f k b =
       elim (ℕ-discrete k q) [
-        | yes i ↦ rw i (got-own (linksOf R) x q ∙ e ∙ sym (got-own (linksOf R) w q))
-        | no d ↦ fresh-pins (linksOf R) x w q l e f k b d
+        | yes i ↦ rw i (got-own L x q ∙ e ∙ sym (got-own L w q))
+        | no d ↦ fresh-pins L x w q l e f k b d
       ]
 
   stands-alike :
-      (r : Record) (q x w : ℕ) → x ≤ w → num (linksOf R) x q ≡ num (linksOf R) w q → fresh (linksOf R) x q ≡ fresh (linksOf R) w q →
+      (r : Record) (q x w : ℕ) → x ≤ w → num L x q ≡ num L w q → fresh L x q ≡ fresh L w q →
       Stands r q x → Stands r q w
   stands-alike r q x w l e f c =
       record {
@@ -78,21 +82,21 @@ module _ (R : Run) where
         count = c .count ∙ f;
         body =
             c .body
-            ∙ shown-same q (suc x) (suc w) (numOf-some (linksOf R) q (suc x) x refl ∙ e ∙ sym (numOf-some (linksOf R) q (suc w) w refl));
+            ∙ shown-same q (suc x) (suc w) (numOf-some L q (suc x) x refl ∙ e ∙ sym (numOf-some L q (suc w) w refl));
         labels = λ k b. c .labels k b ∙ ap (λ (g : ℕ). g % 3) (got-alike q x w l e f k b);
       }
 
   -- the cell of q at p, where p has the broadcast that round u left it with, stands for version v
   pub record Cell (u p q v : ℕ) (held acked : Bool) (label : ℕ) (r : Record) : Type 0 where
     pub is-held : held ≡ ltb 0 v
-    pub is-acked : acked ≡ eqb (gotOf (linksOf R) q p v) (num (linksOf R) u p)
-    pub is-label : label ≡ numOf (linksOf R) q v % 3
+    pub is-acked : acked ≡ eqb (gotOf L q p v) (num L u p)
+    pub is-label : label ≡ numOf L q v % 3
     pub stands : (w : ℕ) → v ≡ suc w → Stands r q w
 
-  pub alike-number : (q v v′ : ℕ) → Alike q v v′ → numOf (linksOf R) q v ≡ numOf (linksOf R) q v′
-  alike-number q v v′ (inl e) = ap (λ (x : ℕ). numOf (linksOf R) q x) (sym e)
+  pub alike-number : (q v v′ : ℕ) → Alike q v v′ → numOf L q v ≡ numOf L q v′
+  alike-number q v v′ (inl e) = ap (λ (x : ℕ). numOf L q x) (sym e)
   alike-number q v v′ (inr a) =
-      numOf-some (linksOf R) q v (a .0) (a .2) ∙ a .5 ∙ sym (numOf-some (linksOf R) q v′ (a .1) (a .3))
+      numOf-some L q v (a .0) (a .2) ∙ a .5 ∙ sym (numOf-some L q v′ (a .1) (a .3))
 
   pub cell-alike :
       (u p q v v′ : ℕ) (held acked : Bool) (label : ℕ) (r : Record) → p < R .n → Alike q v v′ →
@@ -103,10 +107,10 @@ module _ (R : Run) where
         is-held = c .is-held ∙ lt-ltb 0 v (omega (arith, a .2)) ∙ sym (lt-ltb 0 v′ (omega (arith, a .3)));
         is-acked =
             c .is-acked
-            ∙ ap (λ (g : ℕ). eqb g (num (linksOf R) u p))
-            (gotOf-some (linksOf R) q p v (a .0) (a .2)
+            ∙ ap (λ (g : ℕ). eqb g (num L u p))
+            (gotOf-some L q p v (a .0) (a .2)
             ∙ got-alike q (a .0) (a .1) (a .4) (a .5) (a .6) p lp
-            ∙ sym (gotOf-some (linksOf R) q p v′ (a .1) (a .3)));
+            ∙ sym (gotOf-some L q p v′ (a .1) (a .3)));
         is-label = c .is-label ∙ ap (λ (g : ℕ). g % 3) (alike-number q v v′ (inr a));
         stands =
             λ w e.
@@ -116,15 +120,15 @@ module _ (R : Run) where
 
   -- since round u version v of q brought p a new number, and with it a body other than Empty
   abbrev pub gains : ℕ → ℕ → ℕ → ℕ → Bool
-  gains u p q v = ltb (got (linksOf R) u p q) (numOf (linksOf R) q v) && not (eqb (kindOf (shown q v)) 0)
+  gains u p q v = ltb (got L u p q) (numOf L q v) && not (eqb (kindOf (shown q v)) 0)
 
   -- what p took of q with it, and what became of the lane
   pub record Caught (u p q v : ℕ) (before lane : Lane) (taken : List Body) : Type 0 where
     pub lane-now : lane ≡ cond (gains u p q v) (pushed before (shown q v)) before
-    pub taken-now : taken ≡ cond (ltb (got (linksOf R) u p q) (numOf (linksOf R) q v)) (unlessEmpty (shown q v)) []
+    pub taken-now : taken ≡ cond (ltb (got L u p q) (numOf L q v)) (unlessEmpty (shown q v)) []
 
   pub caught-same :
-      (u p q v v′ : ℕ) (before lane : Lane) (taken : List Body) → numOf (linksOf R) q v ≡ numOf (linksOf R) q v′ →
+      (u p q v v′ : ℕ) (before lane : Lane) (taken : List Body) → numOf L q v ≡ numOf L q v′ →
       Caught u p q v before lane taken → Caught u p q v′ before lane taken
   caught-same u p q v v′ before lane taken e c =
       let b = shown-same q v v′ e in
