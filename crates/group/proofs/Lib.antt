@@ -15,3 +15,11 @@ pub mod CallRun
 pub mod HistoryRun
 pub mod HistoryLists
 pub mod FromRun
+pub mod Version
+pub mod Outcome
+pub mod Standing
+pub mod HearStep
+pub mod RoundHeard
+pub mod TurnStep
+pub mod Rounds
+pub mod Simulation

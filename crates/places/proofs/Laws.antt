@@ -1,7 +1,7 @@
 -- Laws of lists read by place: what holds at every place below n, what a filled list holds below n and from n up, and what is gathered.
 -- Each is an induction on n, whose last place is looked at first.
 use mathlib.Core.Path.{_≡_, refl, sym, ap, _∙_}
-use mathlib.Core.Bool.{Bool, true, false, cond, _&&_, _||_}
+use mathlib.Core.Bool.{Bool, true, false, cond, _&&_, _||_, or-false}
 use mathlib.Core.List.{List, [], _∷_, _++_}
 use Prim.Native.Nat.{ℕ, zero, suc, _≤_, _<_}
 use native.Mathlib.Decide.{ℕ-discrete}
@@ -96,6 +96,31 @@ pub anyBelow-ext : (n : ℕ) (f g : ℕ → Bool) → ((k : ℕ) → k < n → f
 unfolding anyBelow
 anyBelow-ext zero f g h = refl
 anyBelow-ext (suc n) f g h = rw (anyBelow-ext n f g (λ k l. h k (omega arith)), h n (omega arith))
+
+or-swap : (a b c : Bool) → ((a || b) || c) ≡ ((a || c) || b)
+or-swap true b c = refl
+or-swap false true true = refl
+or-swap false true false = refl
+or-swap false false true = refl
+or-swap false false false = refl
+
+-- two tests that differ at one place, where the first fails
+pub anyBelow-add :
+    (n : ℕ) (f g : ℕ → Bool) (k : ℕ) → k < n → f k ≡ false → ((i : ℕ) → i < n → (i ≡ k → ⊥) → g i ≡ f i) →
+    anyBelow n g ≡ (anyBelow n f || g k)
+unfolding anyBelow
+anyBelow-add zero f g k l e h = absurd (omega arith)
+anyBelow-add (suc n) f g k l e h =
+    elim (ℕ-discrete n k) [
+      | yes i ↦
+          (let x : anyBelow n g ≡ anyBelow n f = anyBelow-ext n g f (λ j b. h j (omega arith) (λ q. absurd (omega arith))) in
+          let y : f n ≡ false = ap f i ∙ e in
+          let z : g n ≡ g k = ap g i in
+          rw (x, y, z) (ap (λ (b : Bool). b || g k) (sym (or-false (anyBelow n f)))))
+      | no d ↦
+          rw (anyBelow-add n f g k (omega arith) e (λ j b q. h j (omega arith) q), h n (omega arith) d)
+          (or-swap (anyBelow n f) (g k) (f n))
+    ]
 
 module _ {A : Type 0} where
   pub length-fill : (n : ℕ) (f : ℕ → A) (l : List A) → length (fill n f l) ≡ length l

@@ -14,3 +14,5 @@ pub mod LimitsTurn
 pub mod LaneLaws
 pub mod Unheard
 pub mod TurnParts
+pub mod Cells
+pub mod TurnCells
