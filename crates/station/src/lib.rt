@@ -3,6 +3,9 @@
 use frames::Record;
 use kinds::Body;
 
+pub mod lanes;
+pub mod queues;
+
 // A body in an array.
 pub struct Slot {
     pub body: Body,
