@@ -5,6 +5,7 @@ use kinds::Body;
 
 pub mod lanes;
 pub mod queues;
+pub mod limits;
 
 // A body in an array.
 pub struct Slot {
