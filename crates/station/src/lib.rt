@@ -4,8 +4,8 @@ use frames::Record;
 use kinds::Body;
 
 pub mod lanes;
-pub mod queues;
 pub mod limits;
+pub mod queues;
 
 // A body in an array.
 pub struct Slot {

@@ -7,14 +7,14 @@ ghost use lib.ListN.{getD};
 ghost use lib.Dec.{eqb};
 ghost use Rattle.labels.specs.Label.{isLabel};
 ghost use Rattle.frames.specs.Frame.{validNumber};
+ghost use Rattle.frames.specs.Record.{countInside};
 ghost use Rattle.places.specs.Places.{allBelow};
 ghost use Rattle.station.specs.Limits as spec;
-
-use frames::Record;
-use kinds::Body;
 use super::Lane;
 use super::Queue;
 use super::Station;
+use frames::Record;
+use kinds::Body;
 
 // Is n a number of stations, and own one of them?
 pub fn valid_number(n: usize, own: usize) -> bool
@@ -104,6 +104,17 @@ fn labels_inside(labels: [u8; 16], n: usize) -> bool
     true
 }
 
+// May the record of station k have this count? The own record's may reach 255.
+fn count_inside(n: usize, own: usize, k: usize, count: u8) -> bool
+    requires { ⌜ (1 ≤ n) × (n ≤ 16) ⌝ }
+    ensures { λ r. ⌜ r ≡ (eqb k own || countInside n count) ⌝ }
+{
+    if k == own {
+        return true;
+    }
+    (count as usize) <= 2 * (n - 1)
+}
+
 // Is this a record of station k, inside its limits, in the table of station own among n?
 fn record_inside(n: usize, own: usize, k: usize, record: Record) -> bool
     requires { ⌜ (1 ≤ n) × (n ≤ 16) ⌝ }
@@ -112,11 +123,8 @@ fn record_inside(n: usize, own: usize, k: usize, record: Record) -> bool
     if record.station != k {
         return false;
     }
-    if k != own {
-        let count = record.count as usize;
-        if 2 * (n - 1) < count {
-            return false;
-        }
+    if !count_inside(n, own, k, record.count) {
+        return false;
     }
     let body = record.body;
     if !kinds::body_inside(body) {
@@ -124,4 +132,70 @@ fn record_inside(n: usize, own: usize, k: usize, record: Record) -> bool
     }
     let labels = record.labels;
     labels_inside(labels, n)
+}
+
+// Is the record of station k inside its limits, if one is held?
+fn held_inside(n: usize, own: usize, k: usize, held: bool, record: Record) -> bool
+    requires { ⌜ (1 ≤ n) × (n ≤ 16) ⌝ }
+    ensures { λ r. ⌜ r ≡ (not held || spec.recordInside n own k «record») ⌝ }
+{
+    if !held {
+        return true;
+    }
+    record_inside(n, own, k, record)
+}
+
+// Is what a station of number own among n has of station k inside its limits: its label, its record where one is held, its lane?
+fn place_inside(
+    n: usize,
+    own: usize,
+    k: usize,
+    label: u8,
+    held: bool,
+    record: Record,
+    lane: Lane,
+) -> bool
+    requires { ⌜ (1 ≤ n) × (n ≤ 16) ⌝ }
+    ensures { λ r. ⌜ r ≡ spec.entryInside n own k label held «record» lane ⌝ }
+{
+    if 2 < label {
+        return false;
+    }
+    if !held_inside(n, own, k, held, record) {
+        return false;
+    }
+    lane_inside(lane_room(k, own), lane)
+}
+
+// Is the station inside its limits?
+pub fn station_inside(s: Station) -> bool
+    ensures { λ r. ⌜ r ≡ spec.stationInside s ⌝ }
+{
+    let n = s.n;
+    let own = s.own;
+    if !valid_number(n, own) {
+        return false;
+    }
+    if !s.acked[own] {
+        return false;
+    }
+    if !s.held[own] {
+        return false;
+    }
+    let body = s.body;
+    if !kinds::body_inside(body) {
+        return false;
+    }
+    let waiting = s.waiting;
+    if !queue_inside(waiting) {
+        return false;
+    }
+    let mut k: usize = 0;
+    while k < n {
+        if !place_inside(n, own, k, s.labels[k], s.held[k], s.table[k], s.lanes[k]) {
+            return false;
+        }
+        k += 1;
+    }
+    true
 }
