@@ -6,6 +6,8 @@ use kinds::Body;
 pub mod lanes;
 pub mod limits;
 pub mod queues;
+pub mod starts;
+pub mod turns;
 
 // A body in an array.
 pub struct Slot {
