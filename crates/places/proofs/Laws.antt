@@ -3,7 +3,8 @@
 use mathlib.Core.Path.{_≡_, refl, sym, ap, _∙_}
 use mathlib.Core.Bool.{Bool, true, false, cond, _&&_, _||_, or-false}
 use mathlib.Core.List.{List, [], _∷_, _++_}
-use Prim.Native.Nat.{ℕ, zero, suc, _≤_, _<_}
+use Prim.Native.Nat.{ℕ, zero, suc, _+_, _≤_, _<_}
+use native.Mathlib.Numerals.{add-one}
 use native.Mathlib.Decide.{ℕ-discrete}
 use native.Mathlib.Omega.{arith}
 use lib.ListN.{getD, set, length, length-set, length-append, List·getD-append}
@@ -42,6 +43,11 @@ pub allBelow-make : (n : ℕ) (test : ℕ → Bool) → ((k : ℕ) → k < n →
 unfolding allBelow
 allBelow-make zero test h = refl
 allBelow-make (suc n) test h = and-both (allBelow-make n test (λ k l. h k (omega arith))) (h n (omega arith))
+
+-- one place more, as a loop's counter has it
+pub allBelow-more : (n : ℕ) (test : ℕ → Bool) → allBelow n test ≡ true → test n ≡ true → allBelow (n + 1) test ≡ true
+unfolding allBelow
+allBelow-more n test h e = rw add-one (and-both h e)
 
 -- two tests that agree below n
 pub allBelow-ext : (n : ℕ) (f g : ℕ → Bool) → ((k : ℕ) → k < n → f k ≡ g k) → allBelow n f ≡ allBelow n g
@@ -127,6 +133,11 @@ module _ {A : Type 0} where
   unfolding fill
   length-fill zero f l = refl
   length-fill (suc n) f l = simp length-set (length-fill n f l)
+
+  -- one place more, as a loop's counter has it
+  pub fill-more : (n : ℕ) (f : ℕ → A) (l : List A) → set (fill n f l) n (f n) ≡ fill (n + 1) f l
+  unfolding fill
+  fill-more n f l = rw add-one
 
   -- a place below n
   pub fill-below : (n : ℕ) (f : ℕ → A) (l : List A) (k : ℕ) (d : A) → k < n → k < length l → getD (fill n f l) k d ≡ f k

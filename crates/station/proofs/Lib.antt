@@ -16,3 +16,5 @@ pub mod Unheard
 pub mod TurnParts
 pub mod Cells
 pub mod TurnCells
+pub mod LaneSteps
+pub mod QueueSteps
