@@ -1,32 +1,27 @@
+-- `frames::signed` meets its contract: below 2^31 the word is the number, from there up it is the complement of what the word lacks of 2^32 - 1.
 use borrow.Author.Needs.{needs}
+use native.Mathlib.Omega.{arith}
+use Rattle.frames.proofs.Words.{signed-low, signed-high, signed-high-fits}
 use Rattle.frames.proofs.signed.Statement.{statement}
 use Rattle.frames.proofs.signed.Tie as tie
-use Rattle.frames.proofs.signed.Reads as reads
-use Rattle.frames.proofs.signed.Lts as lts
 
--- src/lib.rt:50:9
 cast-result : tie.Need-cast-result
 cast-result c = search needs
 
--- src/lib.rt:52:16
 sub-result : tie.Need-sub-result
 sub-result c = search needs
 
--- src/lib.rt:52:15
 cast-result-2 : tie.Need-cast-result-2
 cast-result-2 c = search needs
 
--- src/lib.rt:52:9
 sub-result-2 : tie.Need-sub-result-2
-sub-result-2 c = ?
+sub-result-2 c = signed-high-fits (c .before .args .word) (omega arith) (omega arith)
 
--- src/lib.rt:46:1
 returns : tie.Need-returns
-returns c = ?
+returns c = signed-low (c .before .args .word) (omega arith)
 
--- src/lib.rt:46:1
 returns-2 : tie.Need-returns-2
-returns-2 c = ?
+returns-2 c = signed-high (c .before .args .word) (omega arith) (omega arith)
 
 pub signed-spec : {M : Type 1} → statement M
 signed-spec =

@@ -1,31 +1,25 @@
+-- `frames::unsigned` meets its contract: a negative number is the complement of a number that is not, and the word is what that one lacks of 2^32 - 1.
+use Rattle.frames.proofs.Words.{complement-made-fits, unsigned-negative-cast, unsigned-negative-sub, unsigned-negative, unsigned-other-cast, unsigned-other}
 use Rattle.frames.proofs.unsigned.Statement.{statement}
 use Rattle.frames.proofs.unsigned.Tie as tie
-use Rattle.frames.proofs.unsigned.Reads as reads
-use Rattle.frames.proofs.unsigned.Lts as lts
 
--- src/lib.rt:61:27
 sub-result : tie.Need-sub-result
-sub-result c = ?
+sub-result c = complement-made-fits (c .before .args .number) (c .before .fits .number)
 
--- src/lib.rt:61:26
 cast-result : tie.Need-cast-result
-cast-result c = ?
+cast-result c = unsigned-negative-cast (c .before .args .number) (c .before .fits .number) (c .if1 .taken)
 
--- src/lib.rt:61:9
 sub-result-2 : tie.Need-sub-result-2
-sub-result-2 c = ?
+sub-result-2 c = unsigned-negative-sub (c .before .args .number) (c .before .fits .number) (c .if1 .taken)
 
--- src/lib.rt:63:9
 cast-result-2 : tie.Need-cast-result-2
-cast-result-2 c = ?
+cast-result-2 c = unsigned-other-cast (c .before .args .number) (c .before .fits .number) (c .if1 .left)
 
--- src/lib.rt:57:1
 returns : tie.Need-returns
-returns c = ?
+returns c = unsigned-negative (c .before .args .number) (c .before .fits .number) (c .if1 .taken)
 
--- src/lib.rt:57:1
 returns-2 : tie.Need-returns-2
-returns-2 c = ?
+returns-2 c = unsigned-other (c .before .args .number) (c .before .fits .number) (c .if1 .left)
 
 pub unsigned-spec : {M : Type 1} → statement M
 unsigned-spec =
