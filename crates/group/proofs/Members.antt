@@ -15,7 +15,7 @@ use Rattle.station.specs.declared.Station.{Station}
 use Rattle.station.specs.State.{freshStation}
 use Rattle.station.specs.Limits.{stationInside}
 use Rattle.station.proofs.Shape.{Shaped, fresh-shaped}
-use Rattle.station.proofs.Limits.{Inside, inside-open, inside-make}
+use Rattle.station.proofs.StationLimits.{Inside, inside-open, inside-make}
 use Rattle.station.proofs.LimitsFresh.{fresh-holds}
 use Rattle.group.specs.State.{noStation, stationAt, sizeOf, memberInside, groupInside, freshGroup}
 

@@ -23,11 +23,12 @@ use Rattle.station.specs.Lane.{bodies, laneOf, pushed, popped}
 use Rattle.station.specs.Queue.{noSlot, oldest, unqueued}
 use Rattle.station.specs.State.{laneAt}
 use Rattle.station.specs.Turn.{airs, rowOf, startsEdit, startedBody, passed, rewritten, afterTurn}
-use Rattle.station.proofs.BodyLaws.{edit-not-empty, neutral-no-edit}
+use Rattle.kinds.proofs.Laws.{edit-not-empty}
+use Rattle.station.proofs.BodyLaws.{neutral-no-edit}
 use Rattle.station.proofs.Shape.{Shaped, lanesAfter-length}
 use Rattle.station.proofs.LimitsLane.{lane-most}
 use Rattle.station.proofs.LimitsQueue.{unqueued-len, oldest-edit}
-use Rattle.station.proofs.Limits.{Inside}
+use Rattle.station.proofs.StationLimits.{Inside}
 use Rattle.station.proofs.TurnLaws.{laneAfter, after-aired, after-kept, Start, Start.anEdit, Start.aNeutral, Start.nothing, start, passed-waiting, passed-own-lane}
 use Rattle.group.specs.History.{editsOf, editsIn, airedOwn}
 

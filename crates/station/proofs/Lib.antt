@@ -3,7 +3,7 @@ pub mod LimitsLane
 pub mod HearRecord
 pub mod Shape
 pub mod LimitsQueue
-pub mod Limits
+pub mod StationLimits
 pub mod LimitsFresh
 pub mod HeardNewer
 pub mod LimitsHear

@@ -25,7 +25,7 @@ use Rattle.station.proofs.BodyLaws.{empty-inside}
 use Rattle.station.proofs.Shape.{Shaped}
 use Rattle.station.proofs.LimitsLane.{lane-none}
 use Rattle.station.proofs.LimitsQueue.{queued-inside}
-use Rattle.station.proofs.Limits.{RecordHolds, PlaceHolds, Inside, inside-open, inside-make}
+use Rattle.station.proofs.StationLimits.{RecordHolds, PlaceHolds, Inside, inside-open, inside-make}
 
 freshLabels-label : (own k : ℕ) → k < 16 → isLabel (getD (freshLabels own) k 0) ≡ true
 freshLabels-label own k l =

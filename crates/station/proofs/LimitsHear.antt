@@ -22,7 +22,7 @@ use Rattle.station.specs.Limits.{laneInside, takeable}
 use Rattle.station.specs.Hearing.{counts, advances, takes, replaced, heardNewer}
 use Rattle.station.proofs.Shape.{Shaped}
 use Rattle.station.proofs.LimitsLane.{pushed-inside}
-use Rattle.station.proofs.Limits.{RecordHolds, PlaceHolds, Inside}
+use Rattle.station.proofs.StationLimits.{RecordHolds, PlaceHolds, Inside}
 use Rattle.station.proofs.HeardNewer.{heard-n, heard-own, heard-waiting, heard-body, heard-label, heard-label-other, heard-acked-other, heard-held-other, heard-record, heard-record-other, heard-lane, heard-lane-other}
 
 -- a record that a frame among n stations may carry

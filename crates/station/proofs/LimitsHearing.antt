@@ -19,7 +19,7 @@ use Rattle.station.specs.Hearing.{Hearing, silent, counts, takes, heardN
 use Rattle.station.proofs.HearRecord.{heardOne, hearRecord-counts, hearRecord-skips}
 use Rattle.station.proofs.Shape.{Shaped, heardNewer-shaped}
 use Rattle.station.proofs.LimitsLane.{pushed-len, lane-most}
-use Rattle.station.proofs.Limits.{Inside, inside-open, inside-make}
+use Rattle.station.proofs.StationLimits.{Inside, inside-open, inside-make}
 use Rattle.station.proofs.HeardNewer.{heard-n, heard-own, heard-waiting, heard-body, heard-lane, heard-lane-other}
 use Rattle.station.proofs.LimitsHear.{Carried, counts-other, heard-holds}
 

@@ -14,7 +14,7 @@ use Rattle.places.proofs.Laws.{fill-below}
 use Rattle.station.specs.declared.Station.{Station}
 use Rattle.station.specs.State.{heldOf, recordOf, recordLabel, sentRecords}
 use Rattle.station.specs.Calls.{ownCountInside}
-use Rattle.station.proofs.Limits.{RecordHolds, Inside}
+use Rattle.station.proofs.StationLimits.{RecordHolds, Inside}
 use Rattle.station.proofs.LimitsHear.{Carried}
 use Rattle.station.proofs.LimitsHearing.{AllCarried}
 

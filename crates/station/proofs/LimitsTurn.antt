@@ -30,7 +30,7 @@ use Rattle.station.proofs.BodyLaws.{edit-takeable, takeable-inside, emp
 use Rattle.station.proofs.Shape.{Shaped, lanesAfter-length, passed-shaped}
 use Rattle.station.proofs.LimitsLane.{popped-inside, pushed-inside}
 use Rattle.station.proofs.LimitsQueue.{unqueued-inside, oldest-edit}
-use Rattle.station.proofs.Limits.{RecordHolds, PlaceHolds, Inside, inside-open, inside-make}
+use Rattle.station.proofs.StationLimits.{RecordHolds, PlaceHolds, Inside, inside-open, inside-make}
 use Rattle.station.proofs.LimitsHear.{successor-label}
 use Rattle.station.proofs.TurnLaws.{laneAfter, after-aired, after-kept, Start, Start.anEdit, Start.aNeutral, Start.nothing, start, passed-own-lane, passed-other-lane}
 
