@@ -23,7 +23,7 @@ use Rattle.station.specs.declared.Station.{Station}
 use Rattle.station.specs.State.{labelOf, ackedOf, heldOf, recordOf, recordLabel}
 use Rattle.station.specs.Hearing.{counts, advances}
 use Rattle.group.proofs.Run.{Run, linksOf}
-use Rattle.group.proofs.Version.{Stands, Cell, Alike}
+use Rattle.group.proofs.Version.{Stands, Cell, CellAt, Alike}
 
 -- labels of numbers a and b that are at most one apart
 newer-next : (a b c d : ℕ) → b ≡ suc a → isNewer true (a % 3) c (b % 3) d ≡ true
@@ -92,7 +92,7 @@ module _ (R : Run) where
 
     pub outcome :
         (v w j : ℕ) → j < R .n →
-        Cell R u p (r .station) v (heldOf s (r .station)) (ackedOf s (r .station)) (labelOf s (r .station)) (recordOf s (r .station)) →
+        CellAt R u p (r .station) v s →
         Stands R r (r .station) w →
         news L u p (r .station) ≤ v → v ≤ suc u → suc w ≡ news L u j (r .station) →
         Outcome s r (r .station) v w

@@ -28,7 +28,7 @@ use Rattle.group.specs.State.{stationAt, sizeOf}
 use Rattle.group.specs.Calls.{hearing}
 use Rattle.group.specs.History.{takingsOf}
 use Rattle.group.proofs.Run.{Run, linksOf, hearingIn}
-use Rattle.group.proofs.Version.{Stands, Cell, shown, gains}
+use Rattle.group.proofs.Version.{Stands, Cell, CellAt, shown, gains}
 use Rattle.group.proofs.Standing.{Formed, Standing, standing-alike}
 use Rattle.group.proofs.HearStep.{hear-step}
 
@@ -42,7 +42,7 @@ module _ (R : Run) where
     pub body : s .body ≡ shown R p (suc u)
     pub count : s .count ≡ fresh L u p
     pub cells :
-        (q : ℕ) → q < R .n → Cell R u p q (news L u p q) (heldOf s q) (ackedOf s q) (labelOf s q) (recordOf s q)
+        (q : ℕ) → q < R .n → CellAt R u p q (news L u p q) s
 
   -- it has heard nothing yet
   standing-silent : (u p : ℕ) (s : Station) → p < R .n → After u p s → Standing R u p s (silent s) (λ q. news L u p q)
@@ -140,7 +140,7 @@ module _ (R : Run) where
             omega (arith, news-limit L u j k)))
         go w f (no d) =
             let t = stands-framed (s .n) (recordOf s k) k w (a .formed .size) (a .cells k lk .stands w f) in
-            hear-step R u p lp first x (upTo k) (upTo (suc k)) c (framed (s .n) (recordOf s k)) w j
+            hear-step R x (framed (s .n) (recordOf s k)) u p lp first (upTo k) (upTo (suc k)) c w j
             (subst (λ i. i < R .n) (sym (t .station)) lk)
             (λ q. d (sym (t .station) ∙ q))
             lj

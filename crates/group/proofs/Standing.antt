@@ -21,7 +21,7 @@ use Rattle.station.specs.State.{labelOf, ackedOf, heldOf, recordOf, laneAt}
 use Rattle.station.specs.Hearing.{Hearing}
 use Rattle.group.specs.History.{takingsOf}
 use Rattle.group.proofs.Run.{Run, linksOf}
-use Rattle.group.proofs.Version.{Cell, Caught, Alike, gains, shown-same, alike-number, cell-alike, caught-same}
+use Rattle.group.proofs.Version.{Cell, CellAt, Caught, Alike, gains, shown-same, alike-number, cell-alike, caught-same}
 
 module _ (R : Run) where
   abbrev L : Links
@@ -47,7 +47,7 @@ module _ (R : Run) where
     pub high : (q : ℕ) → q < R .n → vs q ≤ suc u
     pub cells :
         (q : ℕ) → q < R .n →
-        Cell R u p q (vs q) (heldOf (h .station) q) (ackedOf (h .station) q) (labelOf (h .station) q) (recordOf (h .station) q)
+        CellAt R u p q (vs q) (h .station)
     pub caught : (q : ℕ) → q < R .n → Caught R u p q (vs q) (laneAt first q) (laneAt (h .station) q) (takingsOf q (h .takings))
     pub count :
         (h .station) .count
