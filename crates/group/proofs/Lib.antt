@@ -2,6 +2,7 @@ pub mod Run
 pub mod Version
 pub mod Outcome
 pub mod Standing
+pub mod HearParts
 pub mod HearStep
 pub mod RoundHeard
 pub mod TurnStep

@@ -21,14 +21,14 @@ use Rattle.frames.specs.Record.{framed}
 use Rattle.places.specs.Places.{gather}
 use Rattle.places.proofs.Laws.{anyBelow-none}
 use Rattle.station.specs.declared.Station.{Station}
-use Rattle.station.specs.State.{labelOf, ackedOf, heldOf, recordOf, laneAt, sentRecords}
+use Rattle.station.specs.State.{heldOf, recordOf, laneAt, sentRecords}
 use Rattle.station.specs.Hearing.{Hearing, silent, hearRecord, hearRecords}
 use Rattle.station.proofs.Cells
 use Rattle.group.specs.State.{stationAt, sizeOf}
 use Rattle.group.specs.Calls.{hearing}
 use Rattle.group.specs.History.{takingsOf}
 use Rattle.group.proofs.Run.{Run, linksOf, hearingIn}
-use Rattle.group.proofs.Version.{Stands, Cell, CellAt, shown, gains}
+use Rattle.group.proofs.Version.{Stands, CellAt, shown, gains}
 use Rattle.group.proofs.Standing.{Formed, Standing, standing-alike}
 use Rattle.group.proofs.HearStep.{hear-step}
 

@@ -19,14 +19,14 @@ use Rattle.links.proofs.Got.{got-none, got-own}
 use Rattle.frames.specs.declared.Record.{Record}
 use Rattle.places.proofs.Laws.{fill-below, length-fill}
 use Rattle.station.specs.declared.Station.{Station}
-use Rattle.station.specs.State.{labelOf, ackedOf, heldOf, recordOf, noRecord, zeroRecord, freshStation}
+use Rattle.station.specs.State.{recordOf, noRecord, zeroRecord, freshStation}
 use Rattle.station.specs.Turn.{afterTurn}
 use Rattle.group.specs.State.{stationAt, sizeOf, freshGroup}
 use Rattle.group.specs.Calls.{heard, afterRound}
 use Rattle.group.proofs.Run.{Run, SameButWaiting, linksOf, hearingIn}
 use Rattle.group.proofs.Version.{Stands, CellAt}
 use Rattle.group.proofs.Standing.{Formed}
-use Rattle.group.proofs.HearStep.{cell-move}
+use Rattle.group.proofs.HearParts.{cell-move}
 use Rattle.group.proofs.RoundHeard.{After, hear-round, heard-version}
 use Rattle.group.proofs.TurnStep.{fresh-start, turn-step}
 
@@ -198,7 +198,7 @@ module _ (R : Run) where
   after-all (suc u) p lp =
       let all : (j : ℕ) → j < R .n → After R u j (stationAt (R .ready u) j) =
       λ j l. after-same u j (stationAt (R .after u) j) (stationAt (R .ready u) j) (R .posts u j) (after-all u j l) in
-      turn-step R u p lp (stationAt (R .ready u) p) (hearingIn R u p) _ (hear-round R u p lp all)
+      turn-step R (hearingIn R u p) u p lp (stationAt (R .ready u) p) _ (hear-round R u p lp all)
       (λ q d. heard-version R u p lp all q (λ e. d (sym e)))
       (all p lp .body)
       (round-station u p lp (all 0 (R .low) .formed .size))

@@ -172,7 +172,7 @@ module _ (R : Run) where
       record {
         ends =
             λ u s l.
-            ends-agree R u s l (stationAt (R .ready u) s) (hearingIn R u s) _ (heard-standing u s l)
+            ends-agree R (hearingIn R u s) u s l (stationAt (R .ready u) s) _ (heard-standing u s l)
             (λ q d. heard-clock u s l q (λ e. d (sym e)));
         takings =
             λ u p s lp ls d.

@@ -17,11 +17,11 @@ use Rattle.links.proofs.Tally.{tally-same, tally-limit}
 use Rattle.places.specs.Places.{anyBelow}
 use Rattle.places.proofs.Laws.{anyBelow-ext}
 use Rattle.station.specs.declared.Station.{Station}
-use Rattle.station.specs.State.{labelOf, ackedOf, heldOf, recordOf, laneAt}
+use Rattle.station.specs.State.{recordOf, laneAt}
 use Rattle.station.specs.Hearing.{Hearing}
 use Rattle.group.specs.History.{takingsOf}
 use Rattle.group.proofs.Run.{Run, linksOf}
-use Rattle.group.proofs.Version.{Cell, CellAt, Caught, Alike, gains, shown-same, alike-number, cell-alike, caught-same}
+use Rattle.group.proofs.Version.{CellAt, Caught, Alike, gains, shown-same, alike-number, cell-alike, caught-same}
 
 module _ (R : Run) where
   abbrev L : Links
