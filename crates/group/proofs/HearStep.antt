@@ -89,10 +89,7 @@ module _ (R : Run) where
             (ackedOf s k || eqb (recordLabel r (s .own)) (labelOf s (s .own)))
             ≡ eqb (gotOf L k p (suc w)) (num L u p)
         ack =
-            subst
-            (λ i.
-            (ackedOf s k || eqb (recordLabel r i) (labelOf s i))
-            ≡ eqb (gotOf L k p (suc w)) (num L u p))
+            subst (λ i. (ackedOf s k || eqb (recordLabel r i) (labelOf s i)) ≡ eqb (gotOf L k p (suc w)) (num L u p))
             (sym (c .formed .own))
             (rw (c .cells k lk .is-acked, t .labels p lp ∙ ap (λ (i : ℕ). i % 3) (sym (gotOf-some L k p (suc w) w refl)), own-label)
             (acked-mod (gotOf L k p (vs k)) (gotOf L k p (suc w)) (num L u p)
@@ -100,8 +97,7 @@ module _ (R : Run) where
             (gotOf-limit L u k p (suc w) within-round)
             (gotOf-close L u p k p (suc w) lp lk (omega (arith, c .low k lk)))))
 
-        cell-here :
-            CellAt R u p k (suc w) s′
+        cell-here : CellAt R u p k (suc w) s′
         cell-here =
             let f = c .formed in
             let high = R .high in
@@ -125,19 +121,14 @@ module _ (R : Run) where
             (q : ℕ) → q < R .n → Dec (q ≡ k) →
             CellAt R u p q (vs′ q) s′
         cells-after q l (yes e) =
-            subst
-            (λ i.
-            CellAt R u p i (vs′ i) s′)
+            subst (λ i. CellAt R u p i (vs′ i) s′)
             (sym e)
-            (subst
-            (λ v.
-            CellAt R u p k v s′)
+            (subst (λ v. CellAt R u p k v s′)
             (sym here) cell-here)
         cells-after q l (no d) =
             cell-move R (Cells.held-other s r q d) (Cells.acked-other s r q d) (Cells.label-other s r q d)
             (Cells.record-other s r q d)
-            (subst
-            (λ v. CellAt R u p q v s)
+            (subst (λ v. CellAt R u p q v s)
             (sym (rest q d)) (c .cells q l))
 
         caught-after :
@@ -146,14 +137,10 @@ module _ (R : Run) where
             (takingsOf q (h .takings ++ taking))
         caught-after q l (yes e) =
             let high = R .high in
-            subst
-            (λ i.
-            Caught R u p i (vs′ i) (laneAt first i) (laneAt s′ i)
+            subst (λ i. Caught R u p i (vs′ i) (laneAt first i) (laneAt s′ i)
             (takingsOf i (h .takings ++ taking)))
             (sym e)
-            (subst
-            (λ v.
-            Caught R u p k v (laneAt first k) (laneAt s′ k)
+            (subst (λ v. Caught R u p k v (laneAt first k) (laneAt s′ k)
             (takingsOf k (h .takings ++ taking)))
             (sym here)
             (caught-move R
@@ -196,9 +183,7 @@ module _ (R : Run) where
             (λ q l d. (number-after q l (ℕ-discrete q k) f, refl))
             ∙ sym (c .count)
 
-        count-after :
-            s′ .count
-            ≡ tally (R .n) p (λ q. numOf L q (vs′ q)) (λ q. got L (start L u p) p q)
+        count-after : s′ .count ≡ tally (R .n) p (λ q. numOf L q (vs′ q)) (λ q. got L (start L u p) p q)
         count-after =
             let high = R .high in
             Cells.heard-count s r

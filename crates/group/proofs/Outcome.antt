@@ -38,8 +38,7 @@ newer-past a b c d e = rw (ne-eqb (b % 3) (successor (a % 3)) (omega arith), ne-
 newer-none : (h : Bool) (l c m d : ℕ) → h ≡ false → isNewer h l c m d ≡ true
 newer-none h l c m d e = rw e
 
-newer-at :
-    {h h′ : Bool} {l l′ c c′ m m′ d d′ : ℕ} → h ≡ h′ → l ≡ l′ → c ≡ c′ → m ≡ m′ → d ≡ d′ → isNewer h l c m d ≡ isNewer h′ l′ c′ m′ d′
+newer-at : {h h′ : Bool} {l l′ c c′ m m′ d d′ : ℕ} → h ≡ h′ → l ≡ l′ → c ≡ c′ → m ≡ m′ → d ≡ d′ → isNewer h l c m d ≡ isNewer h′ l′ c′ m′ d′
 newer-at {h′ = h′} {l′ = l′} {c′ = c′} {m′ = m′} {d′ = d′} a b c d e = rw (a, b, c, d, e)
 
 module _ (R : Run) where
@@ -49,8 +48,7 @@ module _ (R : Run) where
   -- a cell of k that stands for version v hears a record r that stands for version w + 1
   pub data Outcome (s : Station) (r : Record) (k v w : ℕ) : Type 0 where
     skipped : counts s r ≡ false → Alike R k v (max v (suc w)) → Outcome s r k v w
-    renewed :
-        counts s r ≡ true → advances s r ≡ false → v < suc w → numOf L k (suc w) ≡ numOf L k v → Outcome s r k v w
+    renewed : counts s r ≡ true → advances s r ≡ false → v < suc w → numOf L k (suc w) ≡ numOf L k v → Outcome s r k v w
     advanced :
         counts s r ≡ true → advances s r ≡ true → v < suc w → numOf L k (suc w) ≡ suc (numOf L k v) →
         Outcome s r k v w
@@ -61,8 +59,7 @@ module _ (R : Run) where
 
     module _ (u p : ℕ) (lp : p < R .n) (own : s .own ≡ p) (other : k ≡ p → ⊥) (lk : k < R .n) where
       counts-newer :
-          counts s r
-          ≡ isNewer (heldOf s k) (recordLabel (recordOf s k) k) ((recordOf s k) .count)
+          counts s r ≡ isNewer (heldOf s k) (recordLabel (recordOf s k) k) ((recordOf s k) .count)
           (recordLabel r k) (r .count)
       counts-newer =
           ap
@@ -88,8 +85,7 @@ module _ (R : Run) where
 
       newer-held :
           (x w : ℕ) → heldOf s k ≡ true → Stands R (recordOf s k) k x → Stands R r k w →
-          counts s r
-          ≡ isNewer true (num L x k % 3) (fresh L x k) (num L w k % 3)
+          counts s r ≡ isNewer true (num L x k % 3) (fresh L x k) (num L w k % 3)
           (fresh L w k)
       newer-held x w e a b =
           counts-newer ∙ newer-at e (label-number (recordOf s k) x a) (a .count) (label-number r w b) (b .count)

@@ -195,9 +195,7 @@ module _ (R : Run) where
     unfolding hearing latest
     hear-senders zero l = standing-silent u p (stationAt (R .ready u) p) lp (all p lp)
     hear-senders (suc k) l =
-        subst
-        (λ b.
-        Standing R u p (stationAt (R .ready u) p)
+        subst (λ b. Standing R u p (stationAt (R .ready u) p)
         (cond b
         (hearRecords (hearing (R .ready u) (R .masks (suc u)) p k) (sentRecords (stationAt (R .ready u) k)))
         (hearing (R .ready u) (R .masks (suc u)) p k))
@@ -221,9 +219,7 @@ module _ (R : Run) where
     -- all of them
     pub hear-round : Standing R u p (stationAt (R .ready u) p) (hearingIn R u p) (λ q. heardVersion (R .n) q)
     hear-round =
-        subst
-        (λ m.
-        Standing R u p (stationAt (R .ready u) p) (hearing (R .ready u) (R .masks (suc u)) p m) (λ q. heardVersion (R .n) q))
+        subst (λ m. Standing R u p (stationAt (R .ready u) p) (hearing (R .ready u) (R .masks (suc u)) p m) (λ q. heardVersion (R .n) q))
         (sym ready-size) (hear-senders (R .n) (le-refl (R .n)))
 
     -- of another station that is the clock of the round

@@ -96,13 +96,9 @@ module _ (R : Run) where
     unfolding freshStation gotOf numOf
     fresh-cell q l (yes e) =
         let high = R .high in
-        subst
-        (λ i.
-        CellAt R 0 p i (news L 0 p i) (freshStation (R .n) p))
+        subst (λ i. CellAt R 0 p i (news L 0 p i) (freshStation (R .n) p))
         (sym e)
-        (subst
-        (λ v.
-        CellAt R 0 p p v (freshStation (R .n) p))
+        (subst (λ v. CellAt R 0 p p v (freshStation (R .n) p))
         (sym (news-own L 0 p))
         (record {
           is-held = one-here false true false p (omega arith);
@@ -123,9 +119,7 @@ module _ (R : Run) where
         }))
     fresh-cell q l (no d) =
         let high = R .high in
-        subst
-        (λ v.
-        CellAt R 0 p q v (freshStation (R .n) p))
+        subst (λ v. CellAt R 0 p q v (freshStation (R .n) p))
         (sym (news-start L p q (λ e. d (sym e))))
         (record {
           is-held = one-other false true false p (omega arith) q (omega arith) d;

@@ -67,8 +67,7 @@ module _ (R : Run) where
     pub table-held : (q w : ℕ) → q < R .n → news L u p q ≡ suc w → heldOf (stationAt (R .after u) p) q ≡ true
     table-held q w l e = after-all R u p lp .cells q l .is-held ∙ lt-ltb 0 (news L u p q) (omega arith)
 
-    pub table-stands :
-        (q w : ℕ) → q < R .n → news L u p q ≡ suc w → Stands R (recordOf (stationAt (R .after u) p) q) q w
+    pub table-stands : (q w : ℕ) → q < R .n → news L u p q ≡ suc w → Stands R (recordOf (stationAt (R .after u) p) q) q w
     table-stands q w l e = after-all R u p lp .cells q l .stands w e
 
     pub table-some :
@@ -118,8 +117,7 @@ module _ (R : Run) where
         ∙ a .cells p lp .stands u (news-own L u p) .count in
         le-leb ((recordOf (stationAt (R .ready u) p) ((stationAt (R .ready u) p) .own)) .count)
         (2 * ((stationAt (R .ready u) p) .n - 1))
-        (subst
-        (λ m. (recordOf (stationAt (R .ready u) p) ((stationAt (R .ready u) p) .own)) .count ≤ 2 * (m - 1))
+        (subst (λ m. (recordOf (stationAt (R .ready u) p) ((stationAt (R .ready u) p) .own)) .count ≤ 2 * (m - 1))
         (sym (a .formed .size))
         (omega (arith, fresh-limit L u p lp)))
 
@@ -142,14 +140,11 @@ module _ (R : Run) where
         Caught R u p q (news L (suc u) p q) (laneAt (stationAt (R .ready u) p) q) (laneAt ((hearingIn R u p) .station) q)
         (takingsOf q ((hearingIn R u p) .takings))
     heard-caught q l d =
-        subst
-        (λ v.
-        Caught R u p q v (laneAt (stationAt (R .ready u) p) q) (laneAt ((hearingIn R u p) .station) q)
+        subst (λ v. Caught R u p q v (laneAt (stationAt (R .ready u) p) q) (laneAt ((hearingIn R u p) .station) q)
         (takingsOf q ((hearingIn R u p) .takings)))
         (heard-clock q d) (heard-standing .caught q l)
 
-    own-still :
-        ltb (got L u p p) (numOf L p (heardVersion R u p lp (λ j l. ready-all R u j l) (R .n) p)) ≡ false
+    own-still : ltb (got L u p p) (numOf L p (heardVersion R u p lp (λ j l. ready-all R u j l) (R .n) p)) ≡ false
     own-still =
         le-ltb (got L u p p) (numOf L p (heardVersion R u p lp (λ j l. ready-all R u j l) (R .n) p))
         (omega (
@@ -202,9 +197,7 @@ module _ (R : Run) where
           && leb 2 ((laneAt (stationAt (R .ready u) p) s) .len))
           ≡ (not (eqb p s) && (comes R u p s && leb 2 ((laneAt (stationAt (R .ready u) p) s) .len)))
       one u p lp s ls (yes e) =
-          subst
-          (λ i.
-          (gains R u p i (heardVersion R u p lp (λ j l. ready-all R u j l) (R .n) i)
+          subst (λ i. (gains R u p i (heardVersion R u p lp (λ j l. ready-all R u j l) (R .n) i)
           && leb 2 ((laneAt (stationAt (R .ready u) p) i) .len))
           ≡ (not (eqb p i) && (comes R u p i && leb 2 ((laneAt (stationAt (R .ready u) p) i) .len))))
           e

@@ -49,9 +49,7 @@ module _ (R : Run) where
         (q : ℕ) → q < R .n →
         CellAt R u p q (vs q) (h .station)
     pub caught : (q : ℕ) → q < R .n → Caught R u p q (vs q) (laneAt first q) (laneAt (h .station) q) (takingsOf q (h .takings))
-    pub count :
-        (h .station) .count
-        ≡ tally (R .n) p (λ q. numOf L q (vs q)) (λ q. got L (start L u p) p q)
+    pub count : (h .station) .count ≡ tally (R .n) p (λ q. numOf L q (vs q)) (λ q. got L (start L u p) p q)
     pub overfull : h .overfull ≡ anyBelow (R .n) (λ q. gains R u p q (vs q) && leb 2 ((laneAt first q) .len))
 
   alike-later : (q v v′ : ℕ) → Alike R q v v′ → v ≤ v′
@@ -85,8 +83,7 @@ module _ (R : Run) where
             (λ q l. gains-same q (vs q) (vs′ q) (leb 2 ((laneAt first q) .len)) (number q l));
       }
     where
-      gains-same :
-          (q v v′ : ℕ) (b : Bool) → numOf L q v ≡ numOf L q v′ → (gains R u p q v && b) ≡ (gains R u p q v′ && b)
+      gains-same : (q v v′ : ℕ) (b : Bool) → numOf L q v ≡ numOf L q v′ → (gains R u p q v && b) ≡ (gains R u p q v′ && b)
       gains-same q v v′ b e = rw (e, shown-same R q v v′ e)
 
   -- while hearing, the count is at most three for each other station, so it stays far below 255

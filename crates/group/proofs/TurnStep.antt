@@ -78,8 +78,7 @@ module _ (R : Run) where
         where
           one :
               (q : ℕ) → q < R .n → Dec (q ≡ p) →
-              ackedOf s q
-              ≡ (eqb q p || eqb (gotOf L q p (news L (suc u) p q)) (num L u p))
+              ackedOf s q ≡ (eqb q p || eqb (gotOf L q p (news L (suc u) p q)) (num L u p))
           one q l (yes e) =
               ap (λ (i : ℕ). ackedOf s i) e
               ∙ own-acked
@@ -158,8 +157,7 @@ module _ (R : Run) where
             subst (λ i. labelOf (afterTurn s) i ≡ num L (suc u) p % 3) (c .formed .own)
             (TurnCells.turn-label-own s (omega (arith, c .formed .own, c .formed .labels))
             ∙ ap
-            (λ (x : Bool).
-            cond x (successor (labelOf s (s .own))) (labelOf s (s .own)))
+            (λ (x : Bool). cond x (successor (labelOf s (s .own))) (labelOf s (s .own)))
             ended
             ∙ label-step b (labelOf s (s .own)) (num L u p) (num L (suc u) p)
             (ap (λ (i : ℕ). labelOf s i) (c .formed .own)
@@ -195,8 +193,7 @@ module _ (R : Run) where
                   ∙ label-now k l (ℕ-discrete k p);
             }
 
-        acked-turn :
-            (q : ℕ) → q < R .n → ackedOf (afterTurn s) q ≡ cond b (eqb q p) (ackedOf s q)
+        acked-turn : (q : ℕ) → q < R .n → ackedOf (afterTurn s) q ≡ cond b (eqb q p) (ackedOf s q)
         acked-turn q l =
             let high = R .high in
             TurnCells.turn-acked s q (omega (arith, c .formed .size)) (omega (arith, c .formed .acked))
@@ -206,13 +203,9 @@ module _ (R : Run) where
         -- S3
         acked-now :
             (q : ℕ) → q < R .n → Dec (q ≡ p) →
-            ackedOf (afterTurn s) q
-            ≡ eqb (gotOf L q p (news L (suc u) p q)) (num L (suc u) p)
+            ackedOf (afterTurn s) q ≡ eqb (gotOf L q p (news L (suc u) p q)) (num L (suc u) p)
         acked-now q l (yes e) =
-            subst
-            (λ i.
-            ackedOf (afterTurn s) i
-            ≡ eqb (gotOf L i p (news L (suc u) p i)) (num L (suc u) p))
+            subst (λ i. ackedOf (afterTurn s) i ≡ eqb (gotOf L i p (news L (suc u) p i)) (num L (suc u) p))
             (sym e)
             (acked-turn p lp
             ∙ go b
@@ -227,14 +220,12 @@ module _ (R : Run) where
           where
             go :
                 (x : Bool) → num L (suc u) p ≡ cond x (suc (num L u p)) (num L u p) →
-                cond x (eqb q p) (ackedOf s q)
-                ≡ eqb (gotOf L q p (news L (suc u) p q)) (num L (suc u) p)
+                cond x (eqb q p) (ackedOf s q) ≡ eqb (gotOf L q p (news L (suc u) p q)) (num L (suc u) p)
             go true e =
                 ne-eqb q p d
                 ∙ sym
                 (ne-eqb (gotOf L q p (news L (suc u) p q)) (num L (suc u) p)
-                (λ f.
-                omega (
+                (λ f. omega (
                   arith,
                   gotOf-limit L u q p (news L (suc u) p q) (omega (arith, clock q d, c .high q l)),
                 )))
