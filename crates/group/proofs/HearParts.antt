@@ -86,10 +86,12 @@ module _ (R : Run) where
   caught-move a b x = record { lane-now = a ∙ x .lane-now; taken-now = b ∙ x .taken-now }
 
   -- a body that comes with a number: not yet risen before, risen after
-  pub not-risen : (u p k v w : ℕ) → numOf L k (suc w) ≡ suc (numOf L k v) → numOf L k (suc w) ≤ got L u p k + 1 → ltb (got L u p k) (numOf L k v) ≡ false
+  pub not-risen :
+      (u p k v w : ℕ) → numOf L k (suc w) ≡ suc (numOf L k v) → numOf L k (suc w) ≤ got L u p k + 1 → ltb (got L u p k) (numOf L k v) ≡ false
   not-risen u p k v w e l = le-ltb (got L u p k) (numOf L k v) (omega arith)
 
-  pub risen : (u p k v w : ℕ) → numOf L k (suc w) ≡ suc (numOf L k v) → got L u p k ≤ numOf L k v → ltb (got L u p k) (numOf L k (suc w)) ≡ true
+  pub risen :
+      (u p k v w : ℕ) → numOf L k (suc w) ≡ suc (numOf L k v) → got L u p k ≤ numOf L k v → ltb (got L u p k) (numOf L k (suc w)) ≡ true
   risen u p k v w e l = lt-ltb (got L u p k) (numOf L k (suc w)) (omega arith)
 
   pub lane-before :

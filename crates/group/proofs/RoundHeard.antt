@@ -179,19 +179,18 @@ module _ (R : Run) where
         (λ q b. omega (arith, d .high q b, upTo-below (s .n) q (omega arith)))
         d
 
+  -- the version of q that p has in round u + 1 once it has heard the senders below k
+  abbrev pub heardVersion : ℕ → ℕ → ℕ → ℕ → ℕ
+  heardVersion u p k q = latest k (λ j. L .hears (suc u) p j) (λ j. news L u j q) (news L u p q)
+
   -- p hears the frames of its mask; all are of the group before any hearing
   module _ (u p : ℕ) (lp : p < R .n) (all : (j : ℕ) → j < R .n → After u j (stationAt (R .ready u) j)) where
     pub ready-size : sizeOf (R .ready u) ≡ R .n
     ready-size = all 0 (R .low) .formed .size
 
-    -- the version of q that p has once it has heard the senders below k
-    abbrev pub heardVersion : ℕ → ℕ → ℕ
-    heardVersion k q =
-        latest k (λ j. L .hears (suc u) p j) (λ j. news L u j q) (news L u p q)
-
     hear-senders :
         (k : ℕ) → k ≤ R .n →
-        Standing R u p (stationAt (R .ready u) p) (hearing (R .ready u) (R .masks (suc u)) p k) (λ q. heardVersion k q)
+        Standing R u p (stationAt (R .ready u) p) (hearing (R .ready u) (R .masks (suc u)) p k) (λ q. heardVersion u p k q)
     unfolding hearing latest
     hear-senders zero l = standing-silent u p (stationAt (R .ready u) p) lp (all p lp)
     hear-senders (suc k) l =
@@ -199,29 +198,29 @@ module _ (R : Run) where
         (cond b
         (hearRecords (hearing (R .ready u) (R .masks (suc u)) p k) (sentRecords (stationAt (R .ready u) k)))
         (hearing (R .ready u) (R .masks (suc u)) p k))
-        (λ q. cond (hearsIn (R .n) (R .masks (suc u)) p k) (max (heardVersion k q) (news L u k q)) (heardVersion k q)))
+        (λ q. cond (hearsIn (R .n) (R .masks (suc u)) p k) (max (heardVersion u p k q) (news L u k q)) (heardVersion u p k q)))
         (ap (λ (m : ℕ). hearsIn m (R .masks (suc u)) p k) (sym ready-size))
         (go (hearsIn (R .n) (R .masks (suc u)) p k) (hear-senders k (omega arith)))
       where
         go :
             (b : Bool) →
-            Standing R u p (stationAt (R .ready u) p) (hearing (R .ready u) (R .masks (suc u)) p k) (λ q. heardVersion k q) →
+            Standing R u p (stationAt (R .ready u) p) (hearing (R .ready u) (R .masks (suc u)) p k) (λ q. heardVersion u p k q) →
             Standing R u p (stationAt (R .ready u) p)
             (cond b
             (hearRecords (hearing (R .ready u) (R .masks (suc u)) p k) (sentRecords (stationAt (R .ready u) k)))
             (hearing (R .ready u) (R .masks (suc u)) p k))
-            (λ q. cond b (max (heardVersion k q) (news L u k q)) (heardVersion k q))
+            (λ q. cond b (max (heardVersion u p k q) (news L u k q)) (heardVersion u p k q))
         go true c =
             hear-sent u p lp (stationAt (R .ready u) p) k l (stationAt (R .ready u) k) (all k l)
-            (hearing (R .ready u) (R .masks (suc u)) p k) (λ q. heardVersion k q) c
+            (hearing (R .ready u) (R .masks (suc u)) p k) (λ q. heardVersion u p k q) c
         go false c = c
 
     -- all of them
-    pub hear-round : Standing R u p (stationAt (R .ready u) p) (hearingIn R u p) (λ q. heardVersion (R .n) q)
+    pub hear-round : Standing R u p (stationAt (R .ready u) p) (hearingIn R u p) (λ q. heardVersion u p (R .n) q)
     hear-round =
-        subst (λ m. Standing R u p (stationAt (R .ready u) p) (hearing (R .ready u) (R .masks (suc u)) p m) (λ q. heardVersion (R .n) q))
+        subst (λ m. Standing R u p (stationAt (R .ready u) p) (hearing (R .ready u) (R .masks (suc u)) p m) (λ q. heardVersion u p (R .n) q))
         (sym ready-size) (hear-senders (R .n) (le-refl (R .n)))
 
     -- of another station that is the clock of the round
-    pub heard-version : (q : ℕ) → (p ≡ q → ⊥) → heardVersion (R .n) q ≡ news L (suc u) p q
+    pub heard-version : (q : ℕ) → (p ≡ q → ⊥) → heardVersion u p (R .n) q ≡ news L (suc u) p q
     heard-version q d = sym (news-step L u p q d)
