@@ -18,6 +18,7 @@ pub mod FromRun
 pub mod Version
 pub mod Outcome
 pub mod Standing
+pub mod HearParts
 pub mod HearStep
 pub mod RoundHeard
 pub mod TurnStep

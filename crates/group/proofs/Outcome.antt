@@ -20,10 +20,10 @@ use Rattle.links.proofs.Version.{numOf-close, fresh-mono}
 use Rattle.links.proofs.Clock.{news-limit}
 use Rattle.frames.specs.declared.Record.{Record}
 use Rattle.station.specs.declared.Station.{Station}
-use Rattle.station.specs.State.{labelOf, ackedOf, heldOf, recordOf, recordLabel}
+use Rattle.station.specs.State.{labelOf, heldOf, recordOf, recordLabel}
 use Rattle.station.specs.Hearing.{counts, advances}
 use Rattle.group.proofs.Run.{Run, linksOf}
-use Rattle.group.proofs.Version.{Stands, Cell, Alike}
+use Rattle.group.proofs.Version.{Stands, CellAt, Alike}
 
 -- labels of numbers a and b that are at most one apart
 newer-next : (a b c d : ℕ) → b ≡ suc a → isNewer true (a % 3) c (b % 3) d ≡ true
@@ -38,8 +38,7 @@ newer-past a b c d e = rw (ne-eqb (b % 3) (successor (a % 3)) (omega arith), ne-
 newer-none : (h : Bool) (l c m d : ℕ) → h ≡ false → isNewer h l c m d ≡ true
 newer-none h l c m d e = rw e
 
-newer-at :
-    {h h′ : Bool} {l l′ c c′ m m′ d d′ : ℕ} → h ≡ h′ → l ≡ l′ → c ≡ c′ → m ≡ m′ → d ≡ d′ → isNewer h l c m d ≡ isNewer h′ l′ c′ m′ d′
+newer-at : {h h′ : Bool} {l l′ c c′ m m′ d d′ : ℕ} → h ≡ h′ → l ≡ l′ → c ≡ c′ → m ≡ m′ → d ≡ d′ → isNewer h l c m d ≡ isNewer h′ l′ c′ m′ d′
 newer-at {h′ = h′} {l′ = l′} {c′ = c′} {m′ = m′} {d′ = d′} a b c d e = rw (a, b, c, d, e)
 
 module _ (R : Run) where
@@ -49,122 +48,122 @@ module _ (R : Run) where
   -- a cell of k that stands for version v hears a record r that stands for version w + 1
   pub data Outcome (s : Station) (r : Record) (k v w : ℕ) : Type 0 where
     skipped : counts s r ≡ false → Alike R k v (max v (suc w)) → Outcome s r k v w
-    renewed :
-        counts s r ≡ true → advances s r ≡ false → v < suc w → numOf L k (suc w) ≡ numOf L k v → Outcome s r k v w
+    renewed : counts s r ≡ true → advances s r ≡ false → v < suc w → numOf L k (suc w) ≡ numOf L k v → Outcome s r k v w
     advanced :
         counts s r ≡ true → advances s r ≡ true → v < suc w → numOf L k (suc w) ≡ suc (numOf L k v) →
         Outcome s r k v w
 
-  module _ (u p : ℕ) (lp : p < R .n) (s : Station) (r : Record) (own : s .own ≡ p) (other : r .station ≡ p → ⊥) (lk : r .station < R .n) where
-    counts-newer :
-        counts s r
-        ≡ isNewer (heldOf s (r .station)) (recordLabel (recordOf s (r .station)) (r .station)) ((recordOf s (r .station)) .count)
-        (recordLabel r (r .station)) (r .count)
-    counts-newer =
-        ap
-        (λ (b : Bool). not b
-        && isNewer (heldOf s (r .station)) (recordLabel (recordOf s (r .station)) (r .station)) ((recordOf s (r .station)) .count)
-        (recordLabel r (r .station)) (r .count))
-        (ne-eqb (r .station) (s .own) (λ e. other (e ∙ own)))
+  module _ (s : Station) (r : Record) where
+    abbrev k : ℕ
+    k = r .station
 
-    label-number : (q : Record) (w : ℕ) → Stands R q (r .station) w → recordLabel q (r .station) ≡ num L w (r .station) % 3
-    label-number q w t = t .labels (r .station) lk ∙ ap (λ (g : ℕ). g % 3) (got-own L w (r .station))
+    module _ (u p : ℕ) (lp : p < R .n) (own : s .own ≡ p) (other : k ≡ p → ⊥) (lk : k < R .n) where
+      counts-newer :
+          counts s r ≡ isNewer (heldOf s k) (recordLabel (recordOf s k) k) ((recordOf s k) .count)
+          (recordLabel r k) (r .count)
+      counts-newer =
+          ap
+          (λ (b : Bool). not b
+          && isNewer (heldOf s k) (recordLabel (recordOf s k) k) ((recordOf s k) .count)
+          (recordLabel r k) (r .count))
+          (ne-eqb k (s .own) (λ e. other (e ∙ own)))
 
-    advances-next :
-        (w a : ℕ) → Stands R r (r .station) w → labelOf s (r .station) ≡ a % 3 → num L w (r .station) ≡ suc a →
-        advances s r ≡ true
-    advances-next w a t l e =
-        eq-eqb (recordLabel r (r .station)) (successor (labelOf s (r .station))) (omega (arith, label-number r w t))
+      label-number : (q : Record) (w : ℕ) → Stands R q k w → recordLabel q k ≡ num L w k % 3
+      label-number q w t = t .labels k lk ∙ ap (λ (g : ℕ). g % 3) (got-own L w k)
 
-    advances-same :
-        (w a : ℕ) → Stands R r (r .station) w → labelOf s (r .station) ≡ a % 3 → num L w (r .station) ≡ a →
-        advances s r ≡ false
-    advances-same w a t l e =
-        ne-eqb (recordLabel r (r .station)) (successor (labelOf s (r .station))) (λ f. omega (arith, label-number r w t))
+      advances-next :
+          (w a : ℕ) → Stands R r k w → labelOf s k ≡ a % 3 → num L w k ≡ suc a →
+          advances s r ≡ true
+      advances-next w a t l e =
+          eq-eqb (recordLabel r k) (successor (labelOf s k)) (omega (arith, label-number r w t))
 
-    newer-held :
-        (x w : ℕ) → heldOf s (r .station) ≡ true → Stands R (recordOf s (r .station)) (r .station) x → Stands R r (r .station) w →
-        counts s r
-        ≡ isNewer true (num L x (r .station) % 3) (fresh L x (r .station)) (num L w (r .station) % 3)
-        (fresh L w (r .station))
-    newer-held x w e a b =
-        counts-newer ∙ newer-at e (label-number (recordOf s (r .station)) x a) (a .count) (label-number r w b) (b .count)
+      advances-same :
+          (w a : ℕ) → Stands R r k w → labelOf s k ≡ a % 3 → num L w k ≡ a →
+          advances s r ≡ false
+      advances-same w a t l e =
+          ne-eqb (recordLabel r k) (successor (labelOf s k)) (λ f. omega (arith, label-number r w t))
 
-    pub outcome :
-        (v w j : ℕ) → j < R .n →
-        Cell R u p (r .station) v (heldOf s (r .station)) (ackedOf s (r .station)) (labelOf s (r .station)) (recordOf s (r .station)) →
-        Stands R r (r .station) w →
-        news L u p (r .station) ≤ v → v ≤ suc u → suc w ≡ news L u j (r .station) →
-        Outcome s r (r .station) v w
-    outcome zero w j lj c t low high from =
-        let e : num L w (r .station) ≡ suc 0 =
-        omega (
-          arith,
-          num-positive L w (r .station),
-          numOf-close L u p (r .station) 0 (suc w) lp low (omega (arith, news-limit L u j (r .station))),
-          numOf-some L (r .station) (suc w) w refl,
-          numOf-none L (r .station) 0 refl,
-        ) in
-        let z = numOf-none L (r .station) 0 refl in
-        advanced
-        (counts-newer
-        ∙ newer-none (heldOf s (r .station)) (recordLabel (recordOf s (r .station)) (r .station)) ((recordOf s (r .station)) .count)
-        (recordLabel r (r .station)) (r .count) (c .is-held))
-        (advances-next w 0 t (c .is-label ∙ ap (λ (g : ℕ). g % 3) z) e)
-        (omega arith)
-        (omega (arith, numOf-some L (r .station) (suc w) w refl))
-    outcome (suc x) w j lj c t low high from =
-        let k = r .station in
-        let cx = c .stands x refl in
-        let held : heldOf s k ≡ true = c .is-held ∙ lt-ltb 0 (suc x) (omega arith) in
-        let nx = numOf-some L k (suc x) x refl in
-        let nw = numOf-some L k (suc w) w refl in
-        let lw : suc w ≤ suc u = omega (arith, news-limit L u j k) in
-        let up = numOf-close L u p k (suc x) (suc w) lp low lw in
-        let down = numOf-close L u j k (suc w) (suc x) lj (omega arith) high in
-        let label : labelOf s k ≡ num L x k % 3 = c .is-label ∙ ap (λ (g : ℕ). g % 3) nx in
-        elim (decLe (suc w) (suc x)) [
-          | yes l ↦
-              (let m = num-mono L w x k (omega arith) in
-              elim (ℕ-discrete (num L w k) (num L x k)) [
-                | yes e ↦
-                    skipped
-                    (newer-held x w held cx t
-                    ∙ newer-same (num L x k) (num L w k) (fresh L x k) (fresh L w k) e
-                    ∙ le-ltb (fresh L x k) (fresh L w k) (fresh-mono L w x k (omega arith) e))
-                    (inl (omega arith))
-                | no d ↦
-                    skipped
-                    (newer-held x w held cx t
-                    ∙ newer-past (num L x k) (num L w k) (fresh L x k) (fresh L w k) (omega arith))
-                    (inl (omega arith))
-              ])
-          | no l ↦
-              (let m = num-mono L x w k (omega arith) in
-              elim (ℕ-discrete (num L w k) (num L x k)) [
-                | yes e ↦
-                    (let f = fresh-mono L x w k (omega arith) (sym e) in
-                    let n =
-                    newer-held x w held cx t
-                    ∙ newer-same (num L x k) (num L w k) (fresh L x k) (fresh L w k) e in
-                    elim (ℕ-discrete (fresh L x k) (fresh L w k)) [
-                      | yes i ↦
-                          skipped
-                          (n ∙ le-ltb (fresh L x k) (fresh L w k) (omega arith))
-                          (inr (x, w, refl, omega arith, omega arith, sym e, i))
-                      | no i ↦
-                          renewed
-                          (n ∙ lt-ltb (fresh L x k) (fresh L w k) (omega arith))
-                          (advances-same w (num L x k) t label e)
-                          (omega arith)
-                          (omega arith)
-                    ])
-                | no d ↦
-                    advanced
-                    (newer-held x w held cx t
-                    ∙ newer-next (num L x k) (num L w k) (fresh L x k) (fresh L w k) (omega arith))
-                    (advances-next w (num L x k) t label (omega arith))
-                    (omega arith)
-                    (omega arith)
-              ])
-        ]
+      newer-held :
+          (x w : ℕ) → heldOf s k ≡ true → Stands R (recordOf s k) k x → Stands R r k w →
+          counts s r ≡ isNewer true (num L x k % 3) (fresh L x k) (num L w k % 3)
+          (fresh L w k)
+      newer-held x w e a b =
+          counts-newer ∙ newer-at e (label-number (recordOf s k) x a) (a .count) (label-number r w b) (b .count)
+
+      pub outcome :
+          (v w j : ℕ) → j < R .n →
+          CellAt R u p k v s →
+          Stands R r k w →
+          news L u p k ≤ v → v ≤ suc u → suc w ≡ news L u j k →
+          Outcome s r k v w
+      outcome zero w j lj c t low high from =
+          let e : num L w k ≡ suc 0 =
+          omega (
+            arith,
+            num-positive L w k,
+            numOf-close L u p k 0 (suc w) lp low (omega (arith, news-limit L u j k)),
+            numOf-some L k (suc w) w refl,
+            numOf-none L k 0 refl,
+          ) in
+          let z = numOf-none L k 0 refl in
+          advanced
+          (counts-newer
+          ∙ newer-none (heldOf s k) (recordLabel (recordOf s k) k) ((recordOf s k) .count)
+          (recordLabel r k) (r .count) (c .is-held))
+          (advances-next w 0 t (c .is-label ∙ ap (λ (g : ℕ). g % 3) z) e)
+          (omega arith)
+          (omega (arith, numOf-some L k (suc w) w refl))
+      outcome (suc x) w j lj c t low high from =
+          let cx = c .stands x refl in
+          let held : heldOf s k ≡ true = c .is-held ∙ lt-ltb 0 (suc x) (omega arith) in
+          let nx = numOf-some L k (suc x) x refl in
+          let nw = numOf-some L k (suc w) w refl in
+          let lw : suc w ≤ suc u = omega (arith, news-limit L u j k) in
+          let up = numOf-close L u p k (suc x) (suc w) lp low lw in
+          let down = numOf-close L u j k (suc w) (suc x) lj (omega arith) high in
+          let label : labelOf s k ≡ num L x k % 3 = c .is-label ∙ ap (λ (g : ℕ). g % 3) nx in
+          elim (decLe (suc w) (suc x)) [
+            | yes l ↦
+                (let m = num-mono L w x k (omega arith) in
+                elim (ℕ-discrete (num L w k) (num L x k)) [
+                  | yes e ↦
+                      skipped
+                      (newer-held x w held cx t
+                      ∙ newer-same (num L x k) (num L w k) (fresh L x k) (fresh L w k) e
+                      ∙ le-ltb (fresh L x k) (fresh L w k) (fresh-mono L w x k (omega arith) e))
+                      (inl (omega arith))
+                  | no d ↦
+                      skipped
+                      (newer-held x w held cx t
+                      ∙ newer-past (num L x k) (num L w k) (fresh L x k) (fresh L w k) (omega arith))
+                      (inl (omega arith))
+                ])
+            | no l ↦
+                (let m = num-mono L x w k (omega arith) in
+                elim (ℕ-discrete (num L w k) (num L x k)) [
+                  | yes e ↦
+                      (let f = fresh-mono L x w k (omega arith) (sym e) in
+                      let n =
+                      newer-held x w held cx t
+                      ∙ newer-same (num L x k) (num L w k) (fresh L x k) (fresh L w k) e in
+                      elim (ℕ-discrete (fresh L x k) (fresh L w k)) [
+                        | yes i ↦
+                            skipped
+                            (n ∙ le-ltb (fresh L x k) (fresh L w k) (omega arith))
+                            (inr (x, w, refl, omega arith, omega arith, sym e, i))
+                        | no i ↦
+                            renewed
+                            (n ∙ lt-ltb (fresh L x k) (fresh L w k) (omega arith))
+                            (advances-same w (num L x k) t label e)
+                            (omega arith)
+                            (omega arith)
+                      ])
+                  | no d ↦
+                      advanced
+                      (newer-held x w held cx t
+                      ∙ newer-next (num L x k) (num L w k) (fresh L x k) (fresh L w k) (omega arith))
+                      (advances-next w (num L x k) t label (omega arith))
+                      (omega arith)
+                      (omega arith)
+                ])
+          ]

@@ -21,14 +21,14 @@ use Rattle.frames.specs.Record.{framed}
 use Rattle.places.specs.Places.{gather}
 use Rattle.places.proofs.Laws.{anyBelow-none}
 use Rattle.station.specs.declared.Station.{Station}
-use Rattle.station.specs.State.{labelOf, ackedOf, heldOf, recordOf, laneAt, sentRecords}
+use Rattle.station.specs.State.{heldOf, recordOf, laneAt, sentRecords}
 use Rattle.station.specs.Hearing.{Hearing, silent, hearRecord, hearRecords}
 use Rattle.station.proofs.Cells
 use Rattle.group.specs.State.{stationAt, sizeOf}
 use Rattle.group.specs.Calls.{hearing}
 use Rattle.group.specs.History.{takingsOf}
 use Rattle.group.proofs.Run.{Run, linksOf, hearingIn}
-use Rattle.group.proofs.Version.{Stands, Cell, shown, gains}
+use Rattle.group.proofs.Version.{Stands, CellAt, shown, gains}
 use Rattle.group.proofs.Standing.{Formed, Standing, standing-alike}
 use Rattle.group.proofs.HearStep.{hear-step}
 
@@ -42,7 +42,7 @@ module _ (R : Run) where
     pub body : s .body ≡ shown R p (suc u)
     pub count : s .count ≡ fresh L u p
     pub cells :
-        (q : ℕ) → q < R .n → Cell R u p q (news L u p q) (heldOf s q) (ackedOf s q) (labelOf s q) (recordOf s q)
+        (q : ℕ) → q < R .n → CellAt R u p q (news L u p q) s
 
   -- it has heard nothing yet
   standing-silent : (u p : ℕ) (s : Station) → p < R .n → After u p s → Standing R u p s (silent s) (λ q. news L u p q)
@@ -140,7 +140,7 @@ module _ (R : Run) where
             omega (arith, news-limit L u j k)))
         go w f (no d) =
             let t = stands-framed (s .n) (recordOf s k) k w (a .formed .size) (a .cells k lk .stands w f) in
-            hear-step R u p lp first x (upTo k) (upTo (suc k)) c (framed (s .n) (recordOf s k)) w j
+            hear-step R x (framed (s .n) (recordOf s k)) u p lp first (upTo k) (upTo (suc k)) c w j
             (subst (λ i. i < R .n) (sym (t .station)) lk)
             (λ q. d (sym (t .station) ∙ q))
             lj
@@ -179,53 +179,48 @@ module _ (R : Run) where
         (λ q b. omega (arith, d .high q b, upTo-below (s .n) q (omega arith)))
         d
 
+  -- the version of q that p has in round u + 1 once it has heard the senders below k
+  abbrev pub heardVersion : ℕ → ℕ → ℕ → ℕ → ℕ
+  heardVersion u p k q = latest k (λ j. L .hears (suc u) p j) (λ j. news L u j q) (news L u p q)
+
   -- p hears the frames of its mask; all are of the group before any hearing
   module _ (u p : ℕ) (lp : p < R .n) (all : (j : ℕ) → j < R .n → After u j (stationAt (R .ready u) j)) where
     pub ready-size : sizeOf (R .ready u) ≡ R .n
     ready-size = all 0 (R .low) .formed .size
 
-    -- the version of q that p has once it has heard the senders below k
-    abbrev pub heardVersion : ℕ → ℕ → ℕ
-    heardVersion k q =
-        latest k (λ j. L .hears (suc u) p j) (λ j. news L u j q) (news L u p q)
-
     hear-senders :
         (k : ℕ) → k ≤ R .n →
-        Standing R u p (stationAt (R .ready u) p) (hearing (R .ready u) (R .masks (suc u)) p k) (λ q. heardVersion k q)
+        Standing R u p (stationAt (R .ready u) p) (hearing (R .ready u) (R .masks (suc u)) p k) (λ q. heardVersion u p k q)
     unfolding hearing latest
     hear-senders zero l = standing-silent u p (stationAt (R .ready u) p) lp (all p lp)
     hear-senders (suc k) l =
-        subst
-        (λ b.
-        Standing R u p (stationAt (R .ready u) p)
+        subst (λ b. Standing R u p (stationAt (R .ready u) p)
         (cond b
         (hearRecords (hearing (R .ready u) (R .masks (suc u)) p k) (sentRecords (stationAt (R .ready u) k)))
         (hearing (R .ready u) (R .masks (suc u)) p k))
-        (λ q. cond (hearsIn (R .n) (R .masks (suc u)) p k) (max (heardVersion k q) (news L u k q)) (heardVersion k q)))
+        (λ q. cond (hearsIn (R .n) (R .masks (suc u)) p k) (max (heardVersion u p k q) (news L u k q)) (heardVersion u p k q)))
         (ap (λ (m : ℕ). hearsIn m (R .masks (suc u)) p k) (sym ready-size))
         (go (hearsIn (R .n) (R .masks (suc u)) p k) (hear-senders k (omega arith)))
       where
         go :
             (b : Bool) →
-            Standing R u p (stationAt (R .ready u) p) (hearing (R .ready u) (R .masks (suc u)) p k) (λ q. heardVersion k q) →
+            Standing R u p (stationAt (R .ready u) p) (hearing (R .ready u) (R .masks (suc u)) p k) (λ q. heardVersion u p k q) →
             Standing R u p (stationAt (R .ready u) p)
             (cond b
             (hearRecords (hearing (R .ready u) (R .masks (suc u)) p k) (sentRecords (stationAt (R .ready u) k)))
             (hearing (R .ready u) (R .masks (suc u)) p k))
-            (λ q. cond b (max (heardVersion k q) (news L u k q)) (heardVersion k q))
+            (λ q. cond b (max (heardVersion u p k q) (news L u k q)) (heardVersion u p k q))
         go true c =
             hear-sent u p lp (stationAt (R .ready u) p) k l (stationAt (R .ready u) k) (all k l)
-            (hearing (R .ready u) (R .masks (suc u)) p k) (λ q. heardVersion k q) c
+            (hearing (R .ready u) (R .masks (suc u)) p k) (λ q. heardVersion u p k q) c
         go false c = c
 
     -- all of them
-    pub hear-round : Standing R u p (stationAt (R .ready u) p) (hearingIn R u p) (λ q. heardVersion (R .n) q)
+    pub hear-round : Standing R u p (stationAt (R .ready u) p) (hearingIn R u p) (λ q. heardVersion u p (R .n) q)
     hear-round =
-        subst
-        (λ m.
-        Standing R u p (stationAt (R .ready u) p) (hearing (R .ready u) (R .masks (suc u)) p m) (λ q. heardVersion (R .n) q))
+        subst (λ m. Standing R u p (stationAt (R .ready u) p) (hearing (R .ready u) (R .masks (suc u)) p m) (λ q. heardVersion u p (R .n) q))
         (sym ready-size) (hear-senders (R .n) (le-refl (R .n)))
 
     -- of another station that is the clock of the round
-    pub heard-version : (q : ℕ) → (p ≡ q → ⊥) → heardVersion (R .n) q ≡ news L (suc u) p q
+    pub heard-version : (q : ℕ) → (p ≡ q → ⊥) → heardVersion u p (R .n) q ≡ news L (suc u) p q
     heard-version q d = sym (news-step L u p q d)

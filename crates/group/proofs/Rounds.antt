@@ -19,14 +19,14 @@ use Rattle.links.proofs.Got.{got-none, got-own}
 use Rattle.frames.specs.declared.Record.{Record}
 use Rattle.places.proofs.Laws.{fill-below, length-fill}
 use Rattle.station.specs.declared.Station.{Station}
-use Rattle.station.specs.State.{labelOf, ackedOf, heldOf, recordOf, noRecord, zeroRecord, freshStation}
+use Rattle.station.specs.State.{recordOf, noRecord, zeroRecord, freshStation}
 use Rattle.station.specs.Turn.{afterTurn}
 use Rattle.group.specs.State.{stationAt, sizeOf, freshGroup}
 use Rattle.group.specs.Calls.{heard, afterRound}
 use Rattle.group.proofs.Run.{Run, SameButWaiting, linksOf, hearingIn}
-use Rattle.group.proofs.Version.{Stands, Cell}
+use Rattle.group.proofs.Version.{Stands, CellAt}
 use Rattle.group.proofs.Standing.{Formed}
-use Rattle.group.proofs.HearStep.{cell-move}
+use Rattle.group.proofs.HearParts.{cell-move}
 use Rattle.group.proofs.RoundHeard.{After, hear-round, heard-version}
 use Rattle.group.proofs.TurnStep.{fresh-start, turn-step}
 
@@ -92,20 +92,13 @@ module _ (R : Run) where
 
     fresh-cell :
         (q : ℕ) → q < R .n → Dec (q ≡ p) →
-        Cell R 0 p q (news L 0 p q) (heldOf (freshStation (R .n) p) q) (ackedOf (freshStation (R .n) p) q)
-        (labelOf (freshStation (R .n) p) q) (recordOf (freshStation (R .n) p) q)
+        CellAt R 0 p q (news L 0 p q) (freshStation (R .n) p)
     unfolding freshStation gotOf numOf
     fresh-cell q l (yes e) =
         let high = R .high in
-        subst
-        (λ i.
-        Cell R 0 p i (news L 0 p i) (heldOf (freshStation (R .n) p) i) (ackedOf (freshStation (R .n) p) i)
-        (labelOf (freshStation (R .n) p) i) (recordOf (freshStation (R .n) p) i))
+        subst (λ i. CellAt R 0 p i (news L 0 p i) (freshStation (R .n) p))
         (sym e)
-        (subst
-        (λ v.
-        Cell R 0 p p v (heldOf (freshStation (R .n) p) p) (ackedOf (freshStation (R .n) p) p) (labelOf (freshStation (R .n) p) p)
-        (recordOf (freshStation (R .n) p) p))
+        (subst (λ v. CellAt R 0 p p v (freshStation (R .n) p))
         (sym (news-own L 0 p))
         (record {
           is-held = one-here false true false p (omega arith);
@@ -126,10 +119,7 @@ module _ (R : Run) where
         }))
     fresh-cell q l (no d) =
         let high = R .high in
-        subst
-        (λ v.
-        Cell R 0 p q v (heldOf (freshStation (R .n) p) q) (ackedOf (freshStation (R .n) p) q) (labelOf (freshStation (R .n) p) q)
-        (recordOf (freshStation (R .n) p) q))
+        subst (λ v. CellAt R 0 p q v (freshStation (R .n) p))
         (sym (news-start L p q (λ e. d (sym e))))
         (record {
           is-held = one-other false true false p (omega arith) q (omega arith) d;
@@ -172,7 +162,7 @@ module _ (R : Run) where
           count = ap (λ (s : Station). s .count) start-station ∙ sym (fresh-start R 0 p lp (start-zero L p));
           cells =
               λ q l.
-              subst (λ s. Cell R 0 p q (news L 0 p q) (heldOf s q) (ackedOf s q) (labelOf s q) (recordOf s q)) (sym start-station)
+              subst (λ s. CellAt R 0 p q (news L 0 p q) s) (sym start-station)
               (fresh-cell q l (ℕ-discrete q p));
         }
 
@@ -202,7 +192,7 @@ module _ (R : Run) where
   after-all (suc u) p lp =
       let all : (j : ℕ) → j < R .n → After R u j (stationAt (R .ready u) j) =
       λ j l. after-same u j (stationAt (R .after u) j) (stationAt (R .ready u) j) (R .posts u j) (after-all u j l) in
-      turn-step R u p lp (stationAt (R .ready u) p) (hearingIn R u p) _ (hear-round R u p lp all)
+      turn-step R (hearingIn R u p) u p lp (stationAt (R .ready u) p) _ (hear-round R u p lp all)
       (λ q d. heard-version R u p lp all q (λ e. d (sym e)))
       (all p lp .body)
       (round-station u p lp (all 0 (R .low) .formed .size))

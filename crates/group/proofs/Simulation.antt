@@ -27,7 +27,7 @@ use Rattle.group.specs.State.{stationAt}
 use Rattle.group.specs.History.{takingsOf, unlessEmpty}
 use Rattle.group.proofs.Run.{Run, Simulated, linksOf, hearingIn, bodyAt, comes}
 use Rattle.group.proofs.Version.{Stands, Caught, shown, gains}
-use Rattle.group.proofs.Standing.{Formed, Standing}
+use Rattle.group.proofs.Standing.{Formed, Standing, standing-count}
 use Rattle.group.proofs.RoundHeard.{heardVersion, hear-round, heard-version}
 use Rattle.group.proofs.TurnStep.{ends-agree}
 use Rattle.group.proofs.Rounds.{after-all, ready-all}
@@ -67,8 +67,7 @@ module _ (R : Run) where
     pub table-held : (q w : ℕ) → q < R .n → news L u p q ≡ suc w → heldOf (stationAt (R .after u) p) q ≡ true
     table-held q w l e = after-all R u p lp .cells q l .is-held ∙ lt-ltb 0 (news L u p q) (omega arith)
 
-    pub table-stands :
-        (q w : ℕ) → q < R .n → news L u p q ≡ suc w → Stands R (recordOf (stationAt (R .after u) p) q) q w
+    pub table-stands : (q w : ℕ) → q < R .n → news L u p q ≡ suc w → Stands R (recordOf (stationAt (R .after u) p) q) q w
     table-stands q w l e = after-all R u p lp .cells q l .stands w e
 
     pub table-some :
@@ -118,8 +117,7 @@ module _ (R : Run) where
         ∙ a .cells p lp .stands u (news-own L u p) .count in
         le-leb ((recordOf (stationAt (R .ready u) p) ((stationAt (R .ready u) p) .own)) .count)
         (2 * ((stationAt (R .ready u) p) .n - 1))
-        (subst
-        (λ m. (recordOf (stationAt (R .ready u) p) ((stationAt (R .ready u) p) .own)) .count ≤ 2 * (m - 1))
+        (subst (λ m. (recordOf (stationAt (R .ready u) p) ((stationAt (R .ready u) p) .own)) .count ≤ 2 * (m - 1))
         (sym (a .formed .size))
         (omega (arith, fresh-limit L u p lp)))
 
@@ -129,33 +127,34 @@ module _ (R : Run) where
 
     -- p in round u + 1, once it has heard
     pub heard-standing :
-        Standing R u p (stationAt (R .ready u) p) (hearingIn R u p) (λ q. heardVersion R u p lp (λ j l. ready-all R u j l) (R .n) q)
+        Standing R u p (stationAt (R .ready u) p) (hearingIn R u p) (λ q. heardVersion R u p (R .n) q)
     heard-standing = hear-round R u p lp (λ j l. ready-all R u j l)
 
     pub heard-clock :
         (q : ℕ) → (p ≡ q → ⊥) →
-        heardVersion R u p lp (λ j l. ready-all R u j l) (R .n) q ≡ news L (suc u) p q
+        heardVersion R u p (R .n) q ≡ news L (suc u) p q
     heard-clock = heard-version R u p lp (λ j l. ready-all R u j l)
+
+    -- S4 while hearing, so that 255 is never met
+    pub heard-count : ((hearingIn R u p) .station) .count ≤ 3 * (R .n - 1)
+    heard-count = standing-count R u p (stationAt (R .ready u) p) (hearingIn R u p) _ lp heard-standing
 
     heard-caught :
         (q : ℕ) → q < R .n → (p ≡ q → ⊥) →
         Caught R u p q (news L (suc u) p q) (laneAt (stationAt (R .ready u) p) q) (laneAt ((hearingIn R u p) .station) q)
         (takingsOf q ((hearingIn R u p) .takings))
     heard-caught q l d =
-        subst
-        (λ v.
-        Caught R u p q v (laneAt (stationAt (R .ready u) p) q) (laneAt ((hearingIn R u p) .station) q)
+        subst (λ v. Caught R u p q v (laneAt (stationAt (R .ready u) p) q) (laneAt ((hearingIn R u p) .station) q)
         (takingsOf q ((hearingIn R u p) .takings)))
         (heard-clock q d) (heard-standing .caught q l)
 
-    own-still :
-        ltb (got L u p p) (numOf L p (heardVersion R u p lp (λ j l. ready-all R u j l) (R .n) p)) ≡ false
+    own-still : ltb (got L u p p) (numOf L p (heardVersion R u p (R .n) p)) ≡ false
     own-still =
-        le-ltb (got L u p p) (numOf L p (heardVersion R u p lp (λ j l. ready-all R u j l) (R .n) p))
+        le-ltb (got L u p p) (numOf L p (heardVersion R u p (R .n) p))
         (omega (
           arith,
           got-own L u p,
-          numOf-some L p (heardVersion R u p lp (λ j l. ready-all R u j l) (R .n) p) u (heard-standing .own-version),
+          numOf-some L p (heardVersion R u p (R .n) p) u (heard-standing .own-version),
         ))
 
     pub lane-own : laneAt ((hearingIn R u p) .station) p ≡ laneAt (stationAt (R .ready u) p) p
@@ -172,7 +171,7 @@ module _ (R : Run) where
       record {
         ends =
             λ u s l.
-            ends-agree R u s l (stationAt (R .ready u) s) (hearingIn R u s) _ (heard-standing u s l)
+            ends-agree R (hearingIn R u s) u s l (stationAt (R .ready u) s) _ (heard-standing u s l)
             (λ q d. heard-clock u s l q (λ e. d (sym e)));
         takings =
             λ u p s lp ls d.
@@ -198,13 +197,11 @@ module _ (R : Run) where
     where
       one :
           (u p : ℕ) (lp : p < R .n) (s : ℕ) → s < R .n → Dec (p ≡ s) →
-          (gains R u p s (heardVersion R u p lp (λ j l. ready-all R u j l) (R .n) s)
+          (gains R u p s (heardVersion R u p (R .n) s)
           && leb 2 ((laneAt (stationAt (R .ready u) p) s) .len))
           ≡ (not (eqb p s) && (comes R u p s && leb 2 ((laneAt (stationAt (R .ready u) p) s) .len)))
       one u p lp s ls (yes e) =
-          subst
-          (λ i.
-          (gains R u p i (heardVersion R u p lp (λ j l. ready-all R u j l) (R .n) i)
+          subst (λ i. (gains R u p i (heardVersion R u p (R .n) i)
           && leb 2 ((laneAt (stationAt (R .ready u) p) i) .len))
           ≡ (not (eqb p i) && (comes R u p i && leb 2 ((laneAt (stationAt (R .ready u) p) i) .len))))
           e

@@ -17,11 +17,11 @@ use Rattle.links.proofs.Tally.{tally-same, tally-limit}
 use Rattle.places.specs.Places.{anyBelow}
 use Rattle.places.proofs.Laws.{anyBelow-ext}
 use Rattle.station.specs.declared.Station.{Station}
-use Rattle.station.specs.State.{labelOf, ackedOf, heldOf, recordOf, laneAt}
+use Rattle.station.specs.State.{recordOf, laneAt}
 use Rattle.station.specs.Hearing.{Hearing}
 use Rattle.group.specs.History.{takingsOf}
 use Rattle.group.proofs.Run.{Run, linksOf}
-use Rattle.group.proofs.Version.{Cell, Caught, Alike, gains, shown-same, alike-number, cell-alike, caught-same}
+use Rattle.group.proofs.Version.{CellAt, Caught, Alike, gains, shown-same, alike-number, cell-alike, caught-same}
 
 module _ (R : Run) where
   abbrev L : Links
@@ -47,11 +47,9 @@ module _ (R : Run) where
     pub high : (q : ℕ) → q < R .n → vs q ≤ suc u
     pub cells :
         (q : ℕ) → q < R .n →
-        Cell R u p q (vs q) (heldOf (h .station) q) (ackedOf (h .station) q) (labelOf (h .station) q) (recordOf (h .station) q)
+        CellAt R u p q (vs q) (h .station)
     pub caught : (q : ℕ) → q < R .n → Caught R u p q (vs q) (laneAt first q) (laneAt (h .station) q) (takingsOf q (h .takings))
-    pub count :
-        (h .station) .count
-        ≡ tally (R .n) p (λ q. numOf L q (vs q)) (λ q. got L (start L u p) p q)
+    pub count : (h .station) .count ≡ tally (R .n) p (λ q. numOf L q (vs q)) (λ q. got L (start L u p) p q)
     pub overfull : h .overfull ≡ anyBelow (R .n) (λ q. gains R u p q (vs q) && leb 2 ((laneAt first q) .len))
 
   alike-later : (q v v′ : ℕ) → Alike R q v v′ → v ≤ v′
@@ -85,8 +83,7 @@ module _ (R : Run) where
             (λ q l. gains-same q (vs q) (vs′ q) (leb 2 ((laneAt first q) .len)) (number q l));
       }
     where
-      gains-same :
-          (q v v′ : ℕ) (b : Bool) → numOf L q v ≡ numOf L q v′ → (gains R u p q v && b) ≡ (gains R u p q v′ && b)
+      gains-same : (q v v′ : ℕ) (b : Bool) → numOf L q v ≡ numOf L q v′ → (gains R u p q v && b) ≡ (gains R u p q v′ && b)
       gains-same q v v′ b e = rw (e, shown-same R q v v′ e)
 
   -- while hearing, the count is at most three for each other station, so it stays far below 255

@@ -20,8 +20,9 @@ use Rattle.links.proofs.Bounds.{gotOf-some}
 use Rattle.links.proofs.Version.{fresh-pins}
 use Rattle.frames.specs.declared.Record.{Record}
 use Rattle.station.specs.declared.Lane.{Lane}
+use Rattle.station.specs.declared.Station.{Station}
 use Rattle.station.specs.Lane.{pushed}
-use Rattle.station.specs.State.{recordLabel}
+use Rattle.station.specs.State.{recordLabel, labelOf, ackedOf, heldOf, recordOf}
 use Rattle.group.specs.State.{stationAt}
 use Rattle.group.specs.History.{unlessEmpty}
 use Rattle.group.proofs.Run.{Run, linksOf}
@@ -92,6 +93,10 @@ module _ (R : Run) where
     pub is-acked : acked ≡ eqb (gotOf L q p v) (num L u p)
     pub is-label : label ≡ numOf L q v % 3
     pub stands : (w : ℕ) → v ≡ suc w → Stands r q w
+
+  -- the same of a station's own arrays
+  abbrev pub CellAt : ℕ → ℕ → ℕ → ℕ → Station → Type 0
+  CellAt u p q v s = Cell u p q v (heldOf s q) (ackedOf s q) (labelOf s q) (recordOf s q)
 
   pub alike-number : (q v v′ : ℕ) → Alike q v v′ → numOf L q v ≡ numOf L q v′
   alike-number q v v′ (inl e) = ap (λ (x : ℕ). numOf L q x) (sym e)
