@@ -27,15 +27,19 @@ use Rattle.group.proofs.Version.{Stands, CellAt, Alike}
 
 -- labels of numbers a and b that are at most one apart
 newer-next : (a b c d : ℕ) → b ≡ suc a → isNewer true (a % 3) c (b % 3) d ≡ true
+unfolding isNewer
 newer-next a b c d e = rw (eq-eqb (b % 3) (successor (a % 3)) (omega arith))
 
 newer-same : (a b c d : ℕ) → b ≡ a → isNewer true (a % 3) c (b % 3) d ≡ ltb c d
+unfolding isNewer
 newer-same a b c d e = rw (ne-eqb (b % 3) (successor (a % 3)) (omega arith), eq-eqb (b % 3) (a % 3) (omega arith))
 
 newer-past : (a b c d : ℕ) → a ≡ suc b → isNewer true (a % 3) c (b % 3) d ≡ false
+unfolding isNewer
 newer-past a b c d e = rw (ne-eqb (b % 3) (successor (a % 3)) (omega arith), ne-eqb (b % 3) (a % 3) (omega arith))
 
 newer-none : (h : Bool) (l c m d : ℕ) → h ≡ false → isNewer h l c m d ≡ true
+unfolding isNewer
 newer-none h l c m d e = rw e
 
 newer-at : {h h′ : Bool} {l l′ c c′ m m′ d d′ : ℕ} → h ≡ h′ → l ≡ l′ → c ≡ c′ → m ≡ m′ → d ≡ d′ → isNewer h l c m d ≡ isNewer h′ l′ c′ m′ d′

@@ -124,7 +124,7 @@ module _ (R : Run) where
         (⊎-elim
         (λ (z : news L u j k ≡ 0). absurd (omega (arith, ltb-true 0 (news L u j k) (sym (a .cells k lk .is-held) ∙ e))))
         (λ (z : (w : ℕ) × (news L u j k ≡ suc w)). go (z .0) (z .1) (ℕ-discrete k p))
-        (version L (news L u j k)))
+        (version (news L u j k)))
       where
         go :
             (w : ℕ) → news L u j k ≡ suc w → Dec (k ≡ p) →

@@ -14,7 +14,7 @@ use Rattle.kinds.specs.declared.Body.{Body}
 use Rattle.kinds.specs.Body.{kindOf}
 use Rattle.links.specs.Relay.{Links}
 use Rattle.links.specs.Number.{start, num, numOf, got, gotOf, fresh}
-use Rattle.links.proofs.Number.{num-positive, start-same}
+use Rattle.links.proofs.Number.{num-positive, same-start}
 use Rattle.links.proofs.Got.{numOf-none, numOf-some, got-own}
 use Rattle.links.proofs.Bounds.{gotOf-some}
 use Rattle.links.proofs.Version.{fresh-pins}
@@ -63,7 +63,7 @@ module _ (R : Run) where
       absurd (omega (arith, numOf-none L q 0 refl, numOf-some L q (suc x) x refl, num-positive L x q))
   shown-same q (suc x) (suc w) e =
       ap (λ (t : ℕ). (stationAt (R .after t) q) .body)
-      (start-same L x w q (sym (numOf-some L q (suc x) x refl) ∙ e ∙ numOf-some L q (suc w) w refl))
+      (same-start L x w q (sym (numOf-some L q (suc x) x refl) ∙ e ∙ numOf-some L q (suc w) w refl))
 
   pub got-alike :
       (q x w : ℕ) → x ≤ w → num L x q ≡ num L w q → fresh L x q ≡ fresh L w q →
