@@ -8,7 +8,6 @@ ghost use Rattle.frames.specs.Words.{wordAt, wordBytes, signed, unsigned
 ghost use Rattle.frames.specs.Record.{bytesInside};
 ghost use Rattle.frames.specs.Frame.{shapeWrong, addressWrong, recordsInside, frameRefusal, checkRefusal};
 ghost use Rattle.labels.specs.Packing.{unpacked};
-
 use kinds::Body;
 use kinds::refusals::BAD_ADDRESS;
 use kinds::refusals::BAD_NUMBER;

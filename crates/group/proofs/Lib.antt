@@ -25,3 +25,4 @@ pub mod RoundHeard
 pub mod TurnStep
 pub mod Rounds
 pub mod Simulation
+pub mod DemandThree
