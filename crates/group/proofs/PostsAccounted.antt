@@ -25,12 +25,13 @@ use Rattle.station.proofs.LimitsQueue.{queued-len}
 use Rattle.station.proofs.LimitsHearing.{Hears}
 use Rattle.group.specs.declared.Report.{Report}
 use Rattle.group.specs.declared.RoundDone.{RoundDone}
-use Rattle.group.specs.State.{stationAt, sizeOf, groupInside}
+use Rattle.group.specs.State.{stationAt, sizeOf}
 use Rattle.group.specs.Calls.{postCall, heard, noReport, reportOf, roundRefusal, roundCall}
 use Rattle.group.specs.History.{History, Call, Call.post, Call.round, next, begun, continued, historyOf, reportIn, collect, editsOf, airedList, occurrences, editsIn, airedOwn}
-use Rattle.group.proofs.Members.{Members, members-inside, fresh-members, fresh-at}
-use Rattle.group.proofs.MembersPost.{accepted, post-accepted, post-refused, post-refusal, posted-at, posted-other, post-members}
-use Rattle.group.proofs.MembersRound.{Runs, runs, run-hears, run-room, after-at, round-done, round-refused, round-members}
+use Rattle.group.proofs.Members.{Members, fresh-at}
+use Rattle.group.proofs.MembersPost.{accepted, post-accepted, post-refused, post-refusal, posted-at, posted-other}
+use Rattle.group.proofs.MembersRound.{Runs, runs, run-hears, run-room, after-at, round-done, round-refused}
+use Rattle.group.proofs.HistoryInside.{members-next, members-begun}
 use Rattle.group.proofs.TurnAccount.{oneFor, ownEdits, turn-account, airedOwn-append, row-account}
 
 module _ {A : Type 0} where
@@ -196,7 +197,7 @@ pub kept-next : (n : ℕ) (H : History) (call : Call) → Kept n H → Kept n (n
 unfolding next
 kept-next n H (post k b) c =
     record {
-      members = post-members n (H .group) (c .members) k b;
+      members = members-next n H (post k b) (c .members);
       accounted =
           λ p l. unfold airedList in
           (occurrences-append p (H .accepted) (cond (eqb ((postCall (H .group) k b) .refusal) done) (k ∷ []) [])
@@ -204,7 +205,7 @@ kept-next n H (post k b) c =
     }
 kept-next n H (round masks) c =
     record {
-      members = round-members n (H .group) (c .members) masks;
+      members = members-next n H (round masks) (c .members);
       accounted =
           λ p l. omega (arith, c .accounted p l, airedList-round n H masks p, round-kept n (H .group) (c .members) masks p l);
     }
@@ -222,7 +223,7 @@ pub kept-begun : (n : ℕ) → 1 ≤ n → n ≤ 16 → Kept n (begun n)
 unfolding begun
 kept-begun n low high =
     record {
-      members = fresh-members n high low;
+      members = members-begun n low high;
       accounted =
           λ p l. unfold airedList collect occurrences airedOwn in
           (sym (fresh-kept n p (omega arith)) ∙ ap (λ (s : Station). kept s p) (sym (fresh-at n high p l)) ∙ omega arith);
@@ -230,10 +231,6 @@ kept-begun n low high =
 
 pub kept-history : (n : ℕ) → 1 ≤ n → n ≤ 16 → (calls : List Call) → Kept n (historyOf n calls)
 kept-history n low high calls = kept-continued n (begun n) calls (kept-begun n low high)
-
--- the group stays inside its limits
-pub history-inside : (n : ℕ) → 1 ≤ n → n ≤ 16 → (calls : List Call) → groupInside ((historyOf n calls) .group) ≡ true
-history-inside n low high calls = members-inside n ((historyOf n calls) .group) (kept-history n low high calls .members)
 
 pub posts-accounted :
     (n : ℕ) → 1 ≤ n → n ≤ 16 → (calls : List Call) → (p : ℕ) → p < n →
