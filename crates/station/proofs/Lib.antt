@@ -11,3 +11,4 @@ pub mod LimitsHearing
 pub mod LimitsSent
 pub mod TurnLaws
 pub mod LimitsTurn
+pub mod LimitsCalls
