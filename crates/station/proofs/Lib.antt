@@ -18,3 +18,4 @@ pub mod Cells
 pub mod TurnCells
 pub mod LaneSteps
 pub mod QueueSteps
+pub mod LimitsCalls

@@ -18,7 +18,7 @@ use Rattle.station.proofs.StationLimits.{RecordHolds, Inside}
 use Rattle.station.proofs.LimitsHear.{Carried}
 use Rattle.station.proofs.LimitsHearing.{AllCarried}
 
-carried-append : (n : ℕ) (xs ys : List Record) → AllCarried n xs → AllCarried n ys → AllCarried n (xs ++ ys)
+pub carried-append : (n : ℕ) (xs ys : List Record) → AllCarried n xs → AllCarried n ys → AllCarried n (xs ++ ys)
 carried-append n [] ys p q = q
 carried-append n (x ∷ xs) ys p q = (p .0, carried-append n xs ys (p .1) q)
 
