@@ -54,7 +54,7 @@ extern "C" fn rounds_rust(schedule: *const u8, len: usize, n: u32, rounds: u32) 
 
 /// What one sample runs: a millisecond or two, so that on a busy machine some samples stay undisturbed.
 const CHECKS: u32 = 6_400;
-const ROUNDS: u32 = 64;
+const STATION_ROUNDS: u32 = 1_024;
 
 fn call(function: Function, bytes: &[u8], first: u32, second: u32) -> u32 {
     // SAFETY: pointer and length are those of a slice that lives through the call.
@@ -153,9 +153,10 @@ fn main() -> ExitCode {
     for (links, schedule) in [("full-mesh", full_mesh as fn(usize) -> Vec<u8>), ("sparse", sparse)] {
         for n in [2, 8, 16] {
             let schedule = schedule(n as usize);
-            let work = |function| call(function, &schedule, n, ROUNDS);
+            let rounds = STATION_ROUNDS / n;
+            let work = |function| call(function, &schedule, n, rounds);
             let name = format!("{links} round, N = {n}");
-            agree &= Measure { name, units: ROUNDS, work: &work }.print(PROJECT_ROUNDS, rounds_rust, span);
+            agree &= Measure { name, units: rounds, work: &work }.print(PROJECT_ROUNDS, rounds_rust, span);
         }
     }
     let many = if quick { 2_000 } else { 20_000 };

@@ -29,9 +29,9 @@ const KINDS: [Limits; 5] = [
 
 /// Whether a body inside its limits has these numbers.
 pub fn numbers_in_limits(kind: u32, event: u32, argument: i32) -> bool {
-    KINDS.get(kind as usize).is_some_and(|row| {
-        (row.least_event..=row.most_event).contains(&event) && (row.least_argument..=row.most_argument).contains(&argument)
-    })
+    KINDS
+        .get(kind as usize)
+        .is_some_and(|row| (row.least_event..=row.most_event).contains(&event) && (row.least_argument..=row.most_argument).contains(&argument))
 }
 
 impl Body {

@@ -5,7 +5,7 @@ pub const PLACES: usize = 16;
 pub type Labels = [u8; PLACES];
 
 pub fn successor(label: u8) -> u8 {
-    if label == 2 { 0 } else { label + 1 }
+    if label < 2 { label + 1 } else { 0 }
 }
 
 /// Whether the first n entries are labels.

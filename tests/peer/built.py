@@ -11,7 +11,7 @@ BUILT = ROOT / "target" / "bench"
 
 
 def build():
-    subprocess.run([ROOT / "bench" / "build"], check=True)
+    return subprocess.run([ROOT / "bench" / "build"]).returncode == 0
 
 
 def listing(script):
