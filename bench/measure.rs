@@ -1,6 +1,7 @@
 //! Times the project and its peers in one process, in turn, and prints the smallest of several times, one line a measure. A measure whose project
 //! side is not linked in shows the peer alone. With the word `quick` the runs are shorter.
 
+use std::ffi::c_long;
 use std::hint::black_box;
 use std::process::ExitCode;
 use std::time::{Duration, Instant};
@@ -31,6 +32,7 @@ const CHECK_PEERS: &[(&str, Function)] = &[
 ];
 
 unsafe extern "C" {
+    fn clock() -> c_long;
     #[cfg(relay_host)]
     fn relay_frame_check(bytes: *const u8, len: usize, n: u32, own: u32) -> u32;
     #[cfg(relay_bench)]
@@ -52,13 +54,19 @@ extern "C" fn rounds_rust(schedule: *const u8, len: usize, n: u32, rounds: u32) 
     measured::rounds(unsafe { std::slice::from_raw_parts(schedule, len) }, n, rounds)
 }
 
-/// What one sample runs: a millisecond or two, so that on a busy machine some samples stay undisturbed.
-const CHECKS: u32 = 6_400;
-const STATION_ROUNDS: u32 = 1_024;
+/// What one sample runs: about a millisecond, so that on a busy machine some samples stay undisturbed.
+const CHECKS: u32 = 25_600;
+const STATION_ROUNDS: u32 = 2_048;
 
 fn call(function: Function, bytes: &[u8], first: u32, second: u32) -> u32 {
     // SAFETY: pointer and length are those of a slice that lives through the call.
     unsafe { function(bytes.as_ptr(), bytes.len(), first, second) }
+}
+
+/// What this process has had of its processor: on a busy machine the clock on the wall also counts others.
+fn processor_time() -> Duration {
+    // SAFETY: the C library's function has no conditions; POSIX sets its unit to a microsecond.
+    Duration::from_micros(unsafe { clock() } as u64)
 }
 
 /// One measure: the work is some units of `function`, and gives a checksum.
@@ -70,9 +78,9 @@ struct Measure<'a> {
 
 impl Measure<'_> {
     fn time(&self, function: Function) -> Duration {
-        let begun = Instant::now();
+        let begun = processor_time();
         black_box((self.work)(function));
-        begun.elapsed()
+        processor_time() - begun
     }
 
     /// Prints the line; false if the project and the peer do not give the same answer.
