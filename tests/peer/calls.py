@@ -54,7 +54,7 @@ def visible(before, after):
     return states.state_part(after), states.carried_part(after, before.held)
 
 
-# Rounds.
+# Rounds, and posts to a group.
 
 def compare_rounds():
     refusals = set()
@@ -69,11 +69,19 @@ def compare_rounds():
             ("refusal", expected.refusal, refusal),
             ("group", visible_group(given, expected), visible_group(given, expected._replace(group=after.group()))),
             ("reports", expected.reports, after.several(after.report, PLACES))])
+        agree(f"post to group {seed}", [group_post(given, rng.randrange(18), states.random_edit(rng))])
     agree("rounds", [("refusals met", {0, 2, 8, 10}, refusals)])
 
 
+def group_post(given, place, body):
+    expected = group.post(given, place, body)
+    refusal, _, after = built.call("g", group_bytes(given) + bytes([place]) + body_bytes(body))
+    got = group.PostedGroup(refusal, after.group())
+    return "post", (expected.refusal, visible_group(given, expected)), (refusal, visible_group(given, got))
+
+
 def visible_group(given, result):
-    """As for stations; of a refused round, and of places from N up, it is the whole."""
+    """As for stations; of a refused call, and of places from N up, it is the whole."""
     if result.refusal:
         return result.group
     n = group.group_n(given)
