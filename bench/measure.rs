@@ -1,0 +1,175 @@
+//! Times the project and its peers in one process, in turn, and prints the smallest of several times, one line a measure. A measure whose project
+//! side is not linked in shows the peer alone. With the word `quick` the runs are shorter.
+
+use std::ffi::c_long;
+use std::hint::black_box;
+use std::process::ExitCode;
+use std::time::{Duration, Instant};
+
+use relay_peer::{frames, measured, refusals};
+
+/// A slice and two numbers in, a number out: the form of everything that is measured.
+type Function = unsafe extern "C" fn(*const u8, usize, u32, u32) -> u32;
+
+/// The frame check of crate relay_host.
+#[cfg(relay_host)]
+const PROJECT_CHECK: Option<Function> = Some(relay_frame_check);
+#[cfg(not(relay_host))]
+const PROJECT_CHECK: Option<Function> = None;
+
+/// The rounds of crate relay_bench.
+#[cfg(relay_bench)]
+const PROJECT_ROUNDS: Option<Function> = Some(relay_bench_rounds);
+#[cfg(not(relay_bench))]
+const PROJECT_ROUNDS: Option<Function> = None;
+
+const CHECK_PEERS: &[(&str, Function)] = &[
+    ("Rust", frame_check_rust),
+    #[cfg(gcc)]
+    ("gcc -O2", frame_check_peer_gcc),
+    #[cfg(clang)]
+    ("clang -O2", frame_check_peer_clang),
+];
+
+unsafe extern "C" {
+    fn clock() -> c_long;
+    #[cfg(relay_host)]
+    fn relay_frame_check(bytes: *const u8, len: usize, n: u32, own: u32) -> u32;
+    #[cfg(relay_bench)]
+    fn relay_bench_rounds(schedule: *const u8, len: usize, n: u32, rounds: u32) -> u32;
+    #[cfg(gcc)]
+    fn frame_check_peer_gcc(bytes: *const u8, len: usize, n: u32, own: u32) -> u32;
+    #[cfg(clang)]
+    fn frame_check_peer_clang(bytes: *const u8, len: usize, n: u32, own: u32) -> u32;
+}
+
+extern "C" fn frame_check_rust(bytes: *const u8, len: usize, n: u32, own: u32) -> u32 {
+    // SAFETY: the measures below hand in a whole slice.
+    let frame = unsafe { std::slice::from_raw_parts(bytes, len) };
+    refusals::number(&frames::check(frame, n as usize, own as usize))
+}
+
+extern "C" fn rounds_rust(schedule: *const u8, len: usize, n: u32, rounds: u32) -> u32 {
+    // SAFETY: as above.
+    measured::rounds(unsafe { std::slice::from_raw_parts(schedule, len) }, n, rounds)
+}
+
+/// What one sample runs: about a millisecond, so that on a busy machine some samples stay undisturbed.
+const CHECKS: u32 = 25_600;
+const STATION_ROUNDS: u32 = 2_048;
+
+fn call(function: Function, bytes: &[u8], first: u32, second: u32) -> u32 {
+    // SAFETY: pointer and length are those of a slice that lives through the call.
+    unsafe { function(bytes.as_ptr(), bytes.len(), first, second) }
+}
+
+/// What this process has had of its processor: on a busy machine the clock on the wall also counts others.
+fn processor_time() -> Duration {
+    // SAFETY: the C library's function has no conditions; POSIX sets its unit to a microsecond.
+    Duration::from_micros(unsafe { clock() } as u64)
+}
+
+/// One measure: the work is some units of `function`, and gives a checksum.
+struct Measure<'a> {
+    name: String,
+    units: u32,
+    work: &'a dyn Fn(Function) -> u32,
+}
+
+impl Measure<'_> {
+    fn time(&self, function: Function) -> Duration {
+        let begun = processor_time();
+        black_box((self.work)(function));
+        processor_time() - begun
+    }
+
+    /// Prints the line; false if the project and the peer do not give the same answer.
+    fn print(&self, project: Option<Function>, peer: Function, span: Duration) -> bool {
+        let name = &self.name;
+        if let Some(project) = project
+            && (self.work)(project) != (self.work)(peer)
+        {
+            println!("{name}: project and peer give different answers");
+            return false;
+        }
+        let mut best = [Duration::MAX; 2];
+        let begun = Instant::now();
+        let mut times = 0;
+        while times < 5 || begun.elapsed() < span {
+            for (best, function) in best.iter_mut().zip([project, Some(peer)]) {
+                if let Some(function) = function {
+                    *best = self.time(function).min(*best);
+                }
+            }
+            times += 1;
+        }
+        let [project_time, peer_time] = best.map(|time| time.as_nanos() as f64 / f64::from(self.units));
+        match project {
+            Some(_) => println!("{name}: project {project_time:.1} ns, peer {peer_time:.1} ns, ratio {:.2}", project_time / peer_time),
+            None => println!("{name}: project absent, peer {peer_time:.1} ns"),
+        }
+        true
+    }
+}
+
+/// The frame of station 1 among n, with a record of each station; every kind of body comes.
+fn frame(n: u8, seed: u32) -> Vec<u8> {
+    let mut bytes = vec![n, 1, n, 0];
+    for station in 0..n {
+        let mixed = seed.wrapping_mul(2_654_435_769).wrapping_add(u32::from(station) * 40_503) >> 8;
+        let (kind, event, argument) = match mixed % 8 {
+            0 => (0, 0, 0),
+            1 | 2 => (1, 0, 0),
+            3 => (3, 1 + mixed, 0),
+            4 => (4, 1 + mixed, (mixed % 180_001) as i32 - 90_000),
+            _ => (2, 1 + mixed, (mixed % 2_160_000) as i32),
+        };
+        let labels = (0..n).fold(0, |word, k| word | (mixed >> (k % 7)) % 3 << (2 * k));
+        bytes.extend([station, (mixed % (2 * u32::from(n) - 1)) as u8, kind, 0]);
+        bytes.extend(event.to_le_bytes());
+        bytes.extend(argument.to_le_bytes());
+        bytes.extend(labels.to_le_bytes());
+    }
+    bytes
+}
+
+/// In the full mesh everyone hears everyone.
+fn full_mesh(_n: usize) -> Vec<u8> {
+    vec![0xFF; measured::MASKS_SIZE]
+}
+
+/// In a sparse round a station hears its neighbour and one other, another in each round.
+fn sparse(n: usize) -> Vec<u8> {
+    let masks = |round: usize| (0..16).flat_map(move |i| (1u16 << ((i + 1) % n) | 1 << ((i + round) % n)).to_le_bytes());
+    (0..n).flat_map(masks).collect()
+}
+
+fn main() -> ExitCode {
+    let quick = std::env::args().any(|word| word == "quick");
+    let span = Duration::from_millis(if quick { 100 } else { 1500 });
+    let mut agree = true;
+
+    for n in [2, 16] {
+        let frames: Vec<_> = (0..64).map(|seed| frame(n, seed)).collect();
+        let size = frames[0].len();
+        for &(peer, function) in CHECK_PEERS {
+            let work = |function| frames.iter().cycle().take(CHECKS as usize).map(|frame| call(function, frame, n.into(), 0)).sum();
+            let name = format!("frame check of {size} bytes, peer {peer}");
+            agree &= Measure { name, units: CHECKS, work: &work }.print(PROJECT_CHECK, function, span);
+        }
+    }
+    for (links, schedule) in [("full-mesh", full_mesh as fn(usize) -> Vec<u8>), ("sparse", sparse)] {
+        for n in [2, 8, 16] {
+            let schedule = schedule(n as usize);
+            let rounds = STATION_ROUNDS / n;
+            let work = |function| call(function, &schedule, n, rounds);
+            let name = format!("{links} round, N = {n}");
+            agree &= Measure { name, units: rounds, work: &work }.print(PROJECT_ROUNDS, rounds_rust, span);
+        }
+    }
+    let many = if quick { 2_000 } else { 20_000 };
+    let work = |function| call(function, &full_mesh(16), 16, many);
+    let name = format!("full-mesh round, N = 16, {many} rounds in one run");
+    agree &= Measure { name, units: many, work: &work }.print(PROJECT_ROUNDS, rounds_rust, span);
+    if agree { ExitCode::SUCCESS } else { ExitCode::FAILURE }
+}

@@ -1,0 +1,67 @@
+//! Hear: one frame's records at a station.
+
+use crate::bodies::Body;
+use crate::frames::{self, Part};
+use crate::labels::{newer, successor, unpacked};
+use crate::refusals::Refusal::{self, LaneFull, OutsideLimits};
+use crate::refusals::require;
+use crate::station::Station;
+
+impl Station {
+    /// Hears a frame and gives the set of stations taken from, station k as bit k.
+    pub fn hear(&mut self, frame: &[u8]) -> Result<u16, Refusal> {
+        require(self.in_limits(), OutsideLimits)?;
+        frames::check_heard(frame, self.n, self.own)?;
+        let mut heard = *self;
+        let mut taken = 0;
+        heard.hear_records(frame, |source, _| taken |= 1 << source)?;
+        *self = heard;
+        Ok(taken)
+    }
+
+    /// Hears a frame that was checked, and names each body taken. On a refusal the station is left half changed.
+    pub(crate) fn hear_records(&mut self, frame: &[u8], mut taken: impl FnMut(usize, Body)) -> Result<(), Refusal> {
+        let own = self.own;
+        for part in frames::parts(frame) {
+            let k = part.station();
+            if k == own || !self.is_newer(part) {
+                continue;
+            }
+            self.hold(part);
+            if unpacked(part.labels(), self.own) == self.labels[self.own] {
+                self.acked[k] = true;
+            }
+            if unpacked(part.labels(), k) != successor(self.labels[k]) {
+                continue;
+            }
+            self.labels[k] = successor(self.labels[k]);
+            self.count = self.count.saturating_add(1);
+            let body = self.table[k].body;
+            if !body.is_empty() {
+                require(!self.lanes[k].is_full(), LaneFull)?;
+                self.lanes[k].push(body);
+                taken(k, body);
+            }
+        }
+        Ok(())
+    }
+
+    fn is_newer(&self, part: Part) -> bool {
+        let k = part.station();
+        let held = &self.table[k];
+        !self.held[k] | newer((unpacked(part.labels(), k), part.count()), (held.labels[k], held.count))
+    }
+
+    /// Puts a record into its place of the table; its label entries from N up stay what they were.
+    fn hold(&mut self, part: Part) {
+        let k = part.station();
+        let record = &mut self.table[k];
+        record.station = k;
+        record.count = part.count();
+        record.body = part.body();
+        for (j, label) in record.labels[..self.n].iter_mut().enumerate() {
+            *label = unpacked(part.labels(), j);
+        }
+        self.held[k] = true;
+    }
+}

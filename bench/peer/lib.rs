@@ -1,0 +1,18 @@
+//! The edit relay in ordinary Rust: what the proved engine is measured against.
+//!
+//! It gives the answers of document 01 with the same checks and the same frames, over state that is changed in place. No part of it is proved;
+//! `tests/check-peer` compares it with the model.
+
+pub mod bodies;
+pub mod frames;
+pub mod group;
+pub mod labels;
+pub mod listing;
+pub mod measured;
+pub mod queues;
+pub mod refusals;
+pub mod script;
+pub mod station;
+
+mod hearing;
+mod turns;

@@ -1,0 +1,178 @@
+//! The peer's calls on states and answers as bytes, for the comparison with the model (tests/check-peer).
+//!
+//! A body is its kind, its event and its argument, 1, 4 and 4 bytes, the lowest first; every other number is one byte. A station is N, own number, count,
+//! body, labels, acknowledged, held, table, lanes, waiting edits; a record is station, count, body, labels; a lane or queue is its length and its bodies.
+
+use relay_peer::bodies::Body;
+use relay_peer::frames::{self, Record};
+use relay_peer::group::{Group, Report};
+use relay_peer::labels::PLACES;
+use relay_peer::queues::{Lane, Queue};
+use relay_peer::refusals::{Refusal, number};
+use relay_peer::station::{Station, TurnReport};
+
+/// Reads bytes from the front of a slice.
+struct Reader<'a>(&'a [u8]);
+
+impl Reader<'_> {
+    fn bytes<const SIZE: usize>(&mut self) -> [u8; SIZE] {
+        let (first, rest) = self.0.split_first_chunk().expect("too few bytes");
+        self.0 = rest;
+        *first
+    }
+
+    fn small(&mut self) -> usize {
+        self.bytes::<1>()[0].into()
+    }
+
+    fn flags(&mut self) -> [bool; PLACES] {
+        self.bytes().map(|byte: u8| byte != 0)
+    }
+
+    fn body(&mut self) -> Body {
+        let [kind] = self.bytes();
+        Body::of_checked(kind, u32::from_le_bytes(self.bytes()), i32::from_le_bytes(self.bytes()))
+    }
+
+    fn record(&mut self) -> Record {
+        Record { station: self.small(), count: self.bytes::<1>()[0], body: self.body(), labels: self.bytes() }
+    }
+
+    fn station(&mut self) -> Station {
+        let (n, own, [count], body) = (self.small(), self.small(), self.bytes(), self.body());
+        let (labels, acked, held) = (self.bytes(), self.flags(), self.flags());
+        let table = std::array::from_fn(|_| self.record());
+        let lanes = std::array::from_fn(|_| Lane { len: self.small(), bodies: [self.body(), self.body()] });
+        let waiting = Queue { len: self.small(), slots: std::array::from_fn(|_| self.body()) };
+        Station { n, own, waiting, acked, body, count, labels, held, table, lanes }
+    }
+
+    fn group(&mut self) -> Group {
+        let mut group = Group::fresh(1).expect("one is a size");
+        group.stations = std::array::from_fn(|_| self.station());
+        group
+    }
+}
+
+fn put_body(out: &mut Vec<u8>, body: &Body) {
+    let (kind, event, argument) = body.numbers();
+    out.push(kind);
+    out.extend(event.to_le_bytes());
+    out.extend(argument.to_le_bytes());
+}
+
+fn put_bodies(out: &mut Vec<u8>, bodies: &[Body]) {
+    bodies.iter().for_each(|body| put_body(out, body));
+}
+
+fn put_station(out: &mut Vec<u8>, station: &Station) {
+    out.extend([station.n as u8, station.own as u8, station.count]);
+    put_body(out, &station.body);
+    out.extend(station.labels);
+    out.extend(station.acked.map(u8::from));
+    out.extend(station.held.map(u8::from));
+    for record in &station.table {
+        out.extend([record.station as u8, record.count]);
+        put_body(out, &record.body);
+        out.extend(record.labels);
+    }
+    for lane in &station.lanes {
+        out.push(lane.len as u8);
+        put_bodies(out, &lane.bodies);
+    }
+    out.push(station.waiting.len as u8);
+    put_bodies(out, &station.waiting.slots);
+}
+
+fn put_turn(out: &mut Vec<u8>, turn: &TurnReport) {
+    out.push(turn.aired.into());
+    put_bodies(out, &turn.row);
+    out.push(turn.ended.into());
+    put_bodies(out, &[turn.ended_body, turn.started_body]);
+}
+
+fn put_report(out: &mut Vec<u8>, report: &Report) {
+    for taking in report.entries() {
+        out.push(taking.source as u8);
+        put_body(out, &taking.body);
+    }
+    put_turn(out, report.turn());
+}
+
+fn put_group(out: &mut Vec<u8>, group: &Group) {
+    group.stations.iter().for_each(|station| put_station(out, station));
+}
+
+/// The call of this name on these bytes: the answer's refusal and its other number, then the state after it and what it reports.
+fn answer(name: u8, mut given: Reader) -> Vec<u8> {
+    let mut out = Vec::new();
+    let (answer, number_out): (Result<(), Refusal>, usize);
+    match name {
+        b'p' => {
+            let (mut station, body) = (given.station(), given.body());
+            (answer, number_out) = (station.post(body), 0);
+            put_station(&mut out, &station);
+        }
+        b'w' => {
+            let (station, mut buffer) = (given.station(), given.0.to_vec());
+            let written = station.write_frame(&mut buffer);
+            (answer, number_out) = (written.map(|_| ()), written.unwrap_or(0));
+            out = buffer;
+        }
+        b'h' => {
+            let mut station = given.station();
+            let taken = station.hear(given.0);
+            (answer, number_out) = (taken.map(|_| ()), taken.unwrap_or(0).into());
+            put_station(&mut out, &station);
+        }
+        b't' => {
+            let mut station = given.station();
+            let turned = station.turn();
+            (answer, number_out) = (turned.map(|_| ()), 0);
+            put_station(&mut out, &station);
+            put_turn(&mut out, &turned.unwrap_or(TurnReport::NONE));
+        }
+        b'g' => {
+            let (mut group, place, body) = (given.group(), given.small(), given.body());
+            (answer, number_out) = (group.post(place, body), 0);
+            put_group(&mut out, &group);
+        }
+        b'r' => {
+            let mut group = given.group();
+            let masks = std::array::from_fn(|_| u16::from_le_bytes(given.bytes()));
+            let mut reports = [Report::NONE; PLACES];
+            (answer, number_out) = (group.round(&masks, &mut reports), 0);
+            put_group(&mut out, &group);
+            reports.iter().for_each(|report| put_report(&mut out, report));
+        }
+        _ => panic!("no call has this name"),
+    }
+    let mut bytes = vec![number(&answer) as u8];
+    bytes.extend((number_out as u32).to_le_bytes());
+    bytes.extend(out);
+    bytes
+}
+
+/// Writes the answer to a buffer that is long enough, and gives its length.
+///
+/// # Safety
+/// Both pointers are those of slices of the lengths given.
+#[unsafe(no_mangle)]
+pub unsafe extern "C" fn peer_call(name: u8, given: *const u8, given_len: usize, out: *mut u8, out_len: usize) -> usize {
+    // SAFETY: by the condition above.
+    let (given, out) = unsafe { (std::slice::from_raw_parts(given, given_len), std::slice::from_raw_parts_mut(out, out_len)) };
+    let bytes = answer(name, Reader(given));
+    out[..bytes.len()].copy_from_slice(&bytes);
+    bytes.len()
+}
+
+/// The frame check.
+///
+/// # Safety
+/// The pointer is that of a slice of the length given.
+#[unsafe(no_mangle)]
+pub unsafe extern "C" fn frame_check_peer_rust(bytes: *const u8, len: usize, n: u32, own: u32) -> u32 {
+    // SAFETY: by the condition above.
+    let frame = unsafe { std::slice::from_raw_parts(bytes, len) };
+    number(&frames::check(frame, n as usize, own as usize))
+}

@@ -1,0 +1,40 @@
+"""The peers as bench/build makes them, called from here."""
+
+import ctypes
+import pathlib
+import subprocess
+
+from .values import Reader
+
+ROOT = pathlib.Path(__file__).resolve().parent.parent.parent
+BUILT = ROOT / "target" / "bench"
+
+
+def build():
+    return subprocess.run([ROOT / "bench" / "build"]).returncode == 0
+
+
+def listing(script):
+    return subprocess.run([BUILT / "peer_listing"], input=script, stdout=subprocess.PIPE, check=True).stdout
+
+
+def frame_checks():
+    """The frame checks by name: in Rust, and in C with each compiler that is installed."""
+    libraries = {"rust": "libpeer_calls.so", "gcc": "libframe_check_gcc.so", "clang": "libframe_check_clang.so"}
+    for name, library in libraries.items():
+        if (BUILT / library).exists():
+            check = ctypes.CDLL(BUILT / library)[f"frame_check_peer_{name}"]
+            check.argtypes = (ctypes.c_char_p, ctypes.c_size_t, ctypes.c_uint32, ctypes.c_uint32)
+            check.restype = ctypes.c_uint32
+            yield name, lambda data, n, own, check=check: check(data, len(data), n, own)
+
+
+def call(name, data):
+    """The refusal and the other number of the answer, and a reader of what comes after them."""
+    library = ctypes.CDLL(BUILT / "libpeer_calls.so")
+    library.peer_call.argtypes = (ctypes.c_uint8, ctypes.c_char_p, ctypes.c_size_t, ctypes.c_char_p, ctypes.c_size_t)
+    library.peer_call.restype = ctypes.c_size_t
+    out = ctypes.create_string_buffer(1 << 16)
+    length = library.peer_call(ord(name), data, len(data), out, len(out))
+    reader = Reader(out.raw[:length])
+    return reader.number(), int.from_bytes(reader.bytes(4), "little"), reader

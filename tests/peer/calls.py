@@ -1,0 +1,105 @@
+"""Single calls on states that need not come from a fresh group, inside their limits and outside."""
+
+import random
+
+from model import group, hearing, outside, states, station, turns
+from model.queues import NO_LANE, replaced
+from model.records import PLACES
+
+from . import built
+from .compare import agree
+from .values import body_bytes, group_bytes, station_bytes
+
+STATIONS = 400
+GROUPS = 80
+
+
+def compare():
+    for number, (rng, s) in enumerate(states.some_stations(STATIONS, least_n=2)):
+        body = rng.choice(states.ANY_BODIES + (states.random_edit(rng),))
+        buffer = rng.randbytes(rng.choice((0, 3, 100, 260, 300)))
+        agree(f"station {number}", calls(s, body, buffer, states.some_frame(rng, s)))
+    inside = states.random_station(random.Random("inside"), 5, 2)
+    for name, s in outside.stations_outside(inside).items():
+        agree(name, calls(s, states.ANY_BODIES[2], bytes(260), b""))
+    compare_rounds()
+
+
+def calls(s, body, buffer, frame):
+    """The four calls of a station: what the model answers and what the peer answers."""
+    given = station_bytes(s)
+
+    expected = station.post(s, body)
+    refusal, _, after = built.call("p", given + body_bytes(body))
+    yield "post", (expected.refusal, visible(s, expected.station)), (refusal, visible(s, after.station()))
+
+    refusal, length, after = built.call("w", given + buffer)
+    yield "write frame", tuple(station.write_frame(s, buffer)), (refusal, length, after.rest())
+
+    expected = hearing.hear(s, frame)
+    refusal, taken, after = built.call("h", given + frame)
+    yield ("hear", (expected.refusal, expected.taken, visible(s, expected.station)),
+           (refusal, taken, visible(s, after.station())))
+
+    expected = turns.turn(s)
+    refusal, _, after = built.call("t", given)
+    yield ("turn", (expected.refusal, visible(s, expected.station), tuple(expected[2:])),
+           (refusal, visible(s, after.station()), after.turn()))
+
+
+def visible(before, after):
+    """What is compared of a station: its state, and that the entries from N up are carried along. Outside its limits it is the whole."""
+    if not station.in_limits(before):
+        return after
+    return states.state_part(after), states.carried_part(after, before.held)
+
+
+# Rounds, and posts to a group.
+
+def compare_rounds():
+    refusals = set()
+    for seed in range(GROUPS):
+        rng = random.Random(f"group {seed}")
+        given = some_group(rng, rng.randint(1, PLACES))
+        masks = tuple(rng.choice((0, 1 << rng.randrange(PLACES), rng.getrandbits(PLACES))) for _ in range(PLACES))
+        expected = group.round_of(given, masks)
+        refusals.add(expected.refusal)
+        refusal, _, after = built.call("r", group_bytes(given) + b"".join(mask.to_bytes(2, "little") for mask in masks))
+        agree(f"round of group {seed}", [
+            ("refusal", expected.refusal, refusal),
+            ("group", visible_group(given, expected), visible_group(given, expected._replace(group=after.group()))),
+            ("reports", expected.reports, after.several(after.report, PLACES))])
+        agree(f"post to group {seed}", [group_post(given, rng.randrange(18), states.random_edit(rng))])
+    agree("rounds", [("refusals met", {0, 2, 8, 10}, refusals)])
+
+
+def group_post(given, place, body):
+    expected = group.post(given, place, body)
+    refusal, _, after = built.call("g", group_bytes(given) + bytes([place]) + body_bytes(body))
+    got = group.PostedGroup(refusal, after.group())
+    return "post", (expected.refusal, visible_group(given, expected)), (refusal, visible_group(given, got))
+
+
+def visible_group(given, result):
+    """As for stations; of a refused call, and of places from N up, it is the whole."""
+    if result.refusal:
+        return result.group
+    n = group.group_n(given)
+    return tuple(map(visible, given[:n], result.group[:n])) + result.group[n:]
+
+
+def some_group(rng, n):
+    """Often with counts that can be written and lanes that have places, now and then with a wrong number."""
+    stations = list(states.random_group(rng, n))
+    changed = rng.random()
+    for place, s in enumerate(stations[:n]):
+        if changed < 0.9:
+            s = s._replace(table=replaced(s.table, place, s.table[place]._replace(count=0)))
+        if changed < 0.6:
+            s = s._replace(lanes=(NO_LANE,) * n + s.lanes[n:])
+        stations[place] = s
+    if changed < 0.1:
+        place = rng.randrange(n)
+        s = stations[place]
+        stations[place] = rng.choice((s._replace(own=(place + 1) % 17), s._replace(n=n % PLACES + 1)))
+    return tuple(stations)
