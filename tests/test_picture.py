@@ -73,6 +73,17 @@ def heard(script):
     return found
 
 
+def latest_starts(text, n, before):
+    """What each of n stations last started before a round: empty, neutral or edit."""
+    kinds = ["empty"] * n
+    for line in listed(text).values():
+        if line.round < before and line.kind == "ended":
+            kinds[line.station] = "empty"
+        if line.round < before and line.kind == "started":
+            kinds[line.station] = "edit" if line.edit else "neutral"
+    return kinds
+
+
 class Drawn:
     """A picture, read back from its bytes."""
 
@@ -97,6 +108,16 @@ class Drawn:
     def nearest_station(self, y):
         """The station whose line is nearest to a height."""
         return min(self.stations, key=lambda one: abs(one[0] - y))[1]
+
+    def running_at_the_left(self):
+        """For each station the kind of the broadcast that comes in at the left of the first strip."""
+        left, top, _, height = self.by_round[min(self.by_round)]
+        found = {}
+        for path in self.of("path"):
+            x, y = map(float, re.match(r"M([\d.]+) (-?[\d.]+)", path.get("d")).groups())
+            if path.get("class", "").startswith("broadcast ") and x == left and top <= y <= top + height:
+                found[self.station_at(y)] = path.get("class").split()[1]
+        return [found[station] for station in sorted(found)]
 
     def links(self):
         """(round, hearer, heard) of every link, by the places of its ends."""
@@ -183,6 +204,7 @@ class Pictures(unittest.TestCase):
         script = scripts.seeded_script(7, scripts.Shape(4, 230, 0.4, 1.0))
         drawn = self.check(script, "--rounds", "100-160", first=100, last=160)
         self.assertEqual(sorted(drawn.by_round), list(range(100, 161)))
+        self.assertEqual(drawn.running_at_the_left(), latest_starts(model_listing(script), 4, 100))
         self.check(script, "--rounds", "1-9", last=9)
         self.check(script, "--rounds", "225-999", first=225)
         whole = run(script, model_listing(script))
@@ -231,7 +253,7 @@ class Refusals(unittest.TestCase):
         good = model_listing(TWO)
         for text, words in (
                 (b"", "does not close with the line END"), (good[:-4], "does not close with the line END"),
-                (good[:-1], "does not close with the line END"), (good + b"\n", "does not close with the line END"),
+                (good[:-1], "listing line 9: not of the listing's form"), (good + b"\n", "listing line 10: there is more after the line END"),
                 (good[1:], "listing line 1: not of the listing's form"),
                 (good.replace(b" E ", b" F "), "listing line 1: not of the listing's form"),
                 (good.replace(b"100", b"1 0"), "listing line 2: not of the listing's form"),
@@ -241,6 +263,7 @@ class Refusals(unittest.TestCase):
                 (good.replace(b"     2 E  0", b"     0 E  0"), "listing line 1: only a refusal"),
                 (good.replace(b"2 D  0  0 2", b"2 D  0  0 5"), "listing line 2: there is no kind 5"),
                 (good.replace(b"2 E  0  0", b"2 X  0  2"), "listing line 1: no line of a script is refused with 2"),
+                (good.replace(b"     2 E  0  0", b"     2 X  0 11"), "listing line 2: there is more after a malformed line"),
                 (good.replace(b"END", b"     3 X  0 11 0        0        0\nEND"), "no line of this one is malformed")):
             self.check(TWO, text, words)
         self.check(TWO + b"\n", good, "line 6 of this one is malformed")
