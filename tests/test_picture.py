@@ -189,7 +189,9 @@ class Pictures(unittest.TestCase):
                       [mark.find(SVG + "title").text for mark in drawn.marks])
 
     def test_five_stations(self):
+        """The picture in the documents is this one."""
         self.check(FIVE)
+        self.assertEqual(run(FIVE, model_listing(FIVE)).stdout, (ROOT / "docs" / "five-stations.svg").read_bytes())
 
     def test_sixteen_stations_and_sixty_rounds(self):
         drawn = self.check(scripts.seeded_script(1, scripts.Shape(16, 60, 0.15, 2.0)))
