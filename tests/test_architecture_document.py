@@ -1,0 +1,53 @@
+"""docs/ARCHITECTURE.md against the repository: every crate has its row, its arrows and its paragraph, and arrows go down."""
+
+import pathlib
+import re
+import unittest
+
+ROOT = pathlib.Path(__file__).resolve().parent.parent
+DOCUMENT = (ROOT / "docs" / "ARCHITECTURE.md").read_text(encoding="utf-8")
+
+
+def crates():
+    """Name -> what it stands on, from crates.txt, lowest first."""
+    lines = (ROOT / "crates.txt").read_text(encoding="utf-8").splitlines()
+    pairs = [line.split(":") for line in lines if line and not line.startswith("#")]
+    return {name: rest.split() for name, rest in pairs}
+
+
+def rows():
+    """Name -> what it stands on, from the document's table."""
+    found = re.findall(r"^\| `(\w+)` \| ((?:`\w+` ?)*) ?\|", DOCUMENT, re.MULTILINE)
+    return {name: re.findall(r"\w+", rest) for name, rest in found}
+
+
+class Architecture(unittest.TestCase):
+    def test_rows(self):
+        drawn = rows()
+        for name, below in crates().items():
+            self.assertIn(name, drawn)
+            self.assertEqual(sorted(drawn[name]), sorted(below), name)
+
+    def test_arrows_go_down(self):
+        seen = set()
+        for name, below in rows().items():
+            self.assertLessEqual(set(below), seen, name)
+            seen.add(name)
+
+    def test_paragraphs_and_picture(self):
+        for name in rows():
+            self.assertRegex(DOCUMENT, rf"(?m)^\*\*{name}\*\* ")
+            self.assertRegex(DOCUMENT, rf"(?m)^    .*\b{name}\b")
+
+    def test_named_files(self):
+        """Files of tests, docs, include and tools are there, and so are those of the crates that are."""
+        for name in re.findall(r"`?([a-z_]+/[\w./]+\.(?:antt|rt|py|md|c))\b", DOCUMENT):
+            folder = name.split("/")[0]
+            if (ROOT / "crates" / folder).is_dir():
+                self.assertTrue((ROOT / "crates" / name).is_file(), name)
+            elif (ROOT / folder).is_dir():
+                self.assertTrue((ROOT / name).is_file(), name)
+
+
+if __name__ == "__main__":
+    unittest.main()
