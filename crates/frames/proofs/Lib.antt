@@ -2,3 +2,6 @@ pub mod Words
 pub mod Check
 pub mod Labels
 pub mod Records
+pub mod Entries
+pub mod Writing
+pub mod Table
