@@ -4,4 +4,5 @@ pub mod Labels
 pub mod Records
 pub mod Entries
 pub mod Writing
+pub mod Bytes
 pub mod Table
