@@ -62,9 +62,9 @@ unfolding recordBytes framed
 framed-bytes n r few =
     ap
     (λ (w : ℕ).
-        r .station
-        ∷ r .count
-        ∷ kindOf (r .body)
-        ∷ 0
-        ∷ wordBytes (eventOf (r .body)) ++ wordBytes (unsigned (argumentOf (r .body))) ++ wordBytes w)
+    r .station
+    ∷ r .count
+    ∷ kindOf (r .body)
+    ∷ 0
+    ∷ wordBytes (eventOf (r .body)) ++ wordBytes (unsigned (argumentOf (r .body))) ++ wordBytes w)
     (packed-carried n (r .labels) few)

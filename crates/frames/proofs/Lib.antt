@@ -8,3 +8,4 @@ pub mod Bytes
 pub mod Table
 pub mod Spelled
 pub mod RecordTrip
+pub mod FrameTrip

@@ -42,23 +42,23 @@ module _ (n : ℕ) (labels : List ℕ) (few : n ≤ 16) where
       let long : length (take n carried) ≡ n = length-take-le n carried (omega (arith, carried-length)) in
       at-all (take n carried)
       (λ i l.
-          let below : i < n = omega arith in
-          let same : getD (take n carried) i 0 ≡ getD (take n labels) i 0 =
-          getD-take n carried i 0 below
-          ∙ fill-below n (λ k. getD labels k 0) (replicate 16 0) i 0 below (omega arith)
-          ∙ sym (getD-take n labels i 0 below) in
-          omega (arith, same, all-at (take n labels) h i))
+      let below : i < n = omega arith in
+      let same : getD (take n carried) i 0 ≡ getD (take n labels) i 0 =
+      getD-take n carried i 0 below
+      ∙ fill-below n (λ k. getD labels k 0) (replicate 16 0) i 0 below (omega arith)
+      ∙ sym (getD-take n labels i 0 below) in
+      omega (arith, same, all-at (take n labels) h i))
 
   carried-rest : drop n carried ≡ replicate (16 - n) 0
   carried-rest =
       ext-getD 0 (drop n carried) (replicate (16 - n) 0)
       (length-drop n carried ∙ omega (arith, carried-length, length-replicate {A = ℕ} (16 - n) 0))
       (λ i l.
-          let below : n + i < 16 = omega (arith, length-drop n carried, carried-length) in
-          getD-drop n carried i 0
-          ∙ fill-above n (λ k. getD labels k 0) (replicate 16 0) (n + i) 0 (omega arith)
-          ∙ getD-replicate 16 (n + i) 0 0 below
-          ∙ sym (getD-replicate (16 - n) i 0 0 (omega arith)))
+      let below : n + i < 16 = omega (arith, length-drop n carried, carried-length) in
+      getD-drop n carried i 0
+      ∙ fill-above n (λ k. getD labels k 0) (replicate 16 0) (n + i) 0 (omega arith)
+      ∙ getD-replicate 16 (n + i) 0 0 below
+      ∙ sym (getD-replicate (16 - n) i 0 0 (omega arith)))
 
   carried-split : take n carried ++ replicate (16 - n) 0 ≡ carried
   carried-split = ap (λ (l : List ℕ). take n carried ++ l) (sym carried-rest) ∙ take-append-drop n carried
@@ -86,6 +86,9 @@ fits n r h =
       body-inside = and-right b (bodyInside (r .body)) h₃;
       labels-right = and-right c (allLabels (take n (r .labels))) h;
     }
+
+pub fits-station : (n : ℕ) (r : Record) → recordFits n r ≡ true → r .station < n
+fits-station n r h = (fits n r h) .station-below
 
 -- an event and an argument inside the limits of their kind fit a word
 most : (e : ℕ) → (leb 1 e && leb e 99_999_999) ≡ true → e < 4_294_967_296
