@@ -9,3 +9,4 @@ pub mod Table
 pub mod Spelled
 pub mod RecordTrip
 pub mod FrameTrip
+pub mod TableTrip

@@ -90,6 +90,13 @@ fits n r h =
 pub fits-station : (n : ℕ) (r : Record) → recordFits n r ≡ true → r .station < n
 fits-station n r h = (fits n r h) .station-below
 
+-- what a frame carries of a record is inside the same limits
+pub framed-fits : (n : ℕ) (r : Record) → n ≤ 16 → recordFits n r ≡ true → recordFits n (framed n r) ≡ true
+unfolding recordFits framed
+framed-fits n r few h =
+    let f = fits n r h in
+    and-both (and-both (and-both (lt-ltb _ _ (f .station-below)) (f .count-below)) (f .body-inside)) (carried-labels n (r .labels) few (f .labels-right))
+
 -- an event and an argument inside the limits of their kind fit a word
 most : (e : ℕ) → (leb 1 e && leb e 99_999_999) ≡ true → e < 4_294_967_296
 most e h = omega (arith, leb-true e 99_999_999 (and-right (leb 1 e) (leb e 99_999_999) h))

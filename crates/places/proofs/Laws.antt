@@ -1,8 +1,8 @@
 -- Laws of lists read by place: what holds at every place below n, what a filled list holds below n and from n up, and what is gathered.
 -- Each is an induction on n, whose last place is looked at first.
-use mathlib.Core.Path.{_≡_, refl, sym, ap, _∙_}
+use mathlib.Core.Path.{_≡_, refl, sym, ap, ap₂, _∙_}
 use mathlib.Core.Bool.{Bool, true, false, cond, _&&_, _||_}
-use mathlib.Core.List.{List, [], _∷_, _++_, map}
+use mathlib.Core.List.{List, [], _∷_, _++_, map, map-append}
 use Prim.Native.Nat.{ℕ, zero, suc, _≤_, _<_}
 use native.Mathlib.Decide.{ℕ-discrete}
 use native.Mathlib.Omega.{arith}
@@ -148,3 +148,15 @@ tabulate-map f l d =
     (λ i h.
     tabulate-at (length l) (λ k. f (getD l k d)) i (f d) (omega (arith, length-tabulate (length l) (λ k. f (getD l k d))))
     ∙ sym (List·getD-map f l i d))
+
+-- what a function makes of what is gathered
+pub map-gather :
+    {A B : Type 0} (g : A → B) (n : ℕ) (test : ℕ → Bool) (f : ℕ → A) → map g (gather n test f) ≡ gather n test (λ k. g (f k))
+unfolding gather
+map-gather g zero test f = refl
+map-gather {A} {B} g (suc n) test f =
+    map-append g (gather n test f) (cond (test n) (f n ∷ []) []) ∙ ap₂ _++_ (map-gather g n test f) (last (test n))
+  where
+    last : (b : Bool) → map g (cond b (f n ∷ []) []) ≡ cond b (g (f n) ∷ []) []
+    last true = refl
+    last false = refl
