@@ -3,20 +3,20 @@
 use mathlib.Core.Path.{_≡_, refl, sym, ap, _∙_}
 use mathlib.Core.Bool.{Bool, true, false, not, _&&_, _||_, true≢false}
 use mathlib.Core.List.{List, [], _∷_, _++_, map, append-nil}
-use Prim.Native.Nat.{ℕ, zero, suc, pred, _+_, _*_, _-_, _≤_, _<_}
+use Prim.Native.Nat.{ℕ, zero, suc, pred, _+_, _*_, _≤_, _<_}
 use native.Mathlib.Decide.{ℕ-discrete, decLt}
 use native.Mathlib.Omega.{arith}
-use lib.Dec.{ltb, leb, eqb}
+use lib.Dec.{ltb, eqb}
 use lib.ListN.{getD, take, drop, length, length-drop, List·getD-eq-default}
-use lib.Seq.{drop-cons, take-at, drop-at, take-all, take-add, drop-drop, getD-drop, getD-take, length-take-le, take-append-le, drop-append-add}
-use borrow.Author.Tests.{lt-ltb, lt-leb, eq-eqb, ne-eqb, ltb-true, eqb-true, not-false}
+use lib.Seq.{drop-cons, take-at, drop-at, take-all, take-add, drop-drop, getD-drop, getD-take, length-take-le}
+use borrow.Author.Tests.{lt-leb, eq-eqb, ne-eqb, ltb-true, eqb-true, not-false}
 use Rattle.kinds.specs.Refusals.{done}
 use Rattle.places.specs.Places.{allBelow, anyBelow, tabulate}
 use Rattle.places.proofs.Laws.{or-left, and-both, and-left, and-right, allBelow-at, allBelow-make, anyBelow-ext, anyBelow-none, length-tabulate, tabulate-ext, tabulate-map}
 use Rattle.frames.specs.declared.Record.{Record}
 use Rattle.frames.specs.Record.{recordOf, recordBytes, framed, noRecord, bytesInside, recordFits}
 use Rattle.frames.specs.Frame.{part, stationAt, shapeWrong, addressWrong, recordsInside, frameRefusal, recordsOf, recordsBytes, frameBytes, recordsFit}
-use Rattle.frames.proofs.Bytes.{length-record, length-records, length-frame, records-append}
+use Rattle.frames.proofs.Bytes.{length-record, length-frame, records-append}
 use Rattle.frames.proofs.Check.{by-length, by-sender, accepted, Accepted, accepted-frame, Shape, shape}
 use Rattle.frames.proofs.RecordTrip.{fits-station, record-read, record-accepted, bytes-written}
 

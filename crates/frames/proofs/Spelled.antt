@@ -1,5 +1,5 @@
 -- Words and lists spelled out byte by byte: a word is its four bytes, a signed number its word, and a list its entries.
-use mathlib.Core.Path.{_≡_, refl, sym, ap, _∙_}
+use mathlib.Core.Path.{_≡_, refl, ap, _∙_}
 use mathlib.Core.Bool.{Bool, true, false}
 use lib.Dec.{ltb}
 use mathlib.Core.List.{List, [], _∷_}
@@ -11,7 +11,7 @@ use lib.Seq.{drop-cons}
 use borrow.Author.Tests.{lt-ltb, le-ltb}
 use mir.Syntax.{w32}
 use mir.Val.{SFits}
-use Rattle.frames.specs.Words.{wordAt, wordBytes, signed, unsigned}
+use Rattle.frames.specs.Words.{wordBytes, signed, unsigned}
 
 -- m entries of a list from place i on
 unfoldable pub spelled : ℕ → ℕ → List ℕ → List ℕ

@@ -8,7 +8,7 @@ use native.Mathlib.Nat.{add-zero}
 use native.Mathlib.Numerals.{add-one}
 use native.Mathlib.Omega.{arith}
 use lib.ListN.{getD, set, take, drop, length, length-append}
-use lib.Seq.{sets-eq, take-at, drop-at, drop-append-le, drop-drop, drop-set-lt, drop-append-add}
+use lib.Seq.{sets-eq, take-at, drop-at, drop-drop, drop-set-lt}
 use lib.Dec.{ltb}
 use borrow.Author.Tests.{lt-ltb, le-ltb}
 use Rattle.kinds.specs.Refusals.{done, shortBuffer}

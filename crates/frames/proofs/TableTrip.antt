@@ -1,17 +1,17 @@
 -- The frame of a table there and back: the records at the held places are in order and the sender's is among them, so the frame is accepted and read
 -- as the very records that were written. By induction over the places, each held one adding a record of a higher station.
-use mathlib.Core.Path.{_≡_, refl, sym, ap, _∙_}
+use mathlib.Core.Path.{_≡_, refl, sym, _∙_}
 use mathlib.Core.Bool.{Bool, true, false, cond, _&&_, _||_}
-use mathlib.Core.List.{List, [], _∷_, _++_, map, append-nil}
+use mathlib.Core.List.{List, [], _∷_, _++_, append-nil}
 use Prim.Native.Nat.{ℕ, zero, suc, pred, _+_, _≤_, _<_}
 use native.Mathlib.Decide.{ℕ-discrete}
 use native.Mathlib.Omega.{arith}
 use lib.Dec.{ltb, eqb}
-use lib.ListN.{getD, take, length, replicate, length-append, length-replicate, List·getD-append}
+use lib.ListN.{getD, length, replicate, length-append, length-replicate, List·getD-append}
 use lib.Seq.{getD-at}
 use borrow.Author.Tests.{lt-ltb, eq-eqb, ne-eqb}
 use Rattle.kinds.specs.Refusals.{done}
-use Rattle.places.specs.Places.{allBelow, anyBelow, fill, gather}
+use Rattle.places.specs.Places.{anyBelow, fill, gather}
 use Rattle.places.proofs.Laws.{and-both, allBelow-make, anyBelow-hit, fill-below, fill-ext, gather-ext, map-gather}
 use Rattle.frames.specs.declared.Record.{Record}
 use Rattle.frames.specs.Record.{framed, noRecord, recordFits}

@@ -1,10 +1,10 @@
 -- Writing one record: sixteen stores into sixteen bytes leave just what was stored.
-use mathlib.Core.Path.{_≡_, refl, sym, ap, _∙_}
-use mathlib.Core.List.{List, [], _∷_, _++_}
-use Prim.Native.Nat.{ℕ, _+_, _≤_}
+use mathlib.Core.Path.{_≡_, ap, _∙_}
+use mathlib.Core.List.{List, _∷_, _++_}
+use Prim.Native.Nat.{ℕ, _≤_}
 use native.Mathlib.Omega.{arith}
 use lib.IntN.{ℤ}
-use lib.ListN.{length, set, take, drop, drop-of-length-le}
+use lib.ListN.{length, set, take, drop-of-length-le}
 use lib.Seq.{sets, sets-eq}
 use mir.Syntax.{w32}
 use mir.Val.{SFits, toZ, ofZ}

@@ -12,7 +12,7 @@ use Rattle.frames.specs.declared.Record.{Record}
 use Rattle.frames.specs.declared.Reading.{Reading}
 use Rattle.frames.specs.declared.Written.{Written}
 use Rattle.frames.specs.Record.{recordOf, framed, noRecord, zeroRecord}
-use Rattle.frames.specs.Frame.{part, checkRefusal, frameBytes}
+use Rattle.frames.specs.Frame.{part, checkRefusal}
 
 -- the records of a frame in sixteen entries; those that it does not use are zero
 unfoldable pub entries : List ℕ → List Record

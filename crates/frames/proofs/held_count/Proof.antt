@@ -9,9 +9,6 @@ use Rattle.frames.specs.Calls.{heldCount}
 use Rattle.frames.proofs.Table.{at-most-one, counted-more}
 use Rattle.frames.proofs.held_count.Statement.{statement}
 use Rattle.frames.proofs.held_count.Tie as tie
-use Rattle.frames.proofs.held_count.Reads as reads
-use Rattle.frames.proofs.held_count.Lts as lts
-use Rattle.frames.proofs.one_if.Reads as one-if-reads
 
 abbrev Inv-loop : tie.InvT-loop
 Inv-loop n held count₀ k₀ count k = (k ≤ n) × (count ≤ k) × (count ≡ heldCount k held)

@@ -1,5 +1,5 @@
 -- `frames::label_at` meets its contract: it reads the one byte in which `label-in-byte` finds the label.
-use mathlib.Core.Path.{_≡_, ap, _∙_}
+use mathlib.Core.Path.{ap, _∙_}
 use Prim.Native.Nat.{ℕ, _+_, _*_}
 use native.Mathlib.Nat.{add-zero}
 use lib.ListN.{getD}
@@ -9,8 +9,6 @@ use Rattle.frames.proofs.Labels.{label-in-byte}
 use borrow.Author.Needs.{needs}
 use Rattle.frames.proofs.label_at.Statement.{statement}
 use Rattle.frames.proofs.label_at.Tie as tie
-use Rattle.frames.proofs.label_at.Reads as reads
-use Rattle.frames.proofs.label_at.Lts as lts
 
 add-result : tie.Need-add-result
 add-result c = search needs

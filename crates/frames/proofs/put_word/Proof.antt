@@ -1,3 +1,4 @@
+-- `frames::put_word` meets its contract: its four stores are those of the word's bytes.
 use native.Mathlib.Omega.{arith}
 use native.Mathlib.Numerals.{add-one, add-two, add-three}
 use lib.ListN.{length-set}
@@ -5,8 +6,6 @@ use Rattle.frames.specs.Words.{wordBytes}
 use borrow.Author.Needs.{needs}
 use Rattle.frames.proofs.put_word.Statement.{statement}
 use Rattle.frames.proofs.put_word.Tie as tie
-use Rattle.frames.proofs.put_word.Reads as reads
-use Rattle.frames.proofs.put_word.Lts as lts
 
 cast-bytes : tie.Need-cast-bytes
 cast-bytes c = search needs

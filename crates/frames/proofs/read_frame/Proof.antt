@@ -1,6 +1,6 @@
 -- `frames::read_frame` meets its contract. The loop's invariant: the first k entries are the first k records, and the others are still zero.
-use mathlib.Core.Path.{_≡_, refl, sym, ap, _∙_}
-use Prim.Native.Nat.{ℕ, _≤_, _-_}
+use mathlib.Core.Path.{_≡_, sym, ap, _∙_}
+use Prim.Native.Nat.{_≤_, _-_}
 use native.Mathlib.Omega.{arith}
 use borrow.Author.Needs.{needs}
 use lib.ListN.{length-take, length-drop}
@@ -10,11 +10,6 @@ use Rattle.frames.proofs.Records.{part-is}
 use Rattle.frames.proofs.Entries.{entriesBelow, entries-none, entries-more, reading-refused, reading-done}
 use Rattle.frames.proofs.read_frame.Statement.{statement}
 use Rattle.frames.proofs.read_frame.Tie as tie
-use Rattle.frames.proofs.read_frame.Reads as reads
-use Rattle.frames.proofs.read_frame.Lts as lts
-use Rattle.frames.proofs.check_frame.Reads as check-frame-reads
-use Rattle.frames.proofs.read_record.Reads as read-record-reads
-use Rattle.frames.proofs.wide.Reads as wide-reads
 
 abbrev Inv-loop : tie.InvT-loop
 Inv-loop bytes n own records₀ refusal count k₀ records k = (k ≤ count) × Shape bytes × (records ≡ entriesBelow bytes k)

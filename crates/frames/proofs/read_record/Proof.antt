@@ -1,5 +1,5 @@
 -- `frames::read_record` meets its contract: each field is read as the definition reads it.
-use mathlib.Core.Path.{_≡_, ap, _∙_}
+use mathlib.Core.Path.{ap, _∙_}
 use native.Mathlib.Omega.{arith}
 use lib.ListN.{getD}
 use Rattle.kinds.specs.Body.{bodyOf}
@@ -9,12 +9,6 @@ use Rattle.frames.proofs.Entries.{record-is}
 use borrow.Author.Needs.{needs}
 use Rattle.frames.proofs.read_record.Statement.{statement}
 use Rattle.frames.proofs.read_record.Tie as tie
-use Rattle.frames.proofs.read_record.Reads as reads
-use Rattle.frames.proofs.read_record.Lts as lts
-use Rattle.frames.proofs.signed.Reads as signed-reads
-use Rattle.frames.proofs.word_at.Reads as word-at-reads
-use Rattle.kinds.proofs.body_of.Reads as body-of-reads
-use Rattle.labels.proofs.unpack.Reads as unpack-reads
 
 word-at-requires : tie.Need-word-at-requires
 word-at-requires c κs = search needs

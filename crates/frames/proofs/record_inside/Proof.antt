@@ -1,7 +1,6 @@
 -- `frames::record_inside` meets its contract: each test is one of the definition's, in its order.
-use mathlib.Core.Path.{_≡_, sym, ap, _∙_}
+use mathlib.Core.Path.{sym, ap, _∙_}
 use borrow.Author.Tests.{not-true, not-false}
-use Prim.Native.Nat.{ℕ}
 use native.Mathlib.Omega.{arith}
 use lib.ListN.{getD}
 use Rattle.kinds.specs.Limits.{numbersInside}
@@ -10,13 +9,6 @@ use Rattle.frames.proofs.Check.{judged, far, high, other-numbers, marke
 use borrow.Author.Needs.{needs}
 use Rattle.frames.proofs.record_inside.Statement.{statement}
 use Rattle.frames.proofs.record_inside.Tie as tie
-use Rattle.frames.proofs.record_inside.Reads as reads
-use Rattle.frames.proofs.record_inside.Lts as lts
-use Rattle.frames.proofs.signed.Reads as signed-reads
-use Rattle.frames.proofs.wide.Reads as wide-reads
-use Rattle.frames.proofs.word_at.Reads as word-at-reads
-use Rattle.kinds.proofs.numbers_inside.Reads as numbers-inside-reads
-use Rattle.labels.proofs.word_inside.Reads as word-inside-reads
 
 shared-slice-read-wide : tie.Need-shared-slice-read-wide
 shared-slice-read-wide c = search needs

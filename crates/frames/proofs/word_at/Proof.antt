@@ -1,10 +1,8 @@
+-- `frames::word_at` meets its contract: `joined` makes the word of the four bytes.
 use Rattle.frames.specs.Words.{wordAt}
 use borrow.Author.Needs.{needs}
 use Rattle.frames.proofs.word_at.Statement.{statement}
 use Rattle.frames.proofs.word_at.Tie as tie
-use Rattle.frames.proofs.word_at.Reads as reads
-use Rattle.frames.proofs.word_at.Lts as lts
-use Rattle.frames.proofs.joined.Reads as joined-reads
 
 shared-slice-read-joined : tie.Need-shared-slice-read-joined
 shared-slice-read-joined c = search needs

@@ -1,19 +1,11 @@
 -- `frames::write_record` meets its contract: its sixteen stores leave the bytes of the record.
-use mathlib.Core.Path.{_≡_, _∙_}
+use mathlib.Core.Path.{_∙_}
 use native.Mathlib.Omega.{arith}
 use lib.ListN.{length-set}
 use Rattle.frames.proofs.Writing.{kind-small, record-made}
 use borrow.Author.Needs.{needs}
 use Rattle.frames.proofs.write_record.Statement.{statement}
 use Rattle.frames.proofs.write_record.Tie as tie
-use Rattle.frames.proofs.write_record.Reads as reads
-use Rattle.frames.proofs.write_record.Lts as lts
-use Rattle.frames.proofs.put_word.Reads as put-word-reads
-use Rattle.frames.proofs.unsigned.Reads as unsigned-reads
-use Rattle.kinds.proofs.argument_of.Reads as argument-of-reads
-use Rattle.kinds.proofs.event_of.Reads as event-of-reads
-use Rattle.kinds.proofs.kind_of.Reads as kind-of-reads
-use Rattle.labels.proofs.pack.Reads as pack-reads
 
 cast-part : tie.Need-cast-part
 cast-part c = search needs

@@ -1,8 +1,7 @@
 -- `frames::write_table` meets its contract. The loop's invariant: the head and the records at the held places below k are written, and what stood past them is as it was.
-use mathlib.Core.Path.{_≡_, refl, sym, ap, _∙_}
-use Prim.Native.Nat.{ℕ, _≤_, _<_, _-_, _+_, _*_}
+use mathlib.Core.Path.{_≡_, refl, _∙_}
+use Prim.Native.Nat.{_≤_, _-_, _+_, _*_}
 use native.Mathlib.Omega.{arith}
-use borrow.Author.Needs.{needs}
 use borrow.Author.Tests.{not-true, not-false}
 use borrow.Rule.Slice.PartMut.{same-len-mid}
 use lib.ListN.{length, length-set, length-take, length-drop}
@@ -10,10 +9,6 @@ use Rattle.frames.specs.Calls.{heldCount}
 use Rattle.frames.proofs.Table.{start, Filled, filled-none, at-same, filled-same, at-more, filled-more, count-le, count-room, short-answer, short-buffer, done-answer, done-buffer}
 use Rattle.frames.proofs.write_table.Statement.{statement}
 use Rattle.frames.proofs.write_table.Tie as tie
-use Rattle.frames.proofs.write_table.Reads as reads
-use Rattle.frames.proofs.write_table.Lts as lts
-use Rattle.frames.proofs.held_count.Reads as held-count-reads
-use Rattle.frames.proofs.write_record.Reads as write-record-reads
 
 abbrev Inv-loop : tie.InvT-loop
 Inv-loop buffer₀ n sender held table count len at₀ k₀ buffer at k = (k ≤ n) × (at ≡ 4 + 16 * heldCount k held) × (length buffer ≡ length buffer₀) × Filled n sender count held table buffer₀ k buffer
