@@ -18,7 +18,7 @@ use Rattle.frames.specs.Record.{recordOf, recordBytes, framed, noRecord,
 use Rattle.frames.specs.Frame.{part, stationAt, shapeWrong, addressWrong, recordsInside, frameRefusal, recordsOf, recordsBytes, frameBytes, recordsFit}
 use Rattle.frames.proofs.Bytes.{length-record, length-frame, records-append}
 use Rattle.frames.proofs.Check.{by-length, by-sender, accepted, Accepted, accepted-frame, Shape, shape}
-use Rattle.frames.proofs.RecordTrip.{fits-station, record-read, record-accepted, bytes-written}
+use Rattle.frames.proofs.RecordTrip.{fits-station, record-read, record-accepted, held-fits, held-zeros, bytes-written}
 
 -- ---- a frame that is written and read
 
@@ -132,11 +132,11 @@ module _ (n sender : ℕ) (rs : List Record) where
 
 -- ---- a frame that is read and written
 
-module _ (bytes : List ℕ) (n own : ℕ) (small : (i : ℕ) → getD bytes i 0 < 256) (h : frameRefusal bytes n own ≡ done) where
-  yes-frame : Accepted bytes n own
+module _ (bytes : List ℕ) (n own : ℕ) (h : frameRefusal bytes n own ≡ done) where
+  pub yes-frame : Accepted bytes n own
   yes-frame = accepted-frame bytes n own h
 
-  form : Shape bytes
+  pub form : Shape bytes
   form = shape bytes (yes-frame .shape-right)
 
   abbrev count : ℕ
@@ -150,7 +150,7 @@ module _ (bytes : List ℕ) (n own : ℕ) (small : (i : ℕ) → getD bytes i 0 
       let c = not (ltb (getD bytes 1 0) n) in
       sym (eqb-true (getD bytes 0 0) n (not-false (eqb (getD bytes 0 0) n) (or-left a b (or-left (a || b) c (yes-frame .address-right)))))
 
-  part-inside : (k : ℕ) → k < count → bytesInside n (part bytes k) ≡ true
+  pub part-inside : (k : ℕ) → k < count → bytesInside n (part bytes k) ≡ true
   unfolding recordsInside
   part-inside k l =
       let fits : ℕ → Bool = λ j. bytesInside n (part bytes j) && (eqb j 0 || ltb (stationAt bytes (pred j)) (stationAt bytes j)) in
@@ -160,27 +160,12 @@ module _ (bytes : List ℕ) (n own : ℕ) (small : (i : ℕ) → getD bytes i 0 
   part-length : (k : ℕ) → k < count → length (part bytes k) ≡ 16
   part-length k l = length-take-le 16 (drop (4 + 16 * k) bytes) (rw length-drop (omega (arith, form .long)))
 
-  part-small : (k : ℕ) → k < count → (i : ℕ) → getD (part bytes k) i 0 < 256
-  part-small k l i =
-      elim (decLt i 16) [
-        | yes b ↦ rw (getD-take 16 (drop (4 + 16 * k) bytes) i 0 b, getD-drop) (small (4 + 16 * k + i))
-        | no b ↦ rw (List·getD-eq-default (part bytes k) 0 {n = i} (omega (arith, part-length k l))) (omega arith)
-      ]
+  -- the records of an accepted frame are inside their limits, and their labels from n up are 0
+  pub accepted-fits : (k : ℕ) → k < count → recordFits n (recordOf (part bytes k)) ≡ true
+  accepted-fits k l = held-fits n (part bytes k) (part-inside k l)
 
-  -- the first c records are written as the first c parts
-  parts-written : (c : ℕ) → c ≤ count → recordsBytes n (tabulate c (λ k. recordOf (part bytes k))) ≡ take (16 * c) (drop 4 bytes)
-  unfolding tabulate recordsBytes
-  parts-written zero l = refl
-  parts-written (suc c) l =
-      let f : ℕ → Record = λ k. recordOf (part bytes k) in
-      let one : recordBytes n (f c) ≡ take 16 (drop (16 * c) (drop 4 bytes)) =
-      bytes-written (part bytes c) (part-small c (omega arith)) n (part-length c (omega arith)) (part-inside c (omega arith))
-      ∙ ap (take 16) (sym (drop-drop (16 * c) 4 bytes)) in
-      let e : 16 * c + 16 ≡ 16 * suc c = omega arith in
-      records-append n (tabulate c f) (f c ∷ [])
-      ∙ (λ i. parts-written c (omega arith) i ++ (append-nil (recordBytes n (f c)) ∙ one) i)
-      ∙ sym (take-add (16 * c) 16 (drop 4 bytes))
-      ∙ ap (λ (j : ℕ). take j (drop 4 bytes)) e
+  pub accepted-zeros : (k : ℕ) → k < count → (j : ℕ) → n ≤ j → getD ((recordOf (part bytes k)) .labels) j 0 ≡ 0
+  accepted-zeros k l = held-zeros n (part bytes k) (part-inside k l)
 
   bytes-are : bytes ≡ getD bytes 0 0 ∷ getD bytes 1 0 ∷ getD bytes 2 0 ∷ getD bytes 3 0 ∷ drop 4 bytes
   bytes-are =
@@ -191,15 +176,38 @@ module _ (bytes : List ℕ) (n own : ℕ) (small : (i : ℕ) → getD bytes i 0 
       ∙ ap (λ (l : List ℕ). getD bytes 1 0 ∷ l)
       (drop-cons bytes 2 0 (omega arith) ∙ ap (λ (l : List ℕ). getD bytes 2 0 ∷ l) (drop-cons bytes 3 0 (omega arith))))
 
-  -- writing the records of an accepted frame, with its N and sender, gives its bytes again
-  pub write-read : frameBytes n (getD bytes 1 0) (recordsOf bytes) ≡ bytes
-  unfolding frameBytes recordsOf
-  write-read =
-      let f : ℕ → Record = λ k. recordOf (part bytes k) in
-      let all : take (16 * count) (drop 4 bytes) ≡ drop 4 bytes =
-      take-all (16 * count) (drop 4 bytes) (rw length-drop (omega (arith, form .long))) in
-      (λ i. number-is i ∷ getD bytes 1 0 ∷ length-tabulate count f i ∷ sym (form .mark) i ∷ (parts-written count (omega arith) ∙ all) i)
-      ∙ sym bytes-are
+  module _ (small : (i : ℕ) → getD bytes i 0 < 256) where
+    part-small : (k : ℕ) → k < count → (i : ℕ) → getD (part bytes k) i 0 < 256
+    part-small k l i =
+        elim (decLt i 16) [
+          | yes b ↦ rw (getD-take 16 (drop (4 + 16 * k) bytes) i 0 b, getD-drop) (small (4 + 16 * k + i))
+          | no b ↦ rw (List·getD-eq-default (part bytes k) 0 {n = i} (omega (arith, part-length k l))) (omega arith)
+        ]
+
+    -- the first c records are written as the first c parts
+    parts-written : (c : ℕ) → c ≤ count → recordsBytes n (tabulate c (λ k. recordOf (part bytes k))) ≡ take (16 * c) (drop 4 bytes)
+    unfolding tabulate recordsBytes
+    parts-written zero l = refl
+    parts-written (suc c) l =
+        let f : ℕ → Record = λ k. recordOf (part bytes k) in
+        let one : recordBytes n (f c) ≡ take 16 (drop (16 * c) (drop 4 bytes)) =
+        bytes-written (part bytes c) (part-small c (omega arith)) n (part-length c (omega arith)) (part-inside c (omega arith))
+        ∙ ap (take 16) (sym (drop-drop (16 * c) 4 bytes)) in
+        let e : 16 * c + 16 ≡ 16 * suc c = omega arith in
+        records-append n (tabulate c f) (f c ∷ [])
+        ∙ (λ i. parts-written c (omega arith) i ++ (append-nil (recordBytes n (f c)) ∙ one) i)
+        ∙ sym (take-add (16 * c) 16 (drop 4 bytes))
+        ∙ ap (λ (j : ℕ). take j (drop 4 bytes)) e
+
+    -- writing the records of an accepted frame, with its N and sender, gives its bytes again
+    pub write-read : frameBytes n (getD bytes 1 0) (recordsOf bytes) ≡ bytes
+    unfolding frameBytes recordsOf
+    write-read =
+        let f : ℕ → Record = λ k. recordOf (part bytes k) in
+        let all : take (16 * count) (drop 4 bytes) ≡ drop 4 bytes =
+        take-all (16 * count) (drop 4 bytes) (rw length-drop (omega (arith, form .long))) in
+        (λ i. number-is i ∷ getD bytes 1 0 ∷ length-tabulate count f i ∷ sym (form .mark) i ∷ (parts-written count (omega arith) ∙ all) i)
+        ∙ sym bytes-are
 
 -- M8: one record makes 20 bytes, sixteen make 260
 pub m8 :

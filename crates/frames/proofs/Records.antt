@@ -13,6 +13,7 @@ use lib.Seq.{getD-take, getD-drop}
 use borrow.Author.Tests.{lt-ltb, le-ltb, ne-eqb}
 use Rattle.places.specs.Places.{allBelow, anyBelow}
 use Rattle.places.proofs.Laws.{and-both, allBelow-fails}
+use Rattle.frames.specs.Words.{wordAt}
 use Rattle.frames.specs.Record.{bytesInside}
 use Rattle.frames.specs.Frame.{part, stationAt, recordsInside}
 
@@ -27,6 +28,27 @@ station-is bytes k =
     getD-take 16 (drop (4 + 16 * k) bytes) 0 0 (omega arith)
     ∙ getD-drop (4 + 16 * k) bytes 0 0
     ∙ ap (λ (i : ℕ). getD bytes i 0) (add-zero (4 + 16 * k))
+
+-- a byte and a word of a record's part, in the frame
+pub part-byte : (bytes : List ℕ) (k i : ℕ) → i < 16 → getD (part bytes k) i 0 ≡ getD bytes (4 + 16 * k + i) 0
+part-byte bytes k i h = getD-take 16 (drop (4 + 16 * k) bytes) i 0 h ∙ getD-drop (4 + 16 * k) bytes i 0
+
+pub part-word : (bytes : List ℕ) (k at : ℕ) → at + 3 < 16 → wordAt (part bytes k) at ≡ wordAt bytes (4 + 16 * k + at)
+unfolding wordAt
+part-word bytes k at h =
+    let place = 4 + 16 * k in
+    let one : place + (at + 1) ≡ place + at + 1 = omega arith in
+    let two : place + (at + 2) ≡ place + at + 2 = omega arith in
+    let three : place + (at + 3) ≡ place + at + 3 = omega arith in
+    rw (
+      part-byte bytes k at (omega arith),
+      part-byte bytes k (at + 1) (omega arith),
+      part-byte bytes k (at + 2) (omega arith),
+      part-byte bytes k (at + 3) (omega arith),
+      one,
+      two,
+      three,
+    )
 
 module _ (bytes : List ℕ) (n : ℕ) where
   -- record k is inside its limits, and its station above the one before it
