@@ -2,3 +2,11 @@ pub mod Words
 pub mod Check
 pub mod Labels
 pub mod Records
+pub mod Entries
+pub mod Writing
+pub mod Bytes
+pub mod Table
+pub mod Spelled
+pub mod RecordTrip
+pub mod FrameTrip
+pub mod TableTrip

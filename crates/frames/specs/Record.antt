@@ -4,9 +4,10 @@ use mathlib.Core.Bool.{Bool, _&&_}
 use mathlib.Core.List.{List, [], _∷_, _++_}
 use lib.ListN.{getD, take, replicate}
 use lib.Dec.{leb, ltb, eqb}
+use Rattle.kinds.specs.declared.Body.the-variants.{Empty}
 use Rattle.kinds.specs.Body.{kindOf, eventOf, argumentOf, bodyOf}
-use Rattle.kinds.specs.Limits.{numbersInside}
-use Rattle.labels.specs.Packing.{packed, unpacked, wordInside}
+use Rattle.kinds.specs.Limits.{numbersInside, bodyInside}
+use Rattle.labels.specs.Packing.{packed, unpacked, allLabels, wordInside}
 use Rattle.places.specs.Places.{fill}
 use Rattle.frames.specs.declared.Record.{Record}
 use Rattle.frames.specs.Words.{wordAt, wordBytes, signed, unsigned}
@@ -38,6 +39,14 @@ recordBytes n r =
 abbrev pub countInside : ℕ → ℕ → Bool
 countInside n count = leb count (2 * (n - 1))
 
+-- what is read past the end of a list of records
+abbrev pub noRecord : Record
+noRecord = record { station = 0; count = 0; body = Empty; labels = [] }
+
+-- an entry that no record uses
+abbrev pub zeroRecord : Record
+zeroRecord = record { station = 0; count = 0; body = Empty; labels = replicate 16 0 }
+
 -- the limits of one record in a frame among n stations
 unfoldable pub bytesInside : ℕ → List ℕ → Bool
 bytesInside n bytes =
@@ -46,6 +55,11 @@ bytesInside n bytes =
     && numbersInside (getD bytes 2 0) (wordAt bytes 4) (signed (wordAt bytes 8))
     && eqb (getD bytes 3 0) recordMark
     && wordInside n (wordAt bytes 12)
+
+-- the same limits of a record that is to be written
+unfoldable pub recordFits : ℕ → Record → Bool
+recordFits n r =
+    ltb (r .station) n && countInside n (r .count) && bodyInside (r .body) && allLabels (take n (r .labels))
 
 -- the record as a frame carries it: its labels from n up are 0
 unfoldable pub framed : ℕ → Record → Record

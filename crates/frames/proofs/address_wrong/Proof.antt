@@ -1,5 +1,5 @@
 -- `frames::address_wrong` meets its contract: each test is one of the definition's, in its order.
-use mathlib.Core.Path.{_≡_, ap, _∙_}
+use mathlib.Core.Path.{ap, _∙_}
 use Prim.Native.Nat.{ℕ}
 use native.Mathlib.Omega.{arith}
 use lib.Dec.{leb}
@@ -7,9 +7,6 @@ use Rattle.frames.proofs.Check.{other-number, own-frame, by-sender}
 use borrow.Author.Needs.{needs}
 use Rattle.frames.proofs.address_wrong.Statement.{statement}
 use Rattle.frames.proofs.address_wrong.Tie as tie
-use Rattle.frames.proofs.address_wrong.Reads as reads
-use Rattle.frames.proofs.address_wrong.Lts as lts
-use Rattle.frames.proofs.wide.Reads as wide-reads
 
 shared-slice-read-wide : tie.Need-shared-slice-read-wide
 shared-slice-read-wide c = search needs

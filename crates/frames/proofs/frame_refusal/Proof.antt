@@ -1,15 +1,10 @@
 -- `frames::frame_refusal` meets its contract: the three tests in their order, each as the definition has it.
-use mathlib.Core.Path.{_≡_, sym, _∙_}
+use mathlib.Core.Path.{sym, _∙_}
 use native.Mathlib.Omega.{arith}
 use Rattle.frames.proofs.Check.{shape, refused-shape, refused-address, accepted, refused-records}
 use borrow.Author.Needs.{needs}
 use Rattle.frames.proofs.frame_refusal.Statement.{statement}
 use Rattle.frames.proofs.frame_refusal.Tie as tie
-use Rattle.frames.proofs.frame_refusal.Reads as reads
-use Rattle.frames.proofs.frame_refusal.Lts as lts
-use Rattle.frames.proofs.address_wrong.Reads as address-wrong-reads
-use Rattle.frames.proofs.records_inside.Reads as records-inside-reads
-use Rattle.frames.proofs.shape_wrong.Reads as shape-wrong-reads
 
 shape-wrong-requires : tie.Need-shape-wrong-requires
 shape-wrong-requires c κs = search needs

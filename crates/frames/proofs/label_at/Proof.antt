@@ -1,5 +1,5 @@
 -- `frames::label_at` meets its contract: it reads the one byte in which `label-in-byte` finds the label.
-use mathlib.Core.Path.{_≡_, ap, _∙_}
+use mathlib.Core.Path.{ap, _∙_}
 use Prim.Native.Nat.{ℕ, _+_, _*_}
 use native.Mathlib.Nat.{add-zero}
 use lib.ListN.{getD}
@@ -9,30 +9,22 @@ use Rattle.frames.proofs.Labels.{label-in-byte}
 use borrow.Author.Needs.{needs}
 use Rattle.frames.proofs.label_at.Statement.{statement}
 use Rattle.frames.proofs.label_at.Tie as tie
-use Rattle.frames.proofs.label_at.Reads as reads
-use Rattle.frames.proofs.label_at.Lts as lts
 
--- src/lib.rt:93:12
 add-result : tie.Need-add-result
 add-result c = search needs
 
--- src/lib.rt:93:6
 shared-slice-read-result : tie.Need-shared-slice-read-result
 shared-slice-read-result c = search needs
 
--- src/lib.rt:93:28
 mul-result : tie.Need-mul-result
 mul-result c = search needs
 
--- src/lib.rt:93:28
 cast-result : tie.Need-cast-result
 cast-result c = search needs
 
--- src/lib.rt:93:6
 shr-result : tie.Need-shr-result
 shr-result c = search needs
 
--- src/lib.rt:89:1
 returns : tie.Need-returns
 unfolding wordAt
 returns c =

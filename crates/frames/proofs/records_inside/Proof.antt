@@ -1,20 +1,14 @@
 -- `frames::records_inside` meets its contract. The loop's invariant is `Checked`: what the records passed so far say.
-use mathlib.Core.Path.{_≡_, sym, ap, _∙_}
-use mathlib.Core.Bool.{true, false}
-use Prim.Native.Nat.{ℕ, _≤_, _<_, _-_, _+_, _*_}
+use mathlib.Core.Path.{sym, ap, _∙_}
+use Prim.Native.Nat.{_≤_, _-_, _+_, _*_}
 use native.Mathlib.Omega.{arith}
 use borrow.Author.Needs.{needs}
 use borrow.Author.Tests.{not-true, not-false}
-use lib.ListN.{getD, length, length-take, length-drop}
+use lib.ListN.{length-take, length-drop}
 use Rattle.frames.specs.Record.{bytesInside}
-use Rattle.frames.specs.Frame.{part, stationAt}
 use Rattle.frames.proofs.Records.{Checked, checked-none, checked-more, checked-order, checked-bytes, checked-all, part-is, station-is}
 use Rattle.frames.proofs.records_inside.Statement.{statement}
 use Rattle.frames.proofs.records_inside.Tie as tie
-use Rattle.frames.proofs.records_inside.Reads as reads
-use Rattle.frames.proofs.records_inside.Lts as lts
-use Rattle.frames.proofs.record_inside.Reads as record-inside-reads
-use Rattle.frames.proofs.wide.Reads as wide-reads
 
 abbrev Inv-loop : tie.InvT-loop
 Inv-loop bytes n count sender found₀ least₀ k₀ found least k = (k ≤ count) × Checked bytes n k found least

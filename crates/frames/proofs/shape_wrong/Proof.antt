@@ -1,5 +1,5 @@
 -- `frames::shape_wrong` meets its contract: each test is one of the definition's, in its order.
-use mathlib.Core.Path.{_≡_, ap, _∙_}
+use mathlib.Core.Path.{ap, _∙_}
 use mathlib.Core.Bool.{not}
 use Prim.Native.Nat.{ℕ, _+_, _*_}
 use native.Mathlib.Omega.{arith}
@@ -9,9 +9,6 @@ use Rattle.frames.proofs.Check.{short, none, many, frame-marked, by-len
 use borrow.Author.Needs.{needs}
 use Rattle.frames.proofs.shape_wrong.Statement.{statement}
 use Rattle.frames.proofs.shape_wrong.Tie as tie
-use Rattle.frames.proofs.shape_wrong.Reads as reads
-use Rattle.frames.proofs.shape_wrong.Lts as lts
-use Rattle.frames.proofs.wide.Reads as wide-reads
 
 returns : tie.Need-returns
 returns c = short (c .before .before .args .bytes .now) (omega arith)
