@@ -1,2 +1,3 @@
 pub mod LaneSteps
 pub mod QueueSteps
+pub mod TurnSteps
