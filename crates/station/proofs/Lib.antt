@@ -1,3 +1,16 @@
+pub mod BodyLaws
+pub mod LimitsLane
+pub mod HearRecord
+pub mod Shape
+pub mod LimitsQueue
+pub mod Limits
+pub mod LimitsFresh
+pub mod HeardNewer
+pub mod LimitsHear
+pub mod LimitsHearing
+pub mod LimitsSent
+pub mod TurnLaws
+pub mod LimitsTurn
 pub mod LaneSteps
 pub mod QueueSteps
 pub mod TurnSteps

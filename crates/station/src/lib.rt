@@ -3,8 +3,8 @@
 use frames::Record;
 use kinds::Body;
 
+pub mod checks;
 pub mod lanes;
-pub mod limits;
 pub mod queues;
 pub mod starts;
 pub mod turns;

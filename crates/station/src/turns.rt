@@ -14,15 +14,14 @@ ghost use Rattle.station.specs.Queue.{noSlot, oldest, unqueued};
 ghost use Rattle.station.specs.Limits.{stationInside};
 ghost use Rattle.station.specs.Turn.{airs, rowOf, lanesAfter, ends, mayStart, startsEdit, startedBody};
 ghost use Rattle.station.specs.Calls.{turnDone};
-
-use frames::Record;
-use kinds::Body;
 use super::Lane;
 use super::Queue;
 use super::Slot;
 use super::Station;
 use super::TurnReport;
 use super::Turned;
+use frames::Record;
+use kinds::Body;
 
 // Has each of the first n lanes a body?
 pub fn all_full(n: usize, lanes: [Lane; 16]) -> bool
@@ -127,9 +126,7 @@ pub fn lane_with(lane: Lane, body: Body) -> Lane
 // The row that is aired, all Empty where none is.
 fn aired_row(airs: bool, n: usize, lanes: [Lane; 16]) -> [Slot; 16]
     requires { ⌜ n ≤ 16 ⌝ }
-    ensures {
-        λ r. ⌜ r ≡ cond airs (fill n (λ k. record { body = (getD lanes k noLane) .first }) (replicate 16 noSlot)) (replicate 16 noSlot) ⌝
-    }
+    ensures { λ r. ⌜ r ≡ cond airs (fill n (λ k. record { body = (getD lanes k noLane) .first }) (replicate 16 noSlot)) (replicate 16 noSlot) ⌝ }
 {
     if !airs {
         let slot = Slot { body: Body::Empty };
@@ -151,9 +148,7 @@ fn aired_lanes(airs: bool, n: usize, lanes: [Lane; 16]) -> [Lane; 16]
 
 // What starts at the end of a broadcast, by the bodies in the own lane and the waiting edits.
 fn started_body(own_len: usize, waiting: Queue) -> Body
-    ensures {
-        λ r. ⌜ r ≡ cond (eqb «own_len» 0) (cond (ltb 0 (waiting .len)) (oldest waiting) Neutral) Empty ⌝
-    }
+    ensures { λ r. ⌜ r ≡ cond (eqb «own_len» 0) (cond (ltb 0 (waiting .len)) (oldest waiting) Neutral) Empty ⌝ }
 {
     if own_len != 0 {
         return Body::Empty;
@@ -179,10 +174,8 @@ fn waiting_after(own_len: usize, waiting: Queue) -> Queue
 
 // The turn of a station whose broadcast goes on.
 fn turn_on(s: Station, aired: bool, row: [Slot; 16], lanes: [Lane; 16]) -> Turned
-    requires {
-        ⌜ (s .n ≤ 16) × (s .own < 16) × (ends s ≡ false) ⌝ ∗
-        ⌜ (aired ≡ airs s) × (row ≡ cond (airs s) (rowOf s) (replicate 16 noSlot)) × (lanes ≡ lanesAfter s) ⌝
-    }
+    requires { ⌜ (s .n ≤ 16) × (s .own < 16) × (ends s ≡ false) ⌝ ∗
+        ⌜ (aired ≡ airs s) × (row ≡ cond (airs s) (rowOf s) (replicate 16 noSlot)) × (lanes ≡ lanesAfter s) ⌝ }
     ensures { λ r. ⌜ r ≡ turnDone s ⌝ }
 {
     let n = s.n;
@@ -216,10 +209,8 @@ fn turn_on(s: Station, aired: bool, row: [Slot; 16], lanes: [Lane; 16]) -> Turne
 
 // The turn of a station whose broadcast ends.
 fn turn_end(s: Station, aired: bool, row: [Slot; 16], lanes: [Lane; 16]) -> Turned
-    requires {
-        ⌜ (s .n ≤ 16) × (s .own < 16) × (ends s ≡ true) ⌝ ∗
-        ⌜ (aired ≡ airs s) × (row ≡ cond (airs s) (rowOf s) (replicate 16 noSlot)) × (lanes ≡ lanesAfter s) ⌝
-    }
+    requires { ⌜ (s .n ≤ 16) × (s .own < 16) × (ends s ≡ true) ⌝ ∗
+        ⌜ (aired ≡ airs s) × (row ≡ cond (airs s) (rowOf s) (replicate 16 noSlot)) × (lanes ≡ lanesAfter s) ⌝ }
     ensures { λ r. ⌜ r ≡ turnDone s ⌝ }
 {
     let n = s.n;

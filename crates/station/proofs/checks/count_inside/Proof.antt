@@ -1,8 +1,8 @@
--- `station::limits::count_inside` meets its contract.
+-- `station::checks::count_inside` meets its contract.
 use borrow.Author.Tests.{eq-eqb, ne-eqb}
 use borrow.Author.Needs.{needs}
-use Rattle.station.proofs.limits.count_inside.Statement.{statement}
-use Rattle.station.proofs.limits.count_inside.Tie as tie
+use Rattle.station.proofs.checks.count_inside.Statement.{statement}
+use Rattle.station.proofs.checks.count_inside.Tie as tie
 
 returns : tie.Need-returns
 returns c = rw (eq-eqb _ _ (c .if1 .taken))

@@ -1,4 +1,4 @@
--- `station::limits::lane_inside` meets its contract, test by test.
+-- `station::checks::lane_inside` meets its contract, test by test.
 use mathlib.Core.Path.{_≡_, refl, sym, _∙_}
 use mathlib.Core.Bool.{Bool, true, false}
 use Prim.Native.Nat.{_≤_}
@@ -6,8 +6,8 @@ use native.Mathlib.Omega.{arith}
 use borrow.Author.Needs.{needs}
 use borrow.Author.Tests.{le-leb, lt-leb, eq-eqb, ne-eqb, not-true, not-false}
 use Rattle.station.specs.Limits.{laneInside, takeable}
-use Rattle.station.proofs.limits.lane_inside.Statement.{statement}
-use Rattle.station.proofs.limits.lane_inside.Tie as tie
+use Rattle.station.proofs.checks.lane_inside.Statement.{statement}
+use Rattle.station.proofs.checks.lane_inside.Tie as tie
 
 returns : tie.Need-returns
 unfolding laneInside

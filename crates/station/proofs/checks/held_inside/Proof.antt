@@ -1,8 +1,8 @@
--- `station::limits::held_inside` meets its contract.
+-- `station::checks::held_inside` meets its contract.
 use borrow.Author.Tests.{not-true, not-false}
 use borrow.Author.Needs.{needs}
-use Rattle.station.proofs.limits.held_inside.Statement.{statement}
-use Rattle.station.proofs.limits.held_inside.Tie as tie
+use Rattle.station.proofs.checks.held_inside.Statement.{statement}
+use Rattle.station.proofs.checks.held_inside.Tie as tie
 
 returns : tie.Need-returns
 returns c = search needs

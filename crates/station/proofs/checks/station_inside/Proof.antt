@@ -1,4 +1,4 @@
--- `station::limits::station_inside` meets its contract: the station as a whole first, then place after place.
+-- `station::checks::station_inside` meets its contract: the station as a whole first, then place after place.
 use Prim.Native.Nat.{ℕ, _≤_, _<_, _-_}
 use native.Mathlib.Omega.{arith}
 use mathlib.Core.Path.{_≡_, refl, sym, _∙_}
@@ -13,8 +13,8 @@ use Rattle.places.proofs.Laws.{and-left, and-right, allBelow-more, allBelow-fai
 use Rattle.station.specs.declared.Station.{Station}
 use Rattle.station.specs.State.{ackedOf, heldOf}
 use Rattle.station.specs.Limits.{queueInside, placeInside, stationInside}
-use Rattle.station.proofs.limits.station_inside.Statement.{statement}
-use Rattle.station.proofs.limits.station_inside.Tie as tie
+use Rattle.station.proofs.checks.station_inside.Statement.{statement}
+use Rattle.station.proofs.checks.station_inside.Tie as tie
 
 -- all but the places
 abbrev whole : Station → Bool

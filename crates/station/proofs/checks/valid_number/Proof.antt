@@ -1,8 +1,8 @@
--- `station::limits::valid_number` meets its contract, test by test.
+-- `station::checks::valid_number` meets its contract, test by test.
 use mathlib.Core.Path.{refl}
 use borrow.Author.Tests.{le-leb, lt-leb}
-use Rattle.station.proofs.limits.valid_number.Statement.{statement}
-use Rattle.station.proofs.limits.valid_number.Tie as tie
+use Rattle.station.proofs.checks.valid_number.Statement.{statement}
+use Rattle.station.proofs.checks.valid_number.Tie as tie
 
 returns : tie.Need-returns
 returns c = simp (lt-leb _ _ (c .if1 .taken))

@@ -1,4 +1,4 @@
--- `station::limits::queue_inside` meets its contract: what was passed are edits.
+-- `station::checks::queue_inside` meets its contract: what was passed are edits.
 use Prim.Native.Nat.{ℕ, _≤_, _-_}
 use native.Mathlib.Omega.{arith}
 use mathlib.Core.Path.{_≡_, refl, sym, _∙_}
@@ -11,10 +11,10 @@ use Rattle.places.specs.Places.{allBelow}
 use Rattle.places.proofs.Laws.{allBelow-more, allBelow-fails}
 use Rattle.station.specs.Queue.{noSlot}
 use Rattle.station.specs.Limits.{queueInside}
-use Rattle.station.proofs.limits.queue_inside.Statement.{statement}
-use Rattle.station.proofs.limits.queue_inside.Tie as tie
-use Rattle.station.proofs.limits.queue_inside.Reads as reads
-use Rattle.station.proofs.limits.queue_inside.Lts as lts
+use Rattle.station.proofs.checks.queue_inside.Statement.{statement}
+use Rattle.station.proofs.checks.queue_inside.Tie as tie
+use Rattle.station.proofs.checks.queue_inside.Reads as reads
+use Rattle.station.proofs.checks.queue_inside.Lts as lts
 use Rattle.kinds.proofs.is_edit.Reads as is-edit-reads
 
 abbrev Inv-loop : tie.InvT-loop

@@ -1,12 +1,12 @@
--- `station::limits::place_inside` meets its contract, test by test.
+-- `station::checks::place_inside` meets its contract, test by test.
 use mathlib.Core.Path.{_≡_, sym, ap, _∙_}
 use mathlib.Core.Bool.{true, false, not, _||_}
 use borrow.Author.Tests.{le-leb, lt-leb, not-true, not-false}
 use Rattle.station.specs.Limits.{recordInside, laneInside}
 use Prim.Native.Nat.{ℕ}
 use borrow.Author.Needs.{needs}
-use Rattle.station.proofs.limits.place_inside.Statement.{statement}
-use Rattle.station.proofs.limits.place_inside.Tie as tie
+use Rattle.station.proofs.checks.place_inside.Statement.{statement}
+use Rattle.station.proofs.checks.place_inside.Tie as tie
 
 returns : tie.Need-returns
 returns c = rw (lt-leb _ _ (c .if1 .taken))

@@ -1,7 +1,7 @@
--- `station::limits::lane_room` meets its contract.
+-- `station::checks::lane_room` meets its contract.
 use borrow.Author.Tests.{eq-eqb, ne-eqb}
-use Rattle.station.proofs.limits.lane_room.Statement.{statement}
-use Rattle.station.proofs.limits.lane_room.Tie as tie
+use Rattle.station.proofs.checks.lane_room.Statement.{statement}
+use Rattle.station.proofs.checks.lane_room.Tie as tie
 
 returns : tie.Need-returns
 returns c = simp (eq-eqb _ _ (c .if1 .taken))

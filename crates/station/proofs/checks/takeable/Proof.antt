@@ -1,11 +1,11 @@
--- `station::limits::takeable` meets its contract: the body's kind is asked first, then its limits.
+-- `station::checks::takeable` meets its contract: the body's kind is asked first, then its limits.
 use native.Mathlib.Omega.{arith}
 use Prim.Native.Nat.{_<_, _≤_}
 use borrow.Author.Needs.{needs}
 use borrow.Author.Tests.{le-leb, lt-leb}
 use Rattle.kinds.specs.Body.{kindOf}
-use Rattle.station.proofs.limits.takeable.Statement.{statement}
-use Rattle.station.proofs.limits.takeable.Tie as tie
+use Rattle.station.proofs.checks.takeable.Statement.{statement}
+use Rattle.station.proofs.checks.takeable.Tie as tie
 
 kind-of-requires : tie.Need-kind-of-requires
 kind-of-requires c κs = search needs

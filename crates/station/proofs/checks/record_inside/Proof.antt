@@ -1,4 +1,4 @@
--- `station::limits::record_inside` meets its contract, test by test.
+-- `station::checks::record_inside` meets its contract, test by test.
 use mathlib.Core.Path.{_≡_, sym, _∙_}
 use mathlib.Core.Bool.{true, false, _||_}
 use lib.Dec.{eqb}
@@ -7,8 +7,8 @@ use Rattle.kinds.specs.Limits.{bodyInside}
 use Rattle.frames.specs.Record.{countInside}
 use Rattle.station.specs.Limits.{recordInside}
 use borrow.Author.Needs.{needs}
-use Rattle.station.proofs.limits.record_inside.Statement.{statement}
-use Rattle.station.proofs.limits.record_inside.Tie as tie
+use Rattle.station.proofs.checks.record_inside.Statement.{statement}
+use Rattle.station.proofs.checks.record_inside.Tie as tie
 
 returns : tie.Need-returns
 unfolding recordInside

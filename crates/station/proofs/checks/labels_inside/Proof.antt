@@ -1,4 +1,4 @@
--- `station::limits::labels_inside` meets its contract: what was passed are labels.
+-- `station::checks::labels_inside` meets its contract: what was passed are labels.
 use Prim.Native.Nat.{ℕ, _≤_, _-_}
 use native.Mathlib.Omega.{arith}
 use mathlib.Core.Path.{_≡_, refl, sym}
@@ -9,10 +9,10 @@ use Rattle.labels.specs.Label.{isLabel}
 use borrow.Author.Tests.{le-leb, lt-leb}
 use Rattle.places.specs.Places.{allBelow}
 use Rattle.places.proofs.Laws.{allBelow-more, allBelow-fails}
-use Rattle.station.proofs.limits.labels_inside.Statement.{statement}
-use Rattle.station.proofs.limits.labels_inside.Tie as tie
-use Rattle.station.proofs.limits.labels_inside.Reads as reads
-use Rattle.station.proofs.limits.labels_inside.Lts as lts
+use Rattle.station.proofs.checks.labels_inside.Statement.{statement}
+use Rattle.station.proofs.checks.labels_inside.Tie as tie
+use Rattle.station.proofs.checks.labels_inside.Reads as reads
+use Rattle.station.proofs.checks.labels_inside.Lts as lts
 
 abbrev Inv-loop : tie.InvT-loop
 Inv-loop n labels j₀ j = (j ≤ n) × (allBelow j (λ i. isLabel (getD labels i 0)) ≡ true)
