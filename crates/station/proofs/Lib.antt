@@ -14,3 +14,4 @@ pub mod LimitsTurn
 pub mod LaneSteps
 pub mod QueueSteps
 pub mod TurnSteps
+pub mod CallSteps

@@ -13,17 +13,13 @@ use Rattle.places.proofs.Laws.{and-left, and-right, allBelow-more, allBelow-fai
 use Rattle.station.specs.declared.Station.{Station}
 use Rattle.station.specs.State.{ackedOf, heldOf}
 use Rattle.station.specs.Limits.{queueInside, placeInside, stationInside}
+use Rattle.station.proofs.CallSteps.{valid-parts}
 use Rattle.station.proofs.checks.station_inside.Statement.{statement}
 use Rattle.station.proofs.checks.station_inside.Tie as tie
 
 -- all but the places
 abbrev whole : Station → Bool
 whole s = validNumber (s .n) (s .own) && ackedOf s (s .own) && heldOf s (s .own) && bodyInside (s .body) && queueInside (s .waiting)
-
-valid-parts : (n own : ℕ) → validNumber n own ≡ true → (1 ≤ n) × (n ≤ 16) × (own < n)
-valid-parts n own h =
-    let p = and-left (leb 1 n && leb n 16) (ltb own n) h in
-    (leb-true _ _ (and-left _ _ p), leb-true _ _ (and-right (leb 1 n) _ p), ltb-true _ _ (and-right (leb 1 n && leb n 16) _ h))
 
 abbrev Inv-loop : tie.InvT-loop
 Inv-loop s n own k₀ k =
