@@ -1,0 +1,7 @@
+pub mod Words
+pub mod Check
+pub mod Labels
+pub mod Records
+pub mod Entries
+pub mod Writing
+pub mod Table
