@@ -10,7 +10,6 @@ ghost use Rattle.frames.specs.Record.{recordOf, recordBytes, bytesInside
 ghost use Rattle.frames.specs.Frame.{shapeWrong, addressWrong, recordsInside, frameRefusal, checkRefusal, frameBytes};
 ghost use Rattle.frames.specs.Calls.{reading, tableRecords, heldCount, written, bufferWith, Writable};
 ghost use Rattle.labels.specs.Packing.{unpacked, allLabels};
-
 use kinds::Body;
 use kinds::refusals::BAD_ADDRESS;
 use kinds::refusals::BAD_NUMBER;
@@ -310,40 +309,4 @@ fn held_count(held: [bool; 16], n: usize) -> usize
         k += 1;
     }
     count
-}
-
-// The frame that a sender among n stations makes of the records at the held places of a table.
-pub fn write_table(buffer: &mut [u8], held: [bool; 16], table: [Record; 16], n: usize, sender: usize) -> Written
-    requires { ⌜ Writable n sender held table ⌝ }
-    ensures {
-        λ r.
-            ⌜ (r ≡ written (frameBytes n sender (tableRecords n held table)) (length (now (buffer .entry))))
-            × (now (buffer .exit) ≡ bufferWith (frameBytes n sender (tableRecords n held table)) (now (buffer .entry))) ⌝
-    }
-{
-    let count = held_count(held, n);
-    let len = 4 + 16 * count;
-    if buffer.len() < len {
-        return Written {
-            refusal: SHORT_BUFFER,
-            len: 0,
-        };
-    }
-    buffer[0] = n as u8;
-    buffer[1] = sender as u8;
-    buffer[2] = count as u8;
-    buffer[3] = FRAME_MARK;
-    let mut at: usize = 4;
-    let mut k: usize = 0;
-    while k < n {
-        if held[k] {
-            write_record(&mut buffer[at..at + 16], n, table[k]);
-            at += 16;
-        }
-        k += 1;
-    }
-    Written {
-        refusal: DONE,
-        len: len,
-    }
 }

@@ -43,10 +43,11 @@ loop-less c = omega arith
 loop-again : tie.Need-loop-again Inv-loop μ-loop
 loop-again c =
     let l = c .before .before .loop in
-    let held = c .before .before .before .args .t1 in
-    ( omega arith
-    , omega (arith, c .one-if .ensures, at-most-one (getD held (l .k) false))
-    , counted-more (l .k) held (l .count) (c .one-if .result) (l .inv .2) (c .one-if .ensures))
+    let held = c .before .before .before .args .t1 in (
+      omega arith,
+      omega (arith, c .one-if .ensures, at-most-one (getD held (l .k) false)),
+      counted-more (l .k) held (l .count) (c .one-if .result) (l .inv .2) (c .one-if .ensures),
+    )
 
 returns : tie.Need-returns Inv-loop μ-loop
 returns c = c .before .loop .inv .2 ∙ ap (λ (k : ℕ). heldCount k (c .before .before .args .t1)) (omega arith)

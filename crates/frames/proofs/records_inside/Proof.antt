@@ -59,7 +59,7 @@ record-inside-requires : tie.Need-record-inside-requires Inv-loop μ-loop
 record-inside-requires c κs = (simp (length-take, length-drop) (omega arith), omega arith)
 
 returns : tie.Need-returns Inv-loop μ-loop
-returns c = 
+returns c =
     let l = c .before .before .before .before .loop in
     let s = c .before .before .before .before .before .before .before .before .before .before .args in
     checked-bytes (s .bytes .now) (s .n) (l .k) (omega arith) (ap (bytesInside (s .n)) (sym (part-is (s .bytes .now) (l .k))) ∙ sym (c .before .record-inside .ensures) ∙ not-true _ (c .if1 .taken))
@@ -71,7 +71,7 @@ wide-requires-3 : tie.Need-wide-requires-3 Inv-loop μ-loop
 wide-requires-3 c κs = search needs
 
 returns-2 : tie.Need-returns-2 Inv-loop μ-loop
-returns-2 c = 
+returns-2 c =
     let l = c .before .before .before .before .before .before .before .loop in
     let s = c .before .before .before .before .before .before .before .before .before .before .before .before .before .args in
     checked-order (s .bytes .now) (s .n) (l .k) (l .found) (l .least) (l .inv .1)
@@ -91,17 +91,18 @@ loop-less c = omega arith
 loop-again : tie.Need-loop-again Inv-loop μ-loop
 loop-again c =
     let l = c .before .before .before .before .before .before .before .loop in
-    let s = c .before .before .before .before .before .before .before .before .before .before .before .before .before .args in
-    (omega arith, checked-more (s .bytes .now) (s .n) (l .k) (l .found) (l .least) (l .inv .1)
-    (ap (bytesInside (s .n)) (sym (part-is (s .bytes .now) (l .k))) ∙ sym (c .before .before .before .before .record-inside .ensures) ∙ not-false _ (c .before .before .before .if1 .left))
-    (c .before .wide3 .result) (c .before .before .before .before .before .before .before .before .wide2 .result)
-    (c .before .wide3 .ensures ∙ sym (station-is (s .bytes .now) (l .k)))
-    (c .before .before .before .before .before .before .before .before .wide2 .ensures)
-    (omega arith))
-
+    let s = c .before .before .before .before .before .before .before .before .before .before .before .before .before .args in (
+      omega arith,
+      checked-more (s .bytes .now) (s .n) (l .k) (l .found) (l .least) (l .inv .1)
+          (ap (bytesInside (s .n)) (sym (part-is (s .bytes .now) (l .k))) ∙ sym (c .before .before .before .before .record-inside .ensures) ∙ not-false _ (c .before .before .before .if1 .left))
+          (c .before .wide3 .result) (c .before .before .before .before .before .before .before .before .wide2 .result)
+          (c .before .wide3 .ensures ∙ sym (station-is (s .bytes .now) (l .k)))
+          (c .before .before .before .before .before .before .before .before .wide2 .ensures)
+          (omega arith),
+    )
 
 returns-3 : tie.Need-returns-3 Inv-loop μ-loop
-returns-3 c = 
+returns-3 c =
     let l = c .before .loop in
     let s = c .before .before .before .before .before .before .before .args in
     checked-all (s .bytes .now) (s .n) (l .k) (l .found) (l .least) (l .inv .1) (omega arith)
