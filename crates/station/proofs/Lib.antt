@@ -15,3 +15,6 @@ pub mod LaneSteps
 pub mod QueueSteps
 pub mod TurnSteps
 pub mod CallSteps
+pub mod Lengths
+pub mod HearBytes
+pub mod HearSteps
