@@ -52,8 +52,15 @@ module _ (bytes : List ℕ) (start r : ℕ) where
   word : (i : ℕ) → i + 3 < 16 → wordAt p i ≡ wordAt bytes (at + i)
   unfolding wordAt
   word i l =
-      rw (byte i (omega arith), byte (i + 1) (omega arith), byte (i + 2) (omega arith), byte (i + 3) l,
-      ← add-assoc at i 1, ← add-assoc at i 2, ← add-assoc at i 3)
+      rw (
+        byte i (omega arith),
+        byte (i + 1) (omega arith),
+        byte (i + 2) (omega arith),
+        byte (i + 3) l,
+        ← add-assoc at i 1,
+        ← add-assoc at i 2,
+        ← add-assoc at i 3,
+      )
 
   pub station-at : getD bytes at 0 ≡ (recordAt bytes start r) .station
   unfolding recordOf

@@ -82,7 +82,7 @@ overfull-to h bytes start r e (suc m) l =
     elim (ℕ-discrete r (suc m)) [
       | yes z ↦ rw z at e
       | no d ↦ rw (heard-suc h bytes start m)
-        (overfull-record (heardTo h bytes start m) (recordAt bytes start m) (overfull-to h bytes start r e m (omega arith)))
+          (overfull-record (heardTo h bytes start m) (recordAt bytes start m) (overfull-to h bytes start r e m (omega arith)))
     ]
 
 -- from some frame on to a later one
@@ -167,6 +167,21 @@ module _ (h : Hearing) (r : Record) (s : Station) (t : List Taking) (l : ℕ) (a
         len = rw (k', length-append) (ap (λ (m : ℕ). m + 1) (a .len));
         takings = rw (k', a .takings) (put-next (h .takings) x noTaking l (a .len) b);
       })
+
+  pub taken-len : counts s r ≡ true → takes s r ≡ true → length ((hearRecord h r) .takings) ≡ l + 1
+  unfolding heardOne
+  taken-len c k =
+      let c' : counts (h .station) r ≡ true = rw (a .station) at c in
+      let k' : takes (h .station) r ≡ true = rw (a .station) at k in
+      rw (hearRecord-counts h r c', k', length-append) (ap (λ (m : ℕ). m + 1) (sym (a .len)))
+
+  pub taken-free : counts s r ≡ true → takes s r ≡ true → leb 2 ((laneAt s (r .station)) .len) ≡ false → (hearRecord h r) .overfull ≡ false
+  unfolding heardOne
+  taken-free c k f =
+      let c' : counts (h .station) r ≡ true = rw (a .station) at c in
+      let k' : takes (h .station) r ≡ true = rw (a .station) at k in
+      let f' : leb 2 ((laneAt (h .station) (r .station)) .len) ≡ false = rw (a .station) at f in
+      rw (hearRecord-counts h r c', a .free, k', f')
 
   pub over : counts s r ≡ true → (takes s r && leb 2 ((laneAt s (r .station)) .len)) ≡ true → (hearRecord h r) .overfull ≡ true
   unfolding heardOne
