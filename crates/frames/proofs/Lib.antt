@@ -4,4 +4,9 @@ pub mod Labels
 pub mod Records
 pub mod Entries
 pub mod Writing
+pub mod Bytes
 pub mod Table
+pub mod Spelled
+pub mod RecordTrip
+pub mod FrameTrip
+pub mod TableTrip

@@ -310,3 +310,45 @@ fn held_count(held: [bool; 16], n: usize) -> usize
     }
     count
 }
+
+// The frame that a sender among n stations makes of the records at the held places of a table.
+pub fn write_table(
+    buffer: &mut [u8],
+    held: [bool; 16],
+    table: [Record; 16],
+    n: usize,
+    sender: usize,
+) -> Written
+    requires { ⌜ Writable n sender held table ⌝ }
+    ensures { λ r.
+        ⌜ (r ≡ written (frameBytes n sender (tableRecords n held table)) (length (now (buffer .entry))))
+        × (now (buffer .exit) ≡ bufferWith (frameBytes n sender (tableRecords n held table)) (now (buffer .entry))) ⌝ }
+{
+    let count = held_count(held, n);
+    let len = 4 + 16 * count;
+    if buffer.len() < len {
+        return Written {
+            refusal: SHORT_BUFFER,
+            len: 0,
+        };
+    }
+    buffer[0] = n as u8;
+    buffer[1] = sender as u8;
+    buffer[2] = count as u8;
+    buffer[3] = FRAME_MARK;
+    let mut at: usize = 4;
+    let mut k: usize = 0;
+    while k < n {
+        if !held[k] {
+            k += 1;
+            continue;
+        }
+        write_record(&mut buffer[at..at + 16], n, table[k]);
+        at += 16;
+        k += 1;
+    }
+    Written {
+        refusal: DONE,
+        len: len,
+    }
+}

@@ -4,7 +4,7 @@ ghost use mathlib.Core.Path.{_≡_};
 ghost use mathlib.Core.Bool.{Bool, true, false, cond, not, _&&_, _||_};
 ghost use mathlib.Core.List.{List};
 ghost use Prim.Native.Nat.{ℕ, _+_, _≤_, _<_};
-ghost use lib.ListN.{getD, length};
+ghost use lib.ListN.{getD, length, set, take};
 ghost use lib.Dec.{leb, eqb};
 ghost use Rattle.kinds.specs.Body.{kindOf};
 ghost use Rattle.labels.specs.Label.{successor};
@@ -13,6 +13,7 @@ ghost use Rattle.station.specs.Lane.{pushed};
 ghost use Rattle.station.specs.Hearing as spec;
 ghost use Rattle.station.specs.Limits.{stationInside};
 ghost use Rattle.station.specs.Frames.{FrameAt, HearsAll};
+ghost use Rattle.station.specs.Calls.{sourcesOf};
 use super::HeardAll;
 use super::Lane;
 use super::Station;
@@ -179,4 +180,32 @@ pub fn hear_all(s: Station, bytes: &[u8], starts: [usize; 16], count: usize) -> 
         takings_len: len,
         takings: takings,
     }
+}
+
+// The places with one more marked.
+fn marked(places: [bool; 16], source: usize) -> [bool; 16]
+    ensures { λ r. ⌜ r ≡ set places source true ⌝ }
+{
+    let mut more = places;
+    if source < 16 {
+        more[source] = true;
+        return more;
+    }
+    places
+}
+
+// The stations that the first takings are of.
+pub fn sources(takings: [Taking; 30], len: usize) -> [bool; 16]
+    requires { ⌜ len ≤ 30 ⌝ }
+    ensures { λ r. ⌜ r ≡ sourcesOf (take len takings) ⌝ }
+{
+    let mut places = [false; 16];
+    let mut i = len;
+    while 0 < i {
+        i -= 1;
+        let taking = takings[i];
+        let more = marked(places, taking.source);
+        places = more;
+    }
+    places
 }

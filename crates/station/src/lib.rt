@@ -1,11 +1,12 @@
 // One station: what it holds, its limits, and its calls.
 
 ghost use mathlib.Core.Path.{_≡_};
-ghost use Rattle.station.specs.Calls.{freshCall, postCall, noTurn, turnCall};
+ghost use Rattle.station.specs.Calls.{freshCall, postCall, hearCall, noTurn, turnCall};
 use frames::Record;
 use kinds::Body;
 use kinds::refusals::BAD_NUMBER;
 use kinds::refusals::DONE;
+use kinds::refusals::LANE_FULL;
 use kinds::refusals::NOT_AN_EDIT;
 use kinds::refusals::OUTSIDE_LIMITS;
 use kinds::refusals::QUEUE_FULL;
@@ -145,6 +146,47 @@ pub fn post(s: Station, body: Body) -> Kept
     Kept {
         refusal: DONE,
         station: station,
+    }
+}
+
+// Hear: one frame's records in order.
+pub fn hear(s: Station, bytes: &[u8]) -> Heard
+    ensures { λ r. ⌜ r ≡ hearCall s (now (bytes .entry)) ⌝ }
+{
+    let none = [false; 16];
+    if !checks::station_inside(s) {
+        return Heard {
+            refusal: OUTSIDE_LIMITS,
+            station: s,
+            taken: none,
+        };
+    }
+    let n = s.n;
+    let own = s.own;
+    let refusal = frames::frame_refusal(bytes, n, own);
+    if refusal != DONE {
+        return Heard {
+            refusal: refusal,
+            station: s,
+            taken: none,
+        };
+    }
+    let starts = [0usize; 16];
+    let heard = hearings::hear_all(s, bytes, starts, 1);
+    if heard.overfull {
+        return Heard {
+            refusal: LANE_FULL,
+            station: s,
+            taken: none,
+        };
+    }
+    let station = heard.station;
+    let takings = heard.takings;
+    let taken = hearings::sources(takings, heard.takings_len);
+    Heard {
+        refusal: DONE,
+        station: station,
+        taken: taken,
     }
 }
 
