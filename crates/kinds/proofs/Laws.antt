@@ -1,5 +1,5 @@
--- Laws of the definitions, for the crates above. A body and its three numbers say the same: each way back gives what one began with, by the
--- cases of the table, since where a row's least is its most the number can be no other.
+-- Laws of the definitions, for the crates above. A body and its three numbers say the same: each way back gives what one began with, by
+-- the cases of the table, since where a row's least is its most the number can be no other.
 use Prim.Native.Nat.{ℕ, zero, suc, _<_, _≤_}
 use native.Mathlib.Omega.{arith}
 use mathlib.Core.Bool.{Bool, true, false, _&&_}
@@ -21,6 +21,7 @@ both false y h = (h, cc)
 
 -- the body of a body's own numbers is that body
 pub body-back : (b : Body) → bodyOf (kindOf b) (eventOf b) (argumentOf b) ≡ b
+unfolding bodyOf
 body-back Empty = refl
 body-back Neutral = refl
 body-back (Insert event start) = refl
@@ -35,6 +36,7 @@ record Inside (k e : ℕ) (a : ℤ) : Type 0 where
   argument : (leZ (limitsOf k .«least_argument») a && leZ a (limitsOf k .«most_argument»)) ≡ true
 
 inside : (k e : ℕ) (a : ℤ) → numbersInside k e a ≡ true → Inside k e a
+unfolding numbersInside
 inside k e a h =
     let l = limitsOf k in
     let whole = both (ltb k (length kinds)) (between l e a) h in
@@ -63,6 +65,7 @@ record Back (k e : ℕ) (a : ℤ) : Type 0 where
   argument-is : argumentOf (bodyOf k e a) ≡ a
 
 back : (k e : ℕ) (a : ℤ) → Inside k e a → Back k e a
+unfolding bodyOf
 back zero e a r =
     record { kind-is = refl; event-is = omega arith; argument-is = only a (r .argument) }
 back (suc zero) e a r =
@@ -86,13 +89,16 @@ module _ (k e : ℕ) (a : ℤ) (h : numbersInside k e a ≡ true) where
   argument-back = (back k e a (inside k e a h)) .argument-is
 
   pub inside-back : bodyInside (bodyOf k e a) ≡ true
+  unfolding bodyInside
   inside-back = (λ i. numbersInside (kind-back i) (event-back i) (argument-back i)) ∙ h
 
 -- an edit is inside its limits, and its kind is 2 or more
 pub edit-inside : (b : Body) → isEdit b ≡ true → bodyInside b ≡ true
+unfolding isEdit
 edit-inside b h = both (leb 2 (kindOf b)) (bodyInside b) h .1
 
 pub edit-kind : (b : Body) → isEdit b ≡ true → 2 ≤ kindOf b
+unfolding isEdit
 edit-kind b h = leb-true 2 (kindOf b) (both (leb 2 (kindOf b)) (bodyInside b) h .0)
 
 -- so it is not Empty

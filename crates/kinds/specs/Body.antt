@@ -35,7 +35,7 @@ abbrev pub isEmpty : Body → Bool
 isEmpty b = eqb (kindOf b) 0
 
 -- the body of a kind with its event and argument; a number that is no kind gives Empty
-abbrev pub bodyOf : ℕ → ℕ → ℤ → Body
+unfoldable pub bodyOf : ℕ → ℕ → ℤ → Body
 bodyOf kind event argument =
     cond (eqb kind 1) Neutral
     (cond (eqb kind 2) (Insert event argument)

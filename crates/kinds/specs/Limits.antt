@@ -35,13 +35,13 @@ between l event argument =
     (leZ (l .«least_argument») argument && leZ argument (l .«most_argument»))
 
 -- these are the numbers of a kind, inside its limits
-abbrev pub numbersInside : ℕ → ℕ → ℤ → Bool
+unfoldable pub numbersInside : ℕ → ℕ → ℤ → Bool
 numbersInside kind event argument = ltb kind (length kinds) && between (limitsOf kind) event argument
 
 -- "body by the kind table"
-abbrev pub bodyInside : Body → Bool
+unfoldable pub bodyInside : Body → Bool
 bodyInside b = numbersInside (kindOf b) (eventOf b) (argumentOf b)
 
 -- kinds 2 to 4 are "edits"; refusal 4 is for a posted body that is not one inside its limits
-abbrev pub isEdit : Body → Bool
+unfoldable pub isEdit : Body → Bool
 isEdit b = leb 2 (kindOf b) && bodyInside b

@@ -1,10 +1,11 @@
--- Laws of packing, for every number of labels together. A word has its labels for digits of base 4, the first the lowest, so each law goes label by label.
+-- Laws of packing, for every number of labels together. A word has its labels for digits of base 4, the first the lowest, so each law
+-- goes label by label.
 use Prim.Native.Nat.{ℕ, zero, suc, _+_, _-_, _*_, _/_, _%_, _^_, _≤_, _<_, zero-le, suc-le-suc}
 use native.Mathlib.Nat.{pow-le-pow-right, pow-succ', suc-add, zero-add}
 use native.Mathlib.Omega.{arith}
 use mathlib.Core.Bool.{Bool, true, false, _&&_, and-assoc}
 use mathlib.Core.List.{List, [], _∷_, _++_, append-nil}
-use mathlib.Core.Path.{_≡_, refl, sym, ap, _∙_}
+use mathlib.Core.Path.{_≡_, refl, sym, ap, ap₂, _∙_}
 use lib.Dec.{leb, eqb}
 use lib.ListN.{length, getD, take, drop, replicate}
 use lib.Seq.{length-take-le, take-at, drop-at}
@@ -49,17 +50,21 @@ at-all (label ∷ labels) f =
     rw (le-leb label 2 (f 0 (suc-le-suc zero-le))) (at-all labels (λ i h. f (suc i) (suc-le-suc h)))
 
 -- a list is labels where both its parts are
-pub all-split : (n : ℕ) (labels : List ℕ) → allLabels labels ≡ (allLabels (take n labels) && allLabels (drop n labels))
+pub all-split :
+    (n : ℕ) (labels : List ℕ) →
+    allLabels labels ≡ (allLabels (take n labels) && allLabels (drop n labels))
 unfolding allLabels
 all-split zero labels = refl
 all-split (suc n) [] = refl
 all-split (suc n) (label ∷ labels) = rw (all-split n labels) (sym (and-assoc (leb label 2) _ _))
 
 pub all-take : (n : ℕ) (labels : List ℕ) → allLabels labels ≡ true → allLabels (take n labels) ≡ true
-all-take n labels h = both (allLabels (take n labels)) (allLabels (drop n labels)) (sym (all-split n labels) ∙ h) .0
+all-take n labels h =
+    both (allLabels (take n labels)) (allLabels (drop n labels)) (sym (all-split n labels) ∙ h) .0
 
 pub all-drop : (n : ℕ) (labels : List ℕ) → allLabels labels ≡ true → allLabels (drop n labels) ≡ true
-all-drop n labels h = both (allLabels (take n labels)) (allLabels (drop n labels)) (sym (all-split n labels) ∙ h) .1
+all-drop n labels h =
+    both (allLabels (take n labels)) (allLabels (drop n labels)) (sym (all-split n labels) ∙ h) .1
 
 -- zeros are labels
 pub zero-all : (labels : List ℕ) → allZero labels ≡ true → allLabels labels ≡ true
@@ -122,7 +127,11 @@ unpack-pack-zeros (label ∷ labels) n h =
     rw (suc-add, low, rest) (ap (λ (l : List ℕ). label ∷ l) (unpack-pack-zeros labels n (all-tail label labels h)))
 
 -- unpacking what was packed gives the labels
-pub unpack-pack : (n : ℕ) (labels : List ℕ) → length labels ≡ n → allLabels labels ≡ true → unpacked n (packed labels) ≡ labels
+pub unpack-pack :
+    (n : ℕ) (labels : List ℕ) →
+    length labels ≡ n →
+    allLabels labels ≡ true →
+    unpacked n (packed labels) ≡ labels
 unpack-pack n labels l h =
     let e : n ≡ length labels + 0 = omega arith in
     rw e (unpack-pack-zeros labels 0 h ∙ append-nil labels)
@@ -145,6 +154,7 @@ pub packed-inside :
     n ≤ length labels →
     allLabels (take n labels) ≡ true →
     wordInside n (packed (take n labels)) ≡ true
+unfolding wordInside
 packed-inside n labels h l a =
     let e = length-take-le n labels l in
     rw (
@@ -180,8 +190,25 @@ pack-unpack-of (suc n) zero word h z = omega arith
 pack-unpack-of (suc n) (suc k) word h z =
     omega (arith, pack-unpack-of n k (word / 4) (omega arith) z)
 
+-- all sixteen entries of a word inside its limits are labels, the first n of them and the zeros after them
+module _ (n word : ℕ) (h : wordInside n word ≡ true) where
+  pub inside-labels : allLabels (take n (unpacked 16 word)) ≡ true
+  unfolding wordInside
+  inside-labels =
+      both (allLabels (take n (unpacked 16 word))) (allZero (drop n (unpacked 16 word))) h .0
+
+  pub inside-zeros : allZero (drop n (unpacked 16 word)) ≡ true
+  unfolding wordInside
+  inside-zeros =
+      both (allLabels (take n (unpacked 16 word))) (allZero (drop n (unpacked 16 word))) h .1
+
+  pub inside-all : allLabels (unpacked 16 word) ≡ true
+  inside-all = all-split n (unpacked 16 word) ∙ ap₂ _&&_ inside-labels (zero-all (drop n (unpacked 16 word)) inside-zeros)
+
 -- packing what was unpacked gives the word, where its labels are 0 to 2 and those from n up are 0
-pub pack-unpack : (n word : ℕ) → word < 2 ^ 32 → wordInside n word ≡ true → packed (take n (unpacked 16 word)) ≡ word
-pack-unpack n word h w =
-    pack-unpack-of n 16 word h
-    (both (allLabels (take n (unpacked 16 word))) (allZero (drop n (unpacked 16 word))) w .1)
+pub pack-unpack :
+    (n word : ℕ) →
+    word < 2 ^ 32 →
+    wordInside n word ≡ true →
+    packed (take n (unpacked 16 word)) ≡ word
+pack-unpack n word h w = pack-unpack-of n 16 word h (inside-zeros n word w)

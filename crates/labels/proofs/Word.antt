@@ -1,10 +1,9 @@
--- How one look at a word shows what `wordInside` asks of its sixteen labels. A label is 3 where both its bits are 1, so a word has a 3 where the word and its half share a
--- bit at an even place; and the labels from n up are 0 where nothing is left above 2 n bits.
+-- How two looks at a word show what `wordInside` asks of its sixteen labels. A label is 3 where both its bits are 1, so a word has a 3 where
+-- the word and its half share a bit at an even place; and the labels from n up are 0 where nothing is left above 2 n bits.
 use Prim.Native.Nat.{ℕ, zero, suc, _+_, _*_, _/_, _%_, _^_, _≤_, _<_, min}
 use native.Mathlib.Nat.{div-one, div-div-eq-div-mul, pow-succ'}
 use native.Mathlib.Omega.{arith}
 use mathlib.Core.Bool.{Bool, true, false, _&&_}
-use mathlib.Core.List.{List}
 use mathlib.Core.Path.{_≡_, refl, sym, ap, ap₂, _∙_}
 use lib.Arith.{mod-mul}
 use lib.Bits.{bitAnd, and-step, and-zero-r}
@@ -32,9 +31,10 @@ shared-quarter word =
     let e : word / 2 / 2 ≡ word / 4 = omega arith in
     omega (arith, and-step word (word / 2), and-step (word / 2) (word / 2 / 2), ap shared e)
 
-threes-step : (n word : ℕ) → threes (suc n) word ≡ 4 * threes n (word / 4) + min (word % 2) (word / 2 % 2)
+threes-step :
+    (n word : ℕ) →
+    threes (suc n) word ≡ 4 * threes n (word / 4) + min (word % 2) (word / 2 % 2)
 threes-step n word =
-    let m = evens n in
     let e : (1 + 4 * evens n) / 2 / 2 ≡ evens n = omega arith in
     omega (
       arith,
@@ -76,13 +76,19 @@ four (suc n) =
     let e : 2 * suc n ≡ suc (suc (2 * n)) = omega arith in
     rw e (omega (arith, four n))
 
-high-zero : (n k word : ℕ) → n ≤ k → word < 4 ^ k → allZero (drop n (unpacked k word)) ≡ eqb (word / 4 ^ n) 0
+high-zero :
+    (n k word : ℕ) →
+    n ≤ k →
+    word < 4 ^ k →
+    allZero (drop n (unpacked k word)) ≡ eqb (word / 4 ^ n) 0
 unfolding unpacked
 high-zero zero k word l h = rw div-one (zero-word k word h)
 high-zero (suc n) zero word l h = absurd (omega arith)
 high-zero (suc n) (suc k) word l h =
     high-zero n k (word / 4) (omega arith) (omega arith)
-    ∙ ap (λ (q : ℕ). eqb q 0) (div-div-eq-div-mul word 4 (4 ^ n) ∙ ap (λ (p : ℕ). word / p) (sym (pow-succ' 4 n)))
+    ∙ ap
+    (λ (q : ℕ). eqb q 0)
+    (div-div-eq-div-mul word 4 (4 ^ n) ∙ ap (λ (p : ℕ). word / p) (sym (pow-succ' 4 n)))
 
 -- a test that a later one implies adds nothing
 absorb : (t d z : Bool) → (z ≡ true → d ≡ true) → (t && z) ≡ ((t && d) && z)
@@ -91,12 +97,17 @@ absorb true true z f = refl
 absorb true false true f = sym (f refl)
 absorb true false false f = refl
 
+-- what `wordInside` asks, as the two looks
 pub inside-is :
     (n word : ℕ) →
     n ≤ 16 →
     word < 2 ^ 32 →
     wordInside n word ≡ (eqb (threes 16 word) 0 && eqb (word / 2 ^ (2 * n)) 0)
+unfolding wordInside
 inside-is n word l h =
     let u = unpacked 16 word in
     absorb (allLabels (take n u)) (allLabels (drop n u)) (allZero (drop n u)) (zero-all (drop n u))
-    ∙ ap₂ _&&_ (sym (all-split n u) ∙ all-threes 16 word) (high-zero n 16 word l h ∙ ap (λ (p : ℕ). eqb (word / p) 0) (sym (four n)))
+    ∙ ap₂
+    _&&_
+    (sym (all-split n u) ∙ all-threes 16 word)
+    (high-zero n 16 word l h ∙ ap (λ (p : ℕ). eqb (word / p) 0) (sym (four n)))

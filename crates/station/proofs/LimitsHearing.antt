@@ -1,5 +1,5 @@
--- A station while it hears, from silence on. One fold carries all of it: N, the own number, the waiting edits, the body and the own lane stay; the shape
--- and the limits are kept as long as no lane is overfull; and every taking stands in a lane of another station, so there are at most 30.
+-- A station while it hears. One fold carries all of it: N, the own number, the waiting edits, the body and the own lane stay; the shape and the limits
+-- are kept as long as no lane is overfull; and every taking stands in a lane of another station, so from silence on there are at most 30.
 use Prim.Native.Nat.{ℕ, suc, _+_, _*_, _≤_, _<_}
 use mathlib.Core.Bool.{Bool, true, false, cond, _&&_, _||_}
 use mathlib.Core.List.{List, [], _∷_, _++_, append-nil}
@@ -17,7 +17,7 @@ use Rattle.station.specs.State.{laneAt}
 use Rattle.station.specs.Limits.{stationInside}
 use Rattle.station.specs.Hearing.{Hearing, silent, counts, takes, heardNewer, hearRecord, hearRecords}
 use Rattle.station.proofs.HearRecord.{heardOne, hearRecord-counts, hearRecord-skips}
-use Rattle.station.proofs.Shape.{Shaped, heardNewer-shaped}
+use Rattle.station.proofs.Shape.{Shaped, heardNewer-shaped, hearRecord-shaped}
 use Rattle.station.proofs.LimitsLane.{pushed-len, lane-most}
 use Rattle.station.proofs.Limits.{Inside, inside-open, inside-make}
 use Rattle.station.proofs.HeardNewer.{heard-n, heard-own, heard-waiting, heard-body, heard-lane, heard-lane-other}
@@ -167,6 +167,14 @@ module _ (a : Hearing) (c : Inside (a .station)) where
   unfolding hearRecords
   hears-records h [] hs all = hs
   hears-records h (r ∷ rs) hs all = hears-records (hearRecord h r) rs (hears-record h r hs (all .0)) (all .1)
+
+-- the shape is kept whether or not the station is inside its limits
+pub hearRecords-shaped :
+    (n : ℕ) → n ≤ 16 → (h : Hearing) (rs : List Record) → AllCarried n rs → Shaped (h .station) → Shaped ((hearRecords h rs) .station)
+unfolding hearRecords
+hearRecords-shaped n high h [] all shape = shape
+hearRecords-shaped n high h (r ∷ rs) all shape =
+    hearRecords-shaped n high (hearRecord h r) rs (all .1) (hearRecord-shaped h r (omega (arith, all .0 .station)) shape)
 
 -- at most two in the lane of each of at most fifteen others
 pub takings-bounded : (s : Station) (h : Hearing) → Hears (silent s) h → h .overfull ≡ false → length (h .takings) ≤ 30

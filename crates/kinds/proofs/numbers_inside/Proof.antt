@@ -1,8 +1,8 @@
--- `kinds::numbers_inside` meets its contract: the code's table is the definition's table, row by row, so each test is one of the definition's, and
--- a signed number reads back from its 32 bits as itself.
+-- `kinds::numbers_inside` meets its contract: the code's table is the definition's table, row by row, so each test is one of the
+-- definition's, and a signed number reads back from its 32 bits as itself.
 use Prim.Native.Nat.{ℕ, _<_, _≤_}
 use native.Mathlib.Omega.{arith}
-use mathlib.Core.Bool.{true, false, _&&_}
+use mathlib.Core.Bool.{true, false}
 use mathlib.Core.Path.{_≡_, sym, ap₂, _∙_}
 use lib.IntN.{ℤ}
 use lib.ListN.{length}
@@ -17,33 +17,47 @@ use Rattle.kinds.proofs.numbers_inside.Statement.{statement}
 use Rattle.kinds.proofs.numbers_inside.Tie as tie
 
 -- two signed numbers compare as their bits do
-read : (a b : ℤ) → SFits w32 a → SFits w32 b → leZ (toZ w32 (ofZ w32 a)) (toZ w32 (ofZ w32 b)) ≡ leZ a b
+read :
+    (a b : ℤ) →
+    SFits w32 a →
+    SFits w32 b →
+    leZ (toZ w32 (ofZ w32 a)) (toZ w32 (ofZ w32 b)) ≡ leZ a b
 read a b p q = ap₂ leZ (toZ-ofZ w32 a p) (toZ-ofZ w32 b q)
 
 module _ (k e : ℕ) (a : ℤ) (h : k < length kinds) where
   early : e < limitsOf k .«least_event» → false ≡ numbersInside k e a
+  unfolding numbersInside
   early l = simp (lt-ltb _ _ h, lt-leb _ _ l)
 
   late : limitsOf k .«least_event» ≤ e → limitsOf k .«most_event» < e → false ≡ numbersInside k e a
+  unfolding numbersInside
   late p l = simp (lt-ltb _ _ h, le-leb _ _ p, lt-leb _ _ l)
 
-  module _ (p : limitsOf k .«least_event» ≤ e) (q : e ≤ limitsOf k .«most_event») (f : SFits w32 a) (g : SFits w32 (limitsOf k .«least_argument»)) where
-    low :
-        leZ (toZ w32 (ofZ w32 (limitsOf k .«least_argument»))) (toZ w32 (ofZ w32 a)) ≡ false →
-        false ≡ numbersInside k e a
-    low l =
-        let t : leZ (limitsOf k .«least_argument») a ≡ false = sym (read _ _ g f) ∙ l in
-        simp (lt-ltb _ _ h, le-leb _ _ p, le-leb _ _ q, t)
+  module _
+      (p : limitsOf k .«least_event» ≤ e)
+      (q : e ≤ limitsOf k .«most_event»)
+      (f : SFits w32 a)
+      (g : SFits w32 (limitsOf k .«least_argument»))
+    where
+      low :
+          leZ (toZ w32 (ofZ w32 (limitsOf k .«least_argument»))) (toZ w32 (ofZ w32 a)) ≡ false →
+          false ≡ numbersInside k e a
+      unfolding numbersInside
+      low l =
+          let t : leZ (limitsOf k .«least_argument») a ≡ false = sym (read _ _ g f) ∙ l in
+          simp (lt-ltb _ _ h, le-leb _ _ p, le-leb _ _ q, t)
 
-    rest :
-        leZ (toZ w32 (ofZ w32 (limitsOf k .«least_argument»))) (toZ w32 (ofZ w32 a)) ≡ true →
-        SFits w32 (limitsOf k .«most_argument») →
-        leZ (toZ w32 (ofZ w32 a)) (toZ w32 (ofZ w32 (limitsOf k .«most_argument»))) ≡ numbersInside k e a
-    rest l m =
-        let t : leZ (limitsOf k .«least_argument») a ≡ true = sym (read _ _ g f) ∙ l in
-        read _ _ f m ∙ simp (lt-ltb _ _ h, le-leb _ _ p, le-leb _ _ q, t)
+      rest :
+          leZ (toZ w32 (ofZ w32 (limitsOf k .«least_argument»))) (toZ w32 (ofZ w32 a)) ≡ true →
+          SFits w32 (limitsOf k .«most_argument») →
+          leZ (toZ w32 (ofZ w32 a)) (toZ w32 (ofZ w32 (limitsOf k .«most_argument»))) ≡ numbersInside k e a
+      unfolding numbersInside
+      rest l m =
+          let t : leZ (limitsOf k .«least_argument») a ≡ true = sym (read _ _ g f) ∙ l in
+          read _ _ f m ∙ simp (lt-ltb _ _ h, le-leb _ _ p, le-leb _ _ q, t)
 
 returns : tie.Need-returns
+unfolding numbersInside
 returns c = simp (le-ltb _ _ (c .if1 .taken))
 
 mul-row : tie.Need-mul-row
@@ -65,7 +79,8 @@ returns-3 c =
 returns-4 : tie.Need-returns-4
 returns-4 c =
     let s = c .before .before .before .before .before .before .before .before .before .before .before in
-    rest (s .args .kind) (s .args .event) (s .args .argument) (omega arith) (omega arith) (omega arith) (s .fits .argument)
+    rest (s .args .kind) (s .args .event) (s .args .argument) (omega arith) (omega arith) (omega arith)
+    (s .fits .argument)
     (record { sfits = omega arith })
     (c .before .before .if4 .taken)
     (record { sfits = omega arith })
@@ -73,7 +88,8 @@ returns-4 c =
 returns-5 : tie.Need-returns-5
 returns-5 c =
     let s = c .before .before .before .before .before .before .before .before .before in
-    low (s .args .kind) (s .args .event) (s .args .argument) (omega arith) (omega arith) (omega arith) (s .fits .argument)
+    low (s .args .kind) (s .args .event) (s .args .argument) (omega arith) (omega arith) (omega arith)
+    (s .fits .argument)
     (record { sfits = omega arith })
     (c .if4 .left)
 

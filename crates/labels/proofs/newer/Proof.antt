@@ -1,27 +1,28 @@
 -- `labels::newer` meets its contract: each way out has settled the tests of the definition, in the definition's order.
-use Prim.Native.Nat.{ℕ}
-use mathlib.Core.Bool.{Bool, true, false}
 use mathlib.Core.Path.{_≡_, sym, _∙_}
-use lib.Dec.{eqb, ltb}
 use borrow.Author.Needs.{needs}
 use borrow.Author.Tests.{eq-eqb, ne-eqb, lt-ltb, le-ltb}
 use Rattle.labels.specs.Label.{successor}
+use Rattle.labels.specs.Newer.{isNewer}
 use Rattle.labels.proofs.newer.Statement.{statement}
 use Rattle.labels.proofs.newer.Tie as tie
 
 returns : tie.Need-returns
+unfolding isNewer
 returns c = search needs
 
 successor-requires : tie.Need-successor-requires
 successor-requires c κs = search needs
 
 returns-2 : tie.Need-returns-2
+unfolding isNewer
 returns-2 c =
     let a = c .before .before .before .args in
     let e : a .seen-label ≡ successor (a .held-label) = c .if2 .taken ∙ c .before .successor .ensures in
     simp (c .before .before .if1 .left, eq-eqb _ _ e)
 
 returns-3 : tie.Need-returns-3
+unfolding isNewer
 returns-3 c =
     let a = c .before .before .before .before .args in
     let n : a .seen-label ≡ successor (a .held-label) → ⊥ =
@@ -29,6 +30,7 @@ returns-3 c =
     simp (c .before .before .before .if1 .left, ne-eqb _ _ n, ne-eqb _ _ (c .if3 .taken))
 
 returns-4 : tie.Need-returns-4
+unfolding isNewer
 returns-4 c =
     let a = c .before .before .before .before .before .args in
     let n : a .seen-label ≡ successor (a .held-label) → ⊥ =
@@ -41,6 +43,7 @@ returns-4 c =
     )
 
 returns-5 : tie.Need-returns-5
+unfolding isNewer
 returns-5 c =
     let a = c .before .before .before .before .before .args in
     let n : a .seen-label ≡ successor (a .held-label) → ⊥ =

@@ -1,33 +1,41 @@
 -- `labels::pack` meets its contract. The loop goes down: its word is the packed labels from i to n, and each turn puts one more below them.
 use Prim.Native.Nat.{ℕ, suc, _+_, _-_, _*_, _^_, _≤_, _<_}
-use native.Mathlib.Numerals.{add-one}
 use native.Mathlib.Omega.{arith}
 use mathlib.Core.Bool.{true}
-use mathlib.Core.List.{List, []}
-use mathlib.Core.Path.{_≡_, refl, sym, ap, _∙_}
+use mathlib.Core.List.{List}
+use mathlib.Core.Path.{_≡_, sym, ap, _∙_}
 use lib.ListN.{length, take, drop, getD, length-drop, length-take, drop-of-length-le}
-use lib.Seq.{length-take-le, drop-cons, drop-length, getD-take}
+use lib.Seq.{length-take-le, drop-cons, getD-take}
 use Rattle.labels.specs.Packing.{packed, allLabels}
-use Rattle.labels.proofs.Laws.{all-at, all-drop, packed-cons, packed-fits}
+use Rattle.labels.proofs.Laws.{all-drop, packed-cons, packed-fits}
 use Rattle.labels.proofs.pack.Statement.{statement}
 use Rattle.labels.proofs.pack.Tie as tie
 
 -- one label more below the packed ones
-module _ (labels : List ℕ) (n i : ℕ) (len : length labels ≡ 16) (h : n ≤ 16) (pos : 0 < i) (most : i ≤ n) where
-  step : packed (drop (i - 1) (take n labels)) ≡ packed (drop i (take n labels)) * 4 + getD labels (i - 1) 0
-  step =
-      let l : i - 1 < length (take n labels) = omega (arith, length-take-le n labels (omega arith)) in
-      let s : suc (i - 1) ≡ i = omega arith in
-      let d : getD (take n labels) (i - 1) 0 ≡ getD labels (i - 1) 0 = getD-take n labels (i - 1) 0 (omega arith) in
-      rw (drop-cons (take n labels) (i - 1) 0 l, packed-cons, s, d) (omega arith)
+module _
+    (labels : List ℕ)
+    (n i : ℕ)
+    (len : length labels ≡ 16)
+    (h : n ≤ 16)
+    (pos : 0 < i)
+    (most : i ≤ n)
+  where
+    step : packed (drop (i - 1) (take n labels)) ≡ packed (drop i (take n labels)) * 4 + getD labels (i - 1) 0
+    step =
+        let l : i - 1 < length (take n labels) = omega (arith, length-take-le n labels (omega arith)) in
+        let s : suc (i - 1) ≡ i = omega arith in
+        let d : getD (take n labels) (i - 1) 0 ≡ getD labels (i - 1) 0 = getD-take n labels (i - 1) 0 (omega arith) in
+        rw (drop-cons (take n labels) (i - 1) 0 l, packed-cons, s, d) (omega arith)
 
-  small : allLabels (take n labels) ≡ true → packed (drop i (take n labels)) * 4 + getD labels (i - 1) 0 < 2 ^ 32
-  small a =
-      rw (← step)
-      (packed-fits
-      (drop (i - 1) (take n labels))
-      (all-drop (i - 1) (take n labels) a)
-      (omega (arith, length-drop (i - 1) (take n labels), length-take-le n labels (omega arith))))
+    small :
+        allLabels (take n labels) ≡ true →
+        packed (drop i (take n labels)) * 4 + getD labels (i - 1) 0 < 2 ^ 32
+    small a =
+        rw (← step)
+        (packed-fits
+        (drop (i - 1) (take n labels))
+        (all-drop (i - 1) (take n labels) a)
+        (omega (arith, length-drop (i - 1) (take n labels), length-take-le n labels (omega arith))))
 
 abbrev Inv-loop : tie.InvT-loop
 Inv-loop n labels word₀ i₀ word i = (i ≤ n) × (word ≡ packed (drop i (take n labels)))
@@ -42,7 +50,10 @@ loop-holds c =
     let h : length s ≤ c .args .n = omega (arith, length-take (c .args .n) (c .args .t1)) in
     (omega arith, rw (drop-of-length-le s h))
 
-fits : (c : tie.In-loop Inv-loop μ-loop) → c .before .loop .word * 4 + getD (c .before .before .args .t1) (c .before .loop .i - 1) 0 < 2 ^ 32
+-- the word after a turn fits
+fits :
+    (c : tie.In-loop Inv-loop μ-loop) →
+    c .before .loop .word * 4 + getD (c .before .before .args .t1) (c .before .loop .i - 1) 0 < 2 ^ 32
 fits c =
     let s = c .before .before in
     let l = c .before .loop in

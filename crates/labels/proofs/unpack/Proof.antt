@@ -1,10 +1,10 @@
--- `labels::unpack` meets its contract. The loop's invariant: the labels written so far, and after them the labels of what is left of the word, are the labels of
--- the word.
-use Prim.Native.Nat.{ℕ, zero, suc, _+_, _-_, _/_, _%_, _≤_, _<_}
+-- `labels::unpack` meets its contract. The loop's invariant: the labels written so far, and after them the labels of what is left of the
+-- word, are the labels of the word.
+use Prim.Native.Nat.{ℕ, suc, _+_, _-_, _/_, _%_, _≤_, _<_}
 use native.Mathlib.Numerals.{add-one}
 use native.Mathlib.Omega.{arith}
-use mathlib.Core.List.{List, [], _∷_, _++_, append-assoc, append-nil}
-use mathlib.Core.Path.{_≡_, refl, sym, ap, _∙_}
+use mathlib.Core.List.{List, _++_, append-assoc, append-nil}
+use mathlib.Core.Path.{_≡_, refl, sym, _∙_}
 use lib.ListN.{length, take, set, length-set}
 use lib.Seq.{take-suc-set, take-all}
 use Rattle.labels.specs.Packing.{unpacked}
