@@ -18,3 +18,4 @@ pub mod CallSteps
 pub mod Lengths
 pub mod HearBytes
 pub mod HearSteps
+pub mod SourceSteps

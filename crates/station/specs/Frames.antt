@@ -36,3 +36,4 @@ pub record HearsAll (s : Station) (bytes starts : List ℕ) (f : ℕ) (r : Heard
       r .overfull ≡ false →
       r .takings
       ≡ (hearFrames (silent s) bytes starts f) .takings ++ replicate (30 - length ((hearFrames (silent s) bytes starts f) .takings)) noTaking
+  pub few : r .overfull ≡ false → r .«takings_len» ≤ 30

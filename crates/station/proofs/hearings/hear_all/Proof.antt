@@ -414,7 +414,7 @@ returns c =
     let e : (hearFrames (silent (s o)) (bytes o) (starts o) (o .before .before .before .args .count)) .overfull ≡ true =
     overfull-all (silent (s o)) (bytes o) (starts o) (o .before .loop .f) (r v + 1) (o .before .before .before .args .count) (o .loop-test .taken) (omega arith)
     (rw (heard-more (before-it o) (bytes o) (start o) (r v)) full) in
-    record { overfull = sym e; station = λ z. absurd (true≢false z); len = λ z. absurd (true≢false z); takings = λ z. absurd (true≢false z) }
+    record { overfull = sym e; station = λ z. absurd (true≢false z); len = λ z. absurd (true≢false z); takings = λ z. absurd (true≢false z); few = λ z. absurd (true≢false z) }
 
 add-label-at-2 : tie.Need-add-label-at-2 Inv-loop2 μ-loop2 Inv-loop μ-loop
 add-label-at-2 c = record { fits = omega (arith, room (c .before .before .before .before .before .before .before .before .before .before .before .before .before .before .before .before .before)) }
@@ -521,7 +521,7 @@ returns-2 c =
     let a = c .before .loop .inv .1 in
     let e : c .before .loop .f ≡ c .before .before .before .args .count = omega arith in
     let b = rw e at a in
-    record { overfull = sym (b .free); station = λ z. b .station; len = λ z. b .len; takings = λ z. b .takings }
+    record { overfull = sym (b .free); station = λ z. b .station; len = λ z. b .len; takings = λ z. b .takings; few = λ z. omega (arith, a .len, takings-bounded _ _ (c .before .loop .inv .2) (a .free)) }
 
 pub hear-all-spec : {M : Type 1} → statement M
 hear-all-spec =
