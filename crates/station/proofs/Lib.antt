@@ -19,3 +19,9 @@ pub mod TurnCells
 pub mod LaneSteps
 pub mod QueueSteps
 pub mod LimitsCalls
+pub mod TurnSteps
+pub mod CallSteps
+pub mod Lengths
+pub mod HearBytes
+pub mod HearSteps
+pub mod SourceSteps
