@@ -26,3 +26,4 @@ pub mod TurnStep
 pub mod Rounds
 pub mod Simulation
 pub mod DemandThree
+pub mod Marked
