@@ -27,3 +27,4 @@ pub mod Rounds
 pub mod Simulation
 pub mod DemandThree
 pub mod Marked
+pub mod RunExamples
