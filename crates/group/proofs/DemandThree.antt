@@ -22,6 +22,7 @@ use Rattle.group.proofs.Lanes.{never-overfull}
 use Rattle.group.proofs.CallRun.{runOf, afterPosts, callsAfter, groupAfter, group-first, group-step, posts-keep}
 use Rattle.group.proofs.HistoryRun.{Unrefused, history-group}
 use Rattle.group.proofs.PostsAccounted.{posts-accounted}
+use Rattle.group.proofs.HistoryInside.{lanes-bounded}
 use Rattle.group.proofs.FromRun as from-run
 
 module _ (n : ℕ) (low : 1 ≤ n) (high : n ≤ 16) (calls : List Call) where
@@ -82,7 +83,7 @@ module _ (n : ℕ) (low : 1 ≤ n) (high : n ≤ 16) (calls : List Call) where
         no-round-refused = from-run.no-round-refused n low high calls (simulation.simulated R) free;
         own-count-bounded = own-count;
         held-count-bounded = held-count;
-        lanes-bounded = from-run.lanes-bounded n low high calls (simulation.simulated R) free;
+        lanes-bounded = lanes-bounded n low high calls;
         posts-accounted = posts-accounted n low high calls;
         ends-exactly = from-run.ends-exactly n low high calls (simulation.simulated R) free;
       }

@@ -14,7 +14,6 @@ use Rattle.links.proofs.EndRule.{ends-rule}
 use Rattle.places.specs.Places.{anyBelow}
 use Rattle.places.proofs.Laws.{anyBelow-none}
 use Rattle.station.specs.declared.Station.{Station}
-use Rattle.station.specs.State.{laneAt}
 use Rattle.station.specs.Calls.{ownCountInside}
 use Rattle.group.specs.declared.RoundDone.{RoundDone}
 use Rattle.group.specs.State.{stationAt, sizeOf, groupInside}
@@ -24,7 +23,7 @@ use Rattle.group.specs.Demand.{Begins}
 use Rattle.group.proofs.Run.{Run, Simulated, linksOf}
 use Rattle.group.proofs.Shape.{shape}
 use Rattle.group.proofs.Taken as taken
-use Rattle.group.proofs.Lanes.{never-overfull, ready-limit}
+use Rattle.group.proofs.Lanes.{never-overfull}
 use Rattle.group.proofs.Aired as aired
 use Rattle.group.proofs.CallRun.{runOf}
 use Rattle.group.proofs.HistoryRun.{Unrefused, roundIn, roundsBy, rounds-at, history-rounds, history-group, history-links}
@@ -77,14 +76,6 @@ module _ (n : ℕ) (low : 1 ≤ n) (high : n ≤ 16) (calls : List Call) (S : Si
       ap (λ (rs : List RoundDone). (getD rs u noRound) .refusal) same
       ∙ ap (λ (r : RoundDone). r .refusal) (rounds-at R last u l)
       ∙ done-in u
-
-  pub lanes-bounded : (p s : ℕ) → p < n → s < n → (laneAt (stationAt (H .group) p) s) .len ≤ 2
-  lanes-bounded p s lp ls =
-      omega (
-        arith,
-        ap (λ (g : List Station). (laneAt (stationAt g p) s) .len) (history-group n low high calls free),
-        ready-limit R S last p s lp ls,
-      )
 
   pub ends-exactly : (s u : ℕ) → s < n → u < length (H .rounds)
       → (endsAt H s (suc u) ≡ true) ↔ EndsIn (ofLog n (H .log)) s (startedIn H s u) (suc u)

@@ -24,7 +24,7 @@ use Rattle.station.specs.Lane.{noLane, pushed, popped}
 use Rattle.station.specs.State.{laneAt, freshStation}
 use Rattle.station.specs.Turn.{airs, lanesAfter, mayStart, startedBody, afterTurn}
 use Rattle.station.proofs.LaneLaws.{Holds, holds-none, holds-pushed, holds-popped}
-use Rattle.station.proofs.TurnParts.{started-waits, report-aired, lanesAfter-at, lane-other, lane-own}
+use Rattle.station.proofs.TurnParts.{airs-each, started-waits, report-aired, lanesAfter-at, lane-other, lane-own}
 use Rattle.group.specs.State.{stationAt}
 use Rattle.group.specs.History.{unlessEmpty}
 use Rattle.group.proofs.Run.{Run, Simulated, linksOf, hearingIn, bodyAt, rises, comes}
@@ -140,9 +140,9 @@ module _ (R : Run) (S : Simulated R) where
 
   -- a row is aired exactly where there is one more of everybody
   airs-row : (u p : ℕ) → p < R .n → Carried u → airs ((hearingIn R u p) .station) ≡ airsRow L (madeBy R) (rowsBy R) u p
-  unfolding airs
   airs-row u p lp c =
-      ap (λ (k : ℕ). allBelow k (λ s. ltb 0 ((heardLane u p s) .len))) ((hearing-member R u p lp) .size)
+      airs-each ((hearingIn R u p) .station)
+      ∙ ap (λ (k : ℕ). allBelow k (λ s. ltb 0 ((heardLane u p s) .len))) ((hearing-member R u p lp) .size)
       ∙ allBelow-ext
       (R .n)
       (λ s. ltb 0 ((heardLane u p s) .len))

@@ -17,11 +17,12 @@ use Rattle.station.specs.declared.Station.{Station}
 use Rattle.station.specs.State.{sentRecords}
 use Rattle.station.specs.Calls.{ownCountInside}
 use Rattle.station.specs.Hearing.{silent, hearRecords}
-use Rattle.station.specs.Turn.{passed, rewritten, afterTurn}
+use Rattle.station.specs.Turn.{afterTurn}
 use Rattle.station.proofs.Shape.{Shaped, afterTurn-shaped}
 use Rattle.station.proofs.LimitsHearing.{Hears, AllCarried, hears-none, hears-records, takings-bounded}
 use Rattle.station.proofs.LimitsSent.{sent-carried}
 use Rattle.station.proofs.LimitsTurn.{turn-holds}
+use Rattle.station.proofs.TurnCells.{turn-n, turn-own}
 use Rattle.group.specs.State.{noStation, stationAt, sizeOf, groupInside}
 use Rattle.group.specs.Calls.{hearing, heard, roundRefusal, afterRound, roundCall}
 use Rattle.group.proofs.Members.{Member, GroupShaped, Members, members-open, members-inside}
@@ -77,14 +78,6 @@ module _ (n : ℕ) (g : List Station) (c : Members n g) (masks : List ℕ) (coun
 
   pub hears-all : (i : ℕ) → i < n → Hears (silent (stationAt g i)) (heard g masks i)
   hears-all i l = hears-below i (sizeOf g) l (omega (arith, c .size))
-
-turn-n : (s : Station) → (afterTurn s) .n ≡ s .n
-unfolding afterTurn rewritten passed
-turn-n s = refl
-
-turn-own : (s : Station) → (afterTurn s) .own ≡ s .own
-unfolding afterTurn rewritten passed
-turn-own s = refl
 
 module _ (n : ℕ) (g : List Station) (c : Members n g) (masks : List ℕ) (run : Runs g masks) where
   run-counts : (k : ℕ) → k < n → ownCountInside (stationAt g k) ≡ true

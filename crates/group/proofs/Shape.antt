@@ -14,10 +14,11 @@ use Rattle.station.specs.State.{freshStation, sentRecords}
 use Rattle.station.specs.Hearing.{hearRecords}
 use Rattle.station.specs.Turn.{afterTurn}
 use Rattle.station.proofs.Unheard.{Unheard, unheard-refl, unheard-trans, hearRecords-unheard}
-use Rattle.station.proofs.TurnParts.{afterTurn-n, afterTurn-own, length-afterTurn}
+use Rattle.station.proofs.TurnCells.{turn-n, turn-own, turn-lanes-length}
 use Rattle.group.specs.State.{noStation, stationAt, sizeOf, freshGroup}
 use Rattle.group.specs.Calls.{hearing, heard, afterRound}
 use Rattle.group.proofs.Run.{Run, hearingIn}
+use Rattle.group.proofs.Members.{fresh-at}
 
 -- hearing a round's frames leaves what a record leaves
 pub hearing-unheard : (g : List Station) (masks : List ℕ) (i k : ℕ) → Unheard (stationAt g i) ((hearing g masks i k) .station)
@@ -50,10 +51,6 @@ fresh-member : (n p : ℕ) → Member n p (freshStation n p)
 unfolding freshStation
 fresh-member n p = record { size = refl; place = refl; lanes = length-replicate 16 noLane }
 
-fresh-at : (n p : ℕ) → n ≤ 16 → p < n → stationAt (freshGroup n) p ≡ freshStation n p
-unfolding freshGroup
-fresh-at n p h l = fill-below n (freshStation n) (replicate 16 (freshStation 1 0)) p noStation l (omega arith)
-
 fresh-length : (n : ℕ) → length (freshGroup n) ≡ 16
 unfolding freshGroup
 fresh-length n = length-fill n (freshStation n) (replicate 16 (freshStation 1 0))
@@ -70,14 +67,14 @@ round-at g masks p l b = fill-below (sizeOf g) (λ i. afterTurn ((heard g masks 
 turned-member : (n p : ℕ) (s t : Station) → Unheard s t → Member n p s → Member n p (afterTurn t)
 turned-member n p s t h m =
     record {
-      size = afterTurn-n t ∙ sym (h .n) ∙ m .size;
-      place = afterTurn-own t ∙ sym (h .own) ∙ m .place;
-      lanes = length-afterTurn t ∙ sym (h .lanes) ∙ m .lanes;
+      size = turn-n t ∙ sym (h .n) ∙ m .size;
+      place = turn-own t ∙ sym (h .own) ∙ m .place;
+      lanes = turn-lanes-length t ∙ sym (h .lanes) ∙ m .lanes;
     }
 
 module _ (R : Run) where
   pub first-at : (p : ℕ) → p < R .n → stationAt (R .after 0) p ≡ freshStation (R .n) p
-  first-at p l = ap (λ (g : List Station). stationAt g p) (R .first) ∙ fresh-at (R .n) p (R .high) l
+  first-at p l = ap (λ (g : List Station). stationAt g p) (R .first) ∙ fresh-at (R .n) (R .high) p l
 
   ready-shape : (u : ℕ) → Shape (R .n) (R .after u) → Shape (R .n) (R .ready u)
   ready-shape u h =

@@ -20,7 +20,7 @@ use Rattle.links.specs.Number.{numOf, got}
 use Rattle.links.specs.Number as number
 use Rattle.links.proofs.Clock.{news-own, news-start, news-limit, news-keeps}
 use Rattle.links.proofs.Number.{step, num-zero}
-use Rattle.links.proofs.Got.{numOf-none, numOf-some, numOf-mono, got-step}
+use Rattle.links.proofs.Got.{numOf-none, numOf-some, numOf-mono, got-numOf, got-step}
 use Rattle.station.specs.declared.Station.{Station}
 use Rattle.station.specs.State.{freshStation}
 use Rattle.station.specs.Turn.{startedBody}
@@ -159,10 +159,6 @@ module _ (R : Run) (S : Simulated R) where
   unfolding got
   rises-numOf u p s = refl
 
-  got-numOf : (u p s : ℕ) → got L u p s ≡ numOf L s (news L u p s)
-  unfolding got
-  got-numOf u p s = refl
-
   pub version-step : (u p s : ℕ) → p < R .n → s < R .n
       → startedAt R s (news L (suc u) p s)
       ≡ startedAt R s (news L u p s) ++ cond (rises R u p s) (unlessEmpty (bodyAt R s (news L (suc u) p s))) []
@@ -170,7 +166,7 @@ module _ (R : Run) (S : Simulated R) where
       let v = news L u p s in
       let v′ = news L (suc u) p s in
       let e : v′ - v + v ≡ v′ = omega (arith, news-keeps L u p s) in
-      let g : numOf L s (v′ - v + v) ≤ numOf L s v + 1 = rw e (omega (arith, got-step L u p s lp, got-numOf u p s, got-numOf (suc u) p s)) in
+      let g : numOf L s (v′ - v + v) ≤ numOf L s v + 1 = rw e (omega (arith, got-step L u p s lp, got-numOf L u p s, got-numOf L (suc u) p s)) in
       (rw e at (later (v′ - v) v s ls g))
       ∙ ap (λ (b : Bool). startedAt R s v ++ cond b (unlessEmpty (bodyAt R s v′)) []) (sym (rises-numOf u p s))
 

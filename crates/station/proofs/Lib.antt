@@ -5,7 +5,7 @@ pub mod Shape
 pub mod LimitsQueue
 pub mod StationLimits
 pub mod LimitsFresh
-pub mod HeardNewer
+pub mod Cells
 pub mod LimitsHear
 pub mod LimitsHearing
 pub mod LimitsSent
@@ -14,7 +14,6 @@ pub mod LimitsTurn
 pub mod LaneLaws
 pub mod Unheard
 pub mod TurnParts
-pub mod Cells
 pub mod TurnCells
 pub mod LaneSteps
 pub mod QueueSteps
