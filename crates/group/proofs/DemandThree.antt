@@ -40,7 +40,7 @@ module _ (n : ℕ) (low : 1 ≤ n) (high : n ≤ 16) (calls : List Call) where
       record {
         inside = members-inside n (R .ready u) c;
         counts = λ k l. simulation.own-count-inside R u k (omega (arith, c .size));
-        room = λ i l. never-overfull R (simulation.simulated R) u i (omega (arith, c .size));
+        room = λ i l. never-overfull R u i (omega (arith, c .size));
       }
 
   -- the group is inside its limits after every round
@@ -52,7 +52,7 @@ module _ (n : ℕ) (low : 1 ≤ n) (high : n ≤ 16) (calls : List Call) where
 
   free : Unrefused R
   free =
-      from-run.unrefused R (simulation.simulated R)
+      from-run.unrefused R
       (λ u. members-inside n (R .ready u) (ready-members u (after-rounds u)))
       (λ u p l. simulation.own-count-inside R u p l)
 
@@ -78,14 +78,14 @@ module _ (n : ℕ) (low : 1 ≤ n) (high : n ≤ 16) (calls : List Call) where
   demand : Demand n H
   demand =
       record {
-        taken-begins-started = from-run.taken-begins-started n low high calls (simulation.simulated R) free;
-        aired-lists-agree = from-run.aired-lists-agree n low high calls (simulation.simulated R) free;
-        no-round-refused = from-run.no-round-refused n low high calls (simulation.simulated R) free;
+        taken-begins-started = from-run.taken-begins-started n low high calls free;
+        aired-lists-agree = from-run.aired-lists-agree n low high calls free;
+        no-round-refused = from-run.no-round-refused n low high calls free;
         own-count-bounded = own-count;
         held-count-bounded = held-count;
         lanes-bounded = lanes-bounded n low high calls;
         posts-accounted = posts-accounted n low high calls;
-        ends-exactly = from-run.ends-exactly n low high calls (simulation.simulated R) free;
+        ends-exactly = from-run.ends-exactly n low high calls free;
       }
 
 pub demand-three : DemandThree

@@ -24,6 +24,8 @@ use Rattle.station.specs.Turn.{afterTurn}
 use Rattle.group.specs.State.{stationAt, sizeOf, freshGroup}
 use Rattle.group.specs.Calls.{heard, afterRound}
 use Rattle.group.proofs.Run.{Run, SameButWaiting, linksOf, hearingIn}
+use Rattle.station.proofs.Shape.{fresh-shaped}
+use Rattle.group.proofs.Members.{fresh-at}
 use Rattle.group.proofs.Version.{Stands, CellAt}
 use Rattle.group.proofs.Standing.{Formed}
 use Rattle.group.proofs.HearParts.{cell-move}
@@ -73,12 +75,8 @@ module _ (R : Run) where
 
   -- the fresh group
   module _ (p : ℕ) (lp : p < R .n) where
-    start-station : stationAt (R .after 0) p ≡ freshStation (R .n) p
-    unfolding freshGroup
-    start-station =
-        let high = R .high in
-        ap (λ g. stationAt g p) (R .first)
-        ∙ fill-below (R .n) (freshStation (R .n)) (replicate 16 (freshStation 1 0)) p _ lp (omega arith)
+    pub first-at : stationAt (R .after 0) p ≡ freshStation (R .n) p
+    first-at = ap (λ g. stationAt g p) (R .first) ∙ fresh-at (R .n) (R .high) p lp
 
     fresh-labels : (q : ℕ) → q < R .n → Dec (q ≡ p) → getD (set (replicate 16 0) p 1) q 0 ≡ got L 0 p q % 3
     fresh-labels q l (yes e) =
@@ -112,7 +110,7 @@ module _ (R : Run) where
                 station = refl;
                 count = sym (fresh-start R 0 p lp (start-zero L p));
                 body =
-                    ap (λ (s : Station). s .body) (sym start-station)
+                    ap (λ (s : Station). s .body) (sym first-at)
                     ∙ ap (λ (t : ℕ). (stationAt (R .after t) p) .body) (sym (start-zero L p));
                 labels = λ k b. fresh-labels k b (ℕ-discrete k p);
               }));
@@ -132,37 +130,29 @@ module _ (R : Run) where
     fresh-formed : Formed R p (freshStation (R .n) p)
     unfolding freshStation
     fresh-formed =
+        let c = fresh-shaped (R .n) p in
+        let high = R .high in
         record {
           size = refl;
           own = refl;
-          acked = length-set (replicate 16 false) p true;
-          labels = length-set (replicate 16 0) p 1;
-          held = length-set (replicate 16 false) p true;
-          table = length-set (replicate 16 zeroRecord) p _;
-          lanes = refl;
-          record-labels = λ q l. one q l (ℕ-discrete q p);
+          acked = c .acked;
+          labels = c .labels;
+          held = c .held;
+          table = c .table;
+          lanes = c .lanes;
+          record-labels = λ q l. c .record-labels q (omega arith);
         }
-      where
-        one : (q : ℕ) → q < R .n → Dec (q ≡ p) → length ((recordOf (freshStation (R .n) p) q) .labels) ≡ 16
-        one q l (yes e) =
-            let high = R .high in
-            subst (λ i. length ((recordOf (freshStation (R .n) p) i) .labels) ≡ 16) (sym e)
-            (ap (λ (r : Record). length (r .labels)) (one-here zeroRecord _ noRecord p (omega arith))
-            ∙ length-set (replicate 16 0) p 1)
-        one q l (no d) =
-            let high = R .high in
-            ap (λ (r : Record). length (r .labels)) (one-other zeroRecord _ noRecord p (omega arith) q (omega arith) d)
 
     fresh-after : After R 0 p (stationAt (R .after 0) p)
     unfolding freshStation
     fresh-after =
         record {
-          formed = subst (λ s. Formed R p s) (sym start-station) fresh-formed;
+          formed = subst (λ s. Formed R p s) (sym first-at) fresh-formed;
           body = ap (λ (t : ℕ). (stationAt (R .after t) p) .body) (sym (start-zero L p));
-          count = ap (λ (s : Station). s .count) start-station ∙ sym (fresh-start R 0 p lp (start-zero L p));
+          count = ap (λ (s : Station). s .count) first-at ∙ sym (fresh-start R 0 p lp (start-zero L p));
           cells =
               λ q l.
-              subst (λ s. CellAt R 0 p q (news L 0 p q) s) (sym start-station)
+              subst (λ s. CellAt R 0 p q (news L 0 p q) s) (sym first-at)
               (fresh-cell q l (ℕ-discrete q p));
         }
 
@@ -199,3 +189,7 @@ module _ (R : Run) where
 
   pub ready-all : (u p : ℕ) → p < R .n → After R u p (stationAt (R .ready u) p)
   ready-all u p lp = after-same u p (stationAt (R .after u) p) (stationAt (R .ready u) p) (R .posts u p) (after-all u p lp)
+
+  -- station p after round u + 1
+  pub after-at : (u p : ℕ) → p < R .n → stationAt (R .after (suc u)) p ≡ afterTurn ((hearingIn R u p) .station)
+  after-at u p lp = round-station u p lp (ready-all u 0 (R .low) .formed .size)

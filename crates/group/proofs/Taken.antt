@@ -2,7 +2,7 @@
 -- one whose number is at most one higher, at most one body comes: that of the later version.
 use mathlib.Core.Bool.{Bool, true, false, cond}
 use mathlib.Core.Logic.{_⊎_, inl, inr, ⊎-elim}
-use mathlib.Core.List.{List, [], _∷_, _++_}
+use mathlib.Core.List.{List, [], _∷_, _++_, append-nil}
 use mathlib.Core.Path.{_≡_, refl, sym, ap, _∙_}
 use Prim.Native.Nat.{ℕ, zero, suc, pred, _+_, _-_, _≤_, _<_}
 use native.Mathlib.Decide.{ℕ-discrete}
@@ -28,9 +28,10 @@ use Rattle.station.proofs.TurnParts.{started-stays, body-ends, body-stays, repo
 use Rattle.group.specs.State.{stationAt}
 use Rattle.group.specs.History.{takingsOf, unlessEmpty}
 use Rattle.group.specs.Demand.{Begins}
-use Rattle.group.proofs.Run.{Run, Simulated, linksOf, hearingIn, bodyAt, rises}
-use Rattle.group.proofs.Begin.{append-nil, begins-nil, begins-refl, begins-append, begins-trans}
-use Rattle.group.proofs.Shape.{first-at, after-at, hearing-unheardIn}
+use Rattle.group.proofs.Run.{Run, linksOf, hearingIn, bodyAt, rises}
+use Rattle.group.proofs.Simulation.{simulated, heard-standing}
+use Rattle.group.proofs.Begin.{begins-nil, begins-refl, begins-append, begins-trans}
+use Rattle.group.proofs.Rounds.{first-at, after-at}
 use Rattle.group.proofs.Lists.{startedBy, heardBy, takenBy, startedAt, madeBy}
 use Rattle.group.proofs.Counting.{shown}
 
@@ -38,7 +39,7 @@ fresh-body : (n p : ℕ) → (freshStation n p) .body ≡ Empty
 unfolding freshStation
 fresh-body n p = refl
 
-module _ (R : Run) (S : Simulated R) where
+module _ (R : Run) where
   abbrev L : Links
   L = linksOf R
 
@@ -76,21 +77,21 @@ module _ (R : Run) (S : Simulated R) where
       startedBy-step u s
       ∙ ap
       (λ (b : Body). startedBy R u s ++ unlessEmpty b)
-      (sym (ap (λ (t : Station). t .body) (after-at R u s l) ∙ body-ends h (S .ends u s l ∙ e)))
+      (sym (ap (λ (t : Station). t .body) (after-at R u s l) ∙ body-ends h (simulated R .ends u s l ∙ e)))
 
   round-stays : (u s : ℕ) → s < R .n → number.ends L (suc u) s ≡ false → startedBy R (suc u) s ≡ startedBy R u s
   round-stays u s l e =
       let h = (hearingIn R u s) .station in
       startedBy-step u s
-      ∙ ap (λ (b : Body). startedBy R u s ++ unlessEmpty b) (started-stays h (S .ends u s l ∙ e))
+      ∙ ap (λ (b : Body). startedBy R u s ++ unlessEmpty b) (started-stays h (simulated R .ends u s l ∙ e))
       ∙ append-nil (startedBy R u s)
 
   round-body : (u s : ℕ) → s < R .n → number.ends L (suc u) s ≡ false → body (suc u) s ≡ body u s
   round-body u s l e =
       let h = (hearingIn R u s) .station in
       ap (λ (t : Station). t .body) (after-at R u s l)
-      ∙ body-stays h (S .ends u s l ∙ e)
-      ∙ sym ((hearing-unheardIn R u s) .body)
+      ∙ body-stays h (simulated R .ends u s l ∙ e)
+      ∙ heard-standing R u s l .body
       ∙ sym ((R .posts u s) .body)
 
   -- The same from a version to the next.
@@ -176,7 +177,7 @@ module _ (R : Run) (S : Simulated R) where
   heard-version (suc u) p s lp ls d =
       heardBy-step u p s
       ∙ ap (λ (xs : List Body). xs ++ takingsOf s ((hearingIn R u p) .takings)) (heard-version u p s lp ls d)
-      ∙ ap (λ (xs : List Body). startedAt R s (news L u p s) ++ xs) (S .takings u p s lp ls d)
+      ∙ ap (λ (xs : List Body). startedAt R s (news L u p s) ++ xs) (simulated R .takings u p s lp ls d)
       ∙ sym (version-step u p s lp ls)
 
   pub taken-version : (u p s : ℕ) → p < R .n → s < R .n → takenBy R u p s ≡ startedAt R s (news L u p s)
@@ -212,7 +213,7 @@ module _ (R : Run) (S : Simulated R) where
 
   -- At most one body of a station is taken in a round.
   pub taken-one : (u p s : ℕ) → p < R .n → s < R .n → (p ≡ s → ⊥) → length (takingsOf s ((hearingIn R u p) .takings)) ≤ 1
-  taken-one u p s lp ls d = rw (S .takings u p s lp ls d) (go (rises R u p s) (bodyAt R s (news L (suc u) p s)))
+  taken-one u p s lp ls d = rw (simulated R .takings u p s lp ls d) (go (rises R u p s) (bodyAt R s (news L (suc u) p s)))
     where
       one : (b : Bool) (x : Body) → length (cond b [] (x ∷ [])) ≤ 1
       one true x = omega arith

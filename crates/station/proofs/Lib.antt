@@ -12,7 +12,6 @@ pub mod LimitsSent
 pub mod TurnLaws
 pub mod LimitsTurn
 pub mod LaneLaws
-pub mod Unheard
 pub mod TurnParts
 pub mod TurnCells
 pub mod LaneSteps

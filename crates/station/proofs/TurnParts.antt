@@ -1,11 +1,10 @@
 -- What a turn does, case by case: the body it starts, the body it leaves, and what it reports. Each is the definition at one value of its test.
 use mathlib.Core.Bool.{Bool, true, false, cond, not}
-use mathlib.Core.Path.{_≡_, refl, ap}
+use mathlib.Core.Path.{_≡_, refl, ap, _∙_}
 use Prim.Native.Nat.{ℕ, _<_, _≤_}
 use native.Mathlib.Omega.{arith}
 use lib.Dec.{ltb, eqb}
-use lib.ListN.{getD, set, length, replicate}
-use lib.Seq.{getD-set-same, getD-set-other}
+use lib.ListN.{getD, length, replicate}
 use Rattle.kinds.specs.declared.Body.{Body}
 use Rattle.kinds.specs.declared.Body.the-variants.{Empty}
 use Rattle.kinds.specs.Body.{kindOf}
@@ -19,6 +18,7 @@ use Rattle.station.specs.Queue.{noSlot}
 use Rattle.station.specs.State.{ackedOf, laneAt}
 use Rattle.station.specs.Turn.{airs, rowOf, lanesAfter, ends, mayStart, startedBody, passed, rewritten, afterTurn, turnReport}
 use Rattle.station.proofs.Shape.{lanesAfter-length}
+use Rattle.station.proofs.TurnLaws.{laneAfter, passed-own-lane, passed-other-lane}
 
 -- a row is aired where every lane has a body, and the broadcast ends where every station is acknowledged
 pub airs-each : (s : Station) → airs s ≡ allBelow (s .n) (λ k. ltb 0 ((laneAt s k) .len))
@@ -70,7 +70,7 @@ report-row s e = rw e
 
 -- a lane after the airing step, and after the turn
 pub lanesAfter-at : (s : Station) (k : ℕ) → k < s .n → k < length (s .lanes)
-    → getD (lanesAfter s) k noLane ≡ cond (airs s) (popped (laneAt s k)) (laneAt s k)
+    → laneAfter s k ≡ cond (airs s) (popped (laneAt s k)) (laneAt s k)
 unfolding lanesAfter
 lanesAfter-at s k l b = go (airs s)
   where
@@ -79,38 +79,21 @@ lanesAfter-at s k l b = go (airs s)
     go true = fill-below (s .n) (λ i. popped (laneAt s i)) (s .lanes) k noLane l b
     go false = refl
 
-afterTurn-lanes : (s : Station)
-    → (afterTurn s) .lanes
-    ≡ cond (eqb (kindOf (startedBody s)) 0)
-    (lanesAfter s)
-    (set (lanesAfter s) (s .own) (pushed (getD (lanesAfter s) (s .own) noLane) (startedBody s)))
-unfolding afterTurn rewritten passed
-afterTurn-lanes s = refl
-
-pub lane-other : (s : Station) (k : ℕ) → (k ≡ s .own → ⊥) → laneAt (afterTurn s) k ≡ getD (lanesAfter s) k noLane
-lane-other s k d = rw (afterTurn-lanes s) (go (eqb (kindOf (startedBody s)) 0))
-  where
-    new : Lane
-    new = pushed (getD (lanesAfter s) (s .own) noLane) (startedBody s)
-
-    go : (b : Bool) → getD (cond b (lanesAfter s) (set (lanesAfter s) (s .own) new)) k noLane ≡ getD (lanesAfter s) k noLane
-    go true = refl
-    go false = getD-set-other (lanesAfter s) (s .own) k new noLane d
+pub lane-other : (s : Station) (k : ℕ) → (k ≡ s .own → ⊥) → laneAt (afterTurn s) k ≡ laneAfter s k
+unfolding afterTurn rewritten
+lane-other s k d = passed-other-lane s k d
 
 pub lane-own : (s : Station) → s .own < length (s .lanes)
     → laneAt (afterTurn s) (s .own)
-    ≡ cond (not (eqb (kindOf (startedBody s)) 0))
-    (pushed (getD (lanesAfter s) (s .own) noLane) (startedBody s))
-    (getD (lanesAfter s) (s .own) noLane)
-lane-own s l = rw (afterTurn-lanes s) (go (eqb (kindOf (startedBody s)) 0))
+    ≡ cond (not (eqb (kindOf (startedBody s)) 0)) (pushed (laneAfter s (s .own)) (startedBody s)) (laneAfter s (s .own))
+unfolding afterTurn rewritten
+lane-own s l =
+    passed-own-lane s (rw (lanesAfter-length s) l)
+    ∙ turned (eqb (kindOf (startedBody s)) 0) (laneAfter s (s .own)) (pushed (laneAfter s (s .own)) (startedBody s))
   where
-    new : Lane
-    new = pushed (getD (lanesAfter s) (s .own) noLane) (startedBody s)
-
-    go : (b : Bool)
-        → getD (cond b (lanesAfter s) (set (lanesAfter s) (s .own) new)) (s .own) noLane ≡ cond (not b) new (getD (lanesAfter s) (s .own) noLane)
-    go true = refl
-    go false = getD-set-same (lanesAfter s) (s .own) new noLane (rw (lanesAfter-length s) l)
+    turned : (b : Bool) (x y : Lane) → cond b x y ≡ cond (not b) y x
+    turned true x y = refl
+    turned false x y = refl
 
 -- the row that is aired
 pub row-at : (s : Station) (k : ℕ) → k < s .n → s .n ≤ 16 → (getD (rowOf s) k noSlot) .body ≡ (laneAt s k) .first
