@@ -1,7 +1,7 @@
 -- The lists of a history are those of its run by the end of its last round: each is collected round after round, and what a round reports of a station
 -- is what the run has of it.
 use mathlib.Core.Bool.{Bool, true, false, cond}
-use mathlib.Core.List.{List, [], _∷_, _++_, append-nil, append-assoc}
+use mathlib.Core.List.{List, [], _∷_, _++_}
 use mathlib.Core.Path.{_≡_, refl, sym, ap, _∙_}
 use Prim.Native.Nat.{ℕ, zero, suc, _-_, _≤_, _<_}
 use native.Mathlib.Decide.{ℕ-discrete}
@@ -22,6 +22,7 @@ use Rattle.group.specs.declared.RoundDone.{RoundDone}
 use Rattle.group.specs.Calls.{heard, noTaking, reportOf}
 use Rattle.group.specs.History.{History, collect, noRound, reportIn, started, takenFrom, airedList, endsAt, startedIn, takingsOf, unlessEmpty, editsOf}
 use Rattle.group.proofs.Run.{Run, linksOf, hearingIn}
+use Rattle.group.proofs.PostsAccounted.{collect-last}
 use Rattle.group.proofs.Simulation.{simulated}
 use Rattle.group.proofs.Lists.{turnIn, startedBy, heardBy, takenBy, airedBy}
 use Rattle.group.proofs.HistoryRun.{roundIn, roundsBy, rounds-at, report-at}
@@ -39,11 +40,6 @@ report-takings g masks p =
     take-append-seam ts (replicate (30 - length ts) noTaking)
 
 module _ {A : Type 0} where
-  collect-last : (f : RoundDone → List A) (rs : List RoundDone) (r : RoundDone) → collect f (rs ++ (r ∷ [])) ≡ collect f rs ++ f r
-  unfolding collect
-  collect-last f [] r = append-nil (f r)
-  collect-last f (x ∷ rs) r = ap (λ (l : List A). f x ++ l) (collect-last f rs r) ∙ sym (append-assoc (f x) (collect f rs) (f r))
-
   -- a list by time that grows by what each round adds
   collect-rounds : (R : Run) (f : RoundDone → List A) (by : ℕ → List A)
       → by 0 ≡ []

@@ -17,15 +17,14 @@ use Rattle.links.proofs.Clock.{news-own, news-start}
 use Rattle.links.proofs.Number.{num-zero, start-zero}
 use Rattle.links.proofs.Got.{got-none, got-own}
 use Rattle.frames.specs.declared.Record.{Record}
-use Rattle.places.proofs.Laws.{fill-below, length-fill}
 use Rattle.station.specs.declared.Station.{Station}
 use Rattle.station.specs.State.{recordOf, noRecord, zeroRecord, freshStation}
 use Rattle.station.specs.Turn.{afterTurn}
-use Rattle.group.specs.State.{stationAt, sizeOf, freshGroup}
-use Rattle.group.specs.Calls.{heard, afterRound}
+use Rattle.group.specs.State.{stationAt, sizeOf}
 use Rattle.group.proofs.Run.{Run, SameButWaiting, linksOf, hearingIn}
 use Rattle.station.proofs.Shape.{fresh-shaped}
-use Rattle.group.proofs.Members.{fresh-at}
+use Rattle.group.proofs.Members.{fresh-at, fresh-shape}
+use Rattle.group.proofs.MembersRound.{round-at, round-length}
 use Rattle.group.proofs.Version.{Stands, CellAt}
 use Rattle.group.proofs.Standing.{Formed}
 use Rattle.group.proofs.HearParts.{cell-move}
@@ -158,23 +157,16 @@ module _ (R : Run) where
 
   -- sixteen stations
   pub after-length : (u : ℕ) → length (R .after u) ≡ 16
-  unfolding freshGroup afterRound
-  after-length zero =
-      ap length (R .first) ∙ length-fill (R .n) (freshStation (R .n)) (replicate 16 (freshStation 1 0))
+  after-length zero = ap length (R .first) ∙ fresh-shape (R .n) (R .high) .places
   after-length (suc u) =
-      ap length (R .step u)
-      ∙ length-fill (sizeOf (R .ready u)) (λ i. afterTurn ((heard (R .ready u) (R .masks (suc u)) i) .station)) (R .ready u)
-      ∙ R .length-ready u
-      ∙ after-length u
+      ap length (R .step u) ∙ round-length (R .ready u) (R .masks (suc u)) ∙ R .length-ready u ∙ after-length u
 
   round-station :
       (u p : ℕ) → p < R .n → sizeOf (R .ready u) ≡ R .n → stationAt (R .after (suc u)) p ≡ afterTurn ((hearingIn R u p) .station)
-  unfolding afterRound
   round-station u p lp e =
       let high = R .high in
       ap (λ g. stationAt g p) (R .step u)
-      ∙ fill-below (sizeOf (R .ready u)) (λ i. afterTurn ((heard (R .ready u) (R .masks (suc u)) i) .station)) (R .ready u) p _ (omega arith)
-      (omega (arith, R .length-ready u, after-length u))
+      ∙ round-at (R .ready u) (R .masks (suc u)) p (omega arith) (omega (arith, R .length-ready u, after-length u))
 
   -- every round
   pub after-all : (u p : ℕ) → p < R .n → After R u p (stationAt (R .after u) p)

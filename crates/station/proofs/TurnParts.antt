@@ -1,6 +1,6 @@
 -- What a turn does, case by case: the body it starts, the body it leaves, and what it reports. Each is the definition at one value of its test.
 use mathlib.Core.Bool.{Bool, true, false, cond, not}
-use mathlib.Core.Path.{_≡_, refl, ap, _∙_}
+use mathlib.Core.Path.{_≡_, refl, sym, ap, _∙_}
 use Prim.Native.Nat.{ℕ, _<_, _≤_}
 use native.Mathlib.Omega.{arith}
 use lib.Dec.{ltb, eqb}
@@ -9,8 +9,7 @@ use Rattle.kinds.specs.declared.Body.{Body}
 use Rattle.kinds.specs.declared.Body.the-variants.{Empty}
 use Rattle.kinds.specs.Body.{kindOf}
 use Rattle.places.specs.Places.{allBelow, fill}
-use Rattle.places.proofs.Laws.{fill-below}
-use Rattle.station.specs.declared.Lane.{Lane}
+use Rattle.places.proofs.Laws.{cond-not, fill-below}
 use Rattle.station.specs.declared.Slot.{Slot}
 use Rattle.station.specs.declared.Station.{Station}
 use Rattle.station.specs.Lane.{noLane, pushed, popped}
@@ -89,11 +88,7 @@ pub lane-own : (s : Station) → s .own < length (s .lanes)
 unfolding afterTurn rewritten
 lane-own s l =
     passed-own-lane s (rw (lanesAfter-length s) l)
-    ∙ turned (eqb (kindOf (startedBody s)) 0) (laneAfter s (s .own)) (pushed (laneAfter s (s .own)) (startedBody s))
-  where
-    turned : (b : Bool) (x y : Lane) → cond b x y ≡ cond (not b) y x
-    turned true x y = refl
-    turned false x y = refl
+    ∙ sym (cond-not (eqb (kindOf (startedBody s)) 0) (pushed (laneAfter s (s .own)) (startedBody s)) (laneAfter s (s .own)))
 
 -- the row that is aired
 pub row-at : (s : Station) (k : ℕ) → k < s .n → s .n ≤ 16 → (getD (rowOf s) k noSlot) .body ≡ (laneAt s k) .first
