@@ -6,11 +6,9 @@ use mathlib.Core.List.{List}
 use mathlib.Core.Path.{_≡_, ap, _∙_}
 use native.Mathlib.Omega.{arith}
 use lib.ListN.{getD, length}
-use Rattle.station.specs.declared.Station.{Station}
 use Rattle.frames.specs.declared.Record.{Record}
 use Rattle.station.specs.State.{noRecord, heldOf, recordOf}
-use Rattle.station.specs.Calls.{ownCountInside}
-use Rattle.group.specs.State.{stationAt, sizeOf, groupInside}
+use Rattle.group.specs.State.{stationAt}
 use Rattle.group.specs.History.{History, Call, historyOf}
 use Rattle.group.specs.Demand.{Demand, DemandThree}
 use Rattle.group.proofs.Run.{Run, SameButWaiting}
@@ -19,7 +17,7 @@ use Rattle.group.proofs.Members.{Members, members-inside, fresh-members
 use Rattle.group.proofs.MembersPost.{post-members}
 use Rattle.group.proofs.MembersRound.{Runs, after-members}
 use Rattle.group.proofs.Lanes.{never-overfull}
-use Rattle.group.proofs.CallRun.{runOf, afterPosts, callsAfter, groupAfter, group-first, group-step, posts-keep}
+use Rattle.group.proofs.CallRun.{runOf, callsAfter, groupAfter, group-first, group-step, posts-keep}
 use Rattle.group.proofs.HistoryRun.{Unrefused, history-group}
 use Rattle.group.proofs.PostsAccounted.{posts-accounted}
 use Rattle.group.proofs.HistoryInside.{lanes-bounded}

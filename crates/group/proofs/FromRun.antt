@@ -13,7 +13,6 @@ use Rattle.links.specs.EndRule.{EndsIn}
 use Rattle.links.proofs.EndRule.{ends-rule}
 use Rattle.places.specs.Places.{anyBelow}
 use Rattle.places.proofs.Laws.{anyBelow-none}
-use Rattle.station.specs.declared.Station.{Station}
 use Rattle.station.specs.Calls.{ownCountInside}
 use Rattle.group.specs.declared.RoundDone.{RoundDone}
 use Rattle.group.specs.State.{stationAt, sizeOf, groupInside}
@@ -26,7 +25,7 @@ use Rattle.group.proofs.Taken as taken
 use Rattle.group.proofs.Lanes.{never-overfull}
 use Rattle.group.proofs.Aired as aired
 use Rattle.group.proofs.CallRun.{runOf}
-use Rattle.group.proofs.HistoryRun.{Unrefused, roundIn, roundsBy, rounds-at, history-rounds, history-group, history-links}
+use Rattle.group.proofs.HistoryRun.{Unrefused, roundIn, roundsBy, rounds-at, history-rounds, history-links}
 use Rattle.group.proofs.HistoryLists.{started-list, taken-list, aired-list, ends-list, starts-list}
 
 -- refusals 2 and 10 apart, no round of a run is refused: a lane that holds two never gets a third

@@ -30,7 +30,7 @@ use Rattle.links.specs.Log.{hearsIn}
 use Rattle.group.specs.State.{stationAt, freshGroup, groupInside}
 use Rattle.group.specs.Calls.{groupPostRefusal, roundRefusal, hearing, afterRound, reportOf, roundCall}
 use Rattle.group.specs.Calls.{postCall as groupPost}
-use Rattle.group.specs.History.{History, Call, Call.post, Call.round, next, begun, continued}
+use Rattle.group.specs.History.{History, Call.post, Call.round, next, begun, continued}
 use Rattle.group.specs.Marked.{Marked, oneStation, turnIn}
 
 module _ (s : Station) (inside : stationInside s ≡ true) where

@@ -24,7 +24,7 @@ use Rattle.station.specs.Calls.{posted, noTurn}
 use Rattle.group.specs.declared.Report.{Report}
 use Rattle.group.specs.State.{groupInside, freshGroup}
 use Rattle.group.specs.Calls.{groupPostRefusal, postCall, hearing, noReport, reportOf, roundRefusal, afterRound, roundCall}
-use Rattle.group.specs.History.{History, Call, Call.post, Call.round, next, begun, continued, historyOf, noRound, reportIn, unlessEmpty, editsOf, collect, started, takingsOf, takenFrom, airedList, endsAt}
+use Rattle.group.specs.History.{History, Call.post, Call.round, next, begun, continued, historyOf, noRound, reportIn, unlessEmpty, editsOf, collect, started, takingsOf, takenFrom, airedList, endsAt}
 
 -- a line of the listing: a body taken, aired or ended, with its source
 pub data Line : Type 0 where
