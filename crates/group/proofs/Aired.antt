@@ -2,7 +2,7 @@
 -- aired list is a beginning of one list of rows, and of two aired lists one is a beginning of the other.
 use mathlib.Core.Bool.{Bool, true, false, cond}
 use mathlib.Core.Logic.{_⊎_, inl, inr}
-use mathlib.Core.List.{List, [], _++_}
+use mathlib.Core.List.{List, [], _++_, append-nil}
 use mathlib.Core.Path.{_≡_, refl, sym, ap, _∙_}
 use Prim.Native.Nat.{ℕ, zero, suc, min, _+_, _-_, _≤_, _<_}
 use native.Mathlib.Decide.{decLe}
@@ -28,9 +28,9 @@ use Rattle.station.proofs.LaneLaws.{holds-first}
 use Rattle.station.proofs.TurnParts.{report-aired, report-row, row-at}
 use Rattle.group.specs.History.{editsOf}
 use Rattle.group.specs.Demand.{Begins}
-use Rattle.group.proofs.Run.{Run, Simulated, linksOf, hearingIn}
-use Rattle.group.proofs.Begin.{append-nil, begins-refl, begins-append, begins-trans, begins-getD}
-use Rattle.group.proofs.Shape.{hearing-member}
+use Rattle.group.proofs.Run.{Run, linksOf, hearingIn}
+use Rattle.group.proofs.Simulation.{heard-standing}
+use Rattle.group.proofs.Begin.{begins-refl, begins-append, begins-trans, begins-getD}
 use Rattle.group.proofs.Lists.{startedBy, airedBy, rowsBy, madeBy, startedAt, turnIn}
 use Rattle.group.proofs.Taken.{version-begins, length-version}
 use Rattle.group.proofs.Counting.{reached}
@@ -63,7 +63,7 @@ edits-ext n row f h =
     (λ k l. ap (λ (b : Body). isEdit b) (h k l))
     (λ k l. ap {B = Taking} (λ (b : Body). record { source = k; body = b }) (h k l))
 
-module _ (R : Run) (S : Simulated R) where
+module _ (R : Run) where
   abbrev L : Links
   L = linksOf R
 
@@ -73,28 +73,28 @@ module _ (R : Run) (S : Simulated R) where
   oldest-at u v p s h lp ls e =
       let k = rowsBy R u p in
       let w = min (suc u) (news L (suc u) p s) in
-      let len = length-version R S s w in
+      let len = length-version R s w in
       let more : k < reached L (madeBy R) u p s =
       ltb-true
       k
       (reached L (madeBy R) u p s)
-      (allBelow-at (R .n) (λ r. ltb k (reached L (madeBy R) u p r)) (sym (airs-exactly R S u p lp) ∙ e) s ls) in
+      (allBelow-at (R .n) (λ r. ltb k (reached L (madeBy R) u p r)) (sym (airs-exactly R u p lp) ∙ e) s ls) in
       holds-first
       (laneAt ((hearingIn R u p) .station) s)
       (drop k (startedAt R s w))
       Empty
-      (hearing-holds R S u p s lp ls)
+      (hearing-holds R u p s lp ls)
       (omega (arith, length-drop k (startedAt R s w)))
       ∙ getD-drop k (startedAt R s w) 0 Empty
       ∙ ap (λ (i : ℕ). getD (startedAt R s w) i Empty) (add-zero k)
-      ∙ begins-getD (startedAt R s w) (startedBy R v s) (version-begins R S w v s (omega arith)) k Empty (omega arith)
+      ∙ begins-getD (startedAt R s w) (startedBy R v s) (version-begins R w v s (omega arith)) k Empty (omega arith)
 
   -- T2: the row that p airs after k others has the k-th body that each station started.
   pub row-body : (u v p s : ℕ) → u ≤ v → p < R .n → s < R .n → airs ((hearingIn R u p) .station) ≡ true
       → (getD ((turnIn R u p) .row) s noSlot) .body ≡ getD (startedBy R v s) (rowsBy R u p) Empty
   row-body u v p s h lp ls e =
       let t = (hearingIn R u p) .station in
-      let m = hearing-member R u p lp in
+      let m = heard-standing R u p lp .formed in
       ap (λ (row : List Slot). (getD row s noSlot) .body) (report-row t e)
       ∙ row-at t s (omega (arith, m .size)) (omega (arith, m .size, R .high))
       ∙ oldest-at u v p s h lp ls e

@@ -1,19 +1,11 @@
 -- Beginnings of lists: a list begins itself and whatever is put after it, a beginning of a beginning is one, and its entries are the list's.
-use mathlib.Core.List.{List, [], _∷_, _++_}
+use mathlib.Core.List.{List, [], _++_, append-nil, append-assoc}
 use mathlib.Core.Path.{_≡_, refl, sym, ap, _∙_}
 use Prim.Native.Nat.{ℕ, _<_}
 use lib.ListN.{length, getD, List·getD-append}
 use Rattle.group.specs.Demand.{Begins}
 
 module _ {A : Type 0} where
-  pub append-nil : (xs : List A) → xs ++ [] ≡ xs
-  append-nil [] = refl
-  append-nil (x ∷ xs) = ap {B = List A} (λ r. x ∷ r) (append-nil xs)
-
-  pub append-assoc : (xs ys zs : List A) → (xs ++ ys) ++ zs ≡ xs ++ (ys ++ zs)
-  append-assoc [] ys zs = refl
-  append-assoc (x ∷ xs) ys zs = ap {B = List A} (λ r. x ∷ r) (append-assoc xs ys zs)
-
   pub begins-nil : (xs : List A) → Begins [] xs
   begins-nil xs = record { rest = xs; whole = refl }
 

@@ -6,11 +6,9 @@ use mathlib.Core.List.{List}
 use mathlib.Core.Path.{_≡_, ap, _∙_}
 use native.Mathlib.Omega.{arith}
 use lib.ListN.{getD, length}
-use Rattle.station.specs.declared.Station.{Station}
 use Rattle.frames.specs.declared.Record.{Record}
 use Rattle.station.specs.State.{noRecord, heldOf, recordOf}
-use Rattle.station.specs.Calls.{ownCountInside}
-use Rattle.group.specs.State.{stationAt, sizeOf, groupInside}
+use Rattle.group.specs.State.{stationAt}
 use Rattle.group.specs.History.{History, Call, historyOf}
 use Rattle.group.specs.Demand.{Demand, DemandThree}
 use Rattle.group.proofs.Run.{Run, SameButWaiting}
@@ -19,9 +17,10 @@ use Rattle.group.proofs.Members.{Members, members-inside, fresh-members
 use Rattle.group.proofs.MembersPost.{post-members}
 use Rattle.group.proofs.MembersRound.{Runs, after-members}
 use Rattle.group.proofs.Lanes.{never-overfull}
-use Rattle.group.proofs.CallRun.{runOf, afterPosts, callsAfter, groupAfter, group-first, group-step, posts-keep}
+use Rattle.group.proofs.CallRun.{runOf, callsAfter, groupAfter, group-first, group-step, posts-keep}
 use Rattle.group.proofs.HistoryRun.{Unrefused, history-group}
 use Rattle.group.proofs.PostsAccounted.{posts-accounted}
+use Rattle.group.proofs.HistoryInside.{lanes-bounded}
 use Rattle.group.proofs.FromRun as from-run
 
 module _ (n : ℕ) (low : 1 ≤ n) (high : n ≤ 16) (calls : List Call) where
@@ -39,7 +38,7 @@ module _ (n : ℕ) (low : 1 ≤ n) (high : n ≤ 16) (calls : List Call) where
       record {
         inside = members-inside n (R .ready u) c;
         counts = λ k l. simulation.own-count-inside R u k (omega (arith, c .size));
-        room = λ i l. never-overfull R (simulation.simulated R) u i (omega (arith, c .size));
+        room = λ i l. never-overfull R u i (omega (arith, c .size));
       }
 
   -- the group is inside its limits after every round
@@ -51,7 +50,7 @@ module _ (n : ℕ) (low : 1 ≤ n) (high : n ≤ 16) (calls : List Call) where
 
   free : Unrefused R
   free =
-      from-run.unrefused R (simulation.simulated R)
+      from-run.unrefused R
       (λ u. members-inside n (R .ready u) (ready-members u (after-rounds u)))
       (λ u p l. simulation.own-count-inside R u p l)
 
@@ -77,14 +76,14 @@ module _ (n : ℕ) (low : 1 ≤ n) (high : n ≤ 16) (calls : List Call) where
   demand : Demand n H
   demand =
       record {
-        taken-begins-started = from-run.taken-begins-started n low high calls (simulation.simulated R) free;
-        aired-lists-agree = from-run.aired-lists-agree n low high calls (simulation.simulated R) free;
-        no-round-refused = from-run.no-round-refused n low high calls (simulation.simulated R) free;
+        taken-begins-started = from-run.taken-begins-started n low high calls free;
+        aired-lists-agree = from-run.aired-lists-agree n low high calls free;
+        no-round-refused = from-run.no-round-refused n low high calls free;
         own-count-bounded = own-count;
         held-count-bounded = held-count;
-        lanes-bounded = from-run.lanes-bounded n low high calls (simulation.simulated R) free;
+        lanes-bounded = lanes-bounded n low high calls;
         posts-accounted = posts-accounted n low high calls;
-        ends-exactly = from-run.ends-exactly n low high calls (simulation.simulated R) free;
+        ends-exactly = from-run.ends-exactly n low high calls free;
       }
 
 pub demand-three : DemandThree

@@ -16,6 +16,7 @@ use Rattle.links.specs.Relay.{Links}
 use Rattle.links.specs.Number.{numOf, got}
 use Rattle.frames.specs.declared.Record.{Record}
 use Rattle.station.specs.declared.Lane.{Lane}
+use Rattle.places.proofs.Laws.{cond-not}
 use Rattle.station.specs.declared.Station.{Station}
 use Rattle.station.specs.declared.Taking.{Taking}
 use Rattle.station.specs.Lane.{pushed}
@@ -38,10 +39,6 @@ acked-mod g₀ g m a b c =
 pub label-step : (b : Bool) (l a a′ : ℕ) → l ≡ a % 3 → a′ ≡ cond b (suc a) a → cond b (successor l) l ≡ a′ % 3
 label-step true l a a′ e f = omega arith
 label-step false l a a′ e f = e ∙ ap (λ (i : ℕ). i % 3) (sym f)
-
-pub cond-not : {A : Type 0} (b : Bool) (x y : A) → cond (not b) x y ≡ cond b y x
-cond-not true x y = refl
-cond-not false x y = refl
 
 pub raised-step : (b : Bool) (c t : ℕ) → c < 255 → t ≡ cond b (suc c) c → cond b (raised c) c ≡ t
 raised-step true c t l e = rw (lt-ltb c 255 l) (omega arith)

@@ -29,6 +29,7 @@ use Rattle.station.specs.declared.Taking.{Taking}
 use Rattle.station.specs.Lane.{pushed}
 use Rattle.station.specs.State.{labelOf, ackedOf, recordOf, laneAt, recordLabel}
 use Rattle.station.specs.Hearing.{Hearing, counts, advances, takes, raised, heardNewer, hearRecord}
+use Rattle.station.proofs.HearRecord.{heardOne, hearRecord-skips, hearRecord-counts}
 use Rattle.station.proofs.Cells
 use Rattle.group.specs.History.{takingsOf}
 use Rattle.group.proofs.Run.{Run, linksOf}
@@ -233,8 +234,9 @@ module _ (R : Run) where
             rw (e, shown-same R q (vs′ q) (vs q) e))))
 
         standing-counted : counts s r ≡ true → Standing R u p first (hearRecord h r) vs′
+        unfolding heardOne
         standing-counted e =
-            subst (λ x. Standing R u p first x vs′) (sym (Cells.hears h r e))
+            subst (λ x. Standing R u p first x vs′) (sym (hearRecord-counts h r e))
             (record {
               formed = formed-heard R p s r lk (c .formed);
               body = Cells.heard-body s r ∙ c .body;
@@ -263,7 +265,7 @@ module _ (R : Run) where
         where
           go : Outcome R s r k (vs k) w → Standing R u p first (hearRecord h r) vs′
           go (skipped e a) =
-              subst (λ x. Standing R u p first x vs′) (sym (Cells.skips h r e))
+              subst (λ x. Standing R u p first x vs′) (sym (hearRecord-skips h r e))
               (standing-alike R u p first h vs vs′ lp (λ q l. alike q (ℕ-discrete q k))
               (λ q l. below q l (ℕ-discrete q k)) c)
             where

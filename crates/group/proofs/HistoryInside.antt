@@ -1,14 +1,12 @@
 -- After every list of calls the group is a group of n inside its limits: the fresh one is, and each call keeps it so, refused or not. So no lane holds
--- more than two, and no held record of another station counts more than a frame may carry.
-use Prim.Native.Nat.{ℕ, _*_, _-_, _≤_, _<_}
-use mathlib.Core.Bool.{Bool, true, false, cond, _||_}
+-- more than two.
+use Prim.Native.Nat.{ℕ, _≤_, _<_}
+use mathlib.Core.Bool.{Bool, true, false, cond}
 use mathlib.Core.List.{List, [], _∷_}
-use mathlib.Core.Path.{_≡_, _∙_}
+use mathlib.Core.Path.{_≡_}
 use native.Mathlib.Omega.{arith}
 use lib.Dec.{eqb}
-use borrow.Author.Tests.{leb-true, ne-eqb}
-use Rattle.frames.specs.Record.{countInside}
-use Rattle.station.specs.State.{heldOf, recordOf, laneAt}
+use Rattle.station.specs.State.{laneAt}
 use Rattle.station.proofs.LimitsLane.{lane-most}
 use Rattle.group.specs.State.{stationAt, groupInside}
 use Rattle.group.specs.History.{History, Call, Call.post, Call.round, next, begun, continued, historyOf}
@@ -48,17 +46,3 @@ module _ (n : ℕ) (low : 1 ≤ n) (high : n ≤ 16) (calls : List Call) where
       go : (t : Bool) → {len : ℕ} → len ≤ cond t 1 2 → len ≤ 2
       go true h = omega arith
       go false h = h
-
-  -- no count above 2 × (N - 1) in a held record of another station
-  pub held-count-other :
-      (p s : ℕ) → p < n → s < n → (s ≡ p → ⊥) → heldOf (stationAt ((historyOf n calls) .group) p) s ≡ true →
-      (recordOf (stationAt ((historyOf n calls) .group) p) s) .count ≤ 2 * (n - 1)
-  held-count-other p s l m ne held =
-      let member = history-members .member p l in
-      let station = stationAt ((historyOf n calls) .group) p in
-      let count = (recordOf station s) .count in
-      let other : eqb s (station .own) ≡ false = ne-eqb s (station .own) (λ e. ne (e ∙ member .own)) in
-      let inside : (eqb s (station .own) || countInside (station .n) count) ≡ true =
-      member .inside .places s (omega (arith, member .size)) .held held .count in
-      let most : count ≤ 2 * (station .n - 1) = leb-true count (2 * (station .n - 1)) (rw other at inside) in
-      omega (arith, member .size)

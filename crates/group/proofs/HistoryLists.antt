@@ -1,7 +1,7 @@
 -- The lists of a history are those of its run by the end of its last round: each is collected round after round, and what a round reports of a station
 -- is what the run has of it.
 use mathlib.Core.Bool.{Bool, true, false, cond}
-use mathlib.Core.List.{List, [], _∷_, _++_}
+use mathlib.Core.List.{List, [], _++_}
 use mathlib.Core.Path.{_≡_, refl, sym, ap, _∙_}
 use Prim.Native.Nat.{ℕ, zero, suc, _-_, _≤_, _<_}
 use native.Mathlib.Decide.{ℕ-discrete}
@@ -21,8 +21,9 @@ use Rattle.group.specs.declared.Report.{Report}
 use Rattle.group.specs.declared.RoundDone.{RoundDone}
 use Rattle.group.specs.Calls.{heard, noTaking, reportOf}
 use Rattle.group.specs.History.{History, collect, noRound, reportIn, started, takenFrom, airedList, endsAt, startedIn, takingsOf, unlessEmpty, editsOf}
-use Rattle.group.proofs.Run.{Run, Simulated, linksOf, hearingIn}
-use Rattle.group.proofs.Begin.{append-nil, append-assoc}
+use Rattle.group.proofs.Run.{Run, linksOf, hearingIn}
+use Rattle.group.proofs.PostsAccounted.{collect-last}
+use Rattle.group.proofs.Simulation.{simulated}
 use Rattle.group.proofs.Lists.{turnIn, startedBy, heardBy, takenBy, airedBy}
 use Rattle.group.proofs.HistoryRun.{roundIn, roundsBy, rounds-at, report-at}
 
@@ -39,11 +40,6 @@ report-takings g masks p =
     take-append-seam ts (replicate (30 - length ts) noTaking)
 
 module _ {A : Type 0} where
-  collect-last : (f : RoundDone → List A) (rs : List RoundDone) (r : RoundDone) → collect f (rs ++ (r ∷ [])) ≡ collect f rs ++ f r
-  unfolding collect
-  collect-last f [] r = append-nil (f r)
-  collect-last f (x ∷ rs) r = ap (λ (l : List A). f x ++ l) (collect-last f rs r) ∙ sym (append-assoc (f x) (collect f rs) (f r))
-
   -- a list by time that grows by what each round adds
   collect-rounds : (R : Run) (f : RoundDone → List A) (by : ℕ → List A)
       → by 0 ≡ []
@@ -116,22 +112,21 @@ module _ (R : Run) (H : History) (last : ℕ) (same : H .rounds ≡ roundsBy R l
       last
 
   -- the ends, and the rounds in which the broadcasts started
-  module _ (S : Simulated R) where
-    pub ends-list : (s u : ℕ) → s < R .n → u < last → endsAt H s (suc u) ≡ number.ends (linksOf R) (suc u) s
-    unfolding endsAt
-    ends-list s u ls l =
-        ap (λ (rs : List RoundDone). (reportIn (getD rs u noRound) s) .turn .ended) same
-        ∙ ap (λ (r : RoundDone). (reportIn r s) .turn .ended) (rounds-at R last u l)
-        ∙ ap (λ (t : TurnReport). t .ended) (turn-at R u s ls)
-        ∙ report-ended ((hearingIn R u s) .station)
-        ∙ S .ends u s ls
+  pub ends-list : (s u : ℕ) → s < R .n → u < last → endsAt H s (suc u) ≡ number.ends (linksOf R) (suc u) s
+  unfolding endsAt
+  ends-list s u ls l =
+      ap (λ (rs : List RoundDone). (reportIn (getD rs u noRound) s) .turn .ended) same
+      ∙ ap (λ (r : RoundDone). (reportIn r s) .turn .ended) (rounds-at R last u l)
+      ∙ ap (λ (t : TurnReport). t .ended) (turn-at R u s ls)
+      ∙ report-ended ((hearingIn R u s) .station)
+      ∙ simulated R .ends u s ls
 
-    pub starts-list : (s u : ℕ) → s < R .n → u ≤ last → startedIn H s u ≡ number.start (linksOf R) u s
-    unfolding startedIn
-    starts-list s zero ls l = sym (start-zero (linksOf R) s)
-    starts-list s (suc u) ls l = rw (ends-list s u ls (omega arith), starts-list s u ls (omega arith)) (go (number.ends (linksOf R) (suc u) s) refl)
-      where
-        go : (b : Bool) → number.ends (linksOf R) (suc u) s ≡ b
-            → cond b (suc u) (number.start (linksOf R) u s) ≡ number.start (linksOf R) (suc u) s
-        go true e = sym (start-ends (linksOf R) u s e)
-        go false e = sym (start-stays (linksOf R) u s e)
+  pub starts-list : (s u : ℕ) → s < R .n → u ≤ last → startedIn H s u ≡ number.start (linksOf R) u s
+  unfolding startedIn
+  starts-list s zero ls l = sym (start-zero (linksOf R) s)
+  starts-list s (suc u) ls l = rw (ends-list s u ls (omega arith), starts-list s u ls (omega arith)) (go (number.ends (linksOf R) (suc u) s) refl)
+    where
+      go : (b : Bool) → number.ends (linksOf R) (suc u) s ≡ b
+          → cond b (suc u) (number.start (linksOf R) u s) ≡ number.start (linksOf R) (suc u) s
+      go true e = sym (start-ends (linksOf R) u s e)
+      go false e = sym (start-stays (linksOf R) u s e)

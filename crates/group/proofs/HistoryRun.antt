@@ -20,7 +20,7 @@ use Rattle.group.specs.State.{sizeOf}
 use Rattle.group.specs.Calls.{noReport, reportOf, roundRefusal, roundCall}
 use Rattle.group.specs.History.{History, Call, post, round, next, begun, continued, historyOf, noRound, reportIn}
 use Rattle.group.proofs.Run.{Run, linksOf}
-use Rattle.group.proofs.Shape.{shape}
+use Rattle.group.proofs.Simulation.{ready-formed}
 use Rattle.group.proofs.CallRun.{afterPosts, nextMasks, afterNext, callsAfter, masksOf, groupAfter, runOf}
 
 -- what round u + 1 of a run returns, the rounds up to u, and their log
@@ -75,7 +75,7 @@ module _ (R : Run) where
   round-call : (u : ℕ) → roundRefusal (R .ready u) (R .masks (suc u)) ≡ done → roundCall (R .ready u) (R .masks (suc u)) ≡ roundIn R u
   unfolding roundCall roundIn
   round-call u e =
-      let n : sizeOf (R .ready u) ≡ R .n = (shape R u) .members 0 (R .low) .size in
+      let n : sizeOf (R .ready u) ≡ R .n = ready-formed R u 0 (R .low) .size in
       rw (e, R .step u, n)
 
   pub report-at : (u p : ℕ) → p < R .n → reportIn (roundIn R u) p ≡ reportOf (R .ready u) (R .masks (suc u)) p

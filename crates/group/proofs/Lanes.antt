@@ -2,7 +2,7 @@
 -- counting, so no lane has more than one body after a round or two while hearing, and none is ever overfull.
 use mathlib.Core.Bool.{Bool, true, false, cond, not, _&&_, true≢false}
 use mathlib.Core.Logic.{_⊎_, inl, inr}
-use mathlib.Core.List.{List, [], _∷_, _++_}
+use mathlib.Core.List.{List, [], _∷_, _++_, append-nil}
 use mathlib.Core.Path.{_≡_, refl, sym, ap, subst, _∙_}
 use Prim.Native.Nat.{ℕ, zero, suc, min, _+_, _-_, _≤_, _<_}
 use native.Mathlib.Decide.{ℕ-discrete, decLe}
@@ -24,12 +24,13 @@ use Rattle.station.specs.Lane.{noLane, pushed, popped}
 use Rattle.station.specs.State.{laneAt, freshStation}
 use Rattle.station.specs.Turn.{airs, lanesAfter, mayStart, startedBody, afterTurn}
 use Rattle.station.proofs.LaneLaws.{Holds, holds-none, holds-pushed, holds-popped}
-use Rattle.station.proofs.TurnParts.{started-waits, report-aired, lanesAfter-at, lane-other, lane-own}
+use Rattle.station.proofs.TurnParts.{airs-each, started-waits, report-aired, lanesAfter-at, lane-other, lane-own}
 use Rattle.group.specs.State.{stationAt}
 use Rattle.group.specs.History.{unlessEmpty}
-use Rattle.group.proofs.Run.{Run, Simulated, linksOf, hearingIn, bodyAt, rises, comes}
-use Rattle.group.proofs.Begin.{append-nil}
-use Rattle.group.proofs.Shape.{Member, first-at, after-at, hearing-member}
+use Rattle.group.proofs.Run.{Run, linksOf, hearingIn, bodyAt, rises, comes}
+use Rattle.group.proofs.Simulation.{simulated, heard-standing}
+use Rattle.group.proofs.Standing.{Formed}
+use Rattle.group.proofs.Rounds.{first-at, after-at}
 use Rattle.group.proofs.Lists.{startedBy, takenBy, rowsBy, madeBy, startedAt}
 use Rattle.group.proofs.Taken.{startedBy-step, version-step, taken-version, length-version, startedAt-some, startedAt-none, startedBy-none}
 use Rattle.group.proofs.Counting.{Counting, reached, airsRow, ahead, rows-limit, rows-reached, made-ahead, rows-keeps, hearing-ahead}
@@ -63,7 +64,7 @@ fresh-lane : (n p s : ℕ) → s < 16 → laneAt (freshStation n p) s ≡ noLane
 unfolding freshStation
 fresh-lane n p s l = getD-replicate 16 s noLane noLane l
 
-module _ (R : Run) (S : Simulated R) where
+module _ (R : Run) where
   abbrev L : Links
   L = linksOf R
 
@@ -104,8 +105,8 @@ module _ (R : Run) (S : Simulated R) where
       elim (ℕ-discrete p s) [
         | yes e ↦
             rw (← e)
-            (ap (λ (v : ℕ). startedAt R p v) (news-own L 0 p) ∙ startedAt-some R S p 0 ∙ startedBy-none R S p)
-        | no d ↦ ap (λ (v : ℕ). startedAt R s v) (news-start L p s d) ∙ startedAt-none R S s
+            (ap (λ (v : ℕ). startedAt R p v) (news-own L 0 p) ∙ startedAt-some R p 0 ∙ startedBy-none R p)
+        | no d ↦ ap (λ (v : ℕ). startedAt R s v) (news-start L p s d) ∙ startedAt-none R s
       ]
 
   -- once it has heard
@@ -116,7 +117,7 @@ module _ (R : Run) (S : Simulated R) where
       own e =
           let v : min (suc u) (news L (suc u) p s) ≡ news L u p s =
           rw (← e) (omega (arith, news-own L (suc u) p, news-own L u p)) in
-          let m : heardLane u p s ≡ afterLane u p s = rw (← e) (S .own-lane u p lp ∙ ready-lane u p p) in
+          let m : heardLane u p s ≡ afterLane u p s = rw (← e) (simulated R .own-lane u p lp ∙ ready-lane u p p) in
           rw (v, m) (c .lanes p s lp ls)
 
       other : (p ≡ s → ⊥) → Holds (heardLane u p s) (drop (rowsBy R u p) (hasHeard u p s))
@@ -124,9 +125,9 @@ module _ (R : Run) (S : Simulated R) where
           let v : min (suc u) (news L (suc u) p s) ≡ news L (suc u) p s = omega (arith, news-other L (suc u) p s d) in
           let b = bodyAt R s (news L (suc u) p s) in
           let m : heardLane u p s ≡ cond (comes R u p s) (pushed (afterLane u p s) b) (afterLane u p s) =
-          S .lanes u p s lp ls d ∙ ap (λ (l : Lane). cond (comes R u p s) (pushed l b) l) (ready-lane u p s) in
-          let len = length-version R S s (news L u p s) in
-          rw (v, m, version-step R S u p s lp ls)
+          simulated R .lanes u p s lp ls d ∙ ap (λ (l : Lane). cond (comes R u p s) (pushed l b) l) (ready-lane u p s) in
+          let len = length-version R s (news L u p s) in
+          rw (v, m, version-step R u p s lp ls)
           (grown
           (afterLane u p s)
           (rowsBy R u p)
@@ -140,9 +141,9 @@ module _ (R : Run) (S : Simulated R) where
 
   -- a row is aired exactly where there is one more of everybody
   airs-row : (u p : ℕ) → p < R .n → Carried u → airs ((hearingIn R u p) .station) ≡ airsRow L (madeBy R) (rowsBy R) u p
-  unfolding airs
   airs-row u p lp c =
-      ap (λ (k : ℕ). allBelow k (λ s. ltb 0 ((heardLane u p s) .len))) ((hearing-member R u p lp) .size)
+      airs-each ((hearingIn R u p) .station)
+      ∙ ap (λ (k : ℕ). allBelow k (λ s. ltb 0 ((heardLane u p s) .len))) (heard-standing R u p lp .formed .size)
       ∙ allBelow-ext
       (R .n)
       (λ s. ltb 0 ((heardLane u p s) .len))
@@ -153,14 +154,14 @@ module _ (R : Run) (S : Simulated R) where
       (λ (k : ℕ). ltb 0 k)
       (h .many
       ∙ length-drop (rowsBy R u p) (hasHeard u p s)
-      ∙ ap (λ (k : ℕ). k - rowsBy R u p) (length-version R S s (min (suc u) (news L (suc u) p s))))
+      ∙ ap (λ (k : ℕ). k - rowsBy R u p) (length-version R s (min (suc u) (news L (suc u) p s))))
       ∙ ltb-sub (reached L (madeBy R) u p s) (rowsBy R u p))
 
   -- after the airing step
   has-aired : (u p s : ℕ) → p < R .n → s < R .n → Carried u → Holds (airedLane u p s) (drop (rowsBy R (suc u) p) (hasHeard u p s))
   has-aired u p s lp ls c =
       let t = (hearingIn R u p) .station in
-      let m = hearing-member R u p lp in
+      let m = heard-standing R u p lp .formed in
       rw (rowsBy-step u p, lanesAfter-at t s (omega (arith, m .size)) (omega (arith, m .lanes, R .high)))
       (lowered (heardLane u p s) (rowsBy R u p) (hasHeard u p s) (airs t) (has-heard u p s lp ls c))
 
@@ -168,7 +169,7 @@ module _ (R : Run) (S : Simulated R) where
   own-heard : (u p : ℕ) → hasHeard u p p ≡ startedBy R u p
   own-heard u p =
       let v : min (suc u) (news L (suc u) p p) ≡ suc u = omega (arith, news-own L (suc u) p) in
-      ap (λ (k : ℕ). startedAt R p k) v ∙ startedAt-some R S p u
+      ap (λ (k : ℕ). startedAt R p k) v ∙ startedAt-some R p u
 
   -- the rules of counting in one round more
   starts-low : (u p : ℕ) → p < R .n → Carried u → (eqb (kindOf (startedBody ((hearingIn R u p) .station))) 0) ≡ false
@@ -182,7 +183,7 @@ module _ (R : Run) (S : Simulated R) where
       go true e =
           let h = has-aired u p p lp lp c in
           let z : (airedLane u p p) .len ≡ 0 =
-          ap (λ (k : ℕ). (getD (lanesAfter t) k noLane) .len) (sym ((hearing-member R u p lp) .place))
+          ap (λ (k : ℕ). (getD (lanesAfter t) k noLane) .len) (sym (heard-standing R u p lp .formed .own))
           ∙ eqb-true ((getD (lanesAfter t) (t .own) noLane) .len) 0 e in
           omega (
             arith,
@@ -204,7 +205,7 @@ module _ (R : Run) (S : Simulated R) where
 
       more : (z : Bool) → eqb (kindOf b) 0 ≡ z → madeBy R (suc u) p ≡ madeBy R u p + length (cond z [] (b ∷ []))
       more z e =
-          ap length (startedBy-step R S u p)
+          ap length (startedBy-step R u p)
           ∙ length-append (startedBy R u p) (unlessEmpty b)
           ∙ ap (λ (y : Bool). madeBy R u p + length (cond y [] (b ∷ []))) e
 
@@ -239,8 +240,8 @@ module _ (R : Run) (S : Simulated R) where
       t : Station
       t = (hearingIn R u p) .station
 
-      m : Member (R .n) p t
-      m = hearing-member R u p lp
+      m : Formed R p t
+      m = heard-standing R u p lp .formed
 
       own : p ≡ s → Holds (laneAt (afterTurn t) s) (drop (rowsBy R (suc u) p) (had (suc u) p s))
       own e =
@@ -248,16 +249,16 @@ module _ (R : Run) (S : Simulated R) where
           let b = startedBody t in
           let v : had (suc u) p p ≡ hasHeard u p p ++ unlessEmpty b =
           ap (λ (k : ℕ). startedAt R p k) (news-own L (suc u) p)
-          ∙ startedAt-some R S p (suc u)
-          ∙ startedBy-step R S u p
+          ∙ startedAt-some R p (suc u)
+          ∙ startedBy-step R u p
           ∙ ap (λ (xs : List Body). xs ++ unlessEmpty b) (sym (own-heard u p)) in
           let l : laneAt (afterTurn t) p ≡ cond (not (eqb (kindOf b) 0)) (pushed (airedLane u p p) b) (airedLane u p p) =
           subst
           (λ (k : ℕ).
           laneAt (afterTurn t) k
           ≡ cond (not (eqb (kindOf b) 0)) (pushed (getD (lanesAfter t) k noLane) b) (getD (lanesAfter t) k noLane))
-          (m .place)
-          (lane-own t (omega (arith, m .place, m .lanes, R .high))) in
+          (m .own)
+          (lane-own t (omega (arith, m .own, m .lanes, R .high))) in
           rw (← e, v, l)
           (grown
           (airedLane u p p)
@@ -275,7 +276,7 @@ module _ (R : Run) (S : Simulated R) where
           ))
           (omega (
             arith,
-            length-version R S p (min (suc u) (news L (suc u) p p)),
+            length-version R p (min (suc u) (news L (suc u) p p)),
             rows-reached L (madeBy R) (rowsBy R) (suc u) C u p p (omega arith) lp lp,
           )))
 
@@ -283,14 +284,14 @@ module _ (R : Run) (S : Simulated R) where
       other d =
           let v : news L (suc u) p s ≡ min (suc u) (news L (suc u) p s) = omega (arith, news-other L (suc u) p s d) in
           let w : had (suc u) p s ≡ hasHeard u p s = ap (λ (k : ℕ). startedAt R s k) v in
-          rw (lane-other t s (λ e. d (sym (m .place) ∙ sym e)), w) (has-aired u p s lp ls c)
+          rw (lane-other t s (λ e. d (sym (m .own) ∙ sym e)), w) (has-aired u p s lp ls c)
 
   carried : (u : ℕ) → Carried u
   carried zero =
       record {
         counting =
             record {
-              made-zero = λ s l. ap length (startedBy-none R S s);
+              made-zero = λ s l. ap length (startedBy-none R s);
               rows-zero = λ p l. rowsBy-none p;
               made-step = λ u s l ls. absurd (omega arith);
               rows-step = λ u p l lp. absurd (omega arith);
@@ -309,7 +310,7 @@ module _ (R : Run) (S : Simulated R) where
 
   -- T2: a lane holds what was taken beyond the rows aired, after a round and while hearing.
   pub lane-holds : (u p s : ℕ) → p < R .n → s < R .n → Holds (laneAt (stationAt (R .after u) p) s) (drop (rowsBy R u p) (takenBy R u p s))
-  lane-holds u p s lp ls = rw (taken-version R S u p s lp ls) ((carried u) .lanes p s lp ls)
+  lane-holds u p s lp ls = rw (taken-version R u p s lp ls) ((carried u) .lanes p s lp ls)
 
   pub hearing-holds : (u p s : ℕ) → p < R .n → s < R .n
       → Holds (laneAt ((hearingIn R u p) .station) s) (drop (rowsBy R u p) (startedAt R s (min (suc u) (news L (suc u) p s))))
@@ -322,7 +323,7 @@ module _ (R : Run) (S : Simulated R) where
         arith,
         (carried u) .lanes p s lp ls .many,
         length-drop (rowsBy R u p) (had u p s),
-        length-version R S s (news L u p s),
+        length-version R s (news L u p s),
         ahead L (madeBy R) (rowsBy R) u (counting u) u p s (omega arith) lp ls,
       )
 
@@ -335,14 +336,14 @@ module _ (R : Run) (S : Simulated R) where
         arith,
         hearing-holds u p s lp ls .many,
         length-drop (rowsBy R u p) (hasHeard u p s),
-        length-version R S s (min (suc u) (news L (suc u) p s)),
+        length-version R s (min (suc u) (news L (suc u) p s)),
         hearing-ahead L (madeBy R) (rowsBy R) (suc u) (counting (suc u)) u p s (omega arith) lp ls,
       )
 
   -- So no lane that holds two gets a third.
   pub never-overfull : (u p : ℕ) → p < R .n → (hearingIn R u p) .overfull ≡ false
   never-overfull u p lp =
-      S .overfull u p lp
+      simulated R .overfull u p lp
       ∙ anyBelow-none
       (R .n)
       (λ s. not (eqb p s) && (comes R u p s && leb 2 ((laneAt (stationAt (R .ready u) p) s) .len)))

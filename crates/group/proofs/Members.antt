@@ -80,7 +80,7 @@ module _ (n : ℕ) (high : n ≤ 16) where
   unfolding freshGroup
   fresh-at k l = fill-below n (freshStation n) (replicate 16 (freshStation 1 0)) k noStation l (omega arith)
 
-  fresh-shape : GroupShaped (freshGroup n)
+  pub fresh-shape : GroupShaped (freshGroup n)
   unfolding freshGroup
   fresh-shape =
       record {

@@ -17,14 +17,26 @@ use Rattle.station.specs.declared.Station.{Station}
 use Rattle.station.specs.State.{sentRecords}
 use Rattle.station.specs.Calls.{ownCountInside}
 use Rattle.station.specs.Hearing.{silent, hearRecords}
-use Rattle.station.specs.Turn.{passed, rewritten, afterTurn}
+use Rattle.station.specs.Turn.{afterTurn}
 use Rattle.station.proofs.Shape.{Shaped, afterTurn-shaped}
 use Rattle.station.proofs.LimitsHearing.{Hears, AllCarried, hears-none, hears-records, takings-bounded}
 use Rattle.station.proofs.LimitsSent.{sent-carried}
 use Rattle.station.proofs.LimitsTurn.{turn-holds}
+use Rattle.station.proofs.TurnCells.{turn-n, turn-own}
 use Rattle.group.specs.State.{noStation, stationAt, sizeOf, groupInside}
 use Rattle.group.specs.Calls.{hearing, heard, roundRefusal, afterRound, roundCall}
 use Rattle.group.proofs.Members.{Member, GroupShaped, Members, members-open, members-inside}
+
+-- a round puts at each place of the group the station as it heard and took its turn
+pub round-at :
+    (g : List Station) (masks : List ℕ) (i : ℕ) → i < sizeOf g → i < length g →
+    stationAt (afterRound g masks) i ≡ afterTurn ((heard g masks i) .station)
+unfolding afterRound
+round-at g masks i l b = fill-below (sizeOf g) (λ k. afterTurn ((heard g masks k) .station)) g i noStation l b
+
+pub round-length : (g : List Station) (masks : List ℕ) → length (afterRound g masks) ≡ length g
+unfolding afterRound
+round-length g masks = length-fill (sizeOf g) (λ i. afterTurn ((heard g masks i) .station)) g
 
 -- what a round that is not refused shows
 pub record Runs (g : List Station) (masks : List ℕ) : Type 0 where
@@ -78,14 +90,6 @@ module _ (n : ℕ) (g : List Station) (c : Members n g) (masks : List ℕ) (coun
   pub hears-all : (i : ℕ) → i < n → Hears (silent (stationAt g i)) (heard g masks i)
   hears-all i l = hears-below i (sizeOf g) l (omega (arith, c .size))
 
-turn-n : (s : Station) → (afterTurn s) .n ≡ s .n
-unfolding afterTurn rewritten passed
-turn-n s = refl
-
-turn-own : (s : Station) → (afterTurn s) .own ≡ s .own
-unfolding afterTurn rewritten passed
-turn-own s = refl
-
 module _ (n : ℕ) (g : List Station) (c : Members n g) (masks : List ℕ) (run : Runs g masks) where
   run-counts : (k : ℕ) → k < n → ownCountInside (stationAt g k) ≡ true
   run-counts k l = run .counts k (omega (arith, c .size))
@@ -101,10 +105,7 @@ module _ (n : ℕ) (g : List Station) (c : Members n g) (masks : List ℕ) (run 
   run-takings i l = takings-bounded (stationAt g i) (heard g masks i) (run-hears i l) (run-room i l)
 
   pub after-at : (i : ℕ) → i < n → stationAt (afterRound g masks) i ≡ afterTurn ((heard g masks i) .station)
-  unfolding afterRound
-  after-at i l =
-      fill-below (sizeOf g) (λ i. afterTurn ((heard g masks i) .station)) g i noStation (omega (arith, c .size))
-      (rw (c .shape .places) (omega (arith, c .high)))
+  after-at i l = round-at g masks i (omega (arith, c .size)) (rw (c .shape .places) (omega (arith, c .high)))
 
   pub after-above : (i : ℕ) → n ≤ i → stationAt (afterRound g masks) i ≡ stationAt g i
   unfolding afterRound
@@ -137,13 +138,9 @@ module _ (n : ℕ) (g : List Station) (c : Members n g) (masks : List ℕ) (run 
         low = c .low;
         high = c .high;
         size = after-member 0 (c .low) .size;
-        shape = record { places = after-length; stations = after-shaped };
+        shape = record { places = round-length g masks ∙ c .shape .places; stations = after-shaped };
         member = after-member;
       }
-    where
-      after-length : length (afterRound g masks) ≡ 16
-      after-length =
-          unfold afterRound in (length-fill (sizeOf g) (λ i. afterTurn ((heard g masks i) .station)) g ∙ c .shape .places)
 
 pub after-inside : (g : List Station) (masks : List ℕ) → GroupShaped g → Runs g masks → groupInside (afterRound g masks) ≡ true
 after-inside g masks shape run =

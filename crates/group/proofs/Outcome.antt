@@ -2,15 +2,15 @@
 -- next and the previous number apart; and within one number a later version has no smaller count. So a record counts exactly if it is later than what
 -- the cell stands for, or else the cell stands for it already; and it advances exactly if its number is the next one.
 use Prim.Native.Nat.{ℕ, zero, suc, max, _%_, _≤_, _<_}
-use mathlib.Core.Bool.{Bool, true, false, not, _&&_}
+use mathlib.Core.Bool.{Bool, true, false}
 use mathlib.Core.Logic.{inl, inr}
 use mathlib.Core.Path.{_≡_, refl, sym, ap, _∙_}
 use native.Mathlib.Decide.{ℕ-discrete, decLe}
 use native.Mathlib.Omega.{arith}
 use borrow.Author.Tests.{lt-ltb, le-ltb, eq-eqb, ne-eqb}
-use lib.Dec.{ltb}
 use Rattle.labels.specs.Label.{successor}
 use Rattle.labels.specs.Newer.{isNewer}
+use Rattle.labels.proofs.NewerLaws.{newer-next, newer-same, newer-past, newer-none}
 use Rattle.links.specs.Relay.{Links}
 use Rattle.links.specs.Clock.{news}
 use Rattle.links.specs.Number.{num, numOf, fresh}
@@ -22,25 +22,9 @@ use Rattle.frames.specs.declared.Record.{Record}
 use Rattle.station.specs.declared.Station.{Station}
 use Rattle.station.specs.State.{labelOf, heldOf, recordOf, recordLabel}
 use Rattle.station.specs.Hearing.{counts, advances}
+use Rattle.station.proofs.Cells.{counts-newer}
 use Rattle.group.proofs.Run.{Run, linksOf}
 use Rattle.group.proofs.Version.{Stands, CellAt, Alike}
-
--- labels of numbers a and b that are at most one apart
-newer-next : (a b c d : ℕ) → b ≡ suc a → isNewer true (a % 3) c (b % 3) d ≡ true
-unfolding isNewer
-newer-next a b c d e = rw (eq-eqb (b % 3) (successor (a % 3)) (omega arith))
-
-newer-same : (a b c d : ℕ) → b ≡ a → isNewer true (a % 3) c (b % 3) d ≡ ltb c d
-unfolding isNewer
-newer-same a b c d e = rw (ne-eqb (b % 3) (successor (a % 3)) (omega arith), eq-eqb (b % 3) (a % 3) (omega arith))
-
-newer-past : (a b c d : ℕ) → a ≡ suc b → isNewer true (a % 3) c (b % 3) d ≡ false
-unfolding isNewer
-newer-past a b c d e = rw (ne-eqb (b % 3) (successor (a % 3)) (omega arith), ne-eqb (b % 3) (a % 3) (omega arith))
-
-newer-none : (h : Bool) (l c m d : ℕ) → h ≡ false → isNewer h l c m d ≡ true
-unfolding isNewer
-newer-none h l c m d e = rw e
 
 newer-at : {h h′ : Bool} {l l′ c c′ m m′ d d′ : ℕ} → h ≡ h′ → l ≡ l′ → c ≡ c′ → m ≡ m′ → d ≡ d′ → isNewer h l c m d ≡ isNewer h′ l′ c′ m′ d′
 newer-at {h′ = h′} {l′ = l′} {c′ = c′} {m′ = m′} {d′ = d′} a b c d e = rw (a, b, c, d, e)
@@ -62,15 +46,8 @@ module _ (R : Run) where
     k = r .station
 
     module _ (u p : ℕ) (lp : p < R .n) (own : s .own ≡ p) (other : k ≡ p → ⊥) (lk : k < R .n) where
-      counts-newer :
-          counts s r ≡ isNewer (heldOf s k) (recordLabel (recordOf s k) k) ((recordOf s k) .count)
-          (recordLabel r k) (r .count)
-      counts-newer =
-          ap
-          (λ (b : Bool). not b
-          && isNewer (heldOf s k) (recordLabel (recordOf s k) k) ((recordOf s k) .count)
-          (recordLabel r k) (r .count))
-          (ne-eqb k (s .own) (λ e. other (e ∙ own)))
+      away : k ≡ s .own → ⊥
+      away e = other (e ∙ own)
 
       label-number : (q : Record) (w : ℕ) → Stands R q k w → recordLabel q k ≡ num L w k % 3
       label-number q w t = t .labels k lk ∙ ap (λ (g : ℕ). g % 3) (got-own L w k)
@@ -92,7 +69,7 @@ module _ (R : Run) where
           counts s r ≡ isNewer true (num L x k % 3) (fresh L x k) (num L w k % 3)
           (fresh L w k)
       newer-held x w e a b =
-          counts-newer ∙ newer-at e (label-number (recordOf s k) x a) (a .count) (label-number r w b) (b .count)
+          counts-newer s r away ∙ newer-at e (label-number (recordOf s k) x a) (a .count) (label-number r w b) (b .count)
 
       pub outcome :
           (v w j : ℕ) → j < R .n →
@@ -111,7 +88,7 @@ module _ (R : Run) where
           ) in
           let z = numOf-none L k 0 refl in
           advanced
-          (counts-newer
+          (counts-newer s r away
           ∙ newer-none (heldOf s k) (recordLabel (recordOf s k) k) ((recordOf s k) .count)
           (recordLabel r k) (r .count) (c .is-held))
           (advances-next w 0 t (c .is-label ∙ ap (λ (g : ℕ). g % 3) z) e)

@@ -8,7 +8,7 @@ use mathlib.Core.Path.{_≡_, refl, sym, ap, _∙_, subst}
 use native.Mathlib.Decide.{ℕ-discrete, decLe}
 use native.Mathlib.Nat.{le-refl}
 use native.Mathlib.Omega.{arith}
-use borrow.Author.Tests.{lt-ltb, le-ltb, ltb-true, ltb-false, eq-eqb}
+use borrow.Author.Tests.{lt-ltb, le-ltb, ltb-true, ltb-false}
 use lib.Dec.{leb, ltb}
 use Rattle.links.specs.Log.{hearsIn}
 use Rattle.links.specs.Relay.{Links}
@@ -23,6 +23,7 @@ use Rattle.places.proofs.Laws.{anyBelow-none}
 use Rattle.station.specs.declared.Station.{Station}
 use Rattle.station.specs.State.{heldOf, recordOf, laneAt, sentRecords}
 use Rattle.station.specs.Hearing.{Hearing, silent, hearRecord, hearRecords}
+use Rattle.station.proofs.HearRecord.{hearRecord-skips}
 use Rattle.station.proofs.Cells
 use Rattle.group.specs.State.{stationAt, sizeOf}
 use Rattle.group.specs.Calls.{hearing}
@@ -133,8 +134,8 @@ module _ (R : Run) where
             let t = stands-framed (s .n) (recordOf s k) k w (a .formed .size) (a .cells k lk .stands w f) in
             subst (λ z. Standing R u p first z (upTo (suc k)))
             (sym
-            (Cells.skips x (framed (s .n) (recordOf s k))
-            (rw (eq-eqb ((framed (s .n) (recordOf s k)) .station) ((x .station) .own) (t .station ∙ i ∙ sym (c .formed .own))))))
+            (hearRecord-skips x (framed (s .n) (recordOf s k))
+            (Cells.counts-own (x .station) (framed (s .n) (recordOf s k)) (t .station ∙ i ∙ sym (c .formed .own)))))
             (same-versions k x lk c
             (let y : vs k ≡ suc u = sym (upTo-above k k (le-refl k)) ∙ ap (upTo k) i ∙ c .own-version in
             omega (arith, news-limit L u j k)))

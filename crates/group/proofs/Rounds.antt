@@ -7,7 +7,7 @@ use mathlib.Core.Path.{_≡_, refl, sym, ap, _∙_, subst}
 use native.Mathlib.Decide.{ℕ-discrete}
 use native.Mathlib.Omega.{arith}
 use borrow.Author.Tests.{eq-eqb}
-use lib.ListN.{getD, set, length, length-set, replicate, getD-replicate}
+use lib.ListN.{getD, set, length, replicate, getD-replicate}
 use lib.Seq.{getD-set-same, getD-set-other}
 use lib.Dec.{eqb}
 use Rattle.links.specs.Relay.{Links}
@@ -17,13 +17,14 @@ use Rattle.links.proofs.Clock.{news-own, news-start}
 use Rattle.links.proofs.Number.{num-zero, start-zero}
 use Rattle.links.proofs.Got.{got-none, got-own}
 use Rattle.frames.specs.declared.Record.{Record}
-use Rattle.places.proofs.Laws.{fill-below, length-fill}
 use Rattle.station.specs.declared.Station.{Station}
 use Rattle.station.specs.State.{recordOf, noRecord, zeroRecord, freshStation}
 use Rattle.station.specs.Turn.{afterTurn}
-use Rattle.group.specs.State.{stationAt, sizeOf, freshGroup}
-use Rattle.group.specs.Calls.{heard, afterRound}
+use Rattle.group.specs.State.{stationAt, sizeOf}
 use Rattle.group.proofs.Run.{Run, SameButWaiting, linksOf, hearingIn}
+use Rattle.station.proofs.Shape.{fresh-shaped}
+use Rattle.group.proofs.Members.{fresh-at, fresh-shape}
+use Rattle.group.proofs.MembersRound.{round-at, round-length}
 use Rattle.group.proofs.Version.{Stands, CellAt}
 use Rattle.group.proofs.Standing.{Formed}
 use Rattle.group.proofs.HearParts.{cell-move}
@@ -73,12 +74,8 @@ module _ (R : Run) where
 
   -- the fresh group
   module _ (p : ℕ) (lp : p < R .n) where
-    start-station : stationAt (R .after 0) p ≡ freshStation (R .n) p
-    unfolding freshGroup
-    start-station =
-        let high = R .high in
-        ap (λ g. stationAt g p) (R .first)
-        ∙ fill-below (R .n) (freshStation (R .n)) (replicate 16 (freshStation 1 0)) p _ lp (omega arith)
+    pub first-at : stationAt (R .after 0) p ≡ freshStation (R .n) p
+    first-at = ap (λ g. stationAt g p) (R .first) ∙ fresh-at (R .n) (R .high) p lp
 
     fresh-labels : (q : ℕ) → q < R .n → Dec (q ≡ p) → getD (set (replicate 16 0) p 1) q 0 ≡ got L 0 p q % 3
     fresh-labels q l (yes e) =
@@ -112,7 +109,7 @@ module _ (R : Run) where
                 station = refl;
                 count = sym (fresh-start R 0 p lp (start-zero L p));
                 body =
-                    ap (λ (s : Station). s .body) (sym start-station)
+                    ap (λ (s : Station). s .body) (sym first-at)
                     ∙ ap (λ (t : ℕ). (stationAt (R .after t) p) .body) (sym (start-zero L p));
                 labels = λ k b. fresh-labels k b (ℕ-discrete k p);
               }));
@@ -132,59 +129,44 @@ module _ (R : Run) where
     fresh-formed : Formed R p (freshStation (R .n) p)
     unfolding freshStation
     fresh-formed =
+        let c = fresh-shaped (R .n) p in
+        let high = R .high in
         record {
           size = refl;
           own = refl;
-          acked = length-set (replicate 16 false) p true;
-          labels = length-set (replicate 16 0) p 1;
-          held = length-set (replicate 16 false) p true;
-          table = length-set (replicate 16 zeroRecord) p _;
-          lanes = refl;
-          record-labels = λ q l. one q l (ℕ-discrete q p);
+          acked = c .acked;
+          labels = c .labels;
+          held = c .held;
+          table = c .table;
+          lanes = c .lanes;
+          record-labels = λ q l. c .record-labels q (omega arith);
         }
-      where
-        one : (q : ℕ) → q < R .n → Dec (q ≡ p) → length ((recordOf (freshStation (R .n) p) q) .labels) ≡ 16
-        one q l (yes e) =
-            let high = R .high in
-            subst (λ i. length ((recordOf (freshStation (R .n) p) i) .labels) ≡ 16) (sym e)
-            (ap (λ (r : Record). length (r .labels)) (one-here zeroRecord _ noRecord p (omega arith))
-            ∙ length-set (replicate 16 0) p 1)
-        one q l (no d) =
-            let high = R .high in
-            ap (λ (r : Record). length (r .labels)) (one-other zeroRecord _ noRecord p (omega arith) q (omega arith) d)
 
     fresh-after : After R 0 p (stationAt (R .after 0) p)
     unfolding freshStation
     fresh-after =
         record {
-          formed = subst (λ s. Formed R p s) (sym start-station) fresh-formed;
+          formed = subst (λ s. Formed R p s) (sym first-at) fresh-formed;
           body = ap (λ (t : ℕ). (stationAt (R .after t) p) .body) (sym (start-zero L p));
-          count = ap (λ (s : Station). s .count) start-station ∙ sym (fresh-start R 0 p lp (start-zero L p));
+          count = ap (λ (s : Station). s .count) first-at ∙ sym (fresh-start R 0 p lp (start-zero L p));
           cells =
               λ q l.
-              subst (λ s. CellAt R 0 p q (news L 0 p q) s) (sym start-station)
+              subst (λ s. CellAt R 0 p q (news L 0 p q) s) (sym first-at)
               (fresh-cell q l (ℕ-discrete q p));
         }
 
   -- sixteen stations
   pub after-length : (u : ℕ) → length (R .after u) ≡ 16
-  unfolding freshGroup afterRound
-  after-length zero =
-      ap length (R .first) ∙ length-fill (R .n) (freshStation (R .n)) (replicate 16 (freshStation 1 0))
+  after-length zero = ap length (R .first) ∙ fresh-shape (R .n) (R .high) .places
   after-length (suc u) =
-      ap length (R .step u)
-      ∙ length-fill (sizeOf (R .ready u)) (λ i. afterTurn ((heard (R .ready u) (R .masks (suc u)) i) .station)) (R .ready u)
-      ∙ R .length-ready u
-      ∙ after-length u
+      ap length (R .step u) ∙ round-length (R .ready u) (R .masks (suc u)) ∙ R .length-ready u ∙ after-length u
 
   round-station :
       (u p : ℕ) → p < R .n → sizeOf (R .ready u) ≡ R .n → stationAt (R .after (suc u)) p ≡ afterTurn ((hearingIn R u p) .station)
-  unfolding afterRound
   round-station u p lp e =
       let high = R .high in
       ap (λ g. stationAt g p) (R .step u)
-      ∙ fill-below (sizeOf (R .ready u)) (λ i. afterTurn ((heard (R .ready u) (R .masks (suc u)) i) .station)) (R .ready u) p _ (omega arith)
-      (omega (arith, R .length-ready u, after-length u))
+      ∙ round-at (R .ready u) (R .masks (suc u)) p (omega arith) (omega (arith, R .length-ready u, after-length u))
 
   -- every round
   pub after-all : (u p : ℕ) → p < R .n → After R u p (stationAt (R .after u) p)
@@ -199,3 +181,7 @@ module _ (R : Run) where
 
   pub ready-all : (u p : ℕ) → p < R .n → After R u p (stationAt (R .ready u) p)
   ready-all u p lp = after-same u p (stationAt (R .after u) p) (stationAt (R .ready u) p) (R .posts u p) (after-all u p lp)
+
+  -- station p after round u + 1
+  pub after-at : (u p : ℕ) → p < R .n → stationAt (R .after (suc u)) p ≡ afterTurn ((hearingIn R u p) .station)
+  after-at u p lp = round-station u p lp (ready-all u 0 (R .low) .formed .size)

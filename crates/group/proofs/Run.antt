@@ -12,7 +12,6 @@ use Rattle.links.specs.Relay.{Links, ofMasks}
 use Rattle.links.specs.Clock.{news}
 use Rattle.links.specs.Number as number
 use Rattle.places.specs.Places.{anyBelow}
-use Rattle.station.specs.declared.Lane.{Lane}
 use Rattle.station.specs.declared.Station.{Station}
 use Rattle.station.specs.Lane.{pushed}
 use Rattle.station.specs.State.{laneAt}

@@ -3,7 +3,7 @@
 use Prim.Native.Nat.{ℕ, zero, suc, _+_, _≤_, _<_}
 use mathlib.Core.Bool.{Bool, true, false, cond}
 use mathlib.Core.List.{List, [], _∷_, _++_}
-use mathlib.Core.Path.{_≡_, refl, ap, subst, _∙_}
+use mathlib.Core.Path.{_≡_, refl, sym, ap, subst, _∙_}
 use native.Mathlib.Decide.{ℕ-discrete}
 use native.Mathlib.Omega.{arith}
 use lib.Dec.{eqb, ltb}
@@ -29,6 +29,7 @@ use Rattle.station.proofs.Shape.{Shaped, lanesAfter-length}
 use Rattle.station.proofs.LimitsLane.{lane-most}
 use Rattle.station.proofs.LimitsQueue.{unqueued-len, oldest-edit}
 use Rattle.station.proofs.StationLimits.{Inside}
+use Rattle.station.proofs.TurnParts.{airs-each}
 use Rattle.station.proofs.TurnLaws.{laneAfter, after-aired, after-kept, Start, Start.anEdit, Start.aNeutral, Start.nothing, start, passed-waiting, passed-own-lane}
 use Rattle.group.specs.History.{editsOf, editsIn, airedOwn}
 
@@ -74,8 +75,9 @@ module _ (s : Station) (shape : Shaped s) (c : Inside s) where
       omega arith
 
   airs-own : airs s ≡ true → 0 < (laneAt s (s .own)) .len
-  unfolding airs
-  airs-own e = ltb-true 0 ((laneAt s (s .own)) .len) (allBelow-at (s .n) (λ k. ltb 0 ((laneAt s k) .len)) e (s .own) (c .own))
+  airs-own e =
+      ltb-true 0 ((laneAt s (s .own)) .len)
+      (allBelow-at (s .n) (λ k. ltb 0 ((laneAt s k) .len)) (sym (airs-each s) ∙ e) (s .own) (c .own))
 
   -- the airing step
   aired-account :

@@ -27,6 +27,7 @@ use Rattle.station.specs.State.{labelOf, ackedOf, heldOf, recordOf}
 use Rattle.station.specs.Hearing.{Hearing}
 use Rattle.station.specs.Turn as turn
 use Rattle.station.specs.Turn.{passed, ownRecord, afterTurn, startedBody}
+use Rattle.station.proofs.TurnParts.{ends-each}
 use Rattle.station.proofs.TurnCells
 use Rattle.group.specs.State.{stationAt}
 use Rattle.group.proofs.Run.{Run, linksOf}
@@ -69,9 +70,9 @@ module _ (R : Run) where
 
       -- S5
       pub ends-agree : turn.ends s ≡ number.ends L (suc u) p
-      unfolding turn.ends
       ends-agree =
-          ap (λ (m : ℕ). allBelow m (ackedOf s)) (c .formed .size)
+          ends-each s
+          ∙ ap (λ (m : ℕ). allBelow m (ackedOf s)) (c .formed .size)
           ∙ allBelow-every (R .n) (ackedOf s)
           (λ q. eqb q p || eqb (gotOf L q p (news L (suc u) p q)) (num L u p)) (λ q l. one q l (ℕ-discrete q p))
           ∙ sym (ends-numbers L u p)

@@ -1,38 +1,35 @@
--- Hearing cell by cell: the cell of station k is the entry at k of each array of the hearer. A record that does not count changes nothing; one that
--- does changes the cell of its own station and the count, and no other cell.
+-- Hearing cell by cell: the cell of station k is the entry at k of each array of the hearer. A record that counts changes the cell of its own station and the
+-- count, and no other cell.
 use Prim.Native.Nat.{ℕ, _<_, _≤_}
-use mathlib.Core.Bool.{true, false, cond, _&&_, _||_}
+use mathlib.Core.Bool.{true, false, cond, _||_}
 use mathlib.Core.List.{List, [], _∷_, _++_}
 use mathlib.Core.Path.{_≡_, refl}
 use native.Mathlib.Omega.{arith}
 use lib.ListN.{getD, length, length-set, replicate}
 use lib.Seq.{getD-set-same, getD-set-other}
-use lib.Dec.{leb, eqb}
+use lib.Dec.{eqb}
+use borrow.Author.Tests.{eq-eqb, ne-eqb}
 use Rattle.labels.specs.Label.{successor}
+use Rattle.labels.specs.Newer.{isNewer}
 use Rattle.frames.specs.declared.Record.{Record}
 use Rattle.frames.specs.Record.{framed}
-use Rattle.places.proofs.Laws.{fill-below, length-fill}
+use Rattle.places.proofs.Laws.{fill-below, fill-above, length-fill}
 use Rattle.station.specs.declared.Station.{Station}
 use Rattle.station.specs.Lane.{noLane, pushed}
 use Rattle.station.specs.State.{labelOf, ackedOf, heldOf, recordOf, laneAt, recordLabel, noRecord}
 use Rattle.station.specs.Hearing.{Hearing, counts, advances, takes, raised, replaced, heardNewer, hearRecord, hearRecords}
 
--- one record: nothing, or what a newer one does
-module _ (h : Hearing) (r : Record) where
-  pub skips : counts (h .station) r ≡ false → hearRecord h r ≡ h
-  unfolding hearRecord
-  skips e = rw e
+-- a record of the hearer itself never counts; one of another station does where it is newer
+module _ (s : Station) (r : Record) where
+  pub counts-own : r .station ≡ s .own → counts s r ≡ false
+  counts-own e = rw (eq-eqb (r .station) (s .own) e)
 
-  pub hears :
-      counts (h .station) r ≡ true →
-      hearRecord h r
-      ≡ record {
-        station = heardNewer (h .station) r;
-        takings = h .takings ++ cond (takes (h .station) r) (record { source = r .station; body = r .body } ∷ []) [];
-        overfull = h .overfull || (takes (h .station) r && leb 2 ((laneAt (h .station) (r .station)) .len));
-      }
-  unfolding hearRecord
-  hears e = rw e
+  pub counts-newer :
+      (r .station ≡ s .own → ⊥) →
+      counts s r
+      ≡ isNewer (heldOf s (r .station)) (recordLabel (recordOf s (r .station)) (r .station)) ((recordOf s (r .station)) .count)
+      (recordLabel r (r .station)) (r .count)
+  counts-newer d = rw (ne-eqb (r .station) (s .own) d)
 
 -- the labels below n of a record as a frame carries it, and of one put in the place of another
 pub framed-label : (n : ℕ) (r : Record) (k : ℕ) → k < n → n ≤ 16 → recordLabel (framed n r) k ≡ recordLabel r k
@@ -56,6 +53,10 @@ module _ (n : ℕ) (old r : Record) where
   pub replaced-label : (k : ℕ) → k < n → k < length (old .labels) → recordLabel (replaced n old r) k ≡ recordLabel r k
   unfolding replaced
   replaced-label k l b = fill-below n (recordLabel r) (old .labels) k 0 l b
+
+  pub replaced-above : (k : ℕ) → n ≤ k → recordLabel (replaced n old r) k ≡ recordLabel old k
+  unfolding replaced
+  replaced-above k l = fill-above n (recordLabel r) (old .labels) k 0 l
 
   pub replaced-station : (replaced n old r) .station ≡ r .station
   unfolding replaced
@@ -131,6 +132,10 @@ module _ (s : Station) (r : Record) where
   pub heard-own : (heardNewer s r) .own ≡ s .own
   unfolding heardNewer
   heard-own = refl
+
+  pub heard-waiting : (heardNewer s r) .waiting ≡ s .waiting
+  unfolding heardNewer
+  heard-waiting = refl
 
   pub heard-body : (heardNewer s r) .body ≡ s .body
   unfolding heardNewer

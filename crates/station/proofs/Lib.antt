@@ -5,16 +5,14 @@ pub mod Shape
 pub mod LimitsQueue
 pub mod StationLimits
 pub mod LimitsFresh
-pub mod HeardNewer
+pub mod Cells
 pub mod LimitsHear
 pub mod LimitsHearing
 pub mod LimitsSent
 pub mod TurnLaws
 pub mod LimitsTurn
 pub mod LaneLaws
-pub mod Unheard
 pub mod TurnParts
-pub mod Cells
 pub mod TurnCells
 pub mod LaneSteps
 pub mod QueueSteps

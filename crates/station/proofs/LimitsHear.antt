@@ -23,7 +23,7 @@ use Rattle.station.specs.Hearing.{counts, advances, takes, replaced, hea
 use Rattle.station.proofs.Shape.{Shaped}
 use Rattle.station.proofs.LimitsLane.{pushed-inside}
 use Rattle.station.proofs.StationLimits.{RecordHolds, PlaceHolds, Inside}
-use Rattle.station.proofs.HeardNewer.{heard-n, heard-own, heard-waiting, heard-body, heard-label, heard-label-other, heard-acked-other, heard-held-other, heard-record, heard-record-other, heard-lane, heard-lane-other}
+use Rattle.station.proofs.Cells.{heard-n, heard-own, heard-waiting, heard-body, label-here, label-other, acked-other, held-other, record-here, record-other, lane-here, lane-other}
 
 -- a record that a frame among n stations may carry
 pub record Carried (n : ℕ) (r : Record) : Type 0 where
@@ -89,13 +89,13 @@ module _ (s : Station) (r : Record) (shape : Shaped s) (c : Inside s) (carry : C
       let most : _≡_ {A = ℕ} (cond (eqb (r .station) (s .own)) 1 2) 2 = rw (ne-eqb (r .station) (s .own) (counts-other s r h)) in
       record {
         label =
-            rw (heard-label s r (rw (shape .labels) below))
+            rw (label-here s r (rw (shape .labels) below))
             (cond-keeps (λ (x : ℕ). isLabel x ≡ true) (advances s r) (successor (labelOf s (r .station))) (labelOf s (r .station))
             (successor-label (labelOf s (r .station))) (before .label));
         held =
-            λ e. rw (heard-n s r, heard-own s r, heard-record s r (rw (shape .table) below)) (replaced-holds (s .own));
+            λ e. rw (heard-n s r, heard-own s r, record-here s r (rw (shape .table) below)) (replaced-holds (s .own));
         lane =
-            rw (heard-own s r, most, heard-lane s r (rw (shape .lanes) below))
+            rw (heard-own s r, most, lane-here s r (rw (shape .lanes) below))
             (heard-lane-inside h full (rw most at (before .lane)));
       }
 
@@ -103,10 +103,10 @@ module _ (s : Station) (r : Record) (shape : Shaped s) (c : Inside s) (carry : C
   heard-place-other j l ne =
       let before = c .places j l in
       record {
-        label = rw (heard-label-other s r j ne) (before .label);
+        label = rw (label-other s r j ne) (before .label);
         held =
-            λ e. rw (heard-n s r, heard-own s r, heard-record-other s r j ne) (before .held (sym (heard-held-other s r j ne) ∙ e));
-        lane = rw (heard-own s r, heard-lane-other s r j ne) (before .lane);
+            λ e. rw (heard-n s r, heard-own s r, record-other s r j ne) (before .held (sym (held-other s r j ne) ∙ e));
+        lane = rw (heard-own s r, lane-other s r j ne) (before .lane);
       }
 
   pub heard-holds :
@@ -117,8 +117,8 @@ module _ (s : Station) (r : Record) (shape : Shaped s) (c : Inside s) (carry : C
         low = rw (heard-n s r) (c .low);
         high = rw (heard-n s r) (c .high);
         own = rw (heard-n s r, heard-own s r) (c .own);
-        acked = rw (heard-own s r, heard-acked-other s r (s .own) ne) (c .acked);
-        held = rw (heard-own s r, heard-held-other s r (s .own) ne) (c .held);
+        acked = rw (heard-own s r, acked-other s r (s .own) ne) (c .acked);
+        held = rw (heard-own s r, held-other s r (s .own) ne) (c .held);
         body = rw (heard-body s r) (c .body);
         waiting = rw (heard-waiting s r) (c .waiting);
         places =

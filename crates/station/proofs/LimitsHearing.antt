@@ -20,7 +20,7 @@ use Rattle.station.proofs.HearRecord.{heardOne, hearRecord-counts, hear
 use Rattle.station.proofs.Shape.{Shaped, heardNewer-shaped, hearRecord-shaped}
 use Rattle.station.proofs.LimitsLane.{pushed-len, lane-most}
 use Rattle.station.proofs.StationLimits.{Inside, inside-open, inside-make}
-use Rattle.station.proofs.HeardNewer.{heard-n, heard-own, heard-waiting, heard-body, heard-lane, heard-lane-other}
+use Rattle.station.proofs.Cells.{heard-n, heard-own, heard-waiting, heard-body, lane-here, lane-other}
 use Rattle.station.proofs.LimitsHear.{Carried, counts-other, heard-holds}
 
 -- how many bodies stand in the lane of another station, and in all of those
@@ -46,7 +46,7 @@ otherLens-most s c =
 
 module _ (s : Station) (r : Record) (other : r .station ≡ s .own → ⊥) where
   otherLen-same : (j : ℕ) → (j ≡ r .station → ⊥) → otherLen (heardNewer s r) j ≡ otherLen s j
-  otherLen-same j ne = rw (heard-own s r, heard-lane-other s r j ne)
+  otherLen-same j ne = rw (heard-own s r, lane-other s r j ne)
 
   -- nothing is taken
   otherLens-kept : r .station < length (s .lanes) → takes s r ≡ false → otherLens (heardNewer s r) ≡ otherLens s
@@ -57,7 +57,7 @@ module _ (s : Station) (r : Record) (other : r .station ≡ s .own → ⊥) wher
       each : (k : ℕ) → k < s .n → otherLen (heardNewer s r) k ≡ otherLen s k
       each k l =
           elim (ℕ-discrete k (r .station)) [
-            | yes same ↦ rw (same, heard-own s r, heard-lane s r b, e)
+            | yes same ↦ rw (same, heard-own s r, lane-here s r b, e)
             | no ne ↦ otherLen-same k ne
           ]
 
@@ -69,7 +69,7 @@ module _ (s : Station) (r : Record) (other : r .station ≡ s .own → ⊥) wher
   otherLens-raised l b e room =
       rw (heard-n s r)
       (total-raised (s .n) (otherLen s) (otherLen (heardNewer s r)) (r .station) l
-      (rw (heard-own s r, ne-eqb (r .station) (s .own) other, heard-lane s r b, e) (pushed-len (laneAt s (r .station)) (r .body) room))
+      (rw (heard-own s r, ne-eqb (r .station) (s .own) other, lane-here s r b, e) (pushed-len (laneAt s (r .station)) (r .body) room))
       (λ k m ne. otherLen-same k ne))
 
 -- what holds of a hearing h that began as a
@@ -149,7 +149,7 @@ module _ (a : Hearing) (c : Inside (a .station)) where
           waiting = heard-waiting (h .station) r ∙ hs .waiting;
           body = heard-body (h .station) r ∙ hs .body;
           lane =
-              heard-lane-other (h .station) r (a .station .own) (λ z. counts-other (h .station) r e (sym z ∙ sym (hs .own))) ∙ hs .lane;
+              lane-other (h .station) r (a .station .own) (λ z. counts-other (h .station) r e (sym z ∙ sym (hs .own))) ∙ hs .lane;
           shaped = heardNewer-shaped (h .station) r below (hs .shaped);
           inside =
               λ f. heard-holds (h .station) r (hs .shaped) (hs .inside (or-left (h .overfull) full f)) here e (or-right (h .overfull) full f);

@@ -1,7 +1,8 @@
 -- The turn cell by cell: of another station's cell only the acknowledgement can change, and that only where the broadcast ends; the own label steps on
 -- there, and the own record is made of the station's present values.
-use Prim.Native.Nat.{ℕ, _<_}
+use Prim.Native.Nat.{ℕ, _<_, _≤_}
 use mathlib.Core.Bool.{Bool, true, false, cond}
+use mathlib.Core.List.{List}
 use mathlib.Core.Path.{_≡_, refl, _∙_}
 use lib.ListN.{getD, set, length, length-set}
 use lib.Seq.{getD-set-same, getD-set-other}
@@ -9,11 +10,14 @@ use lib.Dec.{eqb}
 use Rattle.kinds.specs.Body.{kindOf}
 use Rattle.labels.specs.Label.{successor}
 use Rattle.places.specs.Places.{fill}
-use Rattle.places.proofs.Laws.{fill-below, length-fill}
+use Rattle.places.proofs.Laws.{fill-below, fill-above, length-fill}
+use Rattle.places.proofs.Keeps.{cond-keeps}
+use Rattle.station.specs.declared.Lane.{Lane}
 use Rattle.station.specs.declared.Station.{Station}
-use Rattle.station.specs.Lane.{noLane, pushed, popped}
-use Rattle.station.specs.State.{labelOf, ackedOf, heldOf, recordOf, laneAt, recordLabel, noRecord}
-use Rattle.station.specs.Turn.{airs, lanesAfter, ends, startedBody, passed, ownRecord, rewritten, afterTurn}
+use Rattle.station.specs.Lane.{noLane, pushed}
+use Rattle.station.specs.State.{labelOf, ackedOf, heldOf, recordOf, recordLabel, noRecord}
+use Rattle.station.specs.Turn.{lanesAfter, ends, startedBody, passed, ownRecord, rewritten, afterTurn}
+use Rattle.station.proofs.Shape.{lanesAfter-length}
 
 module _ (s : Station) where
   pub turn-n : (afterTurn s) .n ≡ s .n
@@ -67,6 +71,17 @@ module _ (s : Station) where
           getD (cond x (fill (s .n) (λ i. eqb i (s .own)) (s .acked)) (s .acked)) k false ≡ cond x (eqb k (s .own)) (ackedOf s k)
       go true = fill-below (s .n) (λ i. eqb i (s .own)) (s .acked) k false l b
       go false = refl
+
+  -- entries from n up stay
+  pub turn-acked-above : (k : ℕ) → s .n ≤ k → ackedOf (afterTurn s) k ≡ ackedOf s k
+  unfolding afterTurn rewritten passed
+  turn-acked-above k l =
+      cond-keeps (λ (a : List Bool). getD a k false ≡ ackedOf s k) (ends s) (fill (s .n) (λ i. eqb i (s .own)) (s .acked)) (s .acked)
+      (fill-above (s .n) (λ i. eqb i (s .own)) (s .acked) k false l) refl
+
+  pub own-label-above : (k : ℕ) → s .n ≤ k → recordLabel (ownRecord (passed s)) k ≡ recordLabel (recordOf s (s .own)) k
+  unfolding ownRecord passed
+  own-label-above k l = fill-above (s .n) (labelOf (passed s)) ((recordOf s (s .own)) .labels) k 0 l
 
   pub turn-record-other : (k : ℕ) → (k ≡ s .own → ⊥) → recordOf (afterTurn s) k ≡ recordOf s k
   unfolding afterTurn rewritten passed
@@ -124,16 +139,8 @@ module _ (s : Station) where
   turn-table-length = length-set (s .table) (s .own) (ownRecord (passed s))
 
   pub turn-lanes-length : length ((afterTurn s) .lanes) ≡ length (s .lanes)
-  unfolding afterTurn rewritten passed lanesAfter
-  turn-lanes-length = go (eqb (kindOf (startedBody s)) 0) (aired (airs s))
-    where
-      aired : (b : Bool) → length (cond b (fill (s .n) (λ k. popped (laneAt s k)) (s .lanes)) (s .lanes)) ≡ length (s .lanes)
-      aired true = length-fill (s .n) (λ k. popped (laneAt s k)) (s .lanes)
-      aired false = refl
-
-      go :
-          (b : Bool) → length (lanesAfter s) ≡ length (s .lanes) →
-          length (cond b (lanesAfter s) (set (lanesAfter s) (s .own) (pushed (getD (lanesAfter s) (s .own) noLane) (startedBody s))))
-          ≡ length (s .lanes)
-      go true e = e
-      go false e = length-set (lanesAfter s) (s .own) _ ∙ e
+  unfolding afterTurn rewritten passed
+  turn-lanes-length =
+      cond-keeps (λ (l : List Lane). length l ≡ length (s .lanes)) (eqb (kindOf (startedBody s)) 0) (lanesAfter s)
+      (set (lanesAfter s) (s .own) (pushed (getD (lanesAfter s) (s .own) noLane) (startedBody s)))
+      (lanesAfter-length s) (length-set (lanesAfter s) (s .own) _ ∙ lanesAfter-length s)
