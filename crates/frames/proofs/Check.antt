@@ -11,22 +11,20 @@ use mir.Syntax.{w32}
 use mir.Val.{SFits, toZ, ofZ}
 use mir.ValLaws.{toZ-ofZ}
 use borrow.Author.Tests.{ltb-true, ltb-false, eqb-true, eqb-false, not-false, lt-ltb, le-ltb, le-leb, lt-leb, eq-eqb, ne-eqb}
-use Rattle.kinds.specs.Refusals.{done, badNumber, badShape, badAddress, badRecord}
+use Rattle.kinds.specs.Refusals.{done, badNumber, badShape, badAddress, badRecord, refuse}
 use Rattle.kinds.specs.Limits.{numbersInside}
 use Rattle.places.proofs.Laws.{or-left, or-right}
 use Rattle.labels.specs.Packing.{wordInside}
 use Rattle.frames.specs.Words.{wordAt, signed}
 use Rattle.frames.specs.Record.{bytesInside}
-use Rattle.frames.specs.Frame.{shapeWrong, addressWrong, recordsInside, frameRefusal, checkRefusal}
+use Rattle.frames.specs.Frame.{shapeWrong, addressWrong, recordsInside, validNumber, frameRefusal, checkRefusal}
 
--- what the code's test of the three numbers of a body says, once the argument is read back from its bits
+-- what the code makes of a body's three numbers, once the argument is read back from its bits
 pub judged :
-    (p : List ℕ) (r : Bool) (e w : ℕ) (z : ℤ) → SFits w32 z → r ≡ numbersInside (getD p 2 0) e (toZ w32 (ofZ w32 z)) →
-    e ≡ wordAt p 4 → w ≡ wordAt p 8 → z ≡ signed w → r ≡ numbersInside (getD p 2 0) (wordAt p 4) (signed (wordAt p 8))
-judged p r e w z f h d q s =
-    h
-    ∙ ap (numbersInside (getD p 2 0) e) (toZ-ofZ w32 z f)
-    ∙ (λ i. numbersInside (getD p 2 0) (d i) ((s ∙ ap signed q) i))
+    {A : Type 0} (F : ℕ → ℤ → A) (p : List ℕ) (r : A) (e w : ℕ) (z : ℤ) → SFits w32 z → r ≡ F e (toZ w32 (ofZ w32 z)) →
+    e ≡ wordAt p 4 → w ≡ wordAt p 8 → z ≡ signed w → r ≡ F (wordAt p 4) (signed (wordAt p 8))
+judged F p r e w z f h d q s =
+    h ∙ ap (F e) (toZ-ofZ w32 z f) ∙ (λ i. F (d i) ((s ∙ ap signed q) i))
 
 -- one record
 module _ (n : ℕ) (p : List ℕ) where
@@ -162,3 +160,36 @@ module _ (s : List ℕ) (n own : ℕ) where
       pub by-frame : own < n → frameRefusal s n own ≡ checkRefusal s n own
       unfolding checkRefusal
       by-frame c = simp (le-leb _ _ a, le-leb _ _ b, lt-ltb _ _ c)
+
+-- what an accepted frame has
+pub record Accepted (s : List ℕ) (n own : ℕ) : Type 0 where
+  pub shape-right : shapeWrong s ≡ false
+  pub address-right : addressWrong s n own ≡ false
+  pub records-right : recordsInside s n ≡ true
+
+chain : (a b c : Bool) → refuse a badShape (refuse b badAddress (refuse (not c) badRecord done)) ≡ done → (a ≡ false) × (b ≡ false) × (c ≡ true)
+chain true b c h = absurd (omega arith)
+chain false true c h = absurd (omega arith)
+chain false false true h = (refl, refl, refl)
+chain false false false h = absurd (omega arith)
+
+pub accepted-frame : (s : List ℕ) (n own : ℕ) → frameRefusal s n own ≡ done → Accepted s n own
+unfolding frameRefusal
+accepted-frame s n own h =
+    let r = chain (shapeWrong s) (addressWrong s n own) (recordsInside s n) h in
+    record { shape-right = r .0; address-right = r .1; records-right = r .2 }
+
+valid : (v : Bool) (rest : ℕ) → refuse (not v) badNumber rest ≡ done → rest ≡ done
+valid true rest h = h
+valid false rest h = absurd (omega arith)
+
+pub accepted-check : (s : List ℕ) (n own : ℕ) → checkRefusal s n own ≡ done → Accepted s n own
+unfolding checkRefusal
+accepted-check s n own h = accepted-frame s n own (valid (validNumber n own) (frameRefusal s n own) h)
+
+module _ (s : List ℕ) (n own : ℕ) (h : checkRefusal s n own ≡ done) where
+  pub frame-shape : Shape s
+  frame-shape = shape s ((accepted-check s n own h) .shape-right)
+
+  pub long-enough : 4 ≤ length s
+  long-enough = omega (arith, frame-shape .long)

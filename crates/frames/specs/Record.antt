@@ -4,6 +4,7 @@ use mathlib.Core.Bool.{Bool, _&&_}
 use mathlib.Core.List.{List, [], _∷_, _++_}
 use lib.ListN.{getD, take, replicate}
 use lib.Dec.{leb, ltb, eqb}
+use Rattle.kinds.specs.declared.Body.the-variants.{Empty}
 use Rattle.kinds.specs.Body.{kindOf, eventOf, argumentOf, bodyOf}
 use Rattle.kinds.specs.Limits.{numbersInside}
 use Rattle.labels.specs.Packing.{packed, unpacked, wordInside}
@@ -37,6 +38,14 @@ recordBytes n r =
 -- "count at most 2 × (N - 1)"
 abbrev pub countInside : ℕ → ℕ → Bool
 countInside n count = leb count (2 * (n - 1))
+
+-- what is read past the end of a list of records
+abbrev pub noRecord : Record
+noRecord = record { station = 0; count = 0; body = Empty; labels = [] }
+
+-- an entry that no record uses
+abbrev pub zeroRecord : Record
+zeroRecord = record { station = 0; count = 0; body = Empty; labels = replicate 16 0 }
 
 -- the limits of one record in a frame among n stations
 unfoldable pub bytesInside : ℕ → List ℕ → Bool

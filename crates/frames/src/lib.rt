@@ -1,19 +1,22 @@
 // Frames: the records of a table as bytes.
 
 ghost use mathlib.Core.Path.{_≡_};
+ghost use mathlib.Core.Bool.{true, cond};
 ghost use Prim.Native.Nat.{_+_, _*_, _≤_, _<_};
-ghost use lib.ListN.{length, getD};
+ghost use lib.ListN.{length, getD, take};
 ghost use lib.Seq.{sets};
 ghost use Rattle.frames.specs.Words.{wordAt, wordBytes, signed, unsigned};
-ghost use Rattle.frames.specs.Record.{bytesInside};
-ghost use Rattle.frames.specs.Frame.{shapeWrong, addressWrong, recordsInside, frameRefusal, checkRefusal};
-ghost use Rattle.labels.specs.Packing.{unpacked};
+ghost use Rattle.frames.specs.Record.{recordOf, recordBytes, bytesInside};
+ghost use Rattle.frames.specs.Frame.{shapeWrong, addressWrong, recordsInside, frameRefusal, checkRefusal, frameBytes};
+ghost use Rattle.frames.specs.Calls.{reading, tableRecords, heldCount, written, bufferWith, Writable};
+ghost use Rattle.labels.specs.Packing.{unpacked, allLabels};
 use kinds::Body;
 use kinds::refusals::BAD_ADDRESS;
 use kinds::refusals::BAD_NUMBER;
 use kinds::refusals::BAD_RECORD;
 use kinds::refusals::BAD_SHAPE;
 use kinds::refusals::DONE;
+use kinds::refusals::SHORT_BUFFER;
 
 // Byte 3 of a frame, and byte 3 of a record: edition 0 keeps both at zero.
 const FRAME_MARK: u8 = 0;
@@ -26,6 +29,19 @@ pub struct Record {
     pub count: u8,
     pub body: Body,
     pub labels: [u8; 16],
+}
+
+// What reading a frame answers: its records, or the refusal; entries that no record uses are zero.
+pub struct Reading {
+    pub refusal: u32,
+    pub count: usize,
+    pub records: [Record; 16],
+}
+
+// What writing a frame answers: its length, or the refusal.
+pub struct Written {
+    pub refusal: u32,
+    pub len: usize,
 }
 
 // A byte as a number.
@@ -89,6 +105,39 @@ pub fn label_at(bytes: &[u8], at: usize, k: usize) -> u8
     ensures { λ r. ⌜ r ≡ getD (unpacked 16 (wordAt (now (bytes .entry)) at)) k 0 ⌝ }
 {
     (bytes[at + k / 4] >> (2 * (k % 4))) % 4
+}
+
+// The record that sixteen bytes hold.
+pub fn read_record(part: &[u8]) -> Record
+    requires { ⌜ length (now part) ≡ 16 ⌝ }
+    ensures { λ r. ⌜ r ≡ recordOf (now (part .entry)) ⌝ }
+{
+    let event = word_at(part, 4);
+    let argument = signed(word_at(part, 8));
+    let body = kinds::body_of(part[2] as u32, event, argument);
+    let labels = labels::unpack(word_at(part, 12));
+    Record {
+        station: part[0] as usize,
+        count: part[1],
+        body: body,
+        labels: labels,
+    }
+}
+
+// A record as sixteen bytes; its labels from n up are written 0.
+pub fn write_record(part: &mut [u8], n: usize, r: Record)
+    requires { ⌜ (length (now part) ≡ 16) × (n ≤ 16) × (r .station < 256) × (allLabels (take n (r .labels)) ≡ true) ⌝ }
+    ensures { λ _. ⌜ now (part .exit) ≡ recordBytes n r ⌝ }
+{
+    let body = r.body;
+    let labels = r.labels;
+    part[0] = r.station as u8;
+    part[1] = r.count;
+    part[2] = kinds::kind_of(body) as u8;
+    part[3] = RECORD_MARK;
+    put_word(part, 4, kinds::event_of(body));
+    put_word(part, 8, unsigned(kinds::argument_of(body)));
+    put_word(part, 12, labels::pack(labels, n));
 }
 
 // Are the sixteen bytes of a record inside its limits?
@@ -206,4 +255,100 @@ pub fn check_frame(bytes: &[u8], n: usize, own: usize) -> u32
         return BAD_NUMBER;
     }
     frame_refusal(bytes, n, own)
+}
+
+// The records of a frame that the frame check accepts.
+pub fn read_frame(bytes: &[u8], n: usize, own: usize) -> Reading
+    ensures { λ r. ⌜ r ≡ reading (now (bytes .entry)) n own ⌝ }
+{
+    let none = Record {
+        station: 0,
+        count: 0,
+        body: Body::Empty,
+        labels: [0u8; 16],
+    };
+    let mut records = [none; 16];
+    let refusal = check_frame(bytes, n, own);
+    if refusal != DONE {
+        return Reading {
+            refusal: refusal,
+            count: 0,
+            records: records,
+        };
+    }
+    let count = wide(bytes[2]);
+    let mut k: usize = 0;
+    while k < count {
+        let at = 4 + 16 * k;
+        records[k] = read_record(&bytes[at..at + 16]);
+        k += 1;
+    }
+    Reading {
+        refusal: DONE,
+        count: count,
+        records: records,
+    }
+}
+
+// 1 where a place is held, else 0.
+fn one_if(held: bool) -> usize
+    ensures { λ r. ⌜ r ≡ cond held 1 0 ⌝ }
+{
+    if held { 1 } else { 0 }
+}
+
+// How many of the first n places are held.
+fn held_count(held: [bool; 16], n: usize) -> usize
+    requires { ⌜ n ≤ 16 ⌝ }
+    ensures { λ r. ⌜ r ≡ heldCount n held ⌝ }
+{
+    let mut count: usize = 0;
+    let mut k: usize = 0;
+    while k < n {
+        count += one_if(held[k]);
+        k += 1;
+    }
+    count
+}
+
+// The frame that a sender among n stations makes of the records at the held places of a table.
+pub fn write_table(
+    buffer: &mut [u8],
+    held: [bool; 16],
+    table: [Record; 16],
+    n: usize,
+    sender: usize,
+) -> Written
+    requires { ⌜ Writable n sender held table ⌝ }
+    ensures { λ r.
+        ⌜ (r ≡ written (frameBytes n sender (tableRecords n held table)) (length (now (buffer .entry))))
+        × (now (buffer .exit) ≡ bufferWith (frameBytes n sender (tableRecords n held table)) (now (buffer .entry))) ⌝ }
+{
+    let count = held_count(held, n);
+    let len = 4 + 16 * count;
+    if buffer.len() < len {
+        return Written {
+            refusal: SHORT_BUFFER,
+            len: 0,
+        };
+    }
+    buffer[0] = n as u8;
+    buffer[1] = sender as u8;
+    buffer[2] = count as u8;
+    buffer[3] = FRAME_MARK;
+    let mut at: usize = 4;
+    let mut k: usize = 0;
+    while k < n {
+        if !held[k] {
+            k += 1;
+            continue;
+        }
+        write_record(&mut buffer[at..at + 16], n, table[k]);
+        at += 16;
+        k += 1;
+    }
+    Written {
+        refusal: DONE,
+        len: len,
+    }
 }

@@ -12,27 +12,21 @@ use Rattle.frames.proofs.label_at.Tie as tie
 use Rattle.frames.proofs.label_at.Reads as reads
 use Rattle.frames.proofs.label_at.Lts as lts
 
--- src/lib.rt:93:12
 add-result : tie.Need-add-result
 add-result c = search needs
 
--- src/lib.rt:93:6
 shared-slice-read-result : tie.Need-shared-slice-read-result
 shared-slice-read-result c = search needs
 
--- src/lib.rt:93:28
 mul-result : tie.Need-mul-result
 mul-result c = search needs
 
--- src/lib.rt:93:28
 cast-result : tie.Need-cast-result
 cast-result c = search needs
 
--- src/lib.rt:93:6
 shr-result : tie.Need-shr-result
 shr-result c = search needs
 
--- src/lib.rt:89:1
 returns : tie.Need-returns
 unfolding wordAt
 returns c =

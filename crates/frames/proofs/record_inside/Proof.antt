@@ -4,6 +4,7 @@ use borrow.Author.Tests.{not-true, not-false}
 use Prim.Native.Nat.{ℕ}
 use native.Mathlib.Omega.{arith}
 use lib.ListN.{getD}
+use Rattle.kinds.specs.Limits.{numbersInside}
 use Rattle.labels.specs.Packing.{wordInside}
 use Rattle.frames.proofs.Check.{judged, far, high, other-numbers, marked, by-labels}
 use borrow.Author.Needs.{needs}
@@ -66,7 +67,7 @@ numbers-inside-requires c κs = search needs
 returns-3 : tie.Need-returns-3
 returns-3 c =
     let s = c .before .before .before .before .before .before .before .before .before .before .before .before .before .args in
-    let t = judged (s .part .now) (c .before .numbers-inside .result) (c .before .before .before .before .before .word-at .result) (c .before .before .before .before .word-at2 .result) (c .before .before .before .signed .result) (record { sfits = c .before .before .before .signed .ok }) (c .before .numbers-inside .ensures) (c .before .before .before .before .before .word-at .ensures) (c .before .before .before .before .word-at2 .ensures) (c .before .before .before .signed .ensures) in
+    let t = judged (numbersInside (getD (s .part .now) 2 0)) (s .part .now) (c .before .numbers-inside .result) (c .before .before .before .before .before .word-at .result) (c .before .before .before .before .word-at2 .result) (c .before .before .before .signed .result) (record { sfits = c .before .before .before .signed .ok }) (c .before .numbers-inside .ensures) (c .before .before .before .before .before .word-at .ensures) (c .before .before .before .before .word-at2 .ensures) (c .before .before .before .signed .ensures) in
     other-numbers (s .n) (s .part .now) (omega arith) (omega arith) (sym t ∙ not-true _ (c .if3 .taken))
 
 shared-slice-read-if4 : tie.Need-shared-slice-read-if4
@@ -75,7 +76,7 @@ shared-slice-read-if4 c = search needs
 returns-4 : tie.Need-returns-4
 returns-4 c =
     let s = c .before .before .before .before .before .before .before .before .before .before .before .before .before .before .before .args in
-    let t = judged (s .part .now) (c .before .before .before .numbers-inside .result) (c .before .before .before .before .before .before .before .word-at .result) (c .before .before .before .before .before .before .word-at2 .result) (c .before .before .before .before .before .signed .result) (record { sfits = c .before .before .before .before .before .signed .ok }) (c .before .before .before .numbers-inside .ensures) (c .before .before .before .before .before .before .before .word-at .ensures) (c .before .before .before .before .before .before .word-at2 .ensures) (c .before .before .before .before .before .signed .ensures) in
+    let t = judged (numbersInside (getD (s .part .now) 2 0)) (s .part .now) (c .before .before .before .numbers-inside .result) (c .before .before .before .before .before .before .before .word-at .result) (c .before .before .before .before .before .before .word-at2 .result) (c .before .before .before .before .before .signed .result) (record { sfits = c .before .before .before .before .before .signed .ok }) (c .before .before .before .numbers-inside .ensures) (c .before .before .before .before .before .before .before .word-at .ensures) (c .before .before .before .before .before .before .word-at2 .ensures) (c .before .before .before .before .before .signed .ensures) in
     marked (s .n) (s .part .now) (omega arith) (omega arith) (sym t ∙ not-false _ (c .before .before .if3 .left)) (c .if4 .taken)
 
 word-at-requires-3 : tie.Need-word-at-requires-3
@@ -87,7 +88,7 @@ word-inside-requires c κs = search needs
 returns-5 : tie.Need-returns-5
 returns-5 c =
     let s = c .before .before .before .before .before .before .before .before .before .before .before .before .before .before .before .before .before .args in
-    let t = judged (s .part .now) (c .before .before .before .before .before .numbers-inside .result) (c .before .before .before .before .before .before .before .before .before .word-at .result) (c .before .before .before .before .before .before .before .before .word-at2 .result) (c .before .before .before .before .before .before .before .signed .result) (record { sfits = c .before .before .before .before .before .before .before .signed .ok }) (c .before .before .before .before .before .numbers-inside .ensures) (c .before .before .before .before .before .before .before .before .before .word-at .ensures) (c .before .before .before .before .before .before .before .before .word-at2 .ensures) (c .before .before .before .before .before .before .before .signed .ensures) in
+    let t = judged (numbersInside (getD (s .part .now) 2 0)) (s .part .now) (c .before .before .before .before .before .numbers-inside .result) (c .before .before .before .before .before .before .before .before .before .word-at .result) (c .before .before .before .before .before .before .before .before .word-at2 .result) (c .before .before .before .before .before .before .before .signed .result) (record { sfits = c .before .before .before .before .before .before .before .signed .ok }) (c .before .before .before .before .before .numbers-inside .ensures) (c .before .before .before .before .before .before .before .before .before .word-at .ensures) (c .before .before .before .before .before .before .before .before .word-at2 .ensures) (c .before .before .before .before .before .before .before .signed .ensures) in
     c .word-inside .ensures ∙ ap (wordInside (s .n)) (c .before .word-at3 .ensures) ∙ by-labels (s .n) (s .part .now) (omega arith) (omega arith) (sym t ∙ not-false _ (c .before .before .before .before .if3 .left)) (c .before .before .if4 .left)
 
 pub record-inside-spec : {M : Type 1} → statement M
