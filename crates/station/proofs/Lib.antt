@@ -18,3 +18,5 @@ pub mod Cells
 pub mod TurnCells
 pub mod LaneSteps
 pub mod QueueSteps
+pub mod TurnSteps
+pub mod CallSteps

@@ -105,9 +105,13 @@ unfoldable pub noTurn : TurnReport
 noTurn =
     record { aired = false; row = replicate 16 noSlot; ended = false; «ended_body» = Empty; «started_body» = Empty }
 
+-- the answer of a turn that is not refused
+abbrev pub turnDone : Station → Turned
+turnDone s = record { refusal = done; station = afterTurn s; report = turnReport s }
+
 -- "Turn": 2
 unfoldable pub turnCall : Station → Turned
 turnCall s =
     cond (stationInside s)
-    (record { refusal = done; station = afterTurn s; report = turnReport s })
+    (turnDone s)
     (record { refusal = outsideLimits; station = s; report = noTurn })

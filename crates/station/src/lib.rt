@@ -1,10 +1,17 @@
 // One station: what it holds, its limits, and its calls.
 
+ghost use mathlib.Core.Path.{_≡_};
+ghost use Rattle.station.specs.Calls.{freshCall, postCall, noTurn, turnCall};
 use frames::Record;
 use kinds::Body;
+use kinds::refusals::BAD_NUMBER;
+use kinds::refusals::DONE;
+use kinds::refusals::NOT_AN_EDIT;
+use kinds::refusals::OUTSIDE_LIMITS;
+use kinds::refusals::QUEUE_FULL;
 
+pub mod checks;
 pub mod lanes;
-pub mod limits;
 pub mod queues;
 pub mod starts;
 pub mod turns;
@@ -80,4 +87,84 @@ pub struct Turned {
     pub refusal: u32,
     pub station: Station,
     pub report: TurnReport,
+}
+
+// Fresh: station own among n, as it begins.
+pub fn fresh(n: usize, own: usize) -> Kept
+    ensures { λ r. ⌜ r ≡ freshCall n own ⌝ }
+{
+    if checks::valid_number(n, own) {
+        let station = starts::fresh_station(n, own);
+        return Kept {
+            refusal: DONE,
+            station: station,
+        };
+    }
+    let station = starts::fresh_station(1, 0);
+    Kept {
+        refusal: BAD_NUMBER,
+        station: station,
+    }
+}
+
+// Post: one more waiting edit.
+pub fn post(s: Station, body: Body) -> Kept
+    ensures { λ r. ⌜ r ≡ postCall s body ⌝ }
+{
+    if !checks::station_inside(s) {
+        return Kept {
+            refusal: OUTSIDE_LIMITS,
+            station: s,
+        };
+    }
+    if !kinds::is_edit(body) {
+        return Kept {
+            refusal: NOT_AN_EDIT,
+            station: s,
+        };
+    }
+    let queue = s.waiting;
+    if 32 <= queue.len {
+        return Kept {
+            refusal: QUEUE_FULL,
+            station: s,
+        };
+    }
+    let waiting = queues::queued(queue, body);
+    let mut station = s;
+    station.waiting = waiting;
+    Kept {
+        refusal: DONE,
+        station: station,
+    }
+}
+
+// The report where there was no turn.
+pub fn no_turn() -> TurnReport
+    ensures { λ r. ⌜ r ≡ noTurn ⌝ }
+{
+    let slot = Slot { body: Body::Empty };
+    let row = [slot; 16];
+    TurnReport {
+        aired: false,
+        row: row,
+        ended: false,
+        ended_body: Body::Empty,
+        started_body: Body::Empty,
+    }
+}
+
+// Turn: a row aired, the broadcast ended and the next one started, the own record rewritten.
+pub fn turn(s: Station) -> Turned
+    ensures { λ r. ⌜ r ≡ turnCall s ⌝ }
+{
+    if checks::station_inside(s) {
+        return turns::take_turn(s);
+    }
+    let report = no_turn();
+    Turned {
+        refusal: OUTSIDE_LIMITS,
+        station: s,
+        report: report,
+    }
 }

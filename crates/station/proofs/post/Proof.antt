@@ -1,0 +1,72 @@
+-- `station::post` meets its contract, refusal by refusal.
+use mathlib.Core.Path.{_≡_, sym, ap, _∙_}
+use borrow.Author.Tests.{not-true, not-false}
+use Rattle.station.specs.declared.Queue.{Queue}
+use Rattle.station.specs.declared.Station.{Station}
+use Rattle.station.specs.declared.Kept.{Kept}
+use Rattle.station.specs.Calls.{posted}
+use Rattle.station.proofs.CallSteps.{post-outside, post-no-edit, post-full, post-done}
+use borrow.Author.Needs.{needs}
+use Rattle.station.proofs.post.Statement.{statement}
+use Rattle.station.proofs.post.Tie as tie
+
+-- the answer with another queue
+abbrev withQueue : Station → Queue → Kept
+withQueue s q =
+    record {
+      refusal = 0;
+      station =
+          record {
+            n = s .n;
+            own = s .own;
+            waiting = q;
+            acked = s .acked;
+            body = s .body;
+            count = s .count;
+            labels = s .labels;
+            held = s .held;
+            table = s .table;
+            lanes = s .lanes;
+          };
+    }
+
+station-inside-requires : tie.Need-station-inside-requires
+station-inside-requires c κs = search needs
+
+returns : tie.Need-returns
+returns c = post-outside _ _ (sym (c .before .station-inside .ensures) ∙ not-true _ (c .if1 .taken))
+
+is-edit-requires : tie.Need-is-edit-requires
+is-edit-requires c κs = search needs
+
+returns-2 : tie.Need-returns-2
+returns-2 c = post-no-edit _ _ (sym (c .before .before .before .station-inside .ensures) ∙ not-false _ (c .before .before .if1 .left)) (sym (c .before .is-edit .ensures) ∙ not-true _ (c .if2 .taken))
+
+returns-3 : tie.Need-returns-3
+returns-3 c =
+    let d = c .before .before .before in
+    post-full _ _ (sym (d .before .before .before .station-inside .ensures) ∙ not-false _ (d .before .before .if1 .left)) (sym (d .before .is-edit .ensures) ∙ not-false _ (d .if2 .left)) (c .if3 .taken)
+
+queued-requires : tie.Need-queued-requires
+queued-requires c κs = search needs
+
+returns-4 : tie.Need-returns-4
+unfolding posted
+returns-4 c =
+    let d = c .before .before .before .before in
+    let s = d .before .before .before .before .args .s in
+    let b = d .before .before .before .before .args .body in
+    ap (withQueue s) (c .queued .ensures)
+    ∙ post-done s b (sym (d .before .before .before .station-inside .ensures) ∙ not-false _ (d .before .before .if1 .left)) (sym (d .before .is-edit .ensures) ∙ not-false _ (d .if2 .left)) (c .before .if3 .left)
+
+pub post-spec : {M : Type 1} → statement M
+post-spec =
+    tie.close
+    (tie.spec
+    station-inside-requires
+    returns
+    is-edit-requires
+    returns-2
+    returns-3
+    queued-requires
+    returns-4)
