@@ -1,7 +1,8 @@
-pub mod Run
 pub mod Members
 pub mod MembersPost
 pub mod MembersRound
+pub mod CallSteps
+pub mod Run
 pub mod HistoryInside
 pub mod TurnAccount
 pub mod PostsAccounted

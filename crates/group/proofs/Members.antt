@@ -38,7 +38,7 @@ pub record Members (n : ℕ) (g : List Station) : Type 0 where
   pub shape : GroupShaped g
   pub member : (k : ℕ) → k < n → Member n g k
 
-member-open : (g : List Station) (k : ℕ) → memberInside g k ≡ true → Member (sizeOf g) g k
+pub member-open : (g : List Station) (k : ℕ) → memberInside g k ≡ true → Member (sizeOf g) g k
 member-open g k h =
     let inside = stationInside (stationAt g k) in
     let size = eqb (stationAt g k .n) (sizeOf g) in
@@ -115,3 +115,7 @@ module _ (n : ℕ) (high : n ≤ 16) where
 
 pub fresh-inside : (n : ℕ) → 1 ≤ n → n ≤ 16 → groupInside (freshGroup n) ≡ true
 fresh-inside n low high = members-inside n (freshGroup n) (fresh-members n high low)
+
+pub group-high : (g : List Station) → groupInside g ≡ true → sizeOf g ≤ 16
+unfolding groupInside
+group-high g h = member-open g 0 (and-left (memberInside g 0) (allBelow (sizeOf g) (memberInside g)) h) .inside .high

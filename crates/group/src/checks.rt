@@ -1,0 +1,40 @@
+// When a group is inside its limits, and when its frames may be written.
+
+ghost use mathlib.Core.Path.{_≡_};
+ghost use mathlib.Core.Bool.{not, _&&_};
+ghost use lib.Dec.{eqb};
+ghost use Rattle.station.specs.Limits.{stationInside};
+ghost use Rattle.group.specs.State.{groupInside};
+use station::Station;
+
+// Is s inside its limits, of a group of n, and its number k?
+fn member_inside(s: Station, n: usize, k: usize) -> bool
+    ensures { λ r. ⌜ r ≡ (stationInside s && (eqb (s .n) n && eqb (s .own) k)) ⌝ }
+{
+    if s.n != n {
+        return false;
+    }
+    if s.own != k {
+        return false;
+    }
+    station::checks::station_inside(s)
+}
+
+// Is the group inside its limits?
+pub fn group_inside(g: [Station; 16]) -> bool
+    ensures { λ r. ⌜ r ≡ groupInside g ⌝ }
+{
+    let first = g[0];
+    let n = first.n;
+    if !member_inside(first, n, 0) {
+        return false;
+    }
+    let mut k: usize = 1;
+    while k < n {
+        if !member_inside(g[k], n, k) {
+            return false;
+        }
+        k += 1;
+    }
+    true
+}
