@@ -50,13 +50,16 @@ packed-same (suc n) (x ∷ l) [] h =
 packed-same (suc n) (x ∷ l) (y ∷ m) h =
     omega (arith, packed-same n l m (λ k b. h (suc k) (omega arith)), h 0 (omega arith))
 
+-- so the labels that a frame carries make the same word
+pub packed-carried :
+    (n : ℕ) (labels : List ℕ) → n ≤ 16 → packed (take n (fill n (λ k. getD labels k 0) (replicate 16 0))) ≡ packed (take n labels)
+packed-carried n labels few =
+    packed-same n (fill n (λ k. getD labels k 0) (replicate 16 0)) labels
+    (λ k h. fill-below n (λ j. getD labels j 0) (replicate 16 0) k 0 h (omega (arith, length-replicate {A = ℕ} 16 0)))
+
 pub framed-bytes : (n : ℕ) (r : Record) → n ≤ 16 → recordBytes n (framed n r) ≡ recordBytes n r
 unfolding recordBytes framed
 framed-bytes n r few =
-    let labels = fill n (λ k. getD (r .labels) k 0) (replicate 16 0) in
-    let e : packed (take n labels) ≡ packed (take n (r .labels)) =
-    packed-same n labels (r .labels)
-    (λ k h. fill-below n (λ j. getD (r .labels) j 0) (replicate 16 0) k 0 h (omega (arith, length-replicate {A = ℕ} 16 0))) in
     ap
     (λ (w : ℕ).
     r .station
@@ -64,4 +67,4 @@ framed-bytes n r few =
     ∷ kindOf (r .body)
     ∷ 0
     ∷ wordBytes (eventOf (r .body)) ++ wordBytes (unsigned (argumentOf (r .body))) ++ wordBytes w)
-    e
+    (packed-carried n (r .labels) few)

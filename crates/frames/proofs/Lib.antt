@@ -6,3 +6,7 @@ pub mod Entries
 pub mod Writing
 pub mod Bytes
 pub mod Table
+pub mod Spelled
+pub mod RecordTrip
+pub mod FrameTrip
+pub mod TableTrip

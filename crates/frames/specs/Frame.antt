@@ -7,7 +7,7 @@ use lib.Dec.{leb, ltb, eqb}
 use Rattle.kinds.specs.Refusals.{done, badNumber, badShape, badAddress, badRecord, refuse}
 use Rattle.places.specs.Places.{allBelow, anyBelow, tabulate}
 use Rattle.frames.specs.declared.Record.{Record}
-use Rattle.frames.specs.Record.{recordOf, recordBytes, bytesInside}
+use Rattle.frames.specs.Record.{recordOf, recordBytes, noRecord, bytesInside, recordFits}
 
 -- byte 3 of a frame, which edition 0 keeps at zero
 abbrev pub frameMark : ℕ
@@ -67,3 +67,9 @@ recordsBytes n (r ∷ rs) = recordBytes n r ++ recordsBytes n rs
 -- the frame that a sender among n stations makes of records
 unfoldable pub frameBytes : ℕ → ℕ → List Record → List ℕ
 frameBytes n sender records = n ∷ sender ∷ length records ∷ frameMark ∷ recordsBytes n records
+
+-- the record limits over records that are to be written: each inside its own, stations strictly ascending, the sender's among them
+unfoldable pub recordsFit : ℕ → ℕ → List Record → Bool
+recordsFit n sender rs =
+    allBelow (length rs) (λ k. recordFits n (getD rs k noRecord) && (eqb k 0 || ltb ((getD rs (pred k) noRecord) .station) ((getD rs k noRecord) .station)))
+    && anyBelow (length rs) (λ k. eqb ((getD rs k noRecord) .station) sender)

@@ -6,8 +6,8 @@ use lib.ListN.{getD, take, replicate}
 use lib.Dec.{leb, ltb, eqb}
 use Rattle.kinds.specs.declared.Body.the-variants.{Empty}
 use Rattle.kinds.specs.Body.{kindOf, eventOf, argumentOf, bodyOf}
-use Rattle.kinds.specs.Limits.{numbersInside}
-use Rattle.labels.specs.Packing.{packed, unpacked, wordInside}
+use Rattle.kinds.specs.Limits.{numbersInside, bodyInside}
+use Rattle.labels.specs.Packing.{packed, unpacked, allLabels, wordInside}
 use Rattle.places.specs.Places.{fill}
 use Rattle.frames.specs.declared.Record.{Record}
 use Rattle.frames.specs.Words.{wordAt, wordBytes, signed, unsigned}
@@ -55,6 +55,11 @@ bytesInside n bytes =
     && numbersInside (getD bytes 2 0) (wordAt bytes 4) (signed (wordAt bytes 8))
     && eqb (getD bytes 3 0) recordMark
     && wordInside n (wordAt bytes 12)
+
+-- the same limits of a record that is to be written
+unfoldable pub recordFits : ℕ → Record → Bool
+recordFits n r =
+    ltb (r .station) n && countInside n (r .count) && bodyInside (r .body) && allLabels (take n (r .labels))
 
 -- the record as a frame carries it: its labels from n up are 0
 unfoldable pub framed : ℕ → Record → Record

@@ -1,14 +1,14 @@
 -- Laws of lists read by place: what holds at every place below n, what a filled list holds below n and from n up, and what is gathered.
 -- Each is an induction on n, whose last place is looked at first.
-use mathlib.Core.Path.{_≡_, refl, sym, ap, _∙_}
+use mathlib.Core.Path.{_≡_, refl, sym, ap, ap₂, _∙_}
 use mathlib.Core.Bool.{Bool, true, false, cond, _&&_, _||_, or-false}
-use mathlib.Core.List.{List, [], _∷_, _++_}
+use mathlib.Core.List.{List, [], _∷_, _++_, map, map-append}
 use Prim.Native.Nat.{ℕ, zero, suc, _+_, _≤_, _<_}
 use native.Mathlib.Numerals.{add-one}
 use native.Mathlib.Decide.{ℕ-discrete}
 use native.Mathlib.Omega.{arith}
-use lib.ListN.{getD, set, length, length-set, length-append, List·getD-append}
-use lib.Seq.{getD-set-same, getD-set-other, getD-at}
+use lib.ListN.{getD, set, length, length-set, length-append, length-map, List·getD-append, List·getD-map}
+use lib.Seq.{getD-set-same, getD-set-other, getD-at, ext-getD}
 use Rattle.places.specs.Places.{allBelow, anyBelow, fill, gather, tabulate}
 
 pub and-both : {a b : Bool} → a ≡ true → b ≡ true → (a && b) ≡ true
@@ -188,3 +188,25 @@ module _ {A : Type 0} where
   unfolding tabulate
   tabulate-ext zero f g h = refl
   tabulate-ext (suc n) f g h = rw (tabulate-ext n f g (λ k b. h k (omega arith)), h n (omega arith))
+
+-- a list, and what a function makes of it, place by place
+pub tabulate-map :
+    {A B : Type 0} (f : A → B) (l : List A) (d : A) → tabulate (length l) (λ k. f (getD l k d)) ≡ map f l
+tabulate-map f l d =
+    ext-getD (f d) (tabulate (length l) (λ k. f (getD l k d))) (map f l)
+    (length-tabulate (length l) (λ k. f (getD l k d)) ∙ sym (length-map l f))
+    (λ i h.
+    tabulate-at (length l) (λ k. f (getD l k d)) i (f d) (omega (arith, length-tabulate (length l) (λ k. f (getD l k d))))
+    ∙ sym (List·getD-map f l i d))
+
+-- what a function makes of what is gathered
+pub map-gather :
+    {A B : Type 0} (g : A → B) (n : ℕ) (test : ℕ → Bool) (f : ℕ → A) → map g (gather n test f) ≡ gather n test (λ k. g (f k))
+unfolding gather
+map-gather g zero test f = refl
+map-gather {A} {B} g (suc n) test f =
+    map-append g (gather n test f) (cond (test n) (f n ∷ []) []) ∙ ap₂ _++_ (map-gather g n test f) (last (test n))
+  where
+    last : (b : Bool) → map g (cond b (f n ∷ []) []) ≡ cond b (g (f n) ∷ []) []
+    last true = refl
+    last false = refl

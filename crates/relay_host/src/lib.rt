@@ -1,0 +1,12 @@
+// What the host that moves frames, a C program, calls. The declarations for C are in include/relay_host.h.
+
+ghost use mathlib.Core.Path.{_≡_};
+ghost use Rattle.frames.specs.Frame.{checkRefusal};
+
+// The frame check: 0, or the refusal, for any bytes and any two numbers.
+#[no_mangle]
+pub extern "C" fn relay_frame_check(bytes: &[u8], n: u32, own: u32) -> u32
+    ensures { λ r. ⌜ r ≡ checkRefusal (now (bytes .entry)) n own ⌝ }
+{
+    frames::check_frame(bytes, n as usize, own as usize)
+}
