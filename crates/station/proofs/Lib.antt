@@ -20,3 +20,6 @@ pub mod LaneSteps
 pub mod QueueSteps
 pub mod TurnSteps
 pub mod CallSteps
+pub mod Lengths
+pub mod HearBytes
+pub mod HearSteps

@@ -11,6 +11,7 @@ use kinds::refusals::OUTSIDE_LIMITS;
 use kinds::refusals::QUEUE_FULL;
 
 pub mod checks;
+pub mod hearings;
 pub mod lanes;
 pub mod queues;
 pub mod starts;
@@ -80,6 +81,14 @@ pub struct Heard {
     pub refusal: u32,
     pub station: Station,
     pub taken: [bool; 16],
+}
+
+// What a station makes of several frames: where no lane would have got a third body, the station and what it took, in the order heard.
+pub struct HeardAll {
+    pub overfull: bool,
+    pub station: Station,
+    pub takings_len: usize,
+    pub takings: [Taking; 30],
 }
 
 // The answer of turn.
