@@ -50,19 +50,26 @@ member-open g k h =
       own = eqb-true (stationAt g k .own) k (and-right size own rest);
     }
 
+module _ (g : List Station) (h : groupInside g ≡ true) where
+  first-member : Member (sizeOf g) g 0
+  unfolding groupInside
+  first-member = member-open g 0 (and-left (memberInside g 0) (allBelow (sizeOf g) (memberInside g)) h)
+
+  pub group-low : 1 ≤ sizeOf g
+  group-low = first-member .inside .low
+
+  pub group-high : sizeOf g ≤ 16
+  group-high = first-member .inside .high
+
+  pub member-at : (k : ℕ) → k < sizeOf g → Member (sizeOf g) g k
+  unfolding groupInside
+  member-at k l =
+      member-open g k
+      (allBelow-at (sizeOf g) (memberInside g) (and-right (memberInside g 0) (allBelow (sizeOf g) (memberInside g)) h) k l)
+
 pub members-open : (g : List Station) → GroupShaped g → groupInside g ≡ true → Members (sizeOf g) g
-unfolding groupInside
 members-open g shape h =
-    let first : Member (sizeOf g) g 0 = member-open g 0 (and-left (memberInside g 0) (allBelow (sizeOf g) (memberInside g)) h) in
-    record {
-      low = first .inside .low;
-      high = first .inside .high;
-      size = refl;
-      shape = shape;
-      member =
-          λ k l. member-open g k
-          (allBelow-at (sizeOf g) (memberInside g) (and-right (memberInside g 0) (allBelow (sizeOf g) (memberInside g)) h) k l);
-    }
+    record { low = group-low g h; high = group-high g h; size = refl; shape = shape; member = member-at g h }
 
 pub members-inside : (n : ℕ) (g : List Station) → Members n g → groupInside g ≡ true
 unfolding groupInside
@@ -115,7 +122,3 @@ module _ (n : ℕ) (high : n ≤ 16) where
 
 pub fresh-inside : (n : ℕ) → 1 ≤ n → n ≤ 16 → groupInside (freshGroup n) ≡ true
 fresh-inside n low high = members-inside n (freshGroup n) (fresh-members n high low)
-
-pub group-high : (g : List Station) → groupInside g ≡ true → sizeOf g ≤ 16
-unfolding groupInside
-group-high g h = member-open g 0 (and-left (memberInside g 0) (allBelow (sizeOf g) (memberInside g)) h) .inside .high

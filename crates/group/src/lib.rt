@@ -1,9 +1,10 @@
 // A group of stations and its rounds.
 
 ghost use mathlib.Core.Path.{_≡_};
-ghost use Rattle.group.specs.Calls.{freshCall, postCall};
+ghost use Rattle.group.specs.Calls.{freshCall, postCall, roundCall};
 use kinds::Body;
 use kinds::refusals::BAD_NUMBER;
+use kinds::refusals::COUNT_TOO_HIGH;
 use kinds::refusals::DONE;
 use kinds::refusals::NOT_AN_EDIT;
 use kinds::refusals::OUTSIDE_LIMITS;
@@ -13,6 +14,8 @@ use station::Taking;
 use station::TurnReport;
 
 pub mod checks;
+pub mod hears;
+pub mod sends;
 pub mod starts;
 
 // What a round reports of one station: the bodies it took in the order heard, and its turn.
@@ -99,4 +102,19 @@ pub fn post(g: [Station; 16], k: usize, body: Body) -> KeptGroup
         refusal: DONE,
         group: group,
     }
+}
+
+// Round: every frame is written, then each station hears those of its mask and takes its turn.
+pub fn round(g: [Station; 16], masks: [u16; 16]) -> RoundDone
+    ensures { λ r. ⌜ r ≡ roundCall g masks ⌝ }
+{
+    if !checks::group_inside(g) {
+        return hears::turned_down(OUTSIDE_LIMITS, g);
+    }
+    if !checks::counts_inside(g) {
+        return hears::turned_down(COUNT_TOO_HIGH, g);
+    }
+    let mut bytes = [0u8; 4160];
+    sends::write_frames(&mut bytes, g);
+    hears::hear_and_turn(g, masks, &bytes)
 }

@@ -99,6 +99,7 @@ module _ (n : ℕ) (b : List ℕ) (h : bytesInside n b ≡ true) where
   three = and-left (t₁ && t₂ && t₃) t₄ (and-left (t₁ && t₂ && t₃ && t₄) t₅ whole)
 
   labelled : (j : ℕ) → j < n → getD (unpacked 16 (wordAt b 12)) j 0 ≤ 2
+  unfolding wordInside
   labelled j l =
       let u = unpacked 16 (wordAt b 12) in
       rw (getD-take n u j 0 l) at (all-at (take n u) (and-left (allLabels (take n u)) (allZero (drop n u)) (and-right (t₁ && t₂ && t₃ && t₄) t₅ whole)) j)
