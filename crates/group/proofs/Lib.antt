@@ -1,7 +1,14 @@
-pub mod Run
 pub mod Members
 pub mod MembersPost
 pub mod MembersRound
+pub mod CallSteps
+pub mod SentFrame
+pub mod RoundFrames
+pub mod RoundSteps
+pub mod WrittenFrames
+pub mod HeardTurn
+pub mod GroupLengths
+pub mod Run
 pub mod HistoryInside
 pub mod TurnAccount
 pub mod PostsAccounted

@@ -38,7 +38,7 @@ pub record Members (n : ℕ) (g : List Station) : Type 0 where
   pub shape : GroupShaped g
   pub member : (k : ℕ) → k < n → Member n g k
 
-member-open : (g : List Station) (k : ℕ) → memberInside g k ≡ true → Member (sizeOf g) g k
+pub member-open : (g : List Station) (k : ℕ) → memberInside g k ≡ true → Member (sizeOf g) g k
 member-open g k h =
     let inside = stationInside (stationAt g k) in
     let size = eqb (stationAt g k .n) (sizeOf g) in
@@ -50,19 +50,26 @@ member-open g k h =
       own = eqb-true (stationAt g k .own) k (and-right size own rest);
     }
 
+module _ (g : List Station) (h : groupInside g ≡ true) where
+  first-member : Member (sizeOf g) g 0
+  unfolding groupInside
+  first-member = member-open g 0 (and-left (memberInside g 0) (allBelow (sizeOf g) (memberInside g)) h)
+
+  pub group-low : 1 ≤ sizeOf g
+  group-low = first-member .inside .low
+
+  pub group-high : sizeOf g ≤ 16
+  group-high = first-member .inside .high
+
+  pub member-at : (k : ℕ) → k < sizeOf g → Member (sizeOf g) g k
+  unfolding groupInside
+  member-at k l =
+      member-open g k
+      (allBelow-at (sizeOf g) (memberInside g) (and-right (memberInside g 0) (allBelow (sizeOf g) (memberInside g)) h) k l)
+
 pub members-open : (g : List Station) → GroupShaped g → groupInside g ≡ true → Members (sizeOf g) g
-unfolding groupInside
 members-open g shape h =
-    let first : Member (sizeOf g) g 0 = member-open g 0 (and-left (memberInside g 0) (allBelow (sizeOf g) (memberInside g)) h) in
-    record {
-      low = first .inside .low;
-      high = first .inside .high;
-      size = refl;
-      shape = shape;
-      member =
-          λ k l. member-open g k
-          (allBelow-at (sizeOf g) (memberInside g) (and-right (memberInside g 0) (allBelow (sizeOf g) (memberInside g)) h) k l);
-    }
+    record { low = group-low g h; high = group-high g h; size = refl; shape = shape; member = member-at g h }
 
 pub members-inside : (n : ℕ) (g : List Station) → Members n g → groupInside g ≡ true
 unfolding groupInside

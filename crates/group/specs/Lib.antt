@@ -1,5 +1,6 @@
 pub mod State
 pub mod Calls
+pub mod Frames
 pub mod History
 pub mod Demand
 pub mod Marked

@@ -19,7 +19,7 @@ use Rattle.station.proofs.Station as Declared
 use Rattle.station.proofs.Station.Laws as DeclaredLaws
 
 -- what is said of each element is said of the one at a place
-each-at :
+pub each-at :
     {X : Type 0} (own : X → List Val → Fml) (xs : List X) (us : List Val) → shadow (each X own xs us) → (i : ℕ) (d : X) → i < length xs →
     (u : Val) × shadow (own (getD xs i d) (u ∷ []))
 each-at own [] us h i d l = absurd (omega arith)
@@ -41,8 +41,8 @@ labels-at s us h k l =
     let e = subst (λ (x : Carried.the-field .row .Denot). shadow (Carried.the-field .row .own x (o .0 ∷ []))) (List·getD-map f (s .table) k noRecord) (o .1) in
     simp length-map at (e .1 .1 .1 .1 .1 .0 .1 .0 .1)
 
-pub lengths : (s : Station) → Owned s → Shaped s
-lengths s h =
+pub lengths-at : (s : Station) (vs : List Val) → shadow ((Struct.Declared.row Declared.the-type) .own s vs) → Shaped s
+lengths-at s vs h =
     record {
       acked = simp length-map at (h .1 .1 .1 .1 .1 .0 .1 .0 .1);
       labels = simp length-map at (h .1 .1 .1 .1 .1 .1 .1 .1 .0 .1 .0 .1);
@@ -52,3 +52,6 @@ lengths s h =
       slots = simp length-map at (h .1 .1 .1 .1 .0 .1 .1 .1 .0 .1 .0 .1);
       record-labels = λ k l. labels-at s (h .1 .1 .1 .1 .1 .1 .1 .1 .1 .1 .0 .0) (h .1 .1 .1 .1 .1 .1 .1 .1 .1 .1 .0 .1 .1) k (rw (simp length-map at (h .1 .1 .1 .1 .1 .1 .1 .1 .1 .1 .0 .1 .0 .1)) l);
     }
+
+pub lengths : (s : Station) → Owned s → Shaped s
+lengths s h = lengths-at s (Laws.val Declared.the-type DeclaredLaws.the-laws s ∷ []) h

@@ -38,12 +38,14 @@ or-cases true b h f = f refl
 or-cases false b h f = h
 
 module _ (s : Station) (c : Inside s) (fits : ownCountInside s ≡ true) where
+  -- every record that is sent has a count that fits a frame
+  pub sent-count : (k : ℕ) → k < s .n → heldOf s k ≡ true → countInside (s .n) ((recordOf s k) .count) ≡ true
+  sent-count k l e =
+      or-cases (eqb k (s .own)) (countInside (s .n) ((recordOf s k) .count)) (c .places k l .held e .count)
+      (λ same. subst (λ (j : ℕ). countInside (s .n) ((recordOf s j) .count) ≡ true) (sym (eqb-true k (s .own) same)) fits)
+
   each : (k : ℕ) → k < s .n → heldOf s k ≡ true → Carried (s .n) (framed (s .n) (recordOf s k))
-  each k l e =
-      let holds = c .places k l .held e in
-      framed-carried (s .n) (s .own) k (recordOf s k) (c .high) l holds
-      (or-cases (eqb k (s .own)) (countInside (s .n) ((recordOf s k) .count)) (holds .count)
-      (λ same. subst (λ (j : ℕ). countInside (s .n) ((recordOf s j) .count) ≡ true) (sym (eqb-true k (s .own) same)) fits))
+  each k l e = framed-carried (s .n) (s .own) k (recordOf s k) (c .high) l (c .places k l .held e) (sent-count k l e)
 
   gathered : (m : ℕ) → m ≤ s .n → AllCarried (s .n) (gather m (heldOf s) (λ k. framed (s .n) (recordOf s k)))
   unfolding gather

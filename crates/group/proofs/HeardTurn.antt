@@ -1,0 +1,73 @@
+-- One station of a round, as the code goes: what it hears from the bytes is what it hears by definition, so it is inside its limits for its turn, and what it
+-- reports is its report.
+use Prim.Native.Nat.{ℕ, _-_, _≤_, _<_}
+use mathlib.Core.Bool.{true, false}
+use mathlib.Core.List.{List, _++_}
+use mathlib.Core.Path.{_≡_, refl, sym, ap, subst, _∙_}
+use native.Mathlib.Omega.{arith}
+use lib.ListN.{getD, length, replicate}
+use Rattle.station.specs.declared.Station.{Station}
+use Rattle.station.specs.declared.Turned.{Turned}
+use Rattle.station.specs.declared.HeardAll.{HeardAll}
+use Rattle.station.specs.Limits.{stationInside}
+use Rattle.station.specs.Hearing.{Hearing, silent}
+use Rattle.station.specs.Frames.{hearFrames, FrameAt, HearsAll}
+use Rattle.station.specs.Turn.{afterTurn, turnReport}
+use Rattle.station.specs.Calls.{ownCountInside, turnDone}
+use Rattle.station.proofs.StationLimits.{inside-make}
+use Rattle.group.specs.declared.Report.{Report}
+use Rattle.group.specs.State.{stationAt, sizeOf, groupInside}
+use Rattle.group.specs.Calls.{heard, noTaking, reportOf}
+use Rattle.group.specs.Frames.{FramesBelow, heardCount, heardStarts}
+use Rattle.group.proofs.Members.{GroupShaped, group-high, member-at, members-open}
+use Rattle.group.proofs.MembersRound.{hears-all}
+use Rattle.group.proofs.RoundFrames.{count-below, starts-at, heard-below}
+
+module _ (g : List Station) (inside : groupInside g ≡ true) (counts : (k : ℕ) → k < sizeOf g → ownCountInside (stationAt g k) ≡ true)
+    (masks bytes : List ℕ) (frames : FramesBelow g (sizeOf g) bytes) (i : ℕ) (below : i < sizeOf g)
+    (count : ℕ) (count-is : count ≡ heardCount (sizeOf g) masks i (sizeOf g))
+    (starts : List ℕ) (starts-is : starts ≡ heardStarts (sizeOf g) masks i (sizeOf g)) where
+  abbrev s : Station
+  s = stationAt g i
+
+  frames-heard : hearFrames (silent s) bytes starts count ≡ heard g masks i
+  frames-heard =
+      (λ t. hearFrames (silent s) bytes (starts-is t) (count-is t))
+      ∙ heard-below g inside counts masks bytes frames i (sizeOf g) (omega arith) (group-high g inside)
+
+  -- what hearing asks for
+  pub may-hear : ((count ≤ 16) × (stationInside s ≡ true)) × ((f : ℕ) → f < count → FrameAt (s .n) bytes (getD starts f 0))
+  may-hear =
+      let m = member-at g inside i below in (
+        (omega (arith, count-is, count-below (sizeOf g) masks i (sizeOf g), group-high g inside), inside-make s (m .inside)),
+        λ f l.
+            subst (λ (n : ℕ). FrameAt n bytes (getD starts f 0)) (sym (m .size))
+            (subst (λ (a : List ℕ). FrameAt (sizeOf g) bytes (getD a f 0)) (sym starts-is)
+            (starts-at g inside counts masks bytes frames i (sizeOf g) (omega arith) (group-high g inside) f (omega (arith, count-is)))),
+      )
+
+  module _ (r : HeardAll) (h : HearsAll s bytes starts count r) where
+    pub full-is : r .overfull ≡ (heard g masks i) .overfull
+    full-is = h .overfull ∙ ap (λ (x : Hearing). x .overfull) frames-heard
+
+    module _ (shape : GroupShaped g) (room : r .overfull ≡ false) where
+      station-is : r .station ≡ (heard g masks i) .station
+      station-is = h .station room ∙ ap (λ (x : Hearing). x .station) frames-heard
+
+      pub may-turn : stationInside (r .station) ≡ true
+      may-turn =
+          let hs = hears-all (sizeOf g) g (members-open g shape inside) masks counts i below in
+          rw station-is (inside-make ((heard g masks i) .station) (hs .inside (sym full-is ∙ room)))
+
+      module _ (t : Turned) (turned : t ≡ turnDone (r .station)) where
+        pub after-is : t .station ≡ afterTurn ((heard g masks i) .station)
+        after-is = ap (λ (x : Turned). x .station) turned ∙ ap afterTurn station-is
+
+        pub report-is : record { «takings_len» = r .«takings_len»; takings = r .takings; turn = t .report } ≡ reportOf g masks i
+        unfolding reportOf
+        report-is =
+            let len : r .«takings_len» ≡ length ((heard g masks i) .takings) = h .len room ∙ ap (λ (x : Hearing). length (x .takings)) frames-heard in
+            let takings : r .takings ≡ (heard g masks i) .takings ++ replicate (30 - length ((heard g masks i) .takings)) noTaking =
+            h .takings room ∙ ap (λ (x : Hearing). x .takings ++ replicate (30 - length (x .takings)) noTaking) frames-heard in
+            let turn : t .report ≡ turnReport ((heard g masks i) .station) = ap (λ (x : Turned). x .report) turned ∙ ap turnReport station-is in
+            (λ j. record { «takings_len» = len j; takings = takings j; turn = turn j })

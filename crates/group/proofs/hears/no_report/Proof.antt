@@ -1,0 +1,16 @@
+-- `group::hears::no_report` meets its contract.
+use mathlib.Core.Path.{_≡_, sym, ap, _∙_}
+use borrow.Author.Needs.{needs}
+use Rattle.group.specs.Calls.{noReport}
+use Rattle.group.proofs.hears.no_report.Statement.{statement}
+use Rattle.group.proofs.hears.no_report.Tie as tie
+
+no-turn-requires : tie.Need-no-turn-requires
+no-turn-requires c κs = search needs
+
+returns : tie.Need-returns
+unfolding noReport
+returns c = rw (c .no-turn .ensures)
+
+pub no-report-spec : {M : Type 1} → statement M
+no-report-spec = tie.close (tie.spec no-turn-requires returns)

@@ -1,0 +1,22 @@
+// The fresh group.
+
+ghost use mathlib.Core.Path.{_≡_};
+ghost use Prim.Native.Nat.{_≤_};
+ghost use Rattle.group.specs.State.{freshGroup};
+use station::Station;
+use station::starts::fresh_station;
+
+// The group of n, as it begins; its places from n up hold the fresh station 0 of N = 1.
+pub fn fresh_group(n: usize) -> [Station; 16]
+    requires { ⌜ n ≤ 16 ⌝ }
+    ensures { λ r. ⌜ r ≡ freshGroup n ⌝ }
+{
+    let other = fresh_station(1, 0);
+    let mut group = [other; 16];
+    let mut k: usize = 0;
+    while k < n {
+        group[k] = fresh_station(n, k);
+        k += 1;
+    }
+    group
+}
