@@ -19,3 +19,4 @@ pub mod Lengths
 pub mod HearBytes
 pub mod HearSteps
 pub mod SourceSteps
+pub mod WriteSteps
