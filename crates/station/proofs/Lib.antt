@@ -20,3 +20,5 @@ pub mod HearBytes
 pub mod HearSteps
 pub mod SourceSteps
 pub mod WriteSteps
+pub mod SentFrame
+pub mod Examples
