@@ -23,3 +23,6 @@ pub mod Lengths
 pub mod HearBytes
 pub mod HearSteps
 pub mod SourceSteps
+pub mod WriteSteps
+pub mod SentFrame
+pub mod Examples

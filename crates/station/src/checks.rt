@@ -104,6 +104,14 @@ fn labels_inside(labels: [u8; 16], n: usize) -> bool
     true
 }
 
+// May a record in a frame have this count?
+pub fn count_fits(n: usize, count: u8) -> bool
+    requires { ⌜ (1 ≤ n) × (n ≤ 16) ⌝ }
+    ensures { λ r. ⌜ r ≡ countInside n count ⌝ }
+{
+    (count as usize) <= 2 * (n - 1)
+}
+
 // May the record of station k have this count? The own record's may reach 255.
 fn count_inside(n: usize, own: usize, k: usize, count: u8) -> bool
     requires { ⌜ (1 ≤ n) × (n ≤ 16) ⌝ }
@@ -112,7 +120,7 @@ fn count_inside(n: usize, own: usize, k: usize, count: u8) -> bool
     if k == own {
         return true;
     }
-    (count as usize) <= 2 * (n - 1)
+    count_fits(n, count)
 }
 
 // Is this a record of station k, inside its limits, in the table of station own among n?

@@ -1,10 +1,12 @@
 // One station: what it holds, its limits, and its calls.
 
 ghost use mathlib.Core.Path.{_≡_};
-ghost use Rattle.station.specs.Calls.{freshCall, postCall, hearCall, noTurn, turnCall};
+ghost use lib.ListN.{length};
+ghost use Rattle.station.specs.Calls.{freshCall, postCall, writeCall, bufferAfter, hearCall, noTurn, turnCall};
 use frames::Record;
 use kinds::Body;
 use kinds::refusals::BAD_NUMBER;
+use kinds::refusals::COUNT_TOO_HIGH;
 use kinds::refusals::DONE;
 use kinds::refusals::LANE_FULL;
 use kinds::refusals::NOT_AN_EDIT;
@@ -146,6 +148,34 @@ pub fn post(s: Station, body: Body) -> Kept
     Kept {
         refusal: DONE,
         station: station,
+    }
+}
+
+// Write frame: the table's records into the buffer, whose bytes past the frame are kept.
+pub fn write(s: Station, buffer: &mut [u8]) -> Written
+    ensures { λ r. ⌜ (r ≡ writeCall s (length (now (buffer .entry)))) × (now (buffer .exit) ≡ bufferAfter s (now (buffer .entry))) ⌝ }
+{
+    if !checks::station_inside(s) {
+        return Written {
+            refusal: OUTSIDE_LIMITS,
+            len: 0,
+        };
+    }
+    let n = s.n;
+    let own = s.own;
+    let record = s.table[own];
+    if !checks::count_fits(n, record.count) {
+        return Written {
+            refusal: COUNT_TOO_HIGH,
+            len: 0,
+        };
+    }
+    let held = s.held;
+    let table = s.table;
+    let written = frames::write_table(buffer, held, table, n, own);
+    Written {
+        refusal: written.refusal,
+        len: written.len,
     }
 }
 

@@ -7,14 +7,11 @@ use Rattle.station.proofs.checks.count_inside.Tie as tie
 returns : tie.Need-returns
 returns c = rw (eq-eqb _ _ (c .if1 .taken))
 
-sub-result : tie.Need-sub-result
-sub-result c = search needs
-
-mul-result : tie.Need-mul-result
-mul-result c = search needs
+count-fits-requires : tie.Need-count-fits-requires
+count-fits-requires c κs = search needs
 
 returns-2 : tie.Need-returns-2
-returns-2 c = rw (ne-eqb _ _ (c .if1 .left))
+returns-2 c = rw (ne-eqb _ _ (c .before .if1 .left)) (c .count-fits .ensures)
 
 pub count-inside-spec : {M : Type 1} → statement M
-count-inside-spec = tie.close (tie.spec returns sub-result mul-result returns-2)
+count-inside-spec = tie.close (tie.spec returns count-fits-requires returns-2)
