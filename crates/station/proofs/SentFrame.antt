@@ -18,7 +18,7 @@ use Rattle.station.specs.declared.Station.{Station}
 use Rattle.station.specs.State.{heldOf, recordOf, sentRecords}
 use Rattle.station.specs.Hearing.{Hearing, silent, hearRecords}
 use Rattle.station.specs.Calls.{ownCountInside, frameOf}
-use Rattle.station.proofs.Limits.{Inside, RecordHolds}
+use Rattle.station.proofs.StationLimits.{Inside, RecordHolds}
 use Rattle.station.proofs.WriteSteps.{writable, frame-is}
 
 either : (a b : Bool) → (a || b) ≡ true → (a ≡ true → b ≡ true) → b ≡ true

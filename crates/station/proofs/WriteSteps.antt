@@ -17,7 +17,7 @@ use Rattle.station.specs.declared.Written.{Written}
 use Rattle.station.specs.State.{heldOf, recordOf, recordLabel, sentRecords}
 use Rattle.station.specs.Limits.{stationInside}
 use Rattle.station.specs.Calls.{ownCountInside, frameOf, writeRefusal, writeCall, bufferAfter}
-use Rattle.station.proofs.Limits.{Inside}
+use Rattle.station.proofs.StationLimits.{Inside}
 
 labels-fit : (n : ℕ) (l : List ℕ) → ((j : ℕ) → j < n → getD l j 0 ≤ 2) → allLabels (take n l) ≡ true
 labels-fit n l h =

@@ -8,7 +8,7 @@ use lib.ListN.{length}
 use borrow.Author.Tests.{not-true, not-false}
 use Rattle.frames.specs.Calls.{written, bufferWith}
 use Rattle.station.specs.Limits.{stationInside}
-use Rattle.station.proofs.Limits.{Inside, inside-open}
+use Rattle.station.proofs.StationLimits.{Inside, inside-open}
 use Rattle.station.proofs.WriteSteps.{writable, frame-is, write-outside, kept-outside, write-count, kept-count, write-frame, buffer-frame}
 use borrow.Author.Needs.{needs}
 use Rattle.station.proofs.write.Statement.{statement}
