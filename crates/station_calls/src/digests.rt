@@ -62,7 +62,8 @@ fn of_queue(digest: u64, queue: Queue) -> u64 {
     let mut i: usize = 0;
     while i < 32 {
         let slot = queue.slots[i];
-        d = of_body(d, slot.body);
+        let body = slot.body;
+        d = of_body(d, body);
         i += 1;
     }
     d
@@ -85,7 +86,8 @@ fn of_row(digest: u64, row: [Slot; 16]) -> u64 {
     let mut i: usize = 0;
     while i < 16 {
         let slot = row[i];
-        d = of_body(d, slot.body);
+        let body = slot.body;
+        d = of_body(d, body);
         i += 1;
     }
     d

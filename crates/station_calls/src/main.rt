@@ -62,13 +62,25 @@ fn write(s: Station) -> Frame {
     }
 }
 
-fn hear_frame(s: Station, frame: Frame) -> Station {
-    let bytes = frame.bytes;
-    let len = frame.len;
-    if 36 < len {
+fn wide(byte: u8) -> u64 {
+    byte as u64
+}
+
+// The first bytes of a buffer, heard as a frame.
+fn hear_part(s: Station, bytes: &[u8], len: usize) -> Station {
+    if bytes.len() < len {
         return s;
     }
     hear(s, &bytes[..len])
+}
+
+fn hear_first(s: Station, bytes: &[u8; 36], len: usize) -> Station {
+    hear_part(s, bytes, len)
+}
+
+fn hear_frame(s: Station, frame: Frame) -> Station {
+    let bytes = frame.bytes;
+    hear_first(s, &bytes, frame.len)
 }
 
 // Numbers that are taken, and numbers that are not.
@@ -169,17 +181,17 @@ fn hear_calls() {
     let b = fresh(2, 1);
     let frame = write(a);
     let good = frame.bytes;
-    hear(b, &good[..3]);
-    hear(b, &good[..19]);
+    hear_first(b, &good, 3);
+    hear_first(b, &good, 19);
     let mut other_n = good;
     other_n[0] = 3;
-    hear(b, &other_n[..20]);
+    hear_first(b, &other_n, 20);
     let mut own_frame = good;
     own_frame[1] = 1;
-    hear(b, &own_frame[..20]);
+    hear_first(b, &own_frame, 20);
     let mut marked = good;
     marked[7] = 1;
-    hear(b, &marked[..20]);
+    hear_first(b, &marked, 20);
     let mut full = b;
     full.lanes[0] = Lane {
         len: 2,
@@ -188,8 +200,8 @@ fn hear_calls() {
     };
     let mut taking = good;
     taking[6] = 1;
-    hear(b, &taking[..20]);
-    hear(full, &taking[..20]);
+    hear_first(b, &taking, 20);
+    hear_first(full, &taking, 20);
 }
 
 // A station outside its limits, a short buffer, a count that fits no frame.
@@ -203,7 +215,7 @@ fn refused_calls() {
     hear(outside, b"none");
     let mut small = [7u8; 19];
     let w = station::write(s, &mut small);
-    line(w.refusal, small[0] as u64, s);
+    line(w.refusal, wide(small[0]), s);
     let mut high = s;
     let mut own = high.table[0];
     own.count = 3;
