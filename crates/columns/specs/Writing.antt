@@ -1,10 +1,12 @@
 -- Document 01, "The relay listing": a number written right-justified in its columns.
-use Prim.Native.Nat.{ℕ, zero, suc, _+_, _/_, _%_}
+use Prim.Native.Nat.{ℕ, zero, suc, _+_, _*_, _/_, _%_, _^_, _<_}
+use mathlib.Core.Path.{_≡_}
 use mathlib.Core.Bool.{Bool, true, false, cond}
 use mathlib.Core.List.{List, [], _∷_, _++_}
 use lib.ListN.{replicate}
 use lib.Dec.{ltb}
-use lib.IntN.{ℤ, pos, negsuc}
+use lib.IntN.{ℤ, pos, natAbs}
+use lib.Signed.{ltZ}
 
 -- what stands in the w columns before the first digit: blanks, and a minus in the last of them
 unfoldable pub lead : Bool → ℕ → List ℕ
@@ -24,5 +26,11 @@ natColumns w v = columns false w v
 
 -- a whole number in w columns
 abbrev pub intColumns : ℕ → ℤ → List ℕ
-intColumns w (pos v) = columns false w v
-intColumns w (negsuc v) = columns true w (suc v)
+intColumns w z = columns (ltZ z (pos 0)) w (natAbs z)
+
+-- a number of at most nine digits fits w columns; a minus takes a column of its own, and stands before no zero
+pub record Fits (minus : Bool) (w v : ℕ) : Type 0 where
+  pub some : 0 < w
+  pub digits : v < 10 ^ w
+  pub nine : v < 1_000_000_000
+  pub behind : minus ≡ true → (0 < v) × (v * 10 < 10 ^ w)

@@ -3,6 +3,7 @@
 ghost use mathlib.Core.Path.{_≡_};
 ghost use Prim.Native.Nat.{_≤_};
 ghost use mathlib.Core.Bool.{false};
+ghost use lib.IntN.{natAbs};
 ghost use lib.ListN.{length};
 ghost use Rattle.columns.specs.Reading.{digitOf, started, grown, next, readColumns};
 ghost use Rattle.columns.specs.Writing.{lead, columns, natColumns, intColumns};
@@ -144,14 +145,20 @@ pub fn write_natural(part: &mut [u8], value: u32)
     write_columns(part, false, value);
 }
 
+// A whole number without its sign.
+fn magnitude(value: i32) -> u32
+    ensures { λ r. ⌜ r ≡ natAbs value ⌝ }
+{
+    if value < 0 {
+        ((-1 - value) as u32) + 1
+    } else {
+        value as u32
+    }
+}
+
 // A whole number right-justified in the whole part.
 pub fn write_whole(part: &mut [u8], value: i32)
     ensures { λ r. ⌜ now (part .exit) ≡ intColumns (length (now (part .entry))) value ⌝ }
 {
-    if value < 0 {
-        let below = (-1 - value) as u32;
-        write_columns(part, true, below + 1);
-    } else {
-        write_columns(part, false, value as u32);
-    }
+    write_columns(part, value < 0, magnitude(value));
 }

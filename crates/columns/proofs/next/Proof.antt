@@ -49,8 +49,12 @@ enum-told-3 c = search needs
 returns-3 : tie.Need-returns-3
 unfolding next
 returns-3 c = c .start .ensures ∙
-    rw (c .before .digit .ensures, c .before .before .before .before .enum-told .given .1, ne-eqb _ _ (c .before .before .before .if1 .left),
-      ne-eqb _ _ (c .before .before .if2 .left))
+    rw (
+      c .before .digit .ensures,
+      c .before .before .before .before .enum-told .given .1,
+      ne-eqb _ _ (c .before .before .before .if1 .left),
+      ne-eqb _ _ (c .before .before .if2 .left),
+    )
 
 returns-4 : tie.Need-returns-4
 unfolding next

@@ -60,10 +60,11 @@ loop-less c = omega arith
 
 loop-again : tie.Need-loop-again Inv-loop μ-loop
 loop-again c = let i = c .before .before .loop .i in
-    let last : i ≡ suc (i - 1) = omega arith in
-    (omega arith,
-    simp length-set (c .before .before .loop .inv .1),
-    c .before .before .loop .inv .2 ∙ digit-more _ (c .before .before .loop .v) (c .before .before .loop .part) last (omega arith) (omega arith))
+    let last : i ≡ suc (i - 1) = omega arith in (
+      omega arith,
+      simp length-set (c .before .before .loop .inv .1),
+      c .before .before .loop .inv .2 ∙ digit-more _ (c .before .before .loop .v) (c .before .before .loop .part) last (omega arith) (omega arith),
+    )
 
 same-length-2 : tie.Need-same-length-2 Inv-loop μ-loop
 same-length-2 c = c .before .loop .inv .1
