@@ -1,6 +1,6 @@
 -- Document 01, "Bodies, labels and records": what each case of the body enum stands for, as the three numbers of a record.
 use Prim.Native.Nat.{ℕ}
-use mathlib.Core.Bool.{cond}
+use mathlib.Core.Bool.{Bool, cond}
 use lib.Dec.{eqb}
 use lib.IntN.{ℤ, pos}
 use Rattle.kinds.specs.declared.Body.{Body}
@@ -30,8 +30,12 @@ argumentOf (Insert event start) = start
 argumentOf (Drop event) = pos 0
 argumentOf (Shift event frames) = frames
 
+-- kind 0, which is never taken
+abbrev pub isEmpty : Body → Bool
+isEmpty b = eqb (kindOf b) 0
+
 -- the body of a kind with its event and argument; a number that is no kind gives Empty
-abbrev pub bodyOf : ℕ → ℕ → ℤ → Body
+unfoldable pub bodyOf : ℕ → ℕ → ℤ → Body
 bodyOf kind event argument =
     cond (eqb kind 1) Neutral
     (cond (eqb kind 2) (Insert event argument)

@@ -1,5 +1,9 @@
 // Bodies, the one table of kinds with their limits, and the refusal numbers.
 
+ghost use mathlib.Core.Path.{_≡_};
+ghost use Rattle.kinds.specs.Body.{kindOf, eventOf, argumentOf, bodyOf, isEmpty};
+ghost use Rattle.kinds.specs.Limits.{numbersInside, bodyInside, isEdit};
+
 pub mod refusals;
 
 // What a record carries: document 01's five kinds, each with its own numbers.
@@ -52,3 +56,106 @@ pub const KINDS: [Limits; 5] = [
         most_argument: 90_000,
     },
 ];
+
+pub fn kind_of(body: Body) -> u32
+    ensures { λ r. ⌜ r ≡ kindOf body ⌝ }
+{
+    match body {
+        Body::Empty => 0,
+        Body::Neutral => 1,
+        Body::Insert { event: _, start: _ } => 2,
+        Body::Drop { event: _ } => 3,
+        Body::Shift {
+            event: _,
+            frames: _,
+        } => 4,
+    }
+}
+
+pub fn event_of(body: Body) -> u32
+    ensures { λ r. ⌜ r ≡ eventOf body ⌝ }
+{
+    match body {
+        Body::Empty => 0,
+        Body::Neutral => 0,
+        Body::Insert { event, start: _ } => event,
+        Body::Drop { event } => event,
+        Body::Shift { event, frames: _ } => event,
+    }
+}
+
+pub fn argument_of(body: Body) -> i32
+    ensures { λ r. ⌜ r ≡ argumentOf body ⌝ }
+{
+    match body {
+        Body::Empty => 0,
+        Body::Neutral => 0,
+        Body::Insert { event: _, start } => start,
+        Body::Drop { event: _ } => 0,
+        Body::Shift { event: _, frames } => frames,
+    }
+}
+
+// Is the body Empty?
+pub fn is_empty(body: Body) -> bool
+    ensures { λ r. ⌜ r ≡ isEmpty body ⌝ }
+{
+    kind_of(body) == 0
+}
+
+// The body with these numbers; where no kind has them the answer is Empty.
+pub fn body_of(kind: u32, event: u32, argument: i32) -> Body
+    ensures { λ r. ⌜ r ≡ bodyOf kind event argument ⌝ }
+{
+    match kind {
+        1 => Body::Neutral,
+        2 => Body::Insert {
+            event: event,
+            start: argument,
+        },
+        3 => Body::Drop { event: event },
+        4 => Body::Shift {
+            event: event,
+            frames: argument,
+        },
+        _ => Body::Empty,
+    }
+}
+
+// Are these the numbers of a body inside its limits?
+pub fn numbers_inside(kind: u32, event: u32, argument: i32) -> bool
+    ensures { λ r. ⌜ r ≡ numbersInside kind event argument ⌝ }
+{
+    let at = kind as usize;
+    if KINDS.len() <= at {
+        return false;
+    }
+    let row = KINDS[at];
+    if event < row.least_event {
+        return false;
+    }
+    if row.most_event < event {
+        return false;
+    }
+    if row.least_argument <= argument {
+        return argument <= row.most_argument;
+    }
+    false
+}
+
+// Is the body inside the limits of its kind?
+pub fn body_inside(body: Body) -> bool
+    ensures { λ r. ⌜ r ≡ bodyInside body ⌝ }
+{
+    numbers_inside(kind_of(body), event_of(body), argument_of(body))
+}
+
+// Is the body an edit inside the limits of its kind?
+pub fn is_edit(body: Body) -> bool
+    ensures { λ r. ⌜ r ≡ isEdit body ⌝ }
+{
+    if kind_of(body) < 2 {
+        return false;
+    }
+    body_inside(body)
+}

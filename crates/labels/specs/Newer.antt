@@ -7,7 +7,7 @@ use Rattle.labels.specs.declared.Age.the-variants.{Newer, NotNewer}
 use Rattle.labels.specs.Label.{successor}
 
 -- "newer": none is held, or the seen own label is the successor of the held one, or they are equal and the seen count is larger
-abbrev pub isNewer : Bool → ℕ → ℕ → ℕ → ℕ → Bool
+unfoldable pub isNewer : Bool → ℕ → ℕ → ℕ → ℕ → Bool
 isNewer held heldLabel heldCount seenLabel seenCount =
     not held || (eqb seenLabel (successor heldLabel) || (eqb seenLabel heldLabel && ltb heldCount seenCount))
 

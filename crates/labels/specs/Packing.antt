@@ -27,5 +27,5 @@ allZero [] = true
 allZero (label ∷ labels) = eqb label 0 && allZero labels
 
 -- the record limit "labels 0 to 2, and in a frame 0 for stations from N up"
-abbrev pub wordInside : ℕ → ℕ → Bool
+unfoldable pub wordInside : ℕ → ℕ → Bool
 wordInside n word = allLabels (take n (unpacked 16 word)) && allZero (drop n (unpacked 16 word))

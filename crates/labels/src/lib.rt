@@ -1,7 +1,84 @@
 // Labels: the successor, sixteen of them in a word, and which of two records is newer.
 
+ghost use mathlib.Core.Path.{_≡_};
+ghost use mathlib.Core.Bool.{true};
+ghost use Prim.Native.Nat.{_≤_};
+ghost use lib.ListN.{take};
+ghost use Rattle.labels.specs.Label.{successor};
+ghost use Rattle.labels.specs.Packing.{packed, unpacked, allLabels, wordInside};
+ghost use Rattle.labels.specs.Newer.{isNewer, ageOf};
+
 // Whether a seen record is newer than the held one.
 pub enum Age {
     Newer,
     NotNewer,
+}
+
+// The label after this one.
+pub fn successor(label: u8) -> u8
+    ensures { λ r. ⌜ r ≡ successor label ⌝ }
+{
+    (((label as u32) + 1) % 3) as u8
+}
+
+// Is a seen record with this own label and count newer than the held one, if one is held?
+pub fn newer(held: bool, held_label: u8, held_count: u8, seen_label: u8, seen_count: u8) -> Age
+    ensures { λ r. ⌜ r ≡ ageOf (isNewer held «held_label» «held_count» «seen_label» «seen_count») ⌝ }
+{
+    if !held {
+        return Age::Newer;
+    }
+    let next = successor(held_label);
+    if seen_label == next {
+        return Age::Newer;
+    }
+    if seen_label != held_label {
+        return Age::NotNewer;
+    }
+    if held_count < seen_count {
+        return Age::Newer;
+    }
+    Age::NotNewer
+}
+
+// The first n labels as one word, two bits each.
+pub fn pack(labels: [u8; 16], n: usize) -> u32
+    requires { ⌜ (n ≤ 16) × (allLabels (take n labels) ≡ true) ⌝ }
+    ensures { λ r. ⌜ r ≡ packed (take n labels) ⌝ }
+{
+    let mut word: u32 = 0;
+    let mut i = n;
+    while 0 < i {
+        i -= 1;
+        word = word * 4 + (labels[i] as u32);
+    }
+    word
+}
+
+// The sixteen labels of a word.
+pub fn unpack(word: u32) -> [u8; 16]
+    ensures { λ r. ⌜ r ≡ unpacked 16 word ⌝ }
+{
+    let mut labels = [0u8; 16];
+    let mut rest = word;
+    let mut i: usize = 0;
+    while i < 16 {
+        labels[i] = (rest % 4) as u8;
+        rest = rest / 4;
+        i += 1;
+    }
+    labels
+}
+
+// Does the word hold n labels and nothing above them? A label is no 3, so of its two bits one is 0.
+pub fn word_inside(word: u32, n: usize) -> bool
+    requires { ⌜ n ≤ 16 ⌝ }
+    ensures { λ r. ⌜ r ≡ wordInside n word ⌝ }
+{
+    let threes = (word & (word >> 1)) & 0x5555_5555;
+    if threes != 0 {
+        return false;
+    }
+    let wide = word as usize;
+    (wide >> (2 * n)) == 0
 }

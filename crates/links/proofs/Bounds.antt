@@ -1,21 +1,19 @@
 -- How far behind anything can be. An acknowledgement in transit is at most two behind: the answer that ended the broadcast before the last one was with
 -- the sender when the last one started, and everybody has news of that start. And within one broadcast of s at most two new ones of another r come
 -- to s: with a third, the second would have carried s's broadcast to all and the third everybody's answer to s, which would have ended it.
-use mathlib.Core.Bool.{Bool, true, false, cond, true≢false}
-use mathlib.Core.Logic.{_⊎_, inl, inr, ⊎-elim}
-use mathlib.Core.Path.{_≡_, refl, sym, _∙_, ap}
+use mathlib.Core.Bool.{true, false, true≢false}
+use mathlib.Core.Logic.{⊎-elim}
+use mathlib.Core.Path.{_≡_, sym, _∙_}
 use Prim.Native.Nat.{ℕ, zero, suc, _+_, _-_, _*_, _<_, _≤_}
 use native.Mathlib.Decide.{ℕ-discrete, decLe}
-use native.Mathlib.Nat.{le-refl}
 use native.Mathlib.Omega.{arith}
-use borrow.Author.Tests.{eq-eqb, ne-eqb}
-use lib.Dec.{eqb}
 use Rattle.links.specs.Relay.{Links}
 use Rattle.links.specs.Clock.{news}
-use Rattle.links.specs.Number.{full, start, ends, num, numOf, got, gotOf, fresh}
-use Rattle.links.proofs.Clock.{news-own, news-other, news-limit, news-mono, news-carries-earlier}
-use Rattle.links.proofs.Number.{Answer, full-answer, answer-full, step, start-limit, num-mono, num-start, ends-full, start-zero}
-use Rattle.links.proofs.Got.{version, got-none, got-some, got-mono, got-news, got-limit, began, first-number, previous}
+use Rattle.links.specs.Number.{full, start, num, got, gotOf, tally, fresh}
+use Rattle.links.proofs.Clock.{news-own, news-mono, news-carries-earlier}
+use Rattle.links.proofs.Number.{Answer, full-answer, answer-full, step, start-limit, num-start, ends-full}
+use Rattle.links.proofs.Got.{version, got-none, got-some, got-mono, got-news, began, first-number, previous, got-step}
+use Rattle.links.proofs.Tally.{tally-limit}
 
 module _ (L : Links) where
   pub gotOf-some : (q s v w : ℕ) → v ≡ suc w → gotOf L q s v ≡ got L w q s
@@ -37,8 +35,8 @@ module _ (L : Links) where
       ⊎-elim
       (λ (f : start L (e .0) s ≡ 0). omega (arith, began L u s (e .0) (e .1) .0, first-number L (e .0) s f))
       (λ (f : (b : ℕ) × (start L (e .0) s ≡ suc b)). go (e .0) (e .1) (f .0) (f .1))
-      (version L (start L (e .0) s)))
-      (version L (start L u s))
+      (version (start L (e .0) s)))
+      (version (start L u s))
     where
       go : (a : ℕ) → start L u s ≡ suc a → (b : ℕ) → start L a s ≡ suc b → num L u s ≤ gotOf L q s (news L u p q) + 2
       go a e b f =
@@ -80,7 +78,7 @@ module _ (L : Links) where
             (λ (e : news L u s r ≡ 0). absurd (omega (arith, got-none L u s r e)))
             (λ (e : (w : ℕ) × (news L u s r ≡ suc w)).
             three (e .0) (e .1) (omega (arith, got-some L u s r (e .0) (e .1))))
-            (version L (news L u s r))
+            (version (news L u s r))
       ]
     where
       t : ℕ
@@ -135,33 +133,17 @@ module _ (L : Links) where
             | yes l ↦ omega (arith, got-mono L u t s r l)
             | no l ↦ absurd (true≢false (sym (answered w (f .0) (g .0) e (f .1) (g .1) i) ∙ not-full u s (omega arith)))
           ])
-          (version L (start L (f .0) r)))
-          (version L (start L w r))
+          (version (start L (f .0) r)))
+          (version (start L w r))
 
-  fresh-step : (u p n : ℕ) → p < L .size → n < L .size → (fresh L u p (suc n) ≤ fresh L u p n + 2) × (n ≡ p → fresh L u p (suc n) ≡ fresh L u p n)
+  -- So at most two for each other station in all, and at most three while the next round is heard.
+  pub fresh-limit : (u p : ℕ) → p < L .size → fresh L u p ≤ 2 * (L .size - 1)
   unfolding fresh
-  fresh-step u p n lp ln = (go (ℕ-discrete n p), λ e. rw (eq-eqb n p e) (omega arith))
-    where
-      go : Dec (n ≡ p) → fresh L u p n + cond (eqb n p) 0 (got L u p n - got L (start L u p) p n) ≤ fresh L u p n + 2
-      go (yes e) = rw (eq-eqb n p e) (omega arith)
-      go (no d) = rw (ne-eqb n p d) (omega (arith, within u p n lp ln d))
+  fresh-limit u p l =
+      tally-limit 2 p (L .size) (λ r. got L u p r) (λ r. got L (start L u p) p r) l (λ r lr d. within u p r l lr d)
 
-  fresh-zero : (u p : ℕ) → fresh L u p 0 ≡ 0
-  unfolding fresh
-  fresh-zero u p = refl
-
-  fresh-two : (u p n : ℕ) → p < L .size → n ≤ L .size → fresh L u p n ≤ 2 * n
-  fresh-two u p zero lp ln = omega (arith, fresh-zero u p)
-  fresh-two u p (suc n) lp ln = omega (arith, fresh-two u p n lp (omega arith), fresh-step u p n lp ln .0)
-
-  fresh-past : (u p n : ℕ) → p < L .size → n ≤ L .size → p < n → fresh L u p n + 2 ≤ 2 * n
-  fresh-past u p zero lp ln h = absurd (omega arith)
-  fresh-past u p (suc n) lp ln h =
-      elim (ℕ-discrete n p) [
-        | yes e ↦ omega (arith, fresh-two u p n lp (omega arith), fresh-step u p n lp ln .1 e)
-        | no d ↦ omega (arith, fresh-past u p n lp (omega arith) (omega arith), fresh-step u p n lp ln .0)
-      ]
-
-  -- So at most two for each other station in all.
-  pub fresh-limit : (u p : ℕ) → p < L .size → fresh L u p (L .size) ≤ 2 * (L .size - 1)
-  fresh-limit u p lp = omega (arith, fresh-past u p (L .size) lp (le-refl (L .size)) lp)
+  pub fresh-hearing-limit : (u p : ℕ) → p < L .size
+      → tally (L .size) p (λ r. got L (suc u) p r) (λ r. got L (start L u p) p r) ≤ 3 * (L .size - 1)
+  fresh-hearing-limit u p l =
+      tally-limit 3 p (L .size) (λ r. got L (suc u) p r) (λ r. got L (start L u p) p r) l
+      (λ r lr d. omega (arith, within u p r l lr d, got-step L u p r l))

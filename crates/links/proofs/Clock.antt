@@ -1,14 +1,13 @@
 -- Clocks over rounds. Two facts about one round carry everything: where news comes from (it was there, or a heard station had it), and that what was
 -- there, or what a heard station had, is not lost. The laws of clocks are inductions over rounds from these two, and the definition is not opened again.
 use mathlib.Core.Bool.{Bool, true, false, cond, false≢true}
-use mathlib.Core.Logic.{_⊎_, inl, inr, ⊎-elim}
+use mathlib.Core.Logic.{_⊎_, inl, inr}
 use mathlib.Core.Path.{_≡_, refl, sym, _∙_, ap}
 use Prim.Native.Nat.{ℕ, zero, suc, max, _+_, _-_, _<_, _≤_}
 use native.Mathlib.Decide.{ℕ-discrete, decLe}
 use native.Mathlib.Nat.{le-refl, zero-add, suc-add}
 use native.Mathlib.Omega.{arith}
 use borrow.Author.Tests.{eq-eqb, ne-eqb}
-use lib.Dec.{eqb}
 use Rattle.links.specs.Relay.{Links, Relay, direct, onward}
 use Rattle.links.specs.EndRule.{RelayBy}
 use Rattle.links.specs.Clock.{latest, news}
@@ -146,7 +145,7 @@ module _ (L : Links) where
       go : (k : ℕ) → t < k → L .hears k r s ≡ true → t < news L k r s
       go zero l h = absurd (omega arith)
       go (suc k) l h = omega (arith, news-hears k r s s h, news-own k s)
-  relay-news {s} {t} {r} {k} (onward {c = c} {i = i} before l h) = go k l h (relay-news before)
+  relay-news {s} {t} {r} {k} (onward {c = c} {i = i} before l h) = let m : i < k = omega arith in go k m h (relay-news before)
     where
       go : (k : ℕ) → i < k → L .hears k r c ≡ true → t < news L i c s → t < news L k r s
       go zero l h m = absurd (omega arith)
@@ -165,7 +164,7 @@ module _ (L : Links) where
               | no n ↦
                   (let k = news-relay v s t (j .0) n (omega (arith, j .3)) in
                   let l : k .arrival < suc v = omega (arith, k .by) in
-                  record { arrival = suc v; by = le-refl (suc v); relay = onward (k .relay) l (j .2) })
+                  record { arrival = suc v; by = le-refl (suc v); relay = onward {k = suc v} (k .relay) l (j .2) })
             ]
       ]
 

@@ -3,17 +3,17 @@
 -- because the start stays where it is until a round is full.
 use mathlib.Core.Bool.{Bool, true, false, true≢false, false≢true}
 use mathlib.Core.Logic.{_⊎_, inl, inr, ⊎-elim, _↔_}
-use mathlib.Core.Path.{_≡_, refl, sym, _∙_, ap, subst}
+use mathlib.Core.Path.{_≡_, refl, sym, _∙_, ap}
 use Prim.Native.Nat.{ℕ, zero, suc, _+_, _-_, _*_, _<_, _≤_}
 use native.Mathlib.Decide.{ℕ-discrete, decLe}
 use native.Mathlib.Nat.{le-refl}
 use native.Mathlib.Omega.{arith}
-use Rattle.links.specs.Relay.{Links, Relay}
-use Rattle.links.specs.EndRule.{RelayBy, Returned, AllReturned, EndsIn, Starts, at-first, after}
+use Rattle.links.specs.Relay.{Links}
+use Rattle.links.specs.EndRule.{RelayBy, Returned, AllReturned, EndsIn, Starts, at-first, after, Ended}
 use Rattle.links.specs.Clock.{news}
 use Rattle.links.specs.Number.{full, start, ends, num}
 use Rattle.links.proofs.Clock.{news-mono, news-relay, relayBy-news}
-use Rattle.links.proofs.Number.{Answer, full-answer, answer-full, step, start-limit, ends-full, num-zero, start-zero, start-same}
+use Rattle.links.proofs.Number.{Answer, full-answer, answer-full, step, start-limit, ends-full, num-zero, start-zero, same-start, start-ends, num-ends, ends-zero}
 use Rattle.links.proofs.Bounds.{not-full}
 
 module _ (L : Links) where
@@ -152,6 +152,15 @@ module _ (L : Links) where
             (step L v s))
       ]
 
+  -- In the round before the one in which it ends, it is the sender's broadcast.
+  still : (s k t u : ℕ) → Starts L s k t → EndsIn L s t (suc u) → (num L t s ≡ k) × (start L t s ≡ t) → (start L u s ≡ t) × (num L u s ≡ k)
+  still s k t u b e h =
+      let g = goes-on s t u (h .1) (λ w x y a. omega (arith, e .first w x a)) (omega (arith, e .later)) in
+      (g .0, g .1 ∙ h .0)
+
+  still-ends : (s t u : ℕ) → EndsIn L s t (suc u) → start L u s ≡ t → ends L (suc u) s ≡ true
+  still-ends s t u e h = ends-full L u s ∙ rw h (returned-full (suc u) s t (e .returned))
+
   pub num-starts : (s k t : ℕ) → Starts L s k t → (num L t s ≡ k) × (start L t s ≡ t)
   num-starts s k t at-first = (num-zero L s, start-zero L s)
   num-starts s k t (after {k = j} {t = b} before e) = go t e (num-starts s j b before)
@@ -159,14 +168,23 @@ module _ (L : Links) where
       go : (t : ℕ) → EndsIn L s b t → (num L b s ≡ j) × (start L b s ≡ b) → (num L t s ≡ suc j) × (start L t s ≡ t)
       go zero e h = absurd (omega (arith, e .later))
       go (suc t) e h =
-          let g = goes-on s b t (h .1) (λ w x y a. omega (arith, e .first w x a)) (omega (arith, e .later)) in
-          let f : ends L (suc t) s ≡ true = ends-full L t s ∙ rw (g .0) (returned-full (suc t) s b (e .returned)) in
-          ⊎-elim
-          (λ (c : (ends L (suc t) s ≡ true) × (start L (suc t) s ≡ suc t) × (num L (suc t) s ≡ suc (num L t s))).
-          (c .2 ∙ ap suc (g .1 ∙ h .0), c .1))
-          (λ (c : (ends L (suc t) s ≡ false) × (start L (suc t) s ≡ start L t s) × (num L (suc t) s ≡ num L t s)).
-          absurd (true≢false (sym f ∙ c .0)))
-          (step L t s)
+          let g = still s j b t before e h in
+          let f = still-ends s b t e (g .0) in
+          (num-ends L t s f ∙ ap suc (g .1), start-ends L t s f)
+
+  -- G4 with the start left open: a round is one of end by the clocks exactly if by the end rule a broadcast ends in it.
+  pub ends-ended : (u s : ℕ) → (ends L u s ≡ true) ↔ Ended L s u
+  ends-ended u s = (there u, back u)
+    where
+      there : (u : ℕ) → ends L u s ≡ true → Ended L s u
+      there zero e = absurd (false≢true (sym (ends-zero L s) ∙ e))
+      there (suc u) e = record { number = num L u s; started = start L u s; starts = starts-num u s; endsIn = ends-rule u s .0 e }
+
+      back : (u : ℕ) → Ended L s u → ends L u s ≡ true
+      back zero k = absurd (omega (arith, k .endsIn .later))
+      back (suc u) k =
+          still-ends s (k .started) u (k .endsIn)
+          (still s (k .number) (k .started) u (k .starts) (k .endsIn) (num-starts s (k .number) (k .started) (k .starts)) .0)
 
   -- Without such a round it does not end: its sender keeps it for good.
   pub never-ends : (u s : ℕ) → ((v : ℕ) → EndsIn L s (start L u s) v → ⊥) → (w : ℕ) → u ≤ w → num L w s ≡ num L u s
@@ -178,7 +196,7 @@ module _ (L : Links) where
             (let h = never-ends u s none w (omega arith) in
             ⊎-elim
             (λ (c : (ends L (suc w) s ≡ true) × (start L (suc w) s ≡ suc w) × (num L (suc w) s ≡ suc (num L w s))).
-            absurd (none (suc w) (rw (start-same L w u s h) at (ends-rule w s .0 (c .0)))))
+            absurd (none (suc w) (rw (same-start L w u s h) at (ends-rule w s .0 (c .0)))))
             (λ (c : (ends L (suc w) s ≡ false) × (start L (suc w) s ≡ start L w s) × (num L (suc w) s ≡ num L w s)). c .2 ∙ h)
             (step L w s))
       ]

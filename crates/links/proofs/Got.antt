@@ -1,28 +1,27 @@
 -- What a station has of another's broadcasts. News of s from round w on has at least the number that s had then, so what is had never falls. When s
 -- started its present broadcast it had everybody's answer to the one before; so everybody has the present one or the one before, and two behind is
 -- never seen.
-use mathlib.Core.Bool.{Bool, true, false}
+use mathlib.Core.Bool.{true}
 use mathlib.Core.Logic.{_⊎_, inl, inr, ⊎-elim, _↔_}
 use mathlib.Core.Path.{_≡_, refl, sym, _∙_, ap}
 use Prim.Native.Nat.{ℕ, zero, suc, _+_, _-_, _<_, _≤_}
 use native.Mathlib.Decide.{ℕ-discrete, decLe}
-use native.Mathlib.Nat.{le-refl}
 use native.Mathlib.Omega.{arith}
 use Rattle.links.specs.Relay.{Links}
 use Rattle.links.specs.Clock.{news}
-use Rattle.links.specs.Number.{full, start, ends, num, numOf, got, gotOf}
-use Rattle.links.proofs.Clock.{news-own, news-other, news-limit, news-mono, news-carries-earlier}
-use Rattle.links.proofs.Number.{Answer, full-answer, step, start-limit, num-mono, num-positive, num-start, num-before, start-start, ends-full, start-zero, num-zero}
+use Rattle.links.specs.Number.{full, start, num, numOf, got}
+use Rattle.links.proofs.Clock.{news-own, news-other, news-limit, news-mono}
+use Rattle.links.proofs.Number.{full-answer, step, start-limit, num-mono, num-positive, num-start, num-before, start-start, ends-full, num-zero}
+
+-- A version: none, or the state of a round.
+abbrev Version : ℕ → Type 0
+Version v = (v ≡ 0) ⊎ ((w : ℕ) × (v ≡ suc w))
+
+pub version : (v : ℕ) → Version v
+version zero = inl refl
+version (suc w) = inr (w, refl)
 
 module _ (L : Links) where
-  -- A version: none, or the state of a round.
-  abbrev Version : ℕ → Type 0
-  Version v = (v ≡ 0) ⊎ ((w : ℕ) × (v ≡ suc w))
-
-  pub version : (v : ℕ) → Version v
-  version zero = inl refl
-  version (suc w) = inr (w, refl)
-
   pub numOf-none : (s v : ℕ) → v ≡ 0 → numOf L s v ≡ 0
   unfolding numOf
   numOf-none s v e = rw e
@@ -40,7 +39,7 @@ module _ (L : Links) where
       go (inr a) (inr b) =
           omega (arith, numOf-some s v (a .0) (a .1), numOf-some s v′ (b .0) (b .1), num-mono L (a .0) (b .0) s (omega (arith, a .1, b .1)))
 
-  got-numOf : (u r s : ℕ) → got L u r s ≡ numOf L s (news L u r s)
+  pub got-numOf : (u r s : ℕ) → got L u r s ≡ numOf L s (news L u r s)
   unfolding got
   got-numOf u r s = refl
 

@@ -1,8 +1,16 @@
+-- Facts is what is claimed, and Examples what it comes to on small links. The others are why: first relays and clocks (Relay, Clock), then broadcast
+-- numbers (Number, Got, Tally, Bounds), then the end rule (EndRule); Version and Hearing say the same for what is in flight within a round; Prefix
+-- and Log are about logs as lists.
 pub mod Clock
 pub mod Number
 pub mod Got
+pub mod Tally
 pub mod Bounds
 pub mod Relay
 pub mod EndRule
+pub mod Version
+pub mod Hearing
 pub mod Prefix
 pub mod Log
+pub mod Examples
+pub mod Facts

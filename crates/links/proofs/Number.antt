@@ -1,19 +1,18 @@
 -- Broadcast numbers and starts. A number rises by one exactly where a broadcast ends, and the start is the round of the last rise; so a state of s has
 -- the present number exactly from the present start on. When s went to its present number each other station had answered the one before, so everybody
 -- holds the present or the previous broadcast of everybody.
-use mathlib.Core.Bool.{Bool, true, false, cond, _&&_, _||_, and-eq-true-iff, false≢true, true≢false}
+use mathlib.Core.Bool.{Bool, true, false, _||_, and-eq-true-iff, false≢true}
 use mathlib.Core.Logic.{_⊎_, inl, inr, ⊎-elim}
-use mathlib.Core.Path.{_≡_, refl, sym, _∙_, ap, subst}
+use mathlib.Core.Path.{_≡_, refl}
 use Prim.Native.Nat.{ℕ, zero, suc, _+_, _-_, _<_, _≤_}
 use native.Mathlib.Decide.{ℕ-discrete, decLe}
 use native.Mathlib.Nat.{le-refl, zero-add, suc-add}
 use native.Mathlib.Omega.{arith}
-use borrow.Author.Tests.{eq-eqb, ne-eqb, leb-true, le-leb, eqb-true}
-use lib.Dec.{eqb, leb}
+use borrow.Author.Tests.{eq-eqb, ne-eqb, leb-true, le-leb}
+use lib.Dec.{eqb}
 use Rattle.links.specs.Relay.{Links}
 use Rattle.links.specs.Clock.{news}
-use Rattle.links.specs.Number.{answers, every, full, start, ends, num, numOf, got, gotOf}
-use Rattle.links.proofs.Clock.{news-own, news-other, news-limit, news-mono, news-carries-earlier}
+use Rattle.links.specs.Number.{answers, every, full, start, ends, num}
 
 pub every-all : (test : ℕ → Bool) (n : ℕ) → every n test ≡ true → (k : ℕ) → k < n → test k ≡ true
 unfolding every
@@ -26,6 +25,11 @@ pub all-every : (test : ℕ → Bool) (n : ℕ) → ((k : ℕ) → k < n → tes
 unfolding every
 all-every test zero h = refl
 all-every test (suc n) h = and-eq-true-iff (every n test) (test n) .1 (all-every test n (λ k l. h k (omega arith)), h n (omega arith))
+
+pub every-same : (h k : ℕ → Bool) (n : ℕ) → ((j : ℕ) → h j ≡ k j) → every n h ≡ every n k
+unfolding every
+every-same h k zero e = refl
+every-same h k (suc n) e = rw (e n, every-same h k n e)
 
 module _ (L : Links) where
   -- An answer is news of a station in which it has news of s from after round t.
@@ -78,6 +82,10 @@ module _ (L : Links) where
   pub ends-full : (u s : ℕ) → ends L (suc u) s ≡ full L (suc u) s (start L u s)
   unfolding ends
   ends-full u s = refl
+
+  pub ends-zero : (s : ℕ) → ends L 0 s ≡ false
+  unfolding ends
+  ends-zero s = refl
 
   pub num-zero : (s : ℕ) → num L 0 s ≡ 1
   unfolding num
@@ -136,8 +144,8 @@ module _ (L : Links) where
       ]
 
   -- The same number has the same start.
-  pub start-same : (u w s : ℕ) → num L u s ≡ num L w s → start L u s ≡ start L w s
-  start-same u w s e =
+  pub same-start : (u w s : ℕ) → num L u s ≡ num L w s → start L u s ≡ start L w s
+  same-start u w s e =
       elim (decLe (start L w s) (start L u s)) [
         | yes h ↦
             elim (decLe (start L u s) (start L w s)) [

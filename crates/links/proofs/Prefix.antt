@@ -1,21 +1,20 @@
 -- What is known after round u rests on the rounds up to u alone. Two links that agree up to a round have the same clocks, numbers, relays and ends
 -- up to it, by induction over rounds; so rounds that are added at the end of a log change nothing that came before.
-use mathlib.Core.Bool.{Bool, true, false, cond, _&&_, _||_}
-use mathlib.Core.List.{List, [], _∷_, _++_}
-use mathlib.Core.Path.{_≡_, refl, sym, _∙_, ap, ap₂}
-use Prim.Native.Nat.{ℕ, zero, suc, max, _+_, _-_, _<_, _≤_}
+use mathlib.Core.Bool.{Bool, _||_}
+use mathlib.Core.List.{List, [], _++_}
+use mathlib.Core.Path.{_≡_, refl, sym, _∙_, ap}
+use Prim.Native.Nat.{ℕ, zero, suc, _≤_}
 use native.Mathlib.Decide.{ℕ-discrete, decLe}
-use native.Mathlib.Nat.{le-refl}
 use native.Mathlib.Omega.{arith}
-use lib.Dec.{eqb, leb}
+use lib.Dec.{eqb}
 use lib.ListN.{length, List·getD-append}
 use Rattle.links.specs.Log.{masksIn, hearsIn}
 use Rattle.links.specs.Relay.{Links, Relay, ofLog}
-use Rattle.links.specs.EndRule.{RelayBy, Returned, AllReturned, EndsIn, Starts, at-first, after}
+use Rattle.links.specs.EndRule.{RelayBy, AllReturned, EndsIn, Starts, at-first, after, Ended}
 use Rattle.links.specs.Clock.{latest, news}
 use Rattle.links.specs.Number.{answers, every, full, start, ends, num, numOf, got, gotOf}
 use Rattle.links.proofs.Clock.{news-own, news-start, news-step, news-limit}
-use Rattle.links.proofs.Number.{num-zero, start-limit}
+use Rattle.links.proofs.Number.{every-same}
 use Rattle.links.proofs.Relay.{relay-keeps, relay-after}
 
 latest-same : (h k : ℕ → Bool) (f g : ℕ → ℕ) (x y n : ℕ)
@@ -26,11 +25,6 @@ latest-same : (h k : ℕ → Bool) (f g : ℕ → ℕ) (x y n : ℕ)
 unfolding latest
 latest-same h k f g x y zero eh ef ex = ex
 latest-same h k f g x y (suc n) eh ef ex = rw (eh n, ef n, latest-same h k f g x y n eh ef ex)
-
-every-same : (h k : ℕ → Bool) (n : ℕ) → ((j : ℕ) → h j ≡ k j) → every n h ≡ every n k
-unfolding every
-every-same h k zero e = refl
-every-same h k (suc n) e = rw (e n, every-same h k n e)
 
 -- L and M have the same stations, and the same hearings up to a round.
 pub record Same (L M : Links) (last : ℕ) : Type 0 where
@@ -111,6 +105,11 @@ module _ (L M : Links) (last : ℕ) (same : Same L M last) where
   got-same u r s l =
       numOf-same s (news L u r s) (omega (arith, news-limit L u r s)) ∙ ap (λ (v : ℕ). numOf M s v) (news-same u r s l)
 
+  pub gotOf-same : (q s v : ℕ) → v ≤ suc last → gotOf L q s v ≡ gotOf M q s v
+  unfolding gotOf
+  gotOf-same q s zero l = refl
+  gotOf-same q s (suc w) l = got-same w q s (omega arith)
+
   pub relay-same : {a t b k : ℕ} → k ≤ last → Relay L a t b k → Relay M a t b k
   relay-same l = relay-keeps (λ u p j e h. sym (same .hearings u p j (omega arith)) ∙ h)
 
@@ -148,6 +147,15 @@ pub starts-same : (L M : Links) (last : ℕ) → Same L M last → (s k t : ℕ)
 starts-same L M last same s k t l at-first = at-first
 starts-same L M last same s k t l (after {k = j} {t = b} before e) =
     after (starts-same L M last same s j b (omega (arith, e .later)) before) (endsIn-same L M last same s b t l e)
+
+pub ended-same : (L M : Links) (last : ℕ) → Same L M last → (s u : ℕ) → u ≤ last → Ended L s u → Ended M s u
+ended-same L M last same s u l e =
+    record {
+      number = e .number;
+      started = e .started;
+      starts = starts-same L M last same s (e .number) (e .started) (omega (arith, e .endsIn .later)) (e .starts);
+      endsIn = endsIn-same L M last same s (e .started) u l (e .endsIn);
+    }
 
 -- Rounds added at the end of a log leave what came before.
 masks-append : (log more : List (List ℕ)) (u : ℕ) → u ≤ length log → masksIn log u ≡ masksIn (log ++ more) u

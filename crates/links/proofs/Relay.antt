@@ -1,10 +1,9 @@
 -- Relays by themselves: inductions over the chain of hearings.
-use mathlib.Core.Bool.{Bool, true, false}
-use mathlib.Core.Path.{_≡_, refl, sym, _∙_, ap}
-use Prim.Native.Nat.{ℕ, zero, suc, _<_, _≤_}
+use mathlib.Core.Bool.{true}
+use mathlib.Core.Path.{_≡_}
+use Prim.Native.Nat.{ℕ, _<_, _≤_}
 use native.Mathlib.Omega.{arith}
 use Rattle.links.specs.Relay.{Links, Relay, direct, onward}
-use Rattle.links.specs.EndRule.{RelayBy}
 
 -- A relay arrives later than the round that it is after.
 pub relay-after : {L : Links} {a t b k : ℕ} → Relay L a t b k → t < k

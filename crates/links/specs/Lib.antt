@@ -3,3 +3,4 @@ pub mod Relay
 pub mod EndRule
 pub mod Clock
 pub mod Number
+pub mod Examples

@@ -48,7 +48,11 @@ unfoldable pub gotOf : Links → ℕ → ℕ → ℕ → ℕ
 gotOf L q s zero = 0
 gotOf L q s (suc w) = got L w q s
 
--- How many broadcasts of the first n stations but p came to p within the present broadcast of p.
-unfoldable pub fresh : Links → ℕ → ℕ → ℕ → ℕ
-fresh L u p zero = 0
-fresh L u p (suc n) = fresh L u p n + cond (eqb n p) 0 (got L u p n - got L (start L u p) p n)
+-- How much has been added since, at the first n stations but p.
+unfoldable pub tally : ℕ → ℕ → (ℕ → ℕ) → (ℕ → ℕ) → ℕ
+tally zero p now before = 0
+tally (suc n) p now before = tally n p now before + cond (eqb n p) 0 (now n - before n)
+
+-- How many broadcasts of other stations came to p within the present broadcast of p, up to round u: what document 01 has p keep as its count.
+unfoldable pub fresh : Links → ℕ → ℕ → ℕ
+fresh L u p = tally (L .size) p (λ r. got L u p r) (λ r. got L (start L u p) p r)

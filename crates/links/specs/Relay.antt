@@ -2,7 +2,7 @@
 use mathlib.Core.Bool.{Bool, true}
 use mathlib.Core.List.{List}
 use mathlib.Core.Path.{_≡_}
-use Prim.Native.Nat.{ℕ, zero, suc, _<_}
+use Prim.Native.Nat.{ℕ, _<_}
 use Rattle.links.specs.Log.{hearsIn, masksIn}
 use Rattle.links.specs.Log.Inside.{hearsIn-inside}
 

@@ -1,9 +1,10 @@
 -- Laws of lists read by place: what holds at every place below n, what a filled list holds below n and from n up, and what is gathered.
 -- Each is an induction on n, whose last place is looked at first.
 use mathlib.Core.Path.{_≡_, refl, sym, ap, _∙_}
-use mathlib.Core.Bool.{Bool, true, false, cond, _&&_, _||_}
+use mathlib.Core.Bool.{Bool, true, false, cond, _&&_, _||_, or-false}
 use mathlib.Core.List.{List, [], _∷_, _++_}
-use Prim.Native.Nat.{ℕ, zero, suc, _≤_, _<_}
+use Prim.Native.Nat.{ℕ, zero, suc, _+_, _≤_, _<_}
+use native.Mathlib.Numerals.{add-one}
 use native.Mathlib.Decide.{ℕ-discrete}
 use native.Mathlib.Omega.{arith}
 use lib.ListN.{getD, set, length, length-set, length-append, List·getD-append}
@@ -43,6 +44,11 @@ unfolding allBelow
 allBelow-make zero test h = refl
 allBelow-make (suc n) test h = and-both (allBelow-make n test (λ k l. h k (omega arith))) (h n (omega arith))
 
+-- one place more, as a loop's counter has it
+pub allBelow-more : (n : ℕ) (test : ℕ → Bool) → allBelow n test ≡ true → test n ≡ true → allBelow (n + 1) test ≡ true
+unfolding allBelow
+allBelow-more n test h e = rw add-one (and-both h e)
+
 -- two tests that agree below n
 pub allBelow-ext : (n : ℕ) (f g : ℕ → Bool) → ((k : ℕ) → k < n → f k ≡ g k) → allBelow n f ≡ allBelow n g
 unfolding allBelow
@@ -56,6 +62,20 @@ allBelow-fails n test k l e = go (allBelow n test) refl
     go : (b : Bool) → allBelow n test ≡ b → b ≡ false
     go true h = sym (allBelow-at n test h k l) ∙ e
     go false h = refl
+
+-- a test that does not hold at every place fails at some place
+pub allBelow-not : (n : ℕ) (test : ℕ → Bool) → allBelow n test ≡ false → (k : ℕ) × (k < n) × (test k ≡ false)
+unfolding allBelow
+allBelow-not zero test h = let z : true ≡ false = h in absurd (mathlib.Core.Bool.true≢false z)
+allBelow-not (suc n) test h = go (allBelow n test) refl (λ e. allBelow-not n test e) h
+  where
+    go : (b : Bool)
+        → allBelow n test ≡ b
+        → (allBelow n test ≡ false → (k : ℕ) × (k < n) × (test k ≡ false))
+        → (b && test n) ≡ false
+        → (k : ℕ) × (k < suc n) × (test k ≡ false)
+    go true e before h = (n, omega arith, h)
+    go false e before h = let r = before e in (r .0, omega (arith, r .1), r .2)
 
 pub anyBelow-none : (n : ℕ) (test : ℕ → Bool) → ((k : ℕ) → k < n → test k ≡ false) → anyBelow n test ≡ false
 unfolding anyBelow
@@ -83,11 +103,41 @@ unfolding anyBelow
 anyBelow-ext zero f g h = refl
 anyBelow-ext (suc n) f g h = rw (anyBelow-ext n f g (λ k l. h k (omega arith)), h n (omega arith))
 
+or-swap : (a b c : Bool) → ((a || b) || c) ≡ ((a || c) || b)
+or-swap true b c = refl
+or-swap false true true = refl
+or-swap false true false = refl
+or-swap false false true = refl
+or-swap false false false = refl
+
+-- two tests that differ at one place, where the first fails
+pub anyBelow-add :
+    (n : ℕ) (f g : ℕ → Bool) (k : ℕ) → k < n → f k ≡ false → ((i : ℕ) → i < n → (i ≡ k → ⊥) → g i ≡ f i) →
+    anyBelow n g ≡ (anyBelow n f || g k)
+unfolding anyBelow
+anyBelow-add zero f g k l e h = absurd (omega arith)
+anyBelow-add (suc n) f g k l e h =
+    elim (ℕ-discrete n k) [
+      | yes i ↦
+          (let x : anyBelow n g ≡ anyBelow n f = anyBelow-ext n g f (λ j b. h j (omega arith) (λ q. absurd (omega arith))) in
+          let y : f n ≡ false = ap f i ∙ e in
+          let z : g n ≡ g k = ap g i in
+          rw (x, y, z) (ap (λ (b : Bool). b || g k) (sym (or-false (anyBelow n f)))))
+      | no d ↦
+          rw (anyBelow-add n f g k (omega arith) e (λ j b q. h j (omega arith) q), h n (omega arith) d)
+          (or-swap (anyBelow n f) (g k) (f n))
+    ]
+
 module _ {A : Type 0} where
   pub length-fill : (n : ℕ) (f : ℕ → A) (l : List A) → length (fill n f l) ≡ length l
   unfolding fill
   length-fill zero f l = refl
   length-fill (suc n) f l = simp length-set (length-fill n f l)
+
+  -- one place more, as a loop's counter has it
+  pub fill-more : (n : ℕ) (f : ℕ → A) (l : List A) → set (fill n f l) n (f n) ≡ fill (n + 1) f l
+  unfolding fill
+  fill-more n f l = rw add-one
 
   -- a place below n
   pub fill-below : (n : ℕ) (f : ℕ → A) (l : List A) (k : ℕ) (d : A) → k < n → k < length l → getD (fill n f l) k d ≡ f k

@@ -39,12 +39,14 @@ recordInside n own k r =
     && bodyInside (r .body)
     && allBelow n (λ j. isLabel (recordLabel r j))
 
+-- what station `own` among n has of station k: its label, its record where one is held, and its lane
+abbrev pub entryInside : ℕ → ℕ → ℕ → ℕ → Bool → Record → Lane → Bool
+entryInside n own k label held r lane =
+    isLabel label && (not held || recordInside n own k r) && laneInside (cond (eqb k own) 1 2) lane
+
 -- what a station has of station k
 unfoldable pub placeInside : Station → ℕ → Bool
-placeInside s k =
-    isLabel (labelOf s k)
-    && (not (heldOf s k) || recordInside (s .n) (s .own) k (recordOf s k))
-    && laneInside (cond (eqb k (s .own)) 1 2) (laneAt s k)
+placeInside s k = entryInside (s .n) (s .own) k (labelOf s k) (heldOf s k) (recordOf s k) (laneAt s k)
 
 -- "Limits"
 unfoldable pub stationInside : Station → Bool

@@ -3,6 +3,12 @@
 use frames::Record;
 use kinds::Body;
 
+pub mod lanes;
+pub mod limits;
+pub mod queues;
+pub mod starts;
+pub mod turns;
+
 // A body in an array.
 pub struct Slot {
     pub body: Body,

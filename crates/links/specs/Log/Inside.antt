@@ -1,12 +1,11 @@
 -- Who hears in a round, and who is heard, are two stations below n. Each of the four tests of `hearsIn` is passed.
-use mathlib.Core.Bool.{Bool, true, false, not, _&&_, and-eq-true-iff}
+use mathlib.Core.Bool.{true, not, and-eq-true-iff}
 use mathlib.Core.List.{List}
 use mathlib.Core.Path.{_≡_}
 use Prim.Native.Nat.{ℕ, _<_}
 use borrow.Author.Tests.{ltb-true, eqb-false, not-true}
 use lib.Dec.{eqb, ltb}
-use lib.ListN.{getD}
-use Rattle.links.specs.Log.{bit, hearsIn}
+use Rattle.links.specs.Log.{hearsIn}
 
 pub hearsIn-inside : (n : ℕ) (masks : List ℕ) (i j : ℕ) → hearsIn n masks i j ≡ true → (i < n) × (j < n) × (i ≡ j → ⊥)
 unfolding hearsIn

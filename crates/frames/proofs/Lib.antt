@@ -1,0 +1,4 @@
+pub mod Words
+pub mod Check
+pub mod Labels
+pub mod Records

@@ -1,0 +1,93 @@
+-- The check of a frame's records one after the other: after k of them all k are inside their limits, `found` says whether the sender's was among
+-- them, and the next one's station is at least `least`.
+use mathlib.Core.Path.{_≡_, refl, sym, ap, ap₂, _∙_}
+use mathlib.Core.Bool.{Bool, true, false, cond, _&&_, _||_}
+use mathlib.Core.List.{List}
+use Prim.Native.Nat.{ℕ, zero, suc, pred, _+_, _*_, _-_, _<_, _≤_}
+use native.Mathlib.Nat.{add-zero}
+use native.Mathlib.Numerals.{add-one}
+use native.Mathlib.Omega.{arith}
+use lib.Dec.{ltb, leb, eqb}
+use lib.ListN.{getD, length, take, drop}
+use lib.Seq.{getD-take, getD-drop}
+use borrow.Author.Tests.{lt-ltb, le-ltb, ne-eqb}
+use Rattle.places.specs.Places.{allBelow, anyBelow}
+use Rattle.places.proofs.Laws.{and-both, allBelow-fails}
+use Rattle.frames.specs.Record.{bytesInside}
+use Rattle.frames.specs.Frame.{part, stationAt, recordsInside}
+
+-- a record's part as the code takes it
+pub part-is : (bytes : List ℕ) (k : ℕ) → take (4 + 16 * k + 16 - (4 + 16 * k)) (drop (4 + 16 * k) bytes) ≡ part bytes k
+part-is bytes k =
+    let e : 4 + 16 * k + 16 - (4 + 16 * k) ≡ 16 = omega arith in
+    ap (λ (i : ℕ). take i (drop (4 + 16 * k) bytes)) e
+
+pub station-is : (bytes : List ℕ) (k : ℕ) → stationAt bytes k ≡ getD bytes (4 + 16 * k) 0
+station-is bytes k =
+    getD-take 16 (drop (4 + 16 * k) bytes) 0 0 (omega arith)
+    ∙ getD-drop (4 + 16 * k) bytes 0 0
+    ∙ ap (λ (i : ℕ). getD bytes i 0) (add-zero (4 + 16 * k))
+
+module _ (bytes : List ℕ) (n : ℕ) where
+  -- record k is inside its limits, and its station above the one before it
+  abbrev inOrder : ℕ → Bool
+  inOrder k = eqb k 0 || ltb (stationAt bytes (pred k)) (stationAt bytes k)
+
+  abbrev fine : ℕ → Bool
+  fine k = bytesInside n (part bytes k) && inOrder k
+
+  abbrev sender's : ℕ → Bool
+  sender's k = eqb (stationAt bytes k) (getD bytes 1 0)
+
+  -- the least station that record k may be of
+  abbrev leastAt : ℕ → ℕ
+  leastAt zero = 0
+  leastAt (suc k) = stationAt bytes k + 1
+
+  in-order : (k : ℕ) → leastAt k ≤ stationAt bytes k → inOrder k ≡ true
+  in-order zero h = refl
+  in-order (suc k) h =
+      rw (ne-eqb (suc k) 0 (λ e. omega arith)) (lt-ltb (stationAt bytes k) (stationAt bytes (suc k)) (omega arith))
+
+  out-of-order : (k : ℕ) → stationAt bytes k < leastAt k → inOrder k ≡ false
+  out-of-order zero h = absurd (omega arith)
+  out-of-order (suc k) h =
+      rw (ne-eqb (suc k) 0 (λ e. omega arith)) (le-ltb (stationAt bytes k) (stationAt bytes (suc k)) (omega arith))
+
+  pub record Checked (k : ℕ) (found : Bool) (least : ℕ) : Type 0 where
+    pub all : allBelow k fine ≡ true
+    pub hit : found ≡ anyBelow k sender's
+    pub next : least ≡ leastAt k
+
+  pub checked-none : Checked 0 false 0
+  unfolding allBelow anyBelow
+  checked-none = record { all = refl; hit = refl; next = refl }
+
+  module _ (k : ℕ) (found : Bool) (least : ℕ) (c : Checked k found least) (inside : bytesInside n (part bytes k) ≡ true) where
+    pub checked-more :
+        (station sender : ℕ) → station ≡ stationAt bytes k → sender ≡ getD bytes 1 0 → least ≤ station →
+        Checked (k + 1) (found || eqb station sender) (station + 1)
+    unfolding allBelow anyBelow
+    checked-more station sender p q h =
+        rw (add-one k, p, q)
+        (record {
+          all = and-both (c .all) (and-both inside (in-order k (rw (p, c .next) at h)));
+          hit = rw (c .hit);
+          next = refl;
+        })
+
+    pub checked-order : k < getD bytes 2 0 → stationAt bytes k < least → false ≡ recordsInside bytes n
+    unfolding recordsInside
+    checked-order l h =
+        let e : fine k ≡ false = ap₂ _&&_ inside (out-of-order k (rw (c .next) at h)) in
+        rw (allBelow-fails (getD bytes 2 0) fine k l e)
+
+  pub checked-bytes : (k : ℕ) → k < getD bytes 2 0 → bytesInside n (part bytes k) ≡ false → false ≡ recordsInside bytes n
+  unfolding recordsInside
+  checked-bytes k l h =
+      let e : fine k ≡ false = rw h in
+      rw (allBelow-fails (getD bytes 2 0) fine k l e)
+
+  pub checked-all : (k : ℕ) (found : Bool) (least : ℕ) → Checked k found least → k ≡ getD bytes 2 0 → found ≡ recordsInside bytes n
+  unfolding recordsInside
+  checked-all k found least c e = rw (← e, c .all) (c .hit)

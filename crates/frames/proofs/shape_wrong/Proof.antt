@@ -1,0 +1,63 @@
+-- `frames::shape_wrong` meets its contract: each test is one of the definition's, in its order.
+use mathlib.Core.Path.{_≡_, ap, _∙_}
+use mathlib.Core.Bool.{not}
+use Prim.Native.Nat.{ℕ, _+_, _*_}
+use native.Mathlib.Omega.{arith}
+use lib.Dec.{eqb}
+use lib.ListN.{length}
+use Rattle.frames.proofs.Check.{short, none, many, frame-marked, by-length}
+use borrow.Author.Needs.{needs}
+use Rattle.frames.proofs.shape_wrong.Statement.{statement}
+use Rattle.frames.proofs.shape_wrong.Tie as tie
+use Rattle.frames.proofs.shape_wrong.Reads as reads
+use Rattle.frames.proofs.shape_wrong.Lts as lts
+use Rattle.frames.proofs.wide.Reads as wide-reads
+
+returns : tie.Need-returns
+returns c = short (c .before .before .args .bytes .now) (omega arith)
+
+shared-slice-read-wide : tie.Need-shared-slice-read-wide
+shared-slice-read-wide c = search needs
+
+wide-requires : tie.Need-wide-requires
+wide-requires c κs = search needs
+
+returns-2 : tie.Need-returns-2
+returns-2 c = none (c .before .before .before .before .before .args .bytes .now) (omega arith) (omega arith)
+
+returns-3 : tie.Need-returns-3
+returns-3 c =
+    many (c .before .before .before .before .before .before .args .bytes .now) (omega arith) (omega arith) (omega arith)
+
+shared-slice-read-if4 : tie.Need-shared-slice-read-if4
+shared-slice-read-if4 c = search needs
+
+returns-4 : tie.Need-returns-4
+returns-4 c =
+    frame-marked (c .before .before .before .before .before .before .before .before .args .bytes .now) (omega arith) (omega arith) (omega arith) (c .if4 .taken)
+
+mul-result : tie.Need-mul-result
+mul-result c = search needs
+
+add-result : tie.Need-add-result
+add-result c = search needs
+
+returns-5 : tie.Need-returns-5
+returns-5 c =
+    let e = c .before .before .before .before .wide .ensures in
+    ap (λ (k : ℕ). not (eqb (length (c .before .before .before .before .before .before .before .before .args .bytes .now)) (4 + 16 * k))) e ∙ by-length (c .before .before .before .before .before .before .before .before .args .bytes .now) (omega arith) (omega arith) (omega arith) (c .if4 .left)
+
+pub shape-wrong-spec : {M : Type 1} → statement M
+shape-wrong-spec =
+    tie.close
+    (tie.spec
+    returns
+    shared-slice-read-wide
+    wide-requires
+    returns-2
+    returns-3
+    shared-slice-read-if4
+    returns-4
+    mul-result
+    add-result
+    returns-5)

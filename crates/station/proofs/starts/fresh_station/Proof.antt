@@ -1,0 +1,37 @@
+-- `station::starts::fresh_station` meets its contract: it makes the record of the definition.
+use mathlib.Core.Path.{refl}
+use Rattle.station.specs.Queue.{noneWaiting}
+use Rattle.station.specs.State.{freshStation}
+use borrow.Author.Needs.{needs}
+use Rattle.station.proofs.starts.fresh_station.Statement.{statement}
+use Rattle.station.proofs.starts.fresh_station.Tie as tie
+
+array-write-acked : tie.Need-array-write-acked
+array-write-acked c = search needs
+
+array-write-held : tie.Need-array-write-held
+array-write-held c = search needs
+
+array-write-labels : tie.Need-array-write-labels
+array-write-labels c = search needs
+
+mul-table : tie.Need-mul-table
+mul-table c = search needs
+
+array-set-from-table : tie.Need-array-set-from-table
+array-set-from-table c = search needs
+
+returns : tie.Need-returns
+unfolding noneWaiting freshStation
+returns c = refl
+
+pub fresh-station-spec : {M : Type 1} → statement M
+fresh-station-spec =
+    tie.close
+    (tie.spec
+    array-write-acked
+    array-write-held
+    array-write-labels
+    mul-table
+    array-set-from-table
+    returns)

@@ -1,0 +1,62 @@
+// The fresh station.
+
+ghost use mathlib.Core.Path.{_≡_};
+ghost use Prim.Native.Nat.{_<_};
+ghost use Rattle.station.specs.State.{freshStation};
+use super::Lane;
+use super::Queue;
+use super::Slot;
+use super::Station;
+use frames::Record;
+use kinds::Body;
+
+// Station own among n, as it begins.
+pub fn fresh_station(n: usize, own: usize) -> Station
+    requires { ⌜ own < 16 ⌝ }
+    ensures { λ r. ⌜ r ≡ freshStation n own ⌝ }
+{
+    let slot = Slot { body: Body::Empty };
+    let slots = [slot; 32];
+    let waiting = Queue {
+        len: 0,
+        slots: slots,
+    };
+    let mut acked = [false; 16];
+    acked[own] = true;
+    let mut held = [false; 16];
+    held[own] = true;
+    let zeros = [0u8; 16];
+    let mut labels = [0u8; 16];
+    labels[own] = 1;
+    let zero = Record {
+        station: 0,
+        count: 0,
+        body: Body::Empty,
+        labels: zeros,
+    };
+    let mut table = [zero; 16];
+    table[own] = Record {
+        station: own,
+        count: 0,
+        body: Body::Empty,
+        labels: labels,
+    };
+    let lane = Lane {
+        len: 0,
+        first: Body::Empty,
+        second: Body::Empty,
+    };
+    let lanes = [lane; 16];
+    Station {
+        n: n,
+        own: own,
+        waiting: waiting,
+        acked: acked,
+        body: Body::Empty,
+        count: 0,
+        labels: labels,
+        held: held,
+        table: table,
+        lanes: lanes,
+    }
+}

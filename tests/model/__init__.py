@@ -1,0 +1,27 @@
+"""The reference model of the edit relay, written from document 01 alone.
+
+Read it beside document 01, in this order:
+
+    refusals.py   "Turned down": the numbers and their names
+    bodies.py     "Bodies, labels and records": the kind table
+    records.py    the same section: labels, records, the newer decision
+    frames.py     "Frame bytes": reading, checking and writing frames
+    queues.py     waiting edits and lanes: slots with a length
+    station.py    "A station and its calls": state, limits, fresh, post, write frame
+    hearing.py    the same section: hear
+    turns.py      the same section: turn
+    group.py      "A group and its rounds": fresh, post, round
+    links.py      the same section: relays and the end rule, from a link log alone
+    demand3.py    the same section: the sentences of demand 3, tried on one list of calls
+    lines.py      "The relay listing": script lines read, listing lines written
+    listing.py    the same section: a script in, a listing out
+
+For tests only:
+
+    scripts.py    random lists of calls and scripts, each from its seed
+    malformed.py  every malformed form of a script, by name
+    states.py     random records, frames, stations and groups inside their limits
+    outside.py    stations outside their limits, by name
+
+Every value is a tuple and never changes, so a refused call returns the very state it was given.
+"""

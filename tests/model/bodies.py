@@ -1,0 +1,48 @@
+"""Bodies and the kind table (document 01, "Bodies, labels and records")."""
+
+from typing import NamedTuple
+
+
+class Body(NamedTuple):
+    kind: int
+    event: int
+    argument: int
+
+
+class KindLimits(NamedTuple):
+    event_least: int
+    event_most: int
+    argument_least: int
+    argument_most: int
+
+
+EMPTY_KIND, NEUTRAL_KIND, INSERT, DROP, SHIFT = range(5)
+
+KINDS = {
+    EMPTY_KIND: KindLimits(0, 0, 0, 0),
+    NEUTRAL_KIND: KindLimits(0, 0, 0, 0),
+    INSERT: KindLimits(1, 99_999_999, 0, 2_159_999),
+    DROP: KindLimits(1, 99_999_999, 0, 0),
+    SHIFT: KindLimits(1, 99_999_999, -90_000, 90_000),
+}
+
+EMPTY = Body(EMPTY_KIND, 0, 0)
+NEUTRAL = Body(NEUTRAL_KIND, 0, 0)
+
+
+def body_in_limits(body):
+    """The kind is in the table, and both numbers are inside its row."""
+    row = KINDS.get(body.kind)
+    return (row is not None
+            and row.event_least <= body.event <= row.event_most
+            and row.argument_least <= body.argument <= row.argument_most)
+
+
+def edit_kind(body):
+    """Kinds 2 to 4 are edits, whatever their numbers."""
+    return body.kind in (INSERT, DROP, SHIFT)
+
+
+def is_edit(body):
+    """An edit of the kind table: what may be posted, and what may wait."""
+    return edit_kind(body) and body_in_limits(body)

@@ -1,0 +1,14 @@
+"""The refusal numbers (document 01, "Turned down")."""
+
+DONE = 0
+BAD_NUMBER = 1           # N, or a station number
+OUTSIDE_LIMITS = 2       # the station or the group
+QUEUE_FULL = 3
+NOT_AN_EDIT = 4
+BAD_FRAME_SHAPE = 5      # length, byte 2, byte 3
+BAD_FRAME_ADDRESS = 6    # byte 0, byte 1
+BAD_RECORD = 7
+LANE_FULL = 8
+BUFFER_SHORT = 9
+COUNT_TOO_LARGE = 10     # the own record's, at writing
+MALFORMED_LINE = 11

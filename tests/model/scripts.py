@@ -1,0 +1,137 @@
+"""Random lists of calls and scripts, each from its seed. For tests."""
+
+import random
+from typing import NamedTuple
+
+from .bodies import DROP, EMPTY, INSERT, KINDS, NEUTRAL, SHIFT, Body
+from .lines import FIELD_WIDTH, PostLine, RoundLine
+from .records import PLACES
+
+
+# Writing scripts.
+
+def field(number):
+    return b"%*d" % (FIELD_WIDTH, number)
+
+
+def script_line(letter, numbers):
+    return letter + b"".join(field(number) for number in numbers) + b"\n"
+
+
+def call_line(call):
+    if isinstance(call, PostLine):
+        return script_line(b"P", (call.station, *call.body))
+    return script_line(b"R", call.masks)
+
+
+def script_of(n, calls):
+    return script_line(b"N", (n,)) + b"".join(call_line(call) for call in calls)
+
+
+# Random lists of calls.
+
+class Shape(NamedTuple):
+    """What a random list of calls is like."""
+    n: int
+    rounds: int
+    density: float     # the chance of each link in each round; ignored by the other link forms
+    post_rate: float   # posts a round, on average, over the whole group
+    links: str = "random"
+
+
+LINK_FORMS = ("random", "ring", "star", "spells")
+
+
+def random_edit(rng, event):
+    """An edit inside its limits, often at one of them."""
+    kind = rng.choice((INSERT, DROP, SHIFT))
+    row = KINDS[kind]
+    argument = rng.choice((row.argument_least, row.argument_most,
+                           rng.randint(row.argument_least, row.argument_most)))
+    return Body(kind, event, argument)
+
+
+def refused_edit(rng):
+    """A body that no post accepts."""
+    row = KINDS[INSERT]
+    return rng.choice((
+        EMPTY, NEUTRAL, Body(5, 1, 0), Body(256 + INSERT, 1, 0), Body(999_999_999, 1, 0),
+        Body(INSERT, 0, 0), Body(INSERT, row.event_most + 1, 0),
+        Body(INSERT, 1, row.argument_most + 1), Body(INSERT, 1, -1),
+        Body(DROP, 0, 0), Body(DROP, 1, 1), Body(DROP, 1, -1),
+        Body(SHIFT, 1, KINDS[SHIFT].argument_least - 1),
+        Body(SHIFT, 1, KINDS[SHIFT].argument_most + 1)))
+
+
+def random_posts(rng, shape, events):
+    """The posts before one round: mostly good ones, some refused ones, now and then a full queue."""
+    posts = []
+    for _ in range(int(shape.post_rate + rng.random())):
+        choice = rng.random()
+        if choice < 0.8:
+            posts.append(PostLine(rng.randrange(shape.n), random_edit(rng, next(events))))
+        elif choice < 0.9:
+            posts.append(PostLine(rng.randrange(shape.n), refused_edit(rng)))
+        elif choice < 0.99:
+            beyond = max(shape.n, rng.choice((0, 16, 255, 256, 999_999_999)))
+            posts.append(PostLine(beyond, random_edit(rng, next(events))))
+        else:
+            place = rng.randrange(shape.n)
+            posts += [PostLine(place, random_edit(rng, next(events))) for _ in range(34)]
+    return posts
+
+
+def linked(rng, shape, number, p, j):
+    """Whether p hears j in the round of this number."""
+    if shape.links == "ring":        # everyone hears the next one only
+        return j == (p + 1) % shape.n
+    if shape.links == "star":        # only station 0 hears others, or is heard
+        return (p == 0 or j == 0) and rng.random() < 0.7
+    if shape.links == "spells":      # half the stations are cut off for five rounds at a time
+        cut_off = number // 5 % 2
+        return (p % 2 == j % 2 or not cut_off) and rng.random() < shape.density
+    return rng.random() < shape.density
+
+
+def random_masks(rng, shape, number):
+    """A round's masks; the bits that no one reads are random too."""
+    masks = []
+    for p in range(shape.n):
+        unread = rng.getrandbits(PLACES) & ~((1 << shape.n) - 1) | rng.getrandbits(1) << p
+        heard = sum(1 << j for j in range(shape.n)
+                    if j != p and linked(rng, shape, number, p, j))
+        masks.append(unread | heard)
+    return tuple(masks)
+
+
+def random_calls(rng, shape):
+    """Posts and rounds; the events of good edits all differ, so that no two are mixed up."""
+    events = iter(range(1, 100_000_000))
+    calls = []
+    for number in range(1, shape.rounds + 1):
+        calls += random_posts(rng, shape, events)
+        calls.append(RoundLine(random_masks(rng, shape, number)))
+    return calls + random_posts(rng, shape, events)
+
+
+SIZES = tuple(range(1, 17)) + tuple(range(1, 9))  # small groups twice, for they run fast
+
+
+def random_shape(seed):
+    """The sizes in turn; sparse and dense links, few and many posts."""
+    rng = random.Random(f"shape {seed}")
+    return Shape(n=SIZES[seed % len(SIZES)],
+                 rounds=rng.randint(6, 30),
+                 density=rng.choice((0.03, 0.08, 0.15, 0.3, 0.6, 0.9, 1.0)),
+                 post_rate=rng.choice((0.0, 0.5, 1.5, 4.0)),
+                 links=rng.choice(("random",) * 3 + LINK_FORMS[1:]))
+
+
+def seeded_calls(seed, shape=None):
+    """The size and the calls that belong to a seed."""
+    shape = shape or random_shape(seed)
+    return shape.n, random_calls(random.Random(f"calls {seed}"), shape)
+
+
+def seeded_script(seed, shape=None):
+    return script_of(*seeded_calls(seed, shape))

@@ -1,0 +1,82 @@
+"""Every sentence of demand 3 on random lists of calls (document 01, "A group and its rounds")."""
+
+import unittest
+
+from model import demand3, group, scripts
+from model.lines import PostLine, RoundLine
+
+RUNS = 320
+
+
+def check_seed(seed):
+    """What the run of a seed breaks, with the seed and its script; None where it holds."""
+    n, calls = scripts.seeded_calls(seed)
+    fault = demand3.first_fault(n, calls)
+    if fault is None:
+        return None
+    return f"seed {seed}, {fault}\n{scripts.script_of(n, calls).decode('ascii')}"
+
+
+class RandomRuns(unittest.TestCase):
+    def test_every_sentence(self):
+        for seed in range(RUNS):
+            with self.subTest(seed=seed):
+                fault = check_seed(seed)
+                if fault is not None:
+                    self.fail(fault)
+
+
+class WhatTheRunsReach(unittest.TestCase):
+    """The random runs are of no use unless they come to what the sentences are about."""
+
+    @classmethod
+    def setUpClass(cls):
+        cls.refusals, cls.runs, cls.sizes = set(), [], set()
+        for seed in range(0, RUNS, 7):
+            n, calls = scripts.seeded_calls(seed)
+            run = demand3.Run(n)
+            for call in calls:
+                if isinstance(call, RoundLine):
+                    run.round(call.masks)
+                    continue
+                assert isinstance(call, PostLine)
+                cls.refusals.add(group.post(run.group, call.station, call.body).refusal)
+                run.post(call.station, call.body)
+            cls.runs.append(run)
+            cls.sizes.add(n)
+
+    def test_sizes(self):
+        self.assertEqual(self.sizes, set(range(1, 17)))
+
+    def test_refused_posts(self):
+        self.assertEqual(self.refusals, {0, 1, 3, 4})
+
+    def test_some_never_end_and_some_end_often(self):
+        most = [max(map(len, run.ends)) for run in self.runs]
+        self.assertIn(0, most)
+        self.assertGreater(max(most), 9)  # labels come round three times
+
+    def test_stations_air_apart(self):
+        """In some runs the aired lists have different lengths, and some of them air edits."""
+        self.assertTrue(any(len(set(map(len, run.aired))) > 1 for run in self.runs))
+        self.assertTrue(any(all(run.aired) for run in self.runs if run.n > 4))
+
+
+class SmallLists(unittest.TestCase):
+    def test_no_calls(self):
+        for n in range(1, 17):
+            self.assertIsNone(demand3.first_fault(n, []))
+
+    def test_silence(self):
+        for n in range(1, 17):
+            self.assertIsNone(demand3.first_fault(n, [RoundLine((0,) * n)] * 4))
+
+    def test_two_stations_every_log_of_four_rounds(self):
+        """All 256 logs: each station hears the other or not, round by round."""
+        for bits in range(256):
+            calls = [RoundLine((bits >> 2 * u & 1 and 2, bits >> 2 * u + 1 & 1)) for u in range(4)]
+            self.assertIsNone(demand3.first_fault(2, calls))
+
+
+if __name__ == "__main__":
+    unittest.main()

@@ -1,0 +1,213 @@
+"""Tests of the tests: the model broken on purpose, one small function at a time, must be noticed.
+
+A fault is noticed by the random runs of demand 3, or by the named tests. The first four are document
+01's "Faults to shut out"; others are versions that its section "What the contracts carry" shuts out.
+"""
+
+import contextlib
+import io
+import re
+import sys
+import unittest
+from unittest import mock
+
+import test_demand3
+import test_frames
+import test_group
+import test_hearing
+import test_listing
+import test_marked_examples
+import test_turns
+from model import bodies, hearing, lines, records, station, turns
+from model.bodies import EMPTY, INSERT, NEUTRAL, SHIFT
+from model.frames import read_frame
+from model.group import heard_stations
+
+
+@contextlib.contextmanager
+def broken(name, copy):
+    """The model with a broken copy of one function, in every module that uses it."""
+    users = [module for key, module in sys.modules.items()
+             if key.startswith("model.") and hasattr(module, name)]
+    assert users, name
+    with contextlib.ExitStack() as stack:
+        for module in users:
+            stack.enter_context(mock.patch.object(module, name, copy))
+        yield
+
+
+def first_noticed_run():
+    """What the first random run that notices something prints, or None."""
+    for seed in range(test_demand3.RUNS):
+        fault = test_demand3.check_seed(seed)
+        if fault is not None:
+            return fault
+    return None
+
+
+def passes(test_class, name):
+    """Whether one test, run here and now, passes."""
+    return unittest.TextTestRunner(stream=io.StringIO()).run(test_class(name)).wasSuccessful()
+
+
+class Broken(unittest.TestCase):
+    def assert_runs_notice(self, words):
+        """Some run breaks a sentence with these words, and prints its seed and script."""
+        fault = first_noticed_run()
+        self.assertIsNotNone(fault)
+        self.assertRegex(fault, rf"^seed \d+, after .*{words}")
+        self.assertRegex(fault, re.compile(r"^N +\d+$", re.MULTILINE))
+        self.assertRegex(fault, re.compile(r"^R[ \d]+$", re.MULTILINE))
+
+    def assert_test_fails(self, test_class, *names):
+        for name in names:
+            self.assertFalse(passes(test_class, name), name)
+
+
+class NotBroken(Broken):
+    def test_a_right_copy_passes(self):
+        """What is noticed below comes from the fault and not from the copying."""
+        with broken("may_start", lambda one: one.lanes[one.own].length == 0):
+            self.assertTrue(passes(test_marked_examples.OneStation, "test_m12"))
+            self.assertIsNone(test_demand3.check_seed(5))
+
+
+class FaultsToShutOut(Broken):
+    def test_larger_label_is_newer(self):
+        def newer(seen, held):
+            return held is None or ((records.own_label(seen), seen.count)
+                                    > (records.own_label(held), held.count))
+        with broken("newer", newer):
+            self.assert_test_fails(test_marked_examples.Newer, "test_m3", "test_m4")
+            self.assert_runs_notice("end in rounds")
+
+    def test_frames_written_after_some_have_heard(self):
+        def hear_all(stations, masks):
+            stations, takings = list(stations), []
+            for place in range(len(stations)):
+                taken = []
+                for sender in heard_stations(masks[place], place, len(stations)):
+                    frame = read_frame(station.written_frame(stations[sender]))
+                    stations[place], more = hearing.hear_records(stations[place], frame)
+                    taken += more
+                takings.append(taken)
+            return stations, takings
+        with broken("hear_all", hear_all):
+            self.assert_runs_notice("end in rounds")
+            self.assert_test_fails(test_group.Round, "test_news_crosses_one_link")
+
+    def test_acknowledgement_of_a_record_that_is_not_newer(self):
+        right = hearing.hear_record
+        with broken("hear_record", lambda hearer, record: right(
+                hearing.acknowledge(hearer, record), record)):
+            self.assert_test_fails(test_hearing.Hear, "test_not_newer_acknowledges_nothing")
+
+    def test_start_while_the_own_lane_is_full(self):
+        with broken("may_start", lambda one: True):
+            self.assert_runs_notice("is refused with 2")
+            self.assert_test_fails(test_turns.Turn, "test_starts_empty_while_the_own_lane_is_full")
+
+
+class IdleRelays(Broken):
+    def test_never_airs(self):
+        with broken("row_ready", lambda one: False):
+            self.assert_test_fails(test_marked_examples.OneStation, "test_m12")
+            self.assert_test_fails(test_listing.DocumentListing, "test_to_the_byte")
+
+    def test_never_ends(self):
+        with broken("all_acknowledged", lambda one: False):
+            self.assert_runs_notice("end in rounds")
+
+    def test_hears_nothing(self):
+        with broken("heard_stations", lambda mask, place, n: []):
+            self.assert_runs_notice("end in rounds")
+
+    def test_starts_only_empty(self):
+        with broken("choose_body", lambda one: (one, EMPTY)):
+            self.assert_test_fails(test_marked_examples.OneStation, "test_m12")
+            self.assert_test_fails(test_listing.DocumentListing, "test_to_the_byte")
+
+    def test_turns_every_frame_down(self):
+        with broken("frame_refusal", lambda data, n, own: 7):
+            self.assert_test_fails(test_frames.RoundTrips, "test_written_then_read")
+
+
+class WrongLimits(Broken):
+    def with_row(self, kind, **limits):
+        return mock.patch.dict(bodies.KINDS, {kind: bodies.KINDS[kind]._replace(**limits)})
+
+    def test_shift_off_by_one(self):
+        for least in (-90_001, -89_999):
+            with self.with_row(SHIFT, argument_least=least):
+                self.assert_test_fails(test_marked_examples.Posts, "test_m9")
+
+    def test_start_off_by_one(self):
+        for most in (2_160_000, 2_159_998):
+            with self.with_row(INSERT, argument_most=most):
+                self.assert_test_fails(test_marked_examples.Posts, "test_m10")
+
+    def test_queue_off_by_one(self):
+        for most in (31, 33):
+            with broken("queue_full", lambda one: one.waiting.length >= most):
+                self.assert_test_fails(test_marked_examples.Posts, "test_m11")
+
+    def test_lane_off_by_one(self):
+        """A lane said to be full while it has a place."""
+        with mock.patch.object(hearing, "LANE_LIMIT", 1):
+            self.assert_test_fails(test_group.Round, "test_two_takings_of_one_source")
+
+    def test_count_off_by_one(self):
+        for change in (-1, 1):
+            with broken("count_limit", lambda n: 2 * (n - 1) + change):
+                self.assert_test_fails(test_frames.EveryByte, "test_every_byte")
+
+
+class WrongStates(Broken):
+    def test_every_record_acknowledges(self):
+        with broken("acknowledge", lambda one, record: one._replace(
+                acked=hearing.replaced(one.acked, record.station, True))):
+            self.assert_runs_notice("end in rounds")
+
+    def test_count_does_not_rise(self):
+        right = hearing.advance
+        with broken("advance", lambda one, k: right(one, k)._replace(count=one.count)):
+            self.assert_runs_notice("end in rounds")
+
+    def test_count_rises_twice(self):
+        right = hearing.advance
+        with broken("advance", lambda one, k: right(right(one, k), k)._replace(
+                labels=right(one, k).labels)):
+            self.assert_runs_notice("count")
+
+    def test_one_body_for_all(self):
+        right = hearing.take
+        with broken("take", lambda one, k, body: right(one, k, NEUTRAL)):
+            self.assert_runs_notice("neither is a beginning")
+
+    def test_own_record_not_rewritten(self):
+        with broken("rewrite_own_record", lambda one: one):
+            self.assert_runs_notice("end in rounds")
+
+    def test_newest_waiting_edit_first(self):
+        right = turns.choose_body
+
+        def choose_body(one):
+            count = one.waiting.length
+            slots = one.waiting.slots[:count][::-1] + one.waiting.slots[count:]
+            return right(one._replace(waiting=one.waiting._replace(slots=slots)))
+        with broken("choose_body", choose_body):
+            self.assert_runs_notice("accepted posts")
+
+
+class WrongLines(Broken):
+    def test_leading_zeros(self):
+        with mock.patch.object(lines, "FIELD_FORM", re.compile(rb" *-?[0-9]+")):
+            self.assert_test_fails(test_listing.Malformed, "test_every_form")
+
+    def test_last_line_without_its_line_end(self):
+        with broken("split_lines", lambda script: script.rstrip(b"\n").split(b"\n")):
+            self.assert_test_fails(test_listing.Malformed, "test_last_line_cut_anywhere")
+
+
+if __name__ == "__main__":
+    unittest.main()
