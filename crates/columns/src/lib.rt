@@ -122,7 +122,7 @@ fn write_lead(part: &mut [u8], minus: bool)
 }
 
 // A number behind a minus or not, right-justified in the whole part.
-pub fn write_columns(part: &mut [u8], minus: bool, value: u32)
+pub fn write_columns(part: &mut [u8], minus: bool, value: u64)
     ensures { λ r. ⌜ now (part .exit) ≡ columns minus (length (now (part .entry))) value ⌝ }
 {
     let mut i = part.len();
@@ -139,7 +139,7 @@ pub fn write_columns(part: &mut [u8], minus: bool, value: u32)
 }
 
 // A natural number right-justified in the whole part.
-pub fn write_natural(part: &mut [u8], value: u32)
+pub fn write_natural(part: &mut [u8], value: u64)
     ensures { λ r. ⌜ now (part .exit) ≡ natColumns (length (now (part .entry))) value ⌝ }
 {
     write_columns(part, false, value);
@@ -160,5 +160,5 @@ fn magnitude(value: i32) -> u32
 pub fn write_whole(part: &mut [u8], value: i32)
     ensures { λ r. ⌜ now (part .exit) ≡ intColumns (length (now (part .entry))) value ⌝ }
 {
-    write_columns(part, value < 0, magnitude(value));
+    write_columns(part, value < 0, magnitude(value) as u64);
 }

@@ -15,6 +15,9 @@ use Rattle.columns.proofs.write_whole.Tie as tie
 magnitude-requires : tie.Need-magnitude-requires
 magnitude-requires c κs = search needs
 
+cast-write-columns : tie.Need-cast-write-columns
+cast-write-columns c = search needs
+
 write-columns-requires : tie.Need-write-columns-requires
 write-columns-requires c κs = search needs
 
@@ -31,4 +34,4 @@ returns c = let entry = c .before .before .before .before .before .before in
 
 pub write-whole-spec : {M : Type 1} → statement M
 write-whole-spec =
-    tie.close (tie.spec magnitude-requires write-columns-requires same-length returns)
+    tie.close (tie.spec magnitude-requires cast-write-columns write-columns-requires same-length returns)
