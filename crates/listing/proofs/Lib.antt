@@ -1,1 +1,3 @@
 pub mod Example
+pub mod Placed
+pub mod Columns

@@ -8,6 +8,11 @@ use station::Taking;
 use station::TurnReport;
 
 ghost use mathlib.Core.Path.{_≡_};
+ghost use mathlib.Core.List.{[], _∷_};
+ghost use Prim.Native.Nat.{_+_, _-_, _≤_};
+ghost use lib.ListN.{length};
+ghost use Rattle.columns.specs.Writing.{natColumns, intColumns};
+ghost use Rattle.listing.specs.Lines.{headBytes, bodyBytes, lineBytes, placed, Put};
 
 // Where a script stands: the group's size, 0 before the `N` line; the rounds done; whether the reading has stopped; the group.
 pub struct Session {
@@ -15,4 +20,68 @@ pub struct Session {
     pub rounds: u32,
     pub stopped: bool,
     pub group: [Station; 16],
+}
+
+// One byte put into the buffer.
+fn put_byte(out: &mut [u8], at: usize, b: u8)
+    requires { ⌜ at + 1 ≤ length (now out) ⌝ }
+    ensures { λ r. ⌜ now (out .exit) ≡ placed (now (out .entry)) at (b ∷ []) ⌝ }
+{
+    out[at] = b;
+}
+
+// A number put into the columns from one place to another.
+fn put_natural(out: &mut [u8], at: usize, end: usize, value: u64)
+    requires { ⌜ (at ≤ end) × (end ≤ length (now out)) ⌝ }
+    ensures { λ r. ⌜ now (out .exit) ≡ placed (now (out .entry)) at (natColumns (end - at) value) ⌝ }
+{
+    columns::write_natural(&mut out[at..end], value);
+}
+
+fn put_whole(out: &mut [u8], at: usize, end: usize, value: i32)
+    requires { ⌜ (at ≤ end) × (end ≤ length (now out)) ⌝ }
+    ensures { λ r. ⌜ now (out .exit) ≡ placed (now (out .entry)) at (intColumns (end - at) value) ⌝ }
+{
+    columns::write_whole(&mut out[at..end], value);
+}
+
+// Round, letter, station and source put into their columns.
+fn put_head(out: &mut [u8], at: usize, round: u32, letter: u8, station: usize, source: usize)
+    requires { ⌜ at + 14 ≤ length (now out) ⌝ }
+    ensures { λ r. ⌜ now (out .exit) ≡ placed (now (out .entry)) at (headBytes round letter station source) ⌝ }
+{
+    put_natural(out, at, at + 6, round as u64);
+    put_byte(out, at + 6, 32);
+    put_byte(out, at + 7, letter);
+    put_natural(out, at + 8, at + 11, station as u64);
+    put_natural(out, at + 11, at + 14, source as u64);
+}
+
+// A body's numbers put into their columns, and the line end.
+fn put_body(out: &mut [u8], at: usize, body: Body)
+    requires { ⌜ at + 21 ≤ length (now out) ⌝ }
+    ensures { λ r. ⌜ now (out .exit) ≡ placed (now (out .entry)) at (bodyBytes body) ⌝ }
+{
+    put_natural(out, at, at + 2, kinds::kind_of(body) as u64);
+    put_natural(out, at + 2, at + 11, kinds::event_of(body) as u64);
+    put_whole(out, at + 11, at + 20, kinds::argument_of(body));
+    put_byte(out, at + 20, 10);
+}
+
+// A listing line put into the buffer. Returns the place behind it.
+fn put_line(
+    out: &mut [u8],
+    at: usize,
+    round: u32,
+    letter: u8,
+    station: usize,
+    source: usize,
+    body: Body,
+) -> usize
+    requires { ⌜ at + 35 ≤ length (now out) ⌝ }
+    ensures { λ r. ⌜ Put (now (out .entry)) (now (out .exit)) at r (lineBytes round letter station source body) ⌝ }
+{
+    put_head(out, at, round, letter, station, source);
+    put_body(out, at + 14, body);
+    at + 35
 }

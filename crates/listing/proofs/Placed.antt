@@ -1,0 +1,56 @@
+-- A text put into a buffer: its length stays, and a text put behind another makes one text of the two.
+use mathlib.Core.Path.{_≡_, refl, sym, ap, _∙_}
+use mathlib.Core.List.{List, [], _∷_, _++_, append-assoc, append-nil}
+use Prim.Native.Nat.{ℕ, zero, suc, _+_, _-_, _≤_, _<_}
+use native.Mathlib.Nat.{add-assoc, add-zero}
+use native.Mathlib.Omega.{arith}
+use native.Mathlib.Numerals.{add-one}
+use lib.ListN.{length, take, drop, set, length-append, length-take, length-drop, take-append-drop}
+use lib.Seq.{length-take-le, take-at, drop-append-add, drop-drop, set-split}
+use Rattle.listing.specs.Lines.{placed}
+
+pub length-placed : (buffer : List ℕ) (at : ℕ) (text : List ℕ) → at + length text ≤ length buffer → length (placed buffer at text) ≡ length buffer
+unfolding placed
+length-placed buffer at text h = simp (length-append, length-take, length-drop) (omega arith)
+
+-- nothing put
+pub placed-none : (buffer : List ℕ) (at : ℕ) → buffer ≡ placed buffer at []
+unfolding placed
+placed-none buffer at = rw (append-nil, add-zero) (sym (take-append-drop at buffer))
+
+-- one byte
+pub placed-byte : (buffer : List ℕ) (at b : ℕ) → at < length buffer → set buffer at b ≡ placed buffer at (b ∷ [])
+unfolding placed
+placed-byte buffer at b h = rw (add-one, append-assoc) (set-split buffer at b h)
+
+-- one text behind another
+pub placed-more :
+    (buffer : List ℕ) (at : ℕ) (text more : List ℕ) → at ≤ length buffer →
+    placed (placed buffer at text) (at + length text) more ≡ placed buffer at (text ++ more)
+unfolding placed
+placed-more buffer at text more h =
+    let front = take at buffer ++ text in
+    let back = drop (at + length text) buffer in
+    let size : length front ≡ at + length text = simp (length-append, length-take) (omega arith) in
+    let left : drop (at + length text + length more) (front ++ back) ≡ drop (at + length text + length more) buffer =
+    ap (λ (n : ℕ). drop (n + length more) (front ++ back)) (sym size)
+    ∙ drop-append-add front back (length more)
+    ∙ drop-drop (length more) (at + length text) buffer in
+    rw (take-at front back (at + length text) size, left, length-append, add-assoc, append-assoc (take at buffer) text more)
+
+-- a text put behind what is put already, as two calls leave it
+pub placed-then :
+    (buffer held end : List ℕ) (at next : ℕ) (text more : List ℕ) → at ≤ length buffer → at + length text ≡ next →
+    held ≡ placed buffer at text → end ≡ placed held next more → end ≡ placed buffer at (text ++ more)
+placed-then buffer held end at next text more h e p q =
+    q ∙ rw (p, ← e) (placed-more buffer at text more h)
+
+-- a part that was lent and came back holding the text
+pub part-length : (buffer : List ℕ) (at end : ℕ) → end ≤ length buffer → length (take (end - at) (drop at buffer)) ≡ end - at
+part-length buffer at end h = length-take-le (end - at) (drop at buffer) (rw length-drop (omega arith))
+
+pub placed-part :
+    (buffer : List ℕ) (at k : ℕ) (part text : List ℕ) → length part ≡ k → part ≡ text →
+    take at buffer ++ (part ++ drop k (drop at buffer)) ≡ placed buffer at text
+unfolding placed
+placed-part buffer at k part text e p = rw (drop-drop, ← append-assoc, ← e, p)
