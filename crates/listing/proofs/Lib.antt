@@ -1,3 +1,4 @@
 pub mod Example
 pub mod Placed
 pub mod Columns
+pub mod Joined

@@ -7,7 +7,7 @@ use native.Mathlib.Omega.{arith}
 use native.Mathlib.Numerals.{add-one}
 use lib.ListN.{length, take, drop, set, length-append, length-take, length-drop, take-append-drop}
 use lib.Seq.{length-take-le, take-at, drop-append-add, drop-drop, set-split}
-use Rattle.listing.specs.Lines.{placed}
+use Rattle.listing.specs.Lines.{placed, Put}
 
 pub length-placed : (buffer : List ℕ) (at : ℕ) (text : List ℕ) → at + length text ≤ length buffer → length (placed buffer at text) ≡ length buffer
 unfolding placed
@@ -54,3 +54,19 @@ pub placed-part :
     take at buffer ++ (part ++ drop k (drop at buffer)) ≡ placed buffer at text
 unfolding placed
 placed-part buffer at k part text e p = rw (drop-drop, ← append-assoc, ← e, p)
+
+-- what calls that put one text behind the other say together
+pub put-none : (l : List ℕ) (at : ℕ) → Put l l at at []
+put-none l at = record { holds = placed-none l at; behind = omega arith }
+
+pub put-more :
+    (l₀ l₁ l₂ : List ℕ) (at mid end : ℕ) (text more : List ℕ) → at ≤ length l₀ → Put l₀ l₁ at mid text → Put l₁ l₂ mid end more →
+    Put l₀ l₂ at end (text ++ more)
+put-more l₀ l₁ l₂ at mid end text more h p q =
+    record {
+      holds = placed-then l₀ l₁ l₂ at mid text more h (sym (p .behind)) (p .holds) (q .holds);
+      behind = omega (arith, p .behind, q .behind, length-append text more);
+    }
+
+pub put-length : (l₀ l₁ : List ℕ) (at end : ℕ) (text : List ℕ) → Put l₀ l₁ at end text → end ≤ length l₀ → length l₁ ≡ length l₀
+put-length l₀ l₁ at end text p h = ap length (p .holds) ∙ length-placed l₀ at text (omega (arith, p .behind))

@@ -1,8 +1,9 @@
 -- Document 01, "The relay listing": what a round prints, station by station: D for each taken as heard, A for each aired edit, E with the ended body, D for an own start.
 use Prim.Native.Nat.{ℕ}
-use mathlib.Core.Bool.{Bool, cond}
+use mathlib.Core.Bool.{Bool, cond, not, _&&_}
 use mathlib.Core.List.{List, [], _++_}
 use lib.ListN.{getD}
+use lib.Dec.{ltb}
 use Rattle.kinds.specs.declared.Body.{Body}
 use Rattle.kinds.specs.Body.{isEmpty}
 use Rattle.kinds.specs.Limits.{isEdit}
@@ -14,31 +15,35 @@ use Rattle.group.specs.declared.Report.{Report}
 use Rattle.group.specs.Calls.{noTaking, noReport}
 use Rattle.listing.specs.Lines.{delivered, airing, ending, lineBytes, joined}
 
--- the bodies taken, in the order heard
-unfoldable pub takenText : ℕ → ℕ → Report → List ℕ
-takenText round p r =
-    joined (r .«takings_len») (λ k.
-      let t = getD (r .takings) k noTaking in
-      lineBytes round delivered p (t .source) (t .body))
+-- a line where it is wanted
+abbrev pub lineIf : Bool → ℕ → ℕ → ℕ → ℕ → Body → List ℕ
+lineIf wanted round letter station source body = cond wanted (lineBytes round letter station source body) []
 
--- the edits of the aired row of n bodies, by station
+-- the bodies taken, in the order heard
+abbrev pub takingText : ℕ → ℕ → ℕ → List Taking → ℕ → List ℕ
+takingText round p len takings k =
+    lineIf (ltb k len) round delivered p ((getD takings k noTaking) .source) ((getD takings k noTaking) .body)
+
+unfoldable pub takenText : ℕ → ℕ → Report → List ℕ
+takenText round p r = joined 30 (takingText round p (r .«takings_len») (r .takings))
+
+-- the edits of an aired row of n bodies, by station
+abbrev pub editText : ℕ → ℕ → Bool → List Slot → ℕ → List ℕ
+editText round p aired row k =
+    lineIf (aired && isEdit ((getD row k noSlot) .body)) round airing p k ((getD row k noSlot) .body)
+
 unfoldable pub airedText : ℕ → ℕ → ℕ → TurnReport → List ℕ
-airedText n round p t =
-    cond (t .aired)
-    (joined n (λ k. let b = (getD (t .row) k noSlot) .body in cond (isEdit b) (lineBytes round airing p k b) []))
-    []
+airedText n round p t = joined n (editText round p (t .aired) (t .row))
 
 -- the ended body, and then the started one where it is not Empty
-unfoldable pub endedText : ℕ → ℕ → TurnReport → List ℕ
-endedText round p t = cond (t .ended) (lineBytes round ending p p (t .«ended_body»)) []
+unfoldable pub turnText : ℕ → ℕ → TurnReport → List ℕ
+turnText round p t =
+    lineIf (t .ended) round ending p p (t .«ended_body»)
+    ++ lineIf (not (isEmpty (t .«started_body»))) round delivered p p (t .«started_body»)
 
-unfoldable pub startedText : ℕ → ℕ → TurnReport → List ℕ
-startedText round p t = cond (isEmpty (t .«started_body»)) [] (lineBytes round delivered p p (t .«started_body»))
-
--- what one station reports of a round
+-- what one station reports of a round of n
 unfoldable pub reportText : ℕ → ℕ → ℕ → Report → List ℕ
-reportText n round p r =
-    takenText round p r ++ airedText n round p (r .turn) ++ endedText round p (r .turn) ++ startedText round p (r .turn)
+reportText n round p r = takenText round p r ++ airedText n round p (r .turn) ++ turnText round p (r .turn)
 
 -- what n stations report of a round
 unfoldable pub roundText : ℕ → ℕ → List Report → List ℕ

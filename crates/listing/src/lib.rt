@@ -6,12 +6,14 @@ use station::Slot;
 use station::Station;
 use station::Taking;
 use station::TurnReport;
-
 ghost use mathlib.Core.Path.{_≡_};
 ghost use mathlib.Core.List.{[], _∷_};
 ghost use Prim.Native.Nat.{_+_, _-_, _≤_};
 ghost use lib.ListN.{length};
 ghost use Rattle.columns.specs.Writing.{natColumns, intColumns};
+ghost use mathlib.Core.Bool.{_&&_};
+ghost use Rattle.kinds.specs.Limits.{isEdit};
+ghost use Rattle.listing.specs.Reports.{lineIf, takenText, airedText, turnText, reportText, roundText};
 ghost use Rattle.listing.specs.Lines.{headBytes, bodyBytes, lineBytes, placed, Put};
 
 // Where a script stands: the group's size, 0 before the `N` line; the rounds done; whether the reading has stopped; the group.
@@ -84,4 +86,91 @@ fn put_line(
     put_head(out, at, round, letter, station, source);
     put_body(out, at + 14, body);
     at + 35
+}
+
+// A listing line where it is wanted.
+fn put_line_if(
+    out: &mut [u8],
+    at: usize,
+    wanted: bool,
+    round: u32,
+    letter: u8,
+    station: usize,
+    source: usize,
+    body: Body,
+) -> usize
+    requires { ⌜ at + 35 ≤ length (now out) ⌝ }
+    ensures { λ r. ⌜ Put (now (out .entry)) (now (out .exit)) at r (lineIf wanted round letter station source body) × (r ≤ at + 35) ⌝ }
+{
+    if wanted {
+        return put_line(out, at, round, letter, station, source, body);
+    }
+    at
+}
+
+// A D line for each body that station p took, as heard.
+fn put_takings(out: &mut [u8], at: usize, round: u32, p: usize, report: Report) -> usize
+    requires { ⌜ at + 1050 ≤ length (now out) ⌝ }
+    ensures { λ r. ⌜ Put (now (out .entry)) (now (out .exit)) at r (takenText round p report) ⌝ }
+{
+    let len = report.takings_len;
+    let takings = report.takings;
+    let mut end = at;
+    let mut k = 0;
+    while k < 30 {
+        let t = takings[k];
+        let source = t.source;
+        let body = t.body;
+        end = put_line_if(out, end, k < len, round, 68, p, source, body);
+        k += 1;
+    }
+    end
+}
+
+// An edit of a row that was aired.
+fn is_aired(aired: bool, body: Body) -> bool
+    ensures { λ r. ⌜ r ≡ (aired && isEdit body) ⌝ }
+{
+    if aired {
+        return kinds::is_edit(body);
+    }
+    false
+}
+
+// An A line for each edit of the row that station p aired, by station.
+fn put_aired(out: &mut [u8], at: usize, n: usize, round: u32, p: usize, turn: TurnReport) -> usize
+    requires { ⌜ (n ≤ 16) × (at + 560 ≤ length (now out)) ⌝ }
+    ensures { λ r. ⌜ Put (now (out .entry)) (now (out .exit)) at r (airedText n round p turn) ⌝ }
+{
+    let aired = turn.aired;
+    let row = turn.row;
+    let mut end = at;
+    let mut k = 0;
+    while k < n {
+        let slot = row[k];
+        let body = slot.body;
+        end = put_line_if(out, end, is_aired(aired, body), round, 65, p, k, body);
+        k += 1;
+    }
+    end
+}
+
+// An E line with the ended body, and a D line for an own start other than Empty.
+fn put_turn(out: &mut [u8], at: usize, round: u32, p: usize, turn: TurnReport) -> usize
+    requires { ⌜ at + 70 ≤ length (now out) ⌝ }
+    ensures { λ r. ⌜ Put (now (out .entry)) (now (out .exit)) at r (turnText round p turn) ⌝ }
+{
+    let over = turn.ended_body;
+    let end = put_line_if(out, at, turn.ended, round, 69, p, p, over);
+    let started = turn.started_body;
+    put_line_if(
+        out,
+        end,
+        !kinds::is_empty(started),
+        round,
+        68,
+        p,
+        p,
+        started,
+    )
 }
