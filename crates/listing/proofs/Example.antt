@@ -5,7 +5,7 @@ use Prim.Native.Nat.{ℕ}
 use lib.IntN.{pos}
 use Rattle.kinds.specs.declared.Body.the-variants.{Empty, Neutral, Insert}
 use Rattle.columns.specs.Writing.{natColumns}
-use Rattle.listing.specs.Lines.{delivered, airing, ending}
+use Rattle.lines.specs.Lines.{delivered, airing, ending}
 use Rattle.places.specs.Places.{allBelow, anyBelow, fill, gather, tabulate}
 use Rattle.kinds.specs.Body.{bodyOf}
 use Rattle.kinds.specs.Limits.{numbersInside, bodyInside, isEdit}
@@ -24,8 +24,8 @@ use Rattle.group.specs.Calls.{freshCall, groupPostRefusal, postCall, hearing, n
 use Rattle.columns.specs.Reading.{started, grown, next, readFrom}
 use Rattle.columns.specs.Writing.{lead, columns}
 use Rattle.script.specs.Line.{fieldOf, sizeLine, postShaped, postLine, isMask, masksInside, roundLine, commandOf, maskAt, masksOf}
-use Rattle.listing.specs.Lines.{headBytes, bodyBytes, lineBytes, endLine, joined}
-use Rattle.listing.specs.Reports.{takenText, airedText, turnText, reportText, roundText}
+use Rattle.lines.specs.Lines.{headBytes, bodyBytes, lineBytes, endLine, joined}
+use Rattle.lines.specs.Reports.{takenText, airedText, turnText, reportText, roundText}
 use Rattle.listing.specs.Listing.{begun, postedBody, obeyed, postText, answered, after, printed, closed, linesOf, listed, listingOf}
 
 abbrev edit : Rattle.kinds.specs.declared.Body.Body

@@ -1,4 +1,1 @@
 pub mod Example
-pub mod Placed
-pub mod Columns
-pub mod Joined

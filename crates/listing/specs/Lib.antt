@@ -1,3 +1,1 @@
-pub mod Lines
-pub mod Reports
 pub mod Listing

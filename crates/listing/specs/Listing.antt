@@ -19,8 +19,8 @@ use Rattle.script.specs.declared.Command.{Command}
 use Rattle.script.specs.declared.Command.the-variants.{Size, Post, Round, Malformed}
 use Rattle.script.specs.Line.{commandOf, masksOf}
 use Rattle.listing.specs.declared.Session.{Session}
-use Rattle.listing.specs.Lines.{turnedDown, lineBytes, endLine}
-use Rattle.listing.specs.Reports.{roundText}
+use Rattle.lines.specs.Lines.{turnedDown, lineBytes, endLine}
+use Rattle.lines.specs.Reports.{roundText}
 
 -- before any line is read: no size yet, no round done
 unfoldable pub begun : Session
