@@ -26,7 +26,7 @@ use Rattle.columns.specs.Writing.{lead, columns}
 use Rattle.script.specs.Line.{fieldOf, sizeLine, postShaped, postLine, isMask, masksInside, roundLine, commandOf, maskAt, masksOf}
 use Rattle.lines.specs.Lines.{headBytes, bodyBytes, lineBytes, endLine, joined}
 use Rattle.lines.specs.Reports.{takenText, airedText, turnText, reportText, roundText}
-use Rattle.listing.specs.Listing.{begun, postedBody, obeyed, postText, answered, after, printed, closed, linesOf, listed, listingOf}
+use Rattle.listing.specs.Listing.{begun, postedBody, sizedBy, postedBy, roundedBy, obeyed, refusedText, answered, after, printed, restText, linesOf, listed, listingOf}
 
 abbrev edit : Rattle.kinds.specs.declared.Body.Body
 edit = Insert 7 (pos 100)
@@ -54,5 +54,5 @@ pub example :
     ++ lineBytes 3 delivered 1 0 edit
     ++ lineBytes 3 airing 1 0 edit
     ++ endLine
-unfolding headBytes bodyBytes allBelow anyBelow fill gather tabulate bodyOf numbersInside bodyInside isEdit isNewer bit hearsIn framed bodies laneOf noneWaiting queued oldest unqueued sentRecords freshStation laneInside queueInside recordInside placeInside stationInside replaced heardNewer hearRecord hearRecords airs rowOf lanesAfter ends startedBody passed ownRecord rewritten afterTurn turnReport posted noTurn groupInside freshGroup freshCall groupPostRefusal postCall hearing noReport reportOf roundRefusal afterRound roundCall started grown next readFrom lead columns fieldOf sizeLine postShaped postLine isMask masksInside roundLine commandOf maskAt masksOf lineBytes endLine joined takenText airedText turnText reportText roundText begun postedBody obeyed postText answered after printed closed linesOf listed listingOf
+unfolding headBytes bodyBytes allBelow anyBelow fill gather tabulate bodyOf numbersInside bodyInside isEdit isNewer bit hearsIn framed bodies laneOf noneWaiting queued oldest unqueued sentRecords freshStation laneInside queueInside recordInside placeInside stationInside replaced heardNewer hearRecord hearRecords airs rowOf lanesAfter ends startedBody passed ownRecord rewritten afterTurn turnReport posted noTurn groupInside freshGroup freshCall groupPostRefusal postCall hearing noReport reportOf roundRefusal afterRound roundCall started grown next readFrom lead columns fieldOf sizeLine postShaped postLine isMask masksInside roundLine commandOf maskAt masksOf lineBytes endLine joined takenText airedText turnText reportText roundText begun postedBody sizedBy postedBy roundedBy obeyed refusedText answered after printed restText linesOf listed listingOf
 example = refl

@@ -1,6 +1,7 @@
 -- Document 01, "The relay listing": the whole listing of a whole script, over the group's calls.
 use Prim.Native.Nat.{ℕ, _+_}
 use mathlib.Core.Bool.{Bool, true, false, cond, _&&_, not}
+use mathlib.Core.Path.{_≡_}
 use mathlib.Core.List.{List, [], _∷_, _++_}
 use lib.Dec.{leb, ltb, eqb}
 use lib.IntN.{ℤ}
@@ -19,7 +20,8 @@ use Rattle.script.specs.declared.Command.{Command}
 use Rattle.script.specs.declared.Command.the-variants.{Size, Post, Round, Malformed}
 use Rattle.script.specs.Line.{commandOf, masksOf}
 use Rattle.listing.specs.declared.Session.{Session}
-use Rattle.lines.specs.Lines.{turnedDown, lineBytes, endLine}
+use Rattle.listing.specs.declared.Applied.{Applied}
+use Rattle.lines.specs.Lines.{turnedDown, lineBytes, endLine, Put}
 use Rattle.lines.specs.Reports.{roundText}
 
 -- before any line is read: no size yet, no round done
@@ -45,32 +47,33 @@ halted s = record { n = s .n; rounds = s .rounds; stopped = true; group = s .gro
 abbrev pub lastRound : ℕ
 lastRound = 999_999
 
+-- the session after each call of the group's, by what the call returned
+unfoldable pub sizedBy : Session → ℕ → KeptGroup → Session
+sizedBy s n made = record { n = n; rounds = s .rounds; stopped = false; group = made .group }
+
+unfoldable pub postedBy : Session → KeptGroup → Session
+postedBy s made = record { n = s .n; rounds = s .rounds; stopped = false; group = made .group }
+
+unfoldable pub roundedBy : Session → RoundDone → Session
+roundedBy s made = record { n = s .n; rounds = s .rounds + 1; stopped = false; group = made .group }
+
+-- what a post prints: a refusal; a station that is not below N is printed as 0
+unfoldable pub refusedText : Session → ℕ → ℕ → List ℕ
+refusedText s station refusal =
+    cond (eqb refusal done) [] (refusalText (s .rounds) (cond (ltb station (s .n)) station 0) refusal)
+
 -- the session after a command, whose line has the masks of a round
 unfoldable pub obeyed : Session → List ℕ → Command → Session
-obeyed s masks (Size n) = record { n = n; rounds = s .rounds; stopped = false; group = (freshCall n) .group }
-obeyed s masks (Post station kind event argument) =
-    record {
-      n = s .n;
-      rounds = s .rounds;
-      stopped = false;
-      group = (postCall (s .group) station (postedBody kind event argument)) .group;
-    }
-obeyed s masks Round =
-    cond (ltb (s .rounds) lastRound)
-    (record { n = s .n; rounds = s .rounds + 1; stopped = false; group = (roundCall (s .group) masks) .group })
-    (halted s)
+obeyed s masks (Size n) = sizedBy s n (freshCall n)
+obeyed s masks (Post station kind event argument) = postedBy s (postCall (s .group) station (postedBody kind event argument))
+obeyed s masks Round = cond (ltb (s .rounds) lastRound) (roundedBy s (roundCall (s .group) masks)) (halted s)
 obeyed s masks Malformed = halted s
-
--- what a refused post prints; a station that is not below N is printed as 0
-unfoldable pub postText : Session → ℕ → ℕ → List ℕ
-postText s station refusal =
-    cond (eqb refusal done) [] (refusalText (s .rounds) (cond (ltb station (s .n)) station 0) refusal)
 
 -- what a command prints
 unfoldable pub answered : Session → List ℕ → Command → List ℕ
 answered s masks (Size n) = []
 answered s masks (Post station kind event argument) =
-    postText s station ((postCall (s .group) station (postedBody kind event argument)) .refusal)
+    refusedText s station ((postCall (s .group) station (postedBody kind event argument)) .refusal)
 answered s masks Round =
     cond (ltb (s .rounds) lastRound)
     (roundText (s .n) (s .rounds + 1) ((roundCall (s .group) masks) .reports))
@@ -85,8 +88,16 @@ unfoldable pub printed : Session → List ℕ → List ℕ
 printed s line = answered s (masksOf (s .n) line) (commandOf (s .n) line)
 
 -- the end of the script, where `rest` is what stands after its last line end: nothing, and an `N` line was read; or a malformed last line
-unfoldable pub closed : Session → List ℕ → List ℕ
-closed s rest = cond (ltb 0 (s .n) && eqb (length rest) 0) [] (malformedText s)
+unfoldable pub restText : Session → ℕ → List ℕ
+restText s length = cond (ltb 0 (s .n) && eqb length 0) [] (malformedText s)
+
+abbrev pub closed : Session → List ℕ → List ℕ
+closed s rest = restText s (length rest)
+
+-- what a call on a session promises: the session after it, and the text put at the front of the lent buffer
+pub record Answer (after : Session) (text entry exit : List ℕ) (r : Applied) : Type 0 where
+  pub session : r .session ≡ after
+  pub put : Put entry exit 0 (r .len) text
 
 -- a script's lines, each without its line end, and what stands after the last line end
 pub data Lines : Type 0 where
