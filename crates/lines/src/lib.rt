@@ -152,16 +152,8 @@ fn put_turn(out: &mut [u8], at: usize, round: u32, p: usize, turn: TurnReport) -
     let over = turn.ended_body;
     let end = put_line_if(out, at, turn.ended, round, 69, p, p, over);
     let started = turn.started_body;
-    put_line_if(
-        out,
-        end,
-        !kinds::is_empty(started),
-        round,
-        68,
-        p,
-        p,
-        started,
-    )
+    let shown = !kinds::is_empty(started);
+    put_line_if(out, end, shown, round, 68, p, p, started)
 }
 
 // What station p reports of a round.

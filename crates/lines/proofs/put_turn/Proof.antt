@@ -23,7 +23,7 @@ returns : tie.Need-returns
 unfolding turnText
 returns c = (
   put-more _ _ _ (c .before .before .before .before .before .before .before .before .before .before .args .at) _ _ _ _ (omega (arith, c .before .before .before .before .before .before .before .before .before .before .pre)) (c .before .before .before .before .before .before .before .put-line-if .ensures .0)
-      (rw (c .before .before .before .is-empty .ensures) at (c .before .before .put-line-if2 .ensures .0)),
+      (rw (c .before .before .before .before .is-empty .ensures) at (c .before .before .put-line-if2 .ensures .0)),
   omega (arith, c .before .before .before .before .before .before .before .put-line-if .ensures .1, c .before .before .put-line-if2 .ensures .1),
 )
 
