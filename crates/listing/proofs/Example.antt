@@ -5,7 +5,7 @@ use Prim.Native.Nat.{ℕ}
 use lib.IntN.{pos}
 use Rattle.kinds.specs.declared.Body.the-variants.{Empty, Neutral, Insert}
 use Rattle.columns.specs.Writing.{natColumns}
-use Rattle.lines.specs.Lines.{delivered, airing, ending}
+use Rattle.lines.specs.Lines.{delivered, airing, ending, turnedDown}
 use Rattle.places.specs.Places.{allBelow, anyBelow, fill, gather, tabulate}
 use Rattle.kinds.specs.Body.{bodyOf}
 use Rattle.kinds.specs.Limits.{numbersInside, bodyInside, isEdit}
@@ -56,3 +56,12 @@ pub example :
     ++ endLine
 unfolding headBytes bodyBytes allBelow anyBelow fill gather tabulate bodyOf numbersInside bodyInside isEdit isNewer bit hearsIn framed bodies laneOf noneWaiting queued oldest unqueued sentRecords freshStation laneInside queueInside recordInside placeInside stationInside replaced heardNewer hearRecord hearRecords airs rowOf lanesAfter ends startedBody passed ownRecord rewritten afterTurn turnReport posted noTurn groupInside freshGroup freshCall groupPostRefusal postCall hearing noReport reportOf roundRefusal afterRound roundCall started grown next readFrom lead columns fieldOf sizeLine postShaped postLine isMask masksInside roundLine commandOf maskAt masksOf lineBytes endLine joined takenText airedText turnText reportText roundText begun postedBody sizedBy postedBy roundedBy obeyed refusedText answered after printed restText linesOf listed listingOf
 example = refl
+
+-- an empty script, and one whose first line is not `N`: the reading stops
+pub empty : listingOf [] ≡ lineBytes 0 turnedDown 0 11 Empty ++ endLine
+unfolding listingOf linesOf listed begun restText
+empty = refl
+
+pub stops : listingOf (88 ∷ 10 ∷ []) ≡ lineBytes 0 turnedDown 0 11 Empty ++ endLine
+unfolding listingOf linesOf listed begun after printed obeyed answered commandOf sizeLine lineBytes headBytes bodyBytes columns lead endLine
+stops = refl
