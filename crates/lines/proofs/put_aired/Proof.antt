@@ -1,0 +1,74 @@
+-- `lines::put_aired` puts the line of edit after edit. The invariant: the texts of the row's places below k stand one behind the other.
+use mathlib.Core.Path.{_≡_, refl, sym, ap, _∙_}
+use mathlib.Core.Bool.{_&&_}
+use Prim.Native.Nat.{_+_, _-_, _*_, _≤_}
+use native.Mathlib.Omega.{arith}
+use borrow.Author.Needs.{needs}
+use lib.ListN.{length}
+use Rattle.lines.specs.Lines.{joined, Put}
+use Rattle.lines.specs.Reports.{lineIf, takingText, takenText, editText, airedText}
+use Rattle.lines.proofs.Placed.{put-length}
+use Rattle.lines.proofs.Joined.{joined-none, joined-more}
+use Rattle.lines.proofs.put_aired.Statement.{statement}
+use Rattle.lines.proofs.put_aired.Tie as tie
+
+abbrev Inv-loop : tie.InvT-loop
+Inv-loop out₀ at n round p aired row end₀ k₀ out end k =
+    (k ≤ n) × (length out ≡ length out₀) × (end ≤ at + 35 * k) × Put out₀ out at end (joined k (editText round p aired row))
+
+abbrev μ-loop : tie.MeasureT-loop
+μ-loop out₀ at n round p aired row end₀ k₀ out end k = n - k
+
+loop-holds : tie.Need-loop-holds Inv-loop μ-loop
+loop-holds c = (omega arith, refl, omega arith, joined-none _ _ _)
+
+mul-slot : tie.Need-mul-slot Inv-loop μ-loop
+mul-slot c = omega arith
+
+array-copy-out-slot : tie.Need-array-copy-out-slot Inv-loop μ-loop
+array-copy-out-slot c = omega arith
+
+is-aired-requires : tie.Need-is-aired-requires Inv-loop μ-loop
+is-aired-requires c κs = search needs
+
+put-line-if-requires : tie.Need-put-line-if-requires Inv-loop μ-loop
+put-line-if-requires c κs = omega arith
+
+add-k : tie.Need-add-k Inv-loop μ-loop
+add-k c = omega arith
+
+loop-less : tie.Need-loop-less Inv-loop μ-loop
+loop-less c = omega arith
+
+loop-again : tie.Need-loop-again Inv-loop μ-loop
+loop-again c = let l = c .before .before .before .before .before .before .before .loop in (
+  omega arith,
+  c .before .before .put-line-if .kept .0 ∙ l .inv .1,
+  omega (arith, c .before .before .put-line-if .ensures .1),
+  joined-more _ (l .k) (c .before .before .before .before .before .before .before .before .before .before .args .out .now) (l .out) _ (c .before .before .before .before .before .before .before .before .before .before .args .at) (l .end) _ (omega (arith, c .before .before .before .before .before .before .before .before .before .before .pre)) (l .inv .3)
+      (rw (c .before .before .before .is-aired .ensures) at (c .before .before .put-line-if .ensures .0)),
+)
+
+same-length : tie.Need-same-length Inv-loop μ-loop
+same-length c = c .before .loop .inv .1
+
+returns : tie.Need-returns Inv-loop μ-loop
+unfolding airedText
+returns c = let e : c .before .loop .k ≡ c .before .before .before .before .args .n = omega arith in (rw e at (c .before .loop .inv .3), omega arith)
+
+pub put-aired-spec : {M : Type 1} → statement M
+put-aired-spec =
+    tie.close
+    (tie.spec
+    Inv-loop
+    μ-loop
+    loop-holds
+    mul-slot
+    array-copy-out-slot
+    is-aired-requires
+    put-line-if-requires
+    add-k
+    loop-less
+    loop-again
+    same-length
+    returns)

@@ -1,0 +1,43 @@
+-- `lines::put_natural` lends the part to the writer of columns.
+use mathlib.Core.Path.{_≡_, ap, _∙_}
+use Prim.Native.Nat.{ℕ, _-_}
+use native.Mathlib.Omega.{arith}
+use lib.ListN.{length, take, drop}
+use Rattle.columns.specs.Writing.{natColumns}
+use Rattle.lines.proofs.Placed.{part-length, placed-part}
+-- `lines::put_natural` lends the part to the writer of columns.
+use borrow.Author.Needs.{needs}
+use Rattle.lines.proofs.put_natural.Statement.{statement}
+use Rattle.lines.proofs.put_natural.Tie as tie
+
+sub-write-natural : tie.Need-sub-write-natural
+sub-write-natural c = search needs
+
+part-write-natural-start : tie.Need-part-write-natural-start
+part-write-natural-start c = search needs
+
+part-write-natural-end : tie.Need-part-write-natural-end
+part-write-natural-end c = search needs
+
+write-natural-requires : tie.Need-write-natural-requires
+write-natural-requires c κs = search needs
+
+same-length : tie.Need-same-length
+same-length c = search needs
+
+returns : tie.Need-returns
+returns c = let a = c .before .before .before .before .before .args in
+    let size = part-length (a .out .now) (a .at) (a .end) (c .before .before .before .before .before .pre .1) in
+    placed-part (a .out .now) (a .at) (a .end - a .at) (c .before .before .write-natural .last .0) _ (c .before .before .write-natural .kept .0 ∙ size)
+    (c .before .before .write-natural .ensures ∙ ap (λ (w : ℕ). natColumns w (a .value)) size)
+
+pub put-natural-spec : {M : Type 1} → statement M
+put-natural-spec =
+    tie.close
+    (tie.spec
+    sub-write-natural
+    part-write-natural-start
+    part-write-natural-end
+    write-natural-requires
+    same-length
+    returns)

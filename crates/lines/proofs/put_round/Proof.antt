@@ -1,0 +1,66 @@
+-- `lines::put_round` puts report after report. The invariant: the texts of the stations below p stand one behind the other.
+use mathlib.Core.Path.{_≡_, refl, sym, ap, _∙_}
+use Prim.Native.Nat.{_+_, _-_, _*_, _≤_}
+use native.Mathlib.Omega.{arith}
+use lib.ListN.{length, getD}
+use Rattle.lines.specs.Lines.{joined, Put}
+use Rattle.lines.specs.Reports.{absent, reportText, roundText}
+use Rattle.lines.proofs.Joined.{joined-none, joined-more}
+use Rattle.lines.proofs.put_round.Statement.{statement}
+use Rattle.lines.proofs.put_round.Tie as tie
+
+abbrev Inv-loop : tie.InvT-loop
+Inv-loop out₀ n round reports end₀ p₀ out end p =
+    (p ≤ n) × (length out ≡ length out₀) × (end ≤ 1680 * p) × Put out₀ out 0 end (joined p (λ k. reportText n round k (getD reports k absent)))
+
+abbrev μ-loop : tie.MeasureT-loop
+μ-loop out₀ n round reports end₀ p₀ out end p = n - p
+
+loop-holds : tie.Need-loop-holds Inv-loop μ-loop
+loop-holds c = (omega arith, refl, omega arith, joined-none _ _ _)
+
+mul-report : tie.Need-mul-report Inv-loop μ-loop
+mul-report c = omega arith
+
+array-copy-out-report : tie.Need-array-copy-out-report Inv-loop μ-loop
+array-copy-out-report c = omega arith
+
+put-report-requires : tie.Need-put-report-requires Inv-loop μ-loop
+put-report-requires c κs = omega arith
+
+add-p : tie.Need-add-p Inv-loop μ-loop
+add-p c = omega arith
+
+loop-less : tie.Need-loop-less Inv-loop μ-loop
+loop-less c = omega arith
+
+loop-again : tie.Need-loop-again Inv-loop μ-loop
+loop-again c = let l = c .before .before .before .before .before .before .loop in (
+  omega arith,
+  c .before .before .put-report .kept .0 ∙ l .inv .1,
+  omega (arith, c .before .before .put-report .ensures .1),
+  joined-more _ (l .p) (c .before .before .before .before .before .before .before .before .args .out .now) (l .out) _ 0 (l .end) _ (omega arith) (l .inv .3) (c .before .before .put-report .ensures .0),
+)
+
+same-length : tie.Need-same-length Inv-loop μ-loop
+same-length c = c .before .loop .inv .1
+
+returns : tie.Need-returns Inv-loop μ-loop
+unfolding roundText
+returns c = let all : c .before .loop .p ≡ c .before .before .before .args .n = omega arith in rw all at (c .before .loop .inv .3)
+
+pub put-round-spec : {M : Type 1} → statement M
+put-round-spec =
+    tie.close
+    (tie.spec
+    Inv-loop
+    μ-loop
+    loop-holds
+    mul-report
+    array-copy-out-report
+    put-report-requires
+    add-p
+    loop-less
+    loop-again
+    same-length
+    returns)

@@ -1,0 +1,69 @@
+-- `lines::put_takings` puts the line of taking after taking. The invariant: the texts of the takings below k stand one behind the other.
+use mathlib.Core.Path.{_≡_, refl, sym, ap, _∙_}
+use mathlib.Core.Bool.{_&&_}
+use Prim.Native.Nat.{_+_, _-_, _*_, _≤_}
+use native.Mathlib.Omega.{arith}
+use borrow.Author.Needs.{needs}
+use lib.ListN.{length}
+use Rattle.lines.specs.Lines.{joined, Put}
+use Rattle.lines.specs.Reports.{lineIf, takingText, takenText, editText, airedText}
+use Rattle.lines.proofs.Placed.{put-length}
+use Rattle.lines.proofs.Joined.{joined-none, joined-more}
+use Rattle.lines.proofs.put_takings.Statement.{statement}
+use Rattle.lines.proofs.put_takings.Tie as tie
+
+abbrev Inv-loop : tie.InvT-loop
+Inv-loop out₀ at round p len takings end₀ k₀ out end k =
+    (k ≤ 30) × (length out ≡ length out₀) × (end ≤ at + 35 * k) × Put out₀ out at end (joined k (takingText round p len takings))
+
+abbrev μ-loop : tie.MeasureT-loop
+μ-loop out₀ at round p len takings end₀ k₀ out end k = 30 - k
+
+loop-holds : tie.Need-loop-holds Inv-loop μ-loop
+loop-holds c = (omega arith, refl, omega arith, joined-none _ _ _)
+
+mul-t : tie.Need-mul-t Inv-loop μ-loop
+mul-t c = omega arith
+
+array-copy-out-t : tie.Need-array-copy-out-t Inv-loop μ-loop
+array-copy-out-t c = omega arith
+
+put-line-if-requires : tie.Need-put-line-if-requires Inv-loop μ-loop
+put-line-if-requires c κs = omega arith
+
+add-k : tie.Need-add-k Inv-loop μ-loop
+add-k c = omega arith
+
+loop-less : tie.Need-loop-less Inv-loop μ-loop
+loop-less c = omega arith
+
+loop-again : tie.Need-loop-again Inv-loop μ-loop
+loop-again c = let l = c .before .before .before .before .before .before .loop in (
+  omega arith,
+  c .before .before .put-line-if .kept .0 ∙ l .inv .1,
+  omega (arith, c .before .before .put-line-if .ensures .1),
+  joined-more _ (l .k) (c .before .before .before .before .before .before .before .before .before .args .out .now) (l .out) _ (c .before .before .before .before .before .before .before .before .before .args .at) (l .end) _ (omega (arith, c .before .before .before .before .before .before .before .before .before .pre)) (l .inv .3) (c .before .before .put-line-if .ensures .0),
+)
+
+same-length : tie.Need-same-length Inv-loop μ-loop
+same-length c = c .before .loop .inv .1
+
+returns : tie.Need-returns Inv-loop μ-loop
+unfolding takenText
+returns c = let e : c .before .loop .k ≡ 30 = omega arith in (rw e at (c .before .loop .inv .3), omega arith)
+
+pub put-takings-spec : {M : Type 1} → statement M
+put-takings-spec =
+    tie.close
+    (tie.spec
+    Inv-loop
+    μ-loop
+    loop-holds
+    mul-t
+    array-copy-out-t
+    put-line-if-requires
+    add-k
+    loop-less
+    loop-again
+    same-length
+    returns)

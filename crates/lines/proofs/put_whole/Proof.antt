@@ -1,0 +1,48 @@
+use lib.IntN.{ℤ}
+use mir.Syntax.{w32}
+use mir.ValLaws.{toZ-ofZ}
+-- `lines::put_whole` lends the part to the writer of columns.
+use mathlib.Core.Path.{_≡_, ap, _∙_}
+use Prim.Native.Nat.{ℕ, _-_}
+use native.Mathlib.Omega.{arith}
+use lib.ListN.{length, take, drop}
+use Rattle.columns.specs.Writing.{intColumns}
+use Rattle.lines.proofs.Placed.{part-length, placed-part}
+-- `lines::put_whole` lends the part to the writer of columns.
+use borrow.Author.Needs.{needs}
+use Rattle.lines.proofs.put_whole.Statement.{statement}
+use Rattle.lines.proofs.put_whole.Tie as tie
+
+sub-write-whole : tie.Need-sub-write-whole
+sub-write-whole c = search needs
+
+part-write-whole-start : tie.Need-part-write-whole-start
+part-write-whole-start c = search needs
+
+part-write-whole-end : tie.Need-part-write-whole-end
+part-write-whole-end c = search needs
+
+write-whole-requires : tie.Need-write-whole-requires
+write-whole-requires c κs = search needs
+
+same-length : tie.Need-same-length
+same-length c = search needs
+
+returns : tie.Need-returns
+returns c = let a = c .before .before .before .before .before .args in
+    let size = part-length (a .out .now) (a .at) (a .end) (c .before .before .before .before .before .pre .1) in
+    placed-part (a .out .now) (a .at) (a .end - a .at) (c .before .before .write-whole .last .0) _ (c .before .before .write-whole .kept .0 ∙ size)
+    (c .before .before .write-whole .ensures
+    ∙ ap (λ (z : ℤ). intColumns (length (take (a .end - a .at) (drop (a .at) (a .out .now)))) z) (toZ-ofZ w32 (a .value) (c .before .before .before .before .before .fits .value))
+    ∙ ap (λ (w : ℕ). intColumns w (a .value)) size)
+
+pub put-whole-spec : {M : Type 1} → statement M
+put-whole-spec =
+    tie.close
+    (tie.spec
+    sub-write-whole
+    part-write-whole-start
+    part-write-whole-end
+    write-whole-requires
+    same-length
+    returns)

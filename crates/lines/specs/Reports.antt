@@ -1,0 +1,60 @@
+-- Document 01, "The relay listing": what a round prints, station by station: D for each taken as heard, A for each aired edit, E with the ended body, D for an own start.
+use Prim.Native.Nat.{ℕ}
+use Rattle.kinds.specs.declared.Body.the-variants.{Empty}
+use mathlib.Core.Bool.{Bool, false, cond, not, _&&_}
+use mathlib.Core.List.{List, [], _++_}
+use lib.ListN.{getD}
+use lib.Dec.{ltb}
+use Rattle.kinds.specs.declared.Body.{Body}
+use Rattle.kinds.specs.Body.{isEmpty}
+use Rattle.kinds.specs.Limits.{isEdit}
+use Rattle.station.specs.declared.Slot.{Slot}
+use Rattle.station.specs.declared.Taking.{Taking}
+use Rattle.station.specs.declared.TurnReport.{TurnReport}
+use Rattle.station.specs.Queue.{noSlot}
+use Rattle.group.specs.declared.Report.{Report}
+use Rattle.group.specs.Calls.{noTaking}
+use Rattle.lines.specs.Lines.{delivered, airing, ending, lineBytes, joined}
+
+-- a line where it is wanted
+abbrev pub lineIf : Bool → ℕ → ℕ → ℕ → ℕ → Body → List ℕ
+lineIf wanted round letter station source body = cond wanted (lineBytes round letter station source body) []
+
+-- the bodies taken, in the order heard
+abbrev pub takingText : ℕ → ℕ → ℕ → List Taking → ℕ → List ℕ
+takingText round p len takings k =
+    lineIf (ltb k len) round delivered p ((getD takings k noTaking) .source) ((getD takings k noTaking) .body)
+
+unfoldable pub takenText : ℕ → ℕ → Report → List ℕ
+takenText round p r = joined 30 (takingText round p (r .«takings_len») (r .takings))
+
+-- the edits of an aired row of n bodies, by station
+abbrev pub editText : ℕ → ℕ → Bool → List Slot → ℕ → List ℕ
+editText round p aired row k =
+    lineIf (aired && isEdit ((getD row k noSlot) .body)) round airing p k ((getD row k noSlot) .body)
+
+unfoldable pub airedText : ℕ → ℕ → ℕ → TurnReport → List ℕ
+airedText n round p t = joined n (editText round p (t .aired) (t .row))
+
+-- the ended body, and then the started one where it is not Empty
+unfoldable pub turnText : ℕ → ℕ → TurnReport → List ℕ
+turnText round p t =
+    lineIf (t .ended) round ending p p (t .«ended_body»)
+    ++ lineIf (not (isEmpty (t .«started_body»))) round delivered p p (t .«started_body»)
+
+-- what one station reports of a round of n
+unfoldable pub reportText : ℕ → ℕ → ℕ → Report → List ℕ
+reportText n round p r = takenText round p r ++ airedText n round p (r .turn) ++ turnText round p (r .turn)
+
+-- what stands past the end of a round's reports
+abbrev pub absent : Report
+absent =
+    record {
+      «takings_len» = 0;
+      takings = [];
+      turn = record { aired = false; row = []; ended = false; «ended_body» = Empty; «started_body» = Empty };
+    }
+
+-- what n stations report of a round
+unfoldable pub roundText : ℕ → ℕ → List Report → List ℕ
+roundText n round reports = joined n (λ p. reportText n round p (getD reports p absent))

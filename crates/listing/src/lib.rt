@@ -1,0 +1,162 @@
+// One script line applied to a group, and the listing that comes of it.
+
+use group::KeptGroup;
+use group::RoundDone;
+use kinds::Body;
+use station::Station;
+ghost use mathlib.Core.Path.{_≡_};
+ghost use mathlib.Core.Bool.{cond, _&&_};
+ghost use mathlib.Core.List.{_++_};
+ghost use lib.Dec.{ltb, eqb};
+ghost use Prim.Native.Nat.{_+_, _≤_, _<_};
+ghost use lib.ListN.{length};
+ghost use Rattle.lines.specs.Lines.{Put, endLine};
+ghost use Rattle.lines.specs.Reports.{roundText};
+ghost use Rattle.listing.specs.Listing.{Answer, postedBody, malformedText, halted, sizedBy, postedBy, roundedBy, refusedText, restText, closed};
+
+// Where a script stands: the group's size, 0 before the `N` line; the rounds done; whether the reading has stopped; the group.
+pub struct Session {
+    pub n: usize,
+    pub rounds: u32,
+    pub stopped: bool,
+    pub group: [Station; 16],
+}
+
+// A session after a line, and how many bytes the line put into the buffer.
+pub struct Applied {
+    pub len: usize,
+    pub session: Session,
+}
+
+// The body that a post's numbers name; Empty, which is no edit, where they name none.
+fn posted_body(kind: u32, event: u32, argument: i32) -> Body
+    ensures { λ r. ⌜ r ≡ postedBody kind event argument ⌝ }
+{
+    if kinds::numbers_inside(kind, event, argument) {
+        return kinds::body_of(kind, event, argument);
+    }
+    Body::Empty
+}
+
+// A malformed line: the reading stops.
+fn halt(s: Session, out: &mut [u8]) -> Applied
+    requires { ⌜ 35 ≤ length (now out) ⌝ }
+    ensures { λ r. ⌜ Answer (halted s) (malformedText s) (now (out .entry)) (now (out .exit)) r ⌝ }
+{
+    let len = lines::put_line(out, 0, s.rounds, 88, 0, 11, Body::Empty);
+    let group = s.group;
+    let session = Session {
+        n: s.n,
+        rounds: s.rounds,
+        stopped: true,
+        group,
+    };
+    Applied { len, session }
+}
+
+// The station that a refused post names, 0 where it is not below n.
+fn named(station: usize, n: usize) -> usize
+    ensures { λ r. ⌜ r ≡ cond (ltb station n) station 0 ⌝ }
+{
+    if station < n {
+        return station;
+    }
+    0
+}
+
+// What a post's answer prints.
+fn put_post(s: Session, station: usize, refusal: u32, out: &mut [u8]) -> usize
+    requires { ⌜ 35 ≤ length (now out) ⌝ }
+    ensures { λ r. ⌜ Put (now (out .entry)) (now (out .exit)) 0 r (refusedText s station refusal) ⌝ }
+{
+    if refusal == 0 {
+        return 0;
+    }
+    lines::put_line(
+        out,
+        0,
+        s.rounds,
+        88,
+        named(station, s.n),
+        refusal as usize,
+        Body::Empty,
+    )
+}
+
+// The session after a post, and what the post prints.
+fn after_post(s: Session, station: usize, made: KeptGroup, out: &mut [u8]) -> Applied
+    requires { ⌜ 35 ≤ length (now out) ⌝ }
+    ensures { λ r. ⌜ Answer (postedBy s made) (refusedText s station (made .refusal)) (now (out .entry)) (now (out .exit)) r ⌝ }
+{
+    let len = put_post(s, station, made.refusal, out);
+    let group = made.group;
+    let session = Session {
+        n: s.n,
+        rounds: s.rounds,
+        stopped: false,
+        group,
+    };
+    Applied { len, session }
+}
+
+// The session after a round, and what the round prints.
+fn after_round(s: Session, made: RoundDone, out: &mut [u8]) -> Applied
+    requires { ⌜ (s .n ≤ 16) × (s .rounds < 999_999) × (26_880 ≤ length (now out)) ⌝ }
+    ensures { λ r. ⌜ Answer (roundedBy s made) (roundText (s .n) (s .rounds + 1) (made .reports)) (now (out .entry)) (now (out .exit)) r ⌝ }
+{
+    let rounds = s.rounds + 1;
+    let reports = made.reports;
+    let len = lines::put_round(out, s.n, rounds, reports);
+    let group = made.group;
+    let session = Session {
+        n: s.n,
+        rounds,
+        stopped: false,
+        group,
+    };
+    Applied { len, session }
+}
+
+// The session of a new group, of which nothing is printed.
+fn after_size(s: Session, n: usize, made: KeptGroup) -> Applied
+    ensures { λ r. ⌜ (r .session ≡ sizedBy s n made) × (r .len ≡ 0) ⌝ }
+{
+    let group = made.group;
+    let session = Session {
+        n,
+        rounds: s.rounds,
+        stopped: false,
+        group,
+    };
+    Applied { len: 0, session }
+}
+
+// An `N` line was read, and nothing stands after the last line end.
+fn is_over(n: usize, rest: usize) -> bool
+    ensures { λ r. ⌜ r ≡ (ltb 0 n && eqb rest 0) ⌝ }
+{
+    if n == 0 {
+        return false;
+    }
+    rest == 0
+}
+
+// A last line without its line end, and a script without an `N` line, are malformed.
+fn put_rest(s: Session, rest: usize, out: &mut [u8]) -> usize
+    requires { ⌜ 35 ≤ length (now out) ⌝ }
+    ensures { λ r. ⌜ Put (now (out .entry)) (now (out .exit)) 0 r (restText s rest) × (r ≤ 35) ⌝ }
+{
+    if is_over(s.n, rest) {
+        return 0;
+    }
+    lines::put_line(out, 0, s.rounds, 88, 0, 11, Body::Empty)
+}
+
+// The end of the script, with what stands after its last line end, and the last line.
+pub fn close(s: Session, rest: &[u8], out: &mut [u8]) -> usize
+    requires { ⌜ 39 ≤ length (now out) ⌝ }
+    ensures { λ r. ⌜ Put (now (out .entry)) (now (out .exit)) 0 r (closed s (now (rest .entry)) ++ endLine) ⌝ }
+{
+    let at = put_rest(s, rest.len(), out);
+    lines::put_end(out, at)
+}

@@ -1,0 +1,52 @@
+-- `script::masks_inside` looks at field after field. The invariant: the fields below k are masks.
+use mathlib.Core.Path.{_≡_, refl, ap, sym, _∙_}
+use mathlib.Core.Bool.{true}
+use Prim.Native.Nat.{_+_, _-_, _≤_}
+use native.Mathlib.Omega.{arith}
+use borrow.Author.Needs.{needs}
+use Rattle.script.specs.Line.{masksInside}
+use Rattle.script.proofs.Values.{refused, passed}
+use Rattle.script.proofs.Rounds.{masks-none, masks-more, masks-fail}
+use Rattle.script.proofs.masks_inside.Statement.{statement}
+use Rattle.script.proofs.masks_inside.Tie as tie
+
+abbrev Inv-loop : tie.InvT-loop
+Inv-loop line n k₀ k = (k ≤ n) × (masksInside line k ≡ true)
+
+abbrev μ-loop : tie.MeasureT-loop
+μ-loop line n k₀ k = n - k
+
+loop-holds : tie.Need-loop-holds Inv-loop μ-loop
+loop-holds c = (omega arith, masks-none _)
+
+is-mask-at-requires : tie.Need-is-mask-at-requires Inv-loop μ-loop
+is-mask-at-requires c κs = search needs
+
+returns : tie.Need-returns Inv-loop μ-loop
+returns c = sym (masks-fail _ _ (c .before .before .before .loop .k) (c .before .before .loop-test .taken) (refused (c .if1 .taken) (c .before .is-mask-at .ensures)))
+
+add-k : tie.Need-add-k Inv-loop μ-loop
+add-k c = search needs
+
+loop-less : tie.Need-loop-less Inv-loop μ-loop
+loop-less c = search needs
+
+loop-again : tie.Need-loop-again Inv-loop μ-loop
+loop-again c = (omega arith, masks-more _ _ (c .before .before .before .loop .inv .1) (passed (c .if1 .left) (c .before .is-mask-at .ensures)))
+
+returns-2 : tie.Need-returns-2 Inv-loop μ-loop
+returns-2 c = let e : c .before .loop .k ≡ c .before .before .before .args .n = omega arith in sym (rw e at (c .before .loop .inv .1))
+
+pub masks-inside-spec : {M : Type 1} → statement M
+masks-inside-spec =
+    tie.close
+    (tie.spec
+    Inv-loop
+    μ-loop
+    loop-holds
+    is-mask-at-requires
+    returns
+    add-k
+    loop-less
+    loop-again
+    returns-2)
