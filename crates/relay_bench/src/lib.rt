@@ -1,0 +1,134 @@
+// The work of one measurement of rounds: `relay_bench_rounds` of bench/README.md.
+
+ghost use Prim.Native.Nat.{_+_, _≤_, _<_};
+ghost use lib.ListN.{length};
+use group::Report;
+use kinds::Body;
+
+// The bytes of one round's masks: sixteen, two bytes each, the low byte first.
+const MASKS_SIZE: usize = 32;
+
+// A post comes before every eighth round, the first among them, at one station after the other.
+const POST_EVERY: u32 = 8;
+
+const LOW: u64 = 4_294_967_296;
+
+const FACTOR: u64 = 2_654_435_769;
+
+// A number mixed into the sum.
+fn mix(sum: u64, number: u32) -> u64 {
+    sum % LOW * FACTOR + (number as u64)
+}
+
+// A number of at most 99 as it is; there are no others here.
+fn small(number: usize) -> u32 {
+    if number < 100 {
+        return number as u32;
+    }
+    0
+}
+
+// A number where the mark is set, else 0.
+fn weight(mark: bool, number: u32) -> u32
+    ensures { λ r. ⌜ r ≤ number ⌝ }
+{
+    if mark {
+        return number;
+    }
+    0
+}
+
+// What the number of takings and the two marks of a turn say together.
+fn flags(takings: usize, aired: bool, ended: bool) -> u32 {
+    small(takings) % 32 + weight(aired, 32) + weight(ended, 64)
+}
+
+// The numbers of one report. One taking and one entry of the row, others in each round, stand for all.
+fn mix_report(sum: u64, report: Report, number: u32) -> u64 {
+    let turn = report.turn;
+    let taking = report.takings[(number % 30) as usize];
+    let taken = taking.body;
+    let slot = turn.row[(number % 16) as usize];
+    let aired = slot.body;
+    let ended = turn.ended_body;
+    let started = turn.started_body;
+    let mut mixed = mix(sum, flags(report.takings_len, turn.aired, turn.ended));
+    mixed = mix(mixed, small(taking.source));
+    mixed = mix(mixed, kinds::event_of(taken));
+    mixed = mix(mixed, kinds::event_of(aired));
+    mixed = mix(mixed, kinds::event_of(ended));
+    mix(mixed, kinds::kind_of(started))
+}
+
+// The number of two bytes, the lower first.
+fn joined(low: u8, high: u8) -> u16 {
+    (low as u16) + 256 * (high as u16)
+}
+
+// The masks of a round.
+fn masks_at(schedule: &[u8], at: usize) -> [u16; 16]
+    requires { ⌜ at + 32 ≤ length (now schedule) ⌝ }
+{
+    let mut masks = [0u16; 16];
+    let mut i: usize = 0;
+    while i < 16 {
+        masks[i] = joined(schedule[at + 2 * i], schedule[at + 2 * i + 1]);
+        i += 1;
+    }
+    masks
+}
+
+// The body of a post.
+fn body_of(post: u32) -> Body {
+    Body::Insert {
+        event: 1 + post % 99_999_999,
+        start: (post % 2_160_000) as i32,
+    }
+}
+
+// One of so many places.
+fn place_of(number: u32, places: usize) -> usize
+    requires { ⌜ 1 ≤ places ⌝ }
+    ensures { λ r. ⌜ r < places ⌝ }
+{
+    (number as usize) % places
+}
+
+// From fresh, rounds with the masks of a schedule, again and again; gives a checksum of what they report, and 0 if a number is refused.
+#[no_mangle]
+pub extern "C" fn relay_bench_rounds(schedule: &[u8], n: u32, rounds: u32) -> u32 {
+    let len = schedule.len();
+    if n < 1 {
+        return 0;
+    }
+    if 16 < n {
+        return 0;
+    }
+    if len < MASKS_SIZE {
+        return 0;
+    }
+    if len % MASKS_SIZE != 0 {
+        return 0;
+    }
+    let fresh = group::fresh(n as usize);
+    let mut g = fresh.group;
+    let mut sum: u64 = 0;
+    let mut number: u32 = 0;
+    while number < rounds {
+        if number % POST_EVERY == 0 {
+            let post = number / POST_EVERY;
+            let kept = group::post(g, place_of(post, n as usize), body_of(post));
+            g = kept.group;
+        }
+        let at = MASKS_SIZE * place_of(number, len / MASKS_SIZE);
+        let done = group::round(g, masks_at(schedule, at));
+        g = done.group;
+        let mut k: usize = 0;
+        while k < (n as usize) {
+            sum = mix_report(sum, done.reports[k], number);
+            k += 1;
+        }
+        number += 1;
+    }
+    (sum % LOW) as u32
+}
