@@ -24,12 +24,11 @@ def rows():
 class Architecture(unittest.TestCase):
     def test_rows(self):
         drawn = rows()
-        for name, below in crates().items():
-            self.assertIn(name, drawn)
-            self.assertEqual(sorted(drawn[name]), sorted(below), name)
+        self.assertEqual({name: sorted(below) for name, below in drawn.items()},
+                         {name: sorted(below) for name, below in crates().items()})
 
     def test_arrows_go_down(self):
-        seen = set()
+        seen = {"io", "libc"}  # the toolchain's
         for name, below in rows().items():
             self.assertLessEqual(set(below), seen, name)
             seen.add(name)
