@@ -31,7 +31,7 @@ freshCall n own =
     (record { refusal = done; station = freshStation n own })
     (record { refusal = badNumber; station = freshStation 1 0 })
 
--- the station with one more waiting edit
+-- the station with one more waiting edit (source document 001, Algorithm 2, lines 1 and 2)
 unfoldable pub posted : Station → Body → Station
 posted s b =
     record {

@@ -15,22 +15,22 @@ use Rattle.station.specs.declared.Taking.{Taking}
 use Rattle.station.specs.Lane.{pushed}
 use Rattle.station.specs.State.{labelOf, ackedOf, heldOf, recordOf, laneAt, recordLabel}
 
--- the record is of another station, and newer than the one held of it
+-- the record is of another station, and newer than the one held of it (source document 001, Algorithm 2, lines 6 to 8)
 abbrev pub counts : Station → Record → Bool
 counts s r =
     let k = r .station in
     not (eqb k (s .own))
     && isNewer (heldOf s k) (recordLabel (recordOf s k) k) ((recordOf s k) .count) (recordLabel r k) (r .count)
 
--- its own label is the successor of the hearer's label for that station
+-- its own label is the successor of the hearer's label for that station (line 14)
 abbrev pub advances : Station → Record → Bool
 advances s r = eqb (recordLabel r (r .station)) (successor (labelOf s (r .station)))
 
--- its body is taken
+-- its body is taken (line 17; Algorithm 3, line 4)
 abbrev pub takes : Station → Record → Bool
 takes s r = advances s r && not (eqb (kindOf (r .body)) 0)
 
--- the seen record in the place of the held one, whose labels from n up stay
+-- the seen record in the place of the held one, whose labels from n up stay (lines 9 to 11)
 unfoldable pub replaced : ℕ → Record → Record → Record
 replaced n old r =
     record { station = r .station; count = r .count; body = r .body; labels = fill n (recordLabel r) (old .labels) }
@@ -39,7 +39,8 @@ replaced n old r =
 abbrev pub raised : ℕ → ℕ
 raised count = cond (ltb count 255) (count + 1) 255
 
--- the hearer after a newer record (Algorithm 2 of source document 001, with H1 for the known stations)
+-- the hearer after a newer record: replaced, acknowledged, advanced, taken (lines 9 to 17). H1: a record of a station that was not seen before is
+-- no discovery, for all N stations are known
 unfoldable pub heardNewer : Station → Record → Station
 heardNewer s r =
     let k = r .station in

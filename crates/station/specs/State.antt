@@ -41,7 +41,7 @@ laneAt s k = getD (s .lanes) k noLane
 abbrev pub recordLabel : Record → ℕ → ℕ
 recordLabel r k = getD (r .labels) k 0
 
--- the records of the table in station order, as the station's frame carries them
+-- the records of the table in station order, as the station's frame carries them (source document 001, Algorithm 2, line 4)
 unfoldable pub sentRecords : Station → List Record
 sentRecords s = gather (s .n) (heldOf s) (λ k. framed (s .n) (recordOf s k))
 
@@ -52,7 +52,8 @@ freshLabels own = set (replicate 16 0) own 1
 abbrev pub zeroRecord : Record
 zeroRecord = record { station = 0; count = 0; body = Empty; labels = replicate 16 0 }
 
--- "Fresh": own label 1, others 0; count 0; body Empty; self acknowledged; the table holds the own record only
+-- "Fresh": own label 1, others 0; count 0; body Empty; self acknowledged; the table holds the own record only (Algorithm 1, the
+-- initial values)
 unfoldable pub freshStation : ℕ → ℕ → Station
 freshStation n own =
     record {

@@ -19,7 +19,7 @@ use Rattle.station.specs.Lane.{noLane, pushed, popped}
 use Rattle.station.specs.Queue.{noSlot, oldest, unqueued}
 use Rattle.station.specs.State.{labelOf, ackedOf, recordOf, laneAt}
 
--- every lane has a body, so a row is aired (H2: at the turn, one row)
+-- every lane has a body, so a row is aired (source document 001, Algorithm 3, lines 5 to 9; H2: there at each delivery, here at the turn, one row)
 unfoldable pub airs : Station → Bool
 airs s = allBelow (s .n) (λ k. ltb 0 ((laneAt s k) .len))
 
@@ -31,11 +31,11 @@ rowOf s = fill (s .n) (λ k. record { body = (laneAt s k) .first }) (replicate 1
 unfoldable pub lanesAfter : Station → List Lane
 lanesAfter s = cond (airs s) (fill (s .n) (λ k. popped (laneAt s k)) (s .lanes)) (s .lanes)
 
--- all N are acknowledged, so the broadcast ends
+-- all N are acknowledged, so the broadcast ends (Algorithm 2, line 18)
 unfoldable pub ends : Station → Bool
 ends s = allBelow (s .n) (ackedOf s)
 
--- the own lane is empty after the airing step, so a body may start (H3)
+-- the own lane is empty after the airing step, so a body may start (H3: the paper starts what is queued whenever a broadcast ends, line 21)
 abbrev pub mayStart : Station → Bool
 mayStart s = eqb ((getD (lanesAfter s) (s .own) noLane) .len) 0
 
@@ -43,12 +43,13 @@ mayStart s = eqb ((getD (lanesAfter s) (s .own) noLane) .len) 0
 abbrev pub startsEdit : Station → Bool
 startsEdit s = ends s && (mayStart s && ltb 0 ((s .waiting) .len))
 
--- what starts where the broadcast ends: the oldest waiting edit, Neutral where none waits, Empty where the own lane is not empty
+-- what starts where the broadcast ends: the oldest waiting edit, Neutral where none waits (Algorithm 3, line 11), Empty where the own lane is not
+-- empty (Algorithm 2, lines 20 to 24)
 unfoldable pub startedBody : Station → Body
 startedBody s =
     cond (ends s) (cond (mayStart s) (cond (ltb 0 ((s .waiting) .len)) (oldest (s .waiting)) Neutral) Empty) Empty
 
--- the station after the airing, the end and the start, before its own record is rewritten
+-- the station after the airing, the end and the start, before its own record is rewritten (line 19 for label, count and acknowledged)
 unfoldable pub passed : Station → Station
 passed s =
     record {
@@ -67,7 +68,7 @@ passed s =
           (set (lanesAfter s) (s .own) (pushed (getD (lanesAfter s) (s .own) noLane) (startedBody s)));
     }
 
--- the own record with the station's present values; its labels from n up stay
+-- the own record with the station's present values; its labels from n up stay (lines 25 and 26)
 unfoldable pub ownRecord : Station → Record
 ownRecord s =
     record {
