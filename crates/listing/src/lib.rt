@@ -3,6 +3,7 @@
 use group::KeptGroup;
 use group::RoundDone;
 use kinds::Body;
+use script::Command;
 use station::Station;
 ghost use mathlib.Core.Path.{_≡_};
 ghost use mathlib.Core.Bool.{cond, _&&_};
@@ -11,8 +12,9 @@ ghost use lib.Dec.{ltb, eqb};
 ghost use Prim.Native.Nat.{_+_, _≤_, _<_};
 ghost use lib.ListN.{length};
 ghost use Rattle.lines.specs.Lines.{Put, endLine};
+ghost use Rattle.script.specs.Line.{masksOf};
 ghost use Rattle.lines.specs.Reports.{roundText};
-ghost use Rattle.listing.specs.Listing.{Answer, postedBody, malformedText, halted, sizedBy, postedBy, roundedBy, refusedText, restText, closed};
+ghost use Rattle.listing.specs.Listing.{Answer, begun, obeyed, answered, after, printed, postedBody, malformedText, halted, sizedBy, postedBy, roundedBy, refusedText, restText, closed};
 
 // Where a script stands: the group's size, 0 before the `N` line; the rounds done; whether the reading has stopped; the group.
 pub struct Session {
@@ -159,4 +161,59 @@ pub fn close(s: Session, rest: &[u8], out: &mut [u8]) -> usize
 {
     let at = put_rest(s, rest.len(), out);
     lines::put_end(out, at)
+}
+
+// A session before any line is read.
+pub fn begin() -> Session
+    ensures { λ r. ⌜ r ≡ begun ⌝ }
+{
+    let made = group::fresh(1);
+    let group = made.group;
+    Session {
+        n: 0,
+        rounds: 0,
+        stopped: false,
+        group,
+    }
+}
+
+// A round's line, whose masks the group hears by; a round past the last that can be numbered stops the reading.
+fn apply_round(s: Session, line: &[u8], out: &mut [u8]) -> Applied
+    requires { ⌜ (s .n ≤ 16) × (26_880 ≤ length (now out)) ⌝ }
+    ensures { λ r. ⌜ Answer (obeyed s (masksOf (s .n) (now (line .entry))) Command.Round) (answered s (masksOf (s .n) (now (line .entry))) Command.Round) (now (out .entry)) (now (out .exit)) r ⌝ }
+{
+    if 999_999 <= s.rounds {
+        return halt(s, out);
+    }
+    let group = s.group;
+    let masks = script::masks(line, s.n);
+    let made = group::round(group, masks);
+    after_round(s, made, out)
+}
+
+// One line, without its line end. The buffer has room for what sixteen stations can report of a round.
+pub fn apply(s: Session, line: &[u8], out: &mut [u8]) -> Applied
+    requires { ⌜ 26_880 ≤ length (now out) ⌝ }
+    ensures { λ r. ⌜ Answer (after s (now (line .entry))) (printed s (now (line .entry))) (now (out .entry)) (now (out .exit)) r ⌝ }
+{
+    let command = script::read_line(line, s.n);
+    match command {
+        Command::Size { n } => {
+            let made = group::fresh(n);
+            after_size(s, n, made)
+        }
+        Command::Post {
+            station,
+            kind,
+            event,
+            argument,
+        } => {
+            let body = posted_body(kind, event, argument);
+            let group = s.group;
+            let made = group::post(group, station as usize, body);
+            after_post(s, station as usize, made, out)
+        }
+        Command::Round => apply_round(s, line, out),
+        Command::Malformed => halt(s, out),
+    }
 }
