@@ -8,11 +8,11 @@ use lib.ListN.{set}
 use borrow.Author.Tests.{le-leb, lt-leb, lt-ltb, le-ltb}
 use Rattle.kinds.specs.declared.Body.{Body}
 use Rattle.kinds.specs.Limits.{isEdit}
-use Rattle.station.specs.declared.Station.{Station}
-use Rattle.station.specs.Calls.{posted}
-use Rattle.group.specs.declared.KeptGroup.{KeptGroup}
-use Rattle.group.specs.State.{stationAt, sizeOf, groupInside, freshGroup}
-use Rattle.group.specs.Calls.{freshCall, groupPostRefusal, postCall}
+use Rattle.station_rules.specs.declared.Station.{Station}
+use Rattle.station_rules.specs.Calls.{posted}
+use Rattle.group_rules.specs.declared.KeptGroup.{KeptGroup}
+use Rattle.group_rules.specs.State.{stationAt, sizeOf, groupInside, freshGroup}
+use Rattle.group_rules.specs.Calls.{freshCall, groupPostRefusal, postCall}
 
 -- fresh: 1
 pub fresh-none : (n : ℕ) (g : List Station) → n < 1 → g ≡ freshGroup 1 → record { refusal = 1; group = g } ≡ freshCall n

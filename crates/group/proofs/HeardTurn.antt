@@ -6,21 +6,21 @@ use mathlib.Core.List.{List, _++_}
 use mathlib.Core.Path.{_≡_, refl, sym, ap, subst, _∙_}
 use native.Mathlib.Omega.{arith}
 use lib.ListN.{getD, length, replicate}
-use Rattle.station.specs.declared.Station.{Station}
-use Rattle.station.specs.declared.Turned.{Turned}
-use Rattle.station.specs.declared.HeardAll.{HeardAll}
-use Rattle.station.specs.Limits.{stationInside}
-use Rattle.station.specs.Hearing.{Hearing, silent}
-use Rattle.station.specs.Frames.{hearFrames, FrameAt, HearsAll}
-use Rattle.station.specs.Turn.{afterTurn, turnReport}
-use Rattle.station.specs.Calls.{ownCountInside, turnDone}
-use Rattle.station.proofs.StationLimits.{inside-make}
-use Rattle.group.specs.declared.Report.{Report}
-use Rattle.group.specs.State.{stationAt, sizeOf, groupInside}
-use Rattle.group.specs.Calls.{heard, noTaking, reportOf}
+use Rattle.station_rules.specs.declared.Station.{Station}
+use Rattle.station_rules.specs.declared.Turned.{Turned}
+use Rattle.station_rules.specs.declared.HeardAll.{HeardAll}
+use Rattle.station_rules.specs.Limits.{stationInside}
+use Rattle.station_rules.specs.Hearing.{Hearing, silent}
+use Rattle.station_rules.specs.Frames.{hearFrames, FrameAt, HearsAll}
+use Rattle.station_rules.specs.Turn.{afterTurn, turnReport}
+use Rattle.station_rules.specs.Calls.{ownCountInside, turnDone}
+use Rattle.station_rules.proofs.StationLimits.{inside-make}
+use Rattle.group_rules.specs.declared.Report.{Report}
+use Rattle.group_rules.specs.State.{stationAt, sizeOf, groupInside}
+use Rattle.group_rules.specs.Calls.{heard, noTaking, reportOf}
 use Rattle.group.specs.Frames.{FramesBelow, heardCount, heardStarts}
-use Rattle.group.proofs.Members.{GroupShaped, group-high, member-at, members-open}
-use Rattle.group.proofs.MembersRound.{hears-all}
+use Rattle.group_rules.proofs.Members.{GroupShaped, group-high, member-at, members-open}
+use Rattle.group_rules.proofs.MembersRound.{hears-all}
 use Rattle.group.proofs.RoundFrames.{count-below, starts-at, heard-below}
 
 module _ (g : List Station) (inside : groupInside g ≡ true) (counts : (k : ℕ) → k < sizeOf g → ownCountInside (stationAt g k) ≡ true)

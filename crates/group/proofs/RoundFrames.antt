@@ -12,15 +12,15 @@ use lib.ListN.{getD, set, drop, length, length-set, length-replicate, replicate}
 use lib.Seq.{getD-set-same, getD-set-other}
 use Rattle.links.specs.Log.{hearsIn}
 use Rattle.frames.specs.Frame.{recordsOf}
-use Rattle.station.specs.declared.Station.{Station}
-use Rattle.station.specs.State.{sentRecords}
-use Rattle.station.specs.Calls.{ownCountInside}
-use Rattle.station.specs.Hearing.{Hearing, silent, hearRecords}
-use Rattle.station.specs.Frames.{hearFrames, FrameAt}
-use Rattle.group.specs.State.{stationAt, sizeOf, groupInside}
-use Rattle.group.specs.Calls.{hearing, heard}
+use Rattle.station_rules.specs.declared.Station.{Station}
+use Rattle.station_rules.specs.State.{sentRecords}
+use Rattle.station_rules.specs.Calls.{ownCountInside}
+use Rattle.station_rules.specs.Hearing.{Hearing, silent, hearRecords}
+use Rattle.station_rules.specs.Frames.{hearFrames, FrameAt}
+use Rattle.group_rules.specs.State.{stationAt, sizeOf, groupInside}
+use Rattle.group_rules.specs.Calls.{hearing, heard}
 use Rattle.group.specs.Frames.{frameStart, FramesBelow, heardCount, heardStarts}
-use Rattle.group.proofs.Members.{Member, member-at}
+use Rattle.group_rules.proofs.Members.{Member, member-at}
 use Rattle.group.proofs.SentFrame.{heard-records, frame-at}
 
 hearFrames-none : (h : Hearing) (bytes starts : List ℕ) → hearFrames h bytes starts zero ≡ h

@@ -7,11 +7,11 @@ use mathlib.Core.Path.{_≡_, refl, sym, ap, _∙_}
 use lib.ListN.{replicate}
 use Rattle.places.specs.Places.{allBelow, anyBelow, fill}
 use Rattle.places.proofs.Laws.{allBelow-not, anyBelow-none, anyBelow-hit}
-use Rattle.station.specs.declared.Station.{Station}
-use Rattle.station.specs.Calls.{ownCountInside}
-use Rattle.group.specs.declared.RoundDone.{RoundDone}
-use Rattle.group.specs.State.{stationAt, sizeOf, groupInside}
-use Rattle.group.specs.Calls.{heard, noReport, reportOf, roundRefusal, afterRound, roundCall}
+use Rattle.station_rules.specs.declared.Station.{Station}
+use Rattle.station_rules.specs.Calls.{ownCountInside}
+use Rattle.group_rules.specs.declared.RoundDone.{RoundDone}
+use Rattle.group_rules.specs.State.{stationAt, sizeOf, groupInside}
+use Rattle.group_rules.specs.Calls.{heard, noReport, reportOf, roundRefusal, afterRound, roundCall}
 
 pub anyBelow-more : (n : ℕ) (test : ℕ → Bool) → anyBelow n test ≡ false → test n ≡ false → anyBelow (n + 1) test ≡ false
 unfolding anyBelow

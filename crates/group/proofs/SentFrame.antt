@@ -21,15 +21,15 @@ use Rattle.frames.proofs.Bytes.{length-frame}
 use Rattle.frames.proofs.Check.{accepted-frame}
 use Rattle.frames.proofs.FrameTrip.{at-most}
 use Rattle.frames.proofs.TableTrip.{table-fits, table-read, table-accepted}
-use Rattle.station.specs.declared.Station.{Station}
-use Rattle.station.specs.State.{heldOf, sentRecords}
-use Rattle.station.specs.Calls.{ownCountInside, frameOf}
-use Rattle.station.specs.Frames.{FrameAt}
-use Rattle.station.proofs.StationLimits.{Inside}
-use Rattle.station.proofs.LimitsSent.{sent-count}
+use Rattle.station_rules.specs.declared.Station.{Station}
+use Rattle.station_rules.specs.State.{heldOf, sentRecords}
+use Rattle.station_rules.specs.Calls.{ownCountInside, frameOf}
+use Rattle.station_rules.specs.Frames.{FrameAt}
+use Rattle.station_rules.proofs.StationLimits.{Inside}
+use Rattle.station_rules.proofs.LimitsSent.{sent-count}
 
 abbrev recordAt : Station → ℕ → Record
-recordAt s k = Rattle.station.specs.State.recordOf s k
+recordAt s k = Rattle.station_rules.specs.State.recordOf s k
 
 labels-fit : (n : ℕ) (labels : List ℕ) → ((j : ℕ) → j < n → isLabel (getD labels j 0) ≡ true) → allLabels (take n labels) ≡ true
 labels-fit n labels h =

@@ -11,11 +11,11 @@ use lib.Seq.{length-take-le, take-append-le, drop-append-le, take-at, drop-at}
 use borrow.Author.Tests.{le-ltb}
 use Rattle.frames.specs.Frame.{frameBytes}
 use Rattle.frames.specs.Calls.{tableRecords, bufferWith, Writable}
-use Rattle.station.specs.declared.Station.{Station}
-use Rattle.station.specs.Calls.{frameOf, ownCountInside}
-use Rattle.group.specs.State.{stationAt, sizeOf, groupInside}
+use Rattle.station_rules.specs.declared.Station.{Station}
+use Rattle.station_rules.specs.Calls.{frameOf, ownCountInside}
+use Rattle.group_rules.specs.State.{stationAt, sizeOf, groupInside}
 use Rattle.group.specs.Frames.{frameStart, FramesBelow}
-use Rattle.group.proofs.Members.{member-at}
+use Rattle.group_rules.proofs.Members.{member-at}
 use Rattle.group.proofs.SentFrame.{writable, frame-is, frame-fits}
 
 module _ (g : List Station) (inside : groupInside g ≡ true) (k : ℕ) (below : k < sizeOf g) where

@@ -6,9 +6,9 @@ use mathlib.Core.Bool.{cond}
 use mathlib.Core.List.{List}
 use lib.ListN.{set, take, drop, length, replicate}
 use Rattle.links.specs.Log.{hearsIn}
-use Rattle.station.specs.declared.Station.{Station}
-use Rattle.station.specs.Calls.{frameOf}
-use Rattle.group.specs.State.{stationAt, sizeOf}
+use Rattle.station_rules.specs.declared.Station.{Station}
+use Rattle.station_rules.specs.Calls.{frameOf}
+use Rattle.group_rules.specs.State.{stationAt, sizeOf}
 
 -- where the frame of station k begins; 260 bytes hold sixteen records
 abbrev pub frameStart : ℕ → ℕ

@@ -1,6 +1,1 @@
-pub mod State
-pub mod Calls
 pub mod Frames
-pub mod History
-pub mod Demand
-pub mod Marked

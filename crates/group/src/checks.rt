@@ -6,10 +6,10 @@ ghost use Prim.Native.Nat.{_≤_, _<_};
 ghost use lib.Dec.{eqb};
 ghost use Rattle.frames.specs.Record.{countInside};
 ghost use Rattle.places.specs.Places.{allBelow};
-ghost use Rattle.station.specs.Limits.{stationInside};
-ghost use Rattle.station.specs.Calls.{ownCountInside};
-ghost use Rattle.group.specs.State.{stationAt, sizeOf, groupInside};
-use station::Station;
+ghost use Rattle.station_rules.specs.Limits.{stationInside};
+ghost use Rattle.station_rules.specs.Calls.{ownCountInside};
+ghost use Rattle.group_rules.specs.State.{stationAt, sizeOf, groupInside};
+use station_rules::Station;
 
 // Is s inside its limits, of a group of n, and its number k?
 fn member_inside(s: Station, n: usize, k: usize) -> bool
@@ -21,7 +21,7 @@ fn member_inside(s: Station, n: usize, k: usize) -> bool
     if s.own != k {
         return false;
     }
-    station::checks::station_inside(s)
+    station_limits::station_inside(s)
 }
 
 // Is the group inside its limits?

@@ -5,18 +5,17 @@ ghost use mathlib.Core.Bool.{true, false, not};
 ghost use mathlib.Core.List.{List};
 ghost use Prim.Native.Nat.{ℕ, _<_};
 ghost use lib.ListN.{replicate};
-ghost use Rattle.station.specs.Calls.{ownCountInside};
-ghost use Rattle.group.specs.State.{stationAt, sizeOf, groupInside};
-ghost use Rattle.group.specs.Calls.{noReport, roundCall};
+ghost use Rattle.station_rules.specs.Calls.{ownCountInside};
+ghost use Rattle.group_rules.specs.State.{stationAt, sizeOf, groupInside};
+ghost use Rattle.group_rules.specs.Calls.{noReport, roundCall};
 ghost use Rattle.group.specs.Frames.{FramesBelow};
-use super::Report;
-use super::RoundDone;
+use group_rules::Report;
+use group_rules::RoundDone;
 use kinds::Body;
 use kinds::refusals::DONE;
 use kinds::refusals::LANE_FULL;
-use station::Slot;
-use station::Station;
-use station::Taking;
+use station_rules::Station;
+use station_rules::Taking;
 
 // What a round reports of a station that is not in it.
 pub fn no_report() -> Report
@@ -68,13 +67,13 @@ pub fn hear_and_turn(g: [Station; 16], masks: [u16; 16], bytes: &[u8]) -> RoundD
     while i < n {
         let senders = super::sends::heard_by(masks, n, i);
         let starts = senders.starts;
-        let heard = station::hearings::hear_all(g[i], bytes, starts, senders.len);
+        let heard = station_hearing::hear_all(g[i], bytes, starts, senders.len);
         if heard.overfull {
             return turned_down(LANE_FULL, g);
         }
         let station = heard.station;
         let takings = heard.takings;
-        let turned = station::turns::take_turn(station);
+        let turned = station_turns::take_turn(station);
         let after = turned.station;
         let turn = turned.report;
         z.group[i] = after;

@@ -1,7 +1,9 @@
 // A group of stations and its rounds.
 
 ghost use mathlib.Core.Path.{_≡_};
-ghost use Rattle.group.specs.Calls.{freshCall, postCall, roundCall};
+ghost use Rattle.group_rules.specs.Calls.{freshCall, postCall, roundCall};
+use group_rules::KeptGroup;
+use group_rules::RoundDone;
 use kinds::Body;
 use kinds::refusals::BAD_NUMBER;
 use kinds::refusals::COUNT_TOO_HIGH;
@@ -9,34 +11,12 @@ use kinds::refusals::DONE;
 use kinds::refusals::NOT_AN_EDIT;
 use kinds::refusals::OUTSIDE_LIMITS;
 use kinds::refusals::QUEUE_FULL;
-use station::Station;
-use station::Taking;
-use station::TurnReport;
+use station_rules::Station;
 
 pub mod checks;
 pub mod hears;
 pub mod sends;
 pub mod starts;
-
-// What a round reports of one station: the bodies it took in the order heard, and its turn.
-pub struct Report {
-    pub takings_len: usize,
-    pub takings: [Taking; 30],
-    pub turn: TurnReport,
-}
-
-// The answer of fresh and of post.
-pub struct KeptGroup {
-    pub refusal: u32,
-    pub group: [Station; 16],
-}
-
-// The answer of a round.
-pub struct RoundDone {
-    pub refusal: u32,
-    pub group: [Station; 16],
-    pub reports: [Report; 16],
-}
 
 // Group fresh: the group of n, as it begins.
 pub fn fresh(n: usize) -> KeptGroup
@@ -94,7 +74,7 @@ pub fn post(g: [Station; 16], k: usize, body: Body) -> KeptGroup
             group: g,
         };
     }
-    let waiting = station::queues::queued(queue, body);
+    let waiting = lanes::queued(queue, body);
     station.waiting = waiting;
     let mut group = g;
     group[k] = station;

@@ -4,10 +4,10 @@ ghost use mathlib.Core.Path.{_≡_};
 ghost use mathlib.Core.Bool.{true};
 ghost use Prim.Native.Nat.{ℕ, _≤_, _<_};
 ghost use lib.ListN.{length};
-ghost use Rattle.station.specs.Calls.{ownCountInside};
-ghost use Rattle.group.specs.State.{stationAt, sizeOf, groupInside};
+ghost use Rattle.station_rules.specs.Calls.{ownCountInside};
+ghost use Rattle.group_rules.specs.State.{stationAt, sizeOf, groupInside};
 ghost use Rattle.group.specs.Frames.{FramesBelow, heardCount, heardStarts};
-use station::Station;
+use station_rules::Station;
 
 // The room of a frame of sixteen records.
 const FRAME_ROOM: usize = 260;

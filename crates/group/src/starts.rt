@@ -2,9 +2,9 @@
 
 ghost use mathlib.Core.Path.{_≡_};
 ghost use Prim.Native.Nat.{_≤_};
-ghost use Rattle.group.specs.State.{freshGroup};
-use station::Station;
+ghost use Rattle.group_rules.specs.State.{freshGroup};
 use station::starts::fresh_station;
+use station_rules::Station;
 
 // The group of n, as it begins; its places from n up hold the fresh station 0 of N = 1.
 pub fn fresh_group(n: usize) -> [Station; 16]

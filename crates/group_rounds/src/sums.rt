@@ -1,13 +1,13 @@
 // A sum over every number of the reports of a round, and one over every number of a group.
 
 use frames::Record;
-use group::Report;
+use group_rules::Report;
 use kinds::Body;
-use station::Lane;
-use station::Queue;
-use station::Slot;
-use station::Station;
-use station::Taking;
+use lanes::Lane;
+use lanes::Queue;
+use lanes::Slot;
+use station_rules::Station;
+use station_rules::Taking;
 
 const LOW: u64 = 4_294_967_296;
 

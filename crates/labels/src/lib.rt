@@ -3,7 +3,8 @@
 ghost use mathlib.Core.Path.{_≡_};
 ghost use mathlib.Core.Bool.{true};
 ghost use Prim.Native.Nat.{_≤_};
-ghost use lib.ListN.{take};
+ghost use lib.ListN.{take, getD};
+ghost use Rattle.places.specs.Places.{fill};
 ghost use Rattle.labels.specs.Label.{successor};
 ghost use Rattle.labels.specs.Packing.{packed, unpacked, allLabels, wordInside};
 ghost use Rattle.labels.specs.Newer.{isNewer, ageOf};
@@ -81,4 +82,18 @@ pub fn word_inside(word: u32, n: usize) -> bool
     }
     let wide = word as usize;
     (wide >> (2 * n)) == 0
+}
+
+// The first n labels over the old ones.
+pub fn over(n: usize, labels: [u8; 16], old: [u8; 16]) -> [u8; 16]
+    requires { ⌜ n ≤ 16 ⌝ }
+    ensures { λ r. ⌜ r ≡ fill n (λ k. getD labels k 0) old ⌝ }
+{
+    let mut over = old;
+    let mut k: usize = 0;
+    while k < n {
+        over[k] = labels[k];
+        k += 1;
+    }
+    over
 }

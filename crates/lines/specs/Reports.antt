@@ -8,12 +8,12 @@ use lib.Dec.{ltb}
 use Rattle.kinds.specs.declared.Body.{Body}
 use Rattle.kinds.specs.Body.{isEmpty}
 use Rattle.kinds.specs.Limits.{isEdit}
-use Rattle.station.specs.declared.Slot.{Slot}
-use Rattle.station.specs.declared.Taking.{Taking}
-use Rattle.station.specs.declared.TurnReport.{TurnReport}
-use Rattle.station.specs.Queue.{noSlot}
-use Rattle.group.specs.declared.Report.{Report}
-use Rattle.group.specs.Calls.{noTaking}
+use Rattle.lanes.specs.declared.Slot.{Slot}
+use Rattle.station_rules.specs.declared.Taking.{Taking}
+use Rattle.station_rules.specs.declared.TurnReport.{TurnReport}
+use Rattle.lanes.specs.Queue.{noSlot}
+use Rattle.group_rules.specs.declared.Report.{Report}
+use Rattle.group_rules.specs.Calls.{noTaking}
 use Rattle.lines.specs.Lines.{delivered, airing, ending, lineBytes, joined}
 
 -- a line where it is wanted

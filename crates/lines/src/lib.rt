@@ -1,8 +1,8 @@
 // Listing lines, written into a lent buffer.
 
-use group::Report;
+use group_rules::Report;
 use kinds::Body;
-use station::TurnReport;
+use station_rules::TurnReport;
 ghost use mathlib.Core.Path.{_≡_};
 ghost use mathlib.Core.List.{[], _∷_};
 ghost use Prim.Native.Nat.{_+_, _-_, _≤_};

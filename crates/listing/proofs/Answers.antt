@@ -5,9 +5,9 @@ use mathlib.Core.List.{List, []}
 use lib.IntN.{ℤ}
 use borrow.Author.Tests.{lt-ltb, le-ltb}
 use Rattle.kinds.specs.declared.Body.{Body}
-use Rattle.group.specs.declared.KeptGroup.{KeptGroup}
-use Rattle.group.specs.declared.RoundDone.{RoundDone}
-use Rattle.group.specs.Calls.{freshCall, postCall, roundCall}
+use Rattle.group_rules.specs.declared.KeptGroup.{KeptGroup}
+use Rattle.group_rules.specs.declared.RoundDone.{RoundDone}
+use Rattle.group_rules.specs.Calls.{freshCall, postCall, roundCall}
 use Rattle.script.specs.declared.Command.{Command}
 use Rattle.script.specs.declared.Command.the-variants.{Size, Post, Round, Malformed}
 use Rattle.script.specs.Line.{commandOf, masksOf}

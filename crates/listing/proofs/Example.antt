@@ -12,15 +12,15 @@ use Rattle.kinds.specs.Limits.{numbersInside, bodyInside, isEdit}
 use Rattle.labels.specs.Newer.{isNewer}
 use Rattle.links.specs.Log.{bit, hearsIn}
 use Rattle.frames.specs.Record.{framed}
-use Rattle.station.specs.Lane.{bodies, laneOf}
-use Rattle.station.specs.Queue.{noneWaiting, queued, oldest, unqueued}
-use Rattle.station.specs.State.{sentRecords, freshStation}
-use Rattle.station.specs.Limits.{laneInside, queueInside, recordInside, placeInside, stationInside}
-use Rattle.station.specs.Hearing.{replaced, heardNewer, hearRecord, hearRecords}
-use Rattle.station.specs.Turn.{airs, rowOf, lanesAfter, ends, startedBody, passed, ownRecord, rewritten, afterTurn, turnReport}
-use Rattle.station.specs.Calls.{posted, noTurn}
-use Rattle.group.specs.State.{groupInside, freshGroup}
-use Rattle.group.specs.Calls.{freshCall, groupPostRefusal, postCall, hearing, noReport, reportOf, roundRefusal, afterRound, roundCall}
+use Rattle.lanes.specs.Lane.{bodies, laneOf}
+use Rattle.lanes.specs.Queue.{noneWaiting, queued, oldest, unqueued}
+use Rattle.station_rules.specs.State.{sentRecords, freshStation}
+use Rattle.station_rules.specs.Limits.{laneInside, queueInside, recordInside, placeInside, stationInside}
+use Rattle.station_rules.specs.Hearing.{replaced, heardNewer, hearRecord, hearRecords}
+use Rattle.station_rules.specs.Turn.{airs, rowOf, lanesAfter, ends, startedBody, passed, ownRecord, rewritten, afterTurn, turnReport}
+use Rattle.station_rules.specs.Calls.{posted, noTurn}
+use Rattle.group_rules.specs.State.{groupInside, freshGroup}
+use Rattle.group_rules.specs.Calls.{freshCall, groupPostRefusal, postCall, hearing, noReport, reportOf, roundRefusal, afterRound, roundCall}
 use Rattle.columns.specs.Reading.{started, grown, next, readFrom}
 use Rattle.columns.specs.Writing.{lead, columns}
 use Rattle.script.specs.Line.{fieldOf, sizeLine, postShaped, postLine, isMask, masksInside, roundLine, commandOf, maskAt, masksOf}

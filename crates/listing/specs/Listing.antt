@@ -11,11 +11,11 @@ use Rattle.kinds.specs.declared.Body.the-variants.{Empty}
 use Rattle.kinds.specs.Body.{bodyOf}
 use Rattle.kinds.specs.Limits.{numbersInside}
 use Rattle.kinds.specs.Refusals.{done, malformedLine}
-use Rattle.station.specs.declared.Station.{Station}
-use Rattle.group.specs.declared.KeptGroup.{KeptGroup}
-use Rattle.group.specs.declared.RoundDone.{RoundDone}
-use Rattle.group.specs.State.{freshGroup}
-use Rattle.group.specs.Calls.{freshCall, postCall, roundCall}
+use Rattle.station_rules.specs.declared.Station.{Station}
+use Rattle.group_rules.specs.declared.KeptGroup.{KeptGroup}
+use Rattle.group_rules.specs.declared.RoundDone.{RoundDone}
+use Rattle.group_rules.specs.State.{freshGroup}
+use Rattle.group_rules.specs.Calls.{freshCall, postCall, roundCall}
 use Rattle.script.specs.declared.Command.{Command}
 use Rattle.script.specs.declared.Command.the-variants.{Size, Post, Round, Malformed}
 use Rattle.script.specs.Line.{commandOf, masksOf}

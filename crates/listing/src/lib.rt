@@ -1,10 +1,10 @@
 // One script line applied to a group, and the listing that comes of it.
 
-use group::KeptGroup;
-use group::RoundDone;
+use group_rules::KeptGroup;
+use group_rules::RoundDone;
 use kinds::Body;
 use script::Command;
-use station::Station;
+use station_rules::Station;
 ghost use mathlib.Core.Path.{_≡_};
 ghost use mathlib.Core.Bool.{cond, _&&_};
 ghost use mathlib.Core.List.{_++_};

@@ -2,7 +2,7 @@
 
 ghost use Prim.Native.Nat.{_+_, _≤_, _<_};
 ghost use lib.ListN.{length};
-use group::Report;
+use group_rules::Report;
 use kinds::Body;
 
 // The bytes of one round's masks: sixteen, two bytes each, the low byte first.

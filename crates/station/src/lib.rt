@@ -2,7 +2,7 @@
 
 ghost use mathlib.Core.Path.{_≡_};
 ghost use lib.ListN.{length};
-ghost use Rattle.station.specs.Calls.{freshCall, postCall, writeCall, bufferAfter, hearCall, noTurn, turnCall};
+ghost use Rattle.station_rules.specs.Calls.{freshCall, postCall, writeCall, bufferAfter, hearCall, noTurn, turnCall};
 use frames::Record;
 use kinds::Body;
 use kinds::refusals::BAD_NUMBER;
@@ -12,100 +12,21 @@ use kinds::refusals::LANE_FULL;
 use kinds::refusals::NOT_AN_EDIT;
 use kinds::refusals::OUTSIDE_LIMITS;
 use kinds::refusals::QUEUE_FULL;
+use lanes::Slot;
+use station_rules::Heard;
+use station_rules::Kept;
+use station_rules::Station;
+use station_rules::TurnReport;
+use station_rules::Turned;
+use station_rules::Written;
 
-pub mod checks;
-pub mod hearings;
-pub mod lanes;
-pub mod queues;
 pub mod starts;
-pub mod turns;
-
-// A body in an array.
-pub struct Slot {
-    pub body: Body,
-}
-
-// The bodies taken from one station and not yet aired, oldest first.
-pub struct Lane {
-    pub len: usize,
-    pub first: Body,
-    pub second: Body,
-}
-
-// The edits that wait to start, oldest first.
-pub struct Queue {
-    pub len: usize,
-    pub slots: [Slot; 32],
-}
-
-// A station, place by place: what it has of station k stands at place k of each array.
-pub struct Station {
-    pub n: usize,
-    pub own: usize,
-    pub waiting: Queue,
-    pub acked: [bool; 16],
-    pub body: Body,
-    pub count: u8,
-    pub labels: [u8; 16],
-    pub held: [bool; 16],
-    pub table: [Record; 16],
-    pub lanes: [Lane; 16],
-}
-
-// A body taken while hearing, and the station it is of.
-pub struct Taking {
-    pub source: usize,
-    pub body: Body,
-}
-
-// What a turn reports: the aired row and the ended broadcast, Empty where there is none.
-pub struct TurnReport {
-    pub aired: bool,
-    pub row: [Slot; 16],
-    pub ended: bool,
-    pub ended_body: Body,
-    pub started_body: Body,
-}
-
-// The answer of fresh and of post.
-pub struct Kept {
-    pub refusal: u32,
-    pub station: Station,
-}
-
-// The answer of write frame.
-pub struct Written {
-    pub refusal: u32,
-    pub len: usize,
-}
-
-// The answer of hear: the station, and from which stations a body was taken.
-pub struct Heard {
-    pub refusal: u32,
-    pub station: Station,
-    pub taken: [bool; 16],
-}
-
-// What a station makes of several frames: where no lane would have got a third body, the station and what it took, in the order heard.
-pub struct HeardAll {
-    pub overfull: bool,
-    pub station: Station,
-    pub takings_len: usize,
-    pub takings: [Taking; 30],
-}
-
-// The answer of turn.
-pub struct Turned {
-    pub refusal: u32,
-    pub station: Station,
-    pub report: TurnReport,
-}
 
 // Fresh: station own among n, as it begins.
 pub fn fresh(n: usize, own: usize) -> Kept
     ensures { λ r. ⌜ r ≡ freshCall n own ⌝ }
 {
-    if checks::valid_number(n, own) {
+    if station_limits::valid_number(n, own) {
         let station = starts::fresh_station(n, own);
         return Kept {
             refusal: DONE,
@@ -123,7 +44,7 @@ pub fn fresh(n: usize, own: usize) -> Kept
 pub fn post(s: Station, body: Body) -> Kept
     ensures { λ r. ⌜ r ≡ postCall s body ⌝ }
 {
-    if !checks::station_inside(s) {
+    if !station_limits::station_inside(s) {
         return Kept {
             refusal: OUTSIDE_LIMITS,
             station: s,
@@ -142,7 +63,7 @@ pub fn post(s: Station, body: Body) -> Kept
             station: s,
         };
     }
-    let waiting = queues::queued(queue, body);
+    let waiting = lanes::queued(queue, body);
     let mut station = s;
     station.waiting = waiting;
     Kept {
@@ -155,7 +76,7 @@ pub fn post(s: Station, body: Body) -> Kept
 pub fn write(s: Station, buffer: &mut [u8]) -> Written
     ensures { λ r. ⌜ (r ≡ writeCall s (length (now (buffer .entry)))) × (now (buffer .exit) ≡ bufferAfter s (now (buffer .entry))) ⌝ }
 {
-    if !checks::station_inside(s) {
+    if !station_limits::station_inside(s) {
         return Written {
             refusal: OUTSIDE_LIMITS,
             len: 0,
@@ -164,7 +85,7 @@ pub fn write(s: Station, buffer: &mut [u8]) -> Written
     let n = s.n;
     let own = s.own;
     let record = s.table[own];
-    if !checks::count_fits(n, record.count) {
+    if !station_limits::count_fits(n, record.count) {
         return Written {
             refusal: COUNT_TOO_HIGH,
             len: 0,
@@ -184,7 +105,7 @@ pub fn hear(s: Station, bytes: &[u8]) -> Heard
     ensures { λ r. ⌜ r ≡ hearCall s (now (bytes .entry)) ⌝ }
 {
     let none = [false; 16];
-    if !checks::station_inside(s) {
+    if !station_limits::station_inside(s) {
         return Heard {
             refusal: OUTSIDE_LIMITS,
             station: s,
@@ -202,7 +123,7 @@ pub fn hear(s: Station, bytes: &[u8]) -> Heard
         };
     }
     let starts = [0usize; 16];
-    let heard = hearings::hear_all(s, bytes, starts, 1);
+    let heard = station_hearing::hear_all(s, bytes, starts, 1);
     if heard.overfull {
         return Heard {
             refusal: LANE_FULL,
@@ -212,7 +133,7 @@ pub fn hear(s: Station, bytes: &[u8]) -> Heard
     }
     let station = heard.station;
     let takings = heard.takings;
-    let taken = hearings::sources(takings, heard.takings_len);
+    let taken = station_hearing::sources(takings, heard.takings_len);
     Heard {
         refusal: DONE,
         station: station,
@@ -239,8 +160,8 @@ pub fn no_turn() -> TurnReport
 pub fn turn(s: Station) -> Turned
     ensures { λ r. ⌜ r ≡ turnCall s ⌝ }
 {
-    if checks::station_inside(s) {
-        return turns::take_turn(s);
+    if station_limits::station_inside(s) {
+        return station_turns::take_turn(s);
     }
     let report = no_turn();
     Turned {

@@ -2,13 +2,13 @@
 
 ghost use mathlib.Core.Path.{_≡_};
 ghost use Prim.Native.Nat.{_<_};
-ghost use Rattle.station.specs.State.{freshStation};
-use super::Lane;
-use super::Queue;
-use super::Slot;
-use super::Station;
+ghost use Rattle.station_rules.specs.State.{freshStation};
 use frames::Record;
 use kinds::Body;
+use lanes::Lane;
+use lanes::Queue;
+use lanes::Slot;
+use station_rules::Station;
 
 // Station own among n, as it begins.
 pub fn fresh_station(n: usize, own: usize) -> Station

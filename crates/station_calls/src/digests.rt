@@ -2,11 +2,11 @@
 
 use frames::Record;
 use kinds::Body;
-use station::Lane;
-use station::Queue;
-use station::Slot;
-use station::Station;
-use station::TurnReport;
+use lanes::Lane;
+use lanes::Queue;
+use lanes::Slot;
+use station_rules::Station;
+use station_rules::TurnReport;
 
 fn mix(digest: u64, number: u64) -> u64 {
     (digest % 65_521 * 31 + number % 4_294_967_296) % 65_521

@@ -2,8 +2,8 @@
 // whole station that came back.
 
 use kinds::Body;
-use station::Lane;
-use station::Station;
+use lanes::Lane;
+use station_rules::Station;
 
 mod digests;
 

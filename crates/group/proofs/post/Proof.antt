@@ -8,12 +8,12 @@ use lib.ListN.{set}
 use borrow.Author.Needs.{needs}
 use borrow.Author.Tests.{not-true, not-false}
 use Rattle.kinds.specs.Limits.{isEdit}
-use Rattle.station.specs.declared.Queue.{Queue}
-use Rattle.station.specs.declared.Station.{Station}
-use Rattle.station.specs.Calls.{posted}
-use Rattle.group.specs.declared.KeptGroup.{KeptGroup}
-use Rattle.group.specs.State.{stationAt, sizeOf, groupInside}
-use Rattle.group.proofs.Members.{group-high}
+use Rattle.lanes.specs.declared.Queue.{Queue}
+use Rattle.station_rules.specs.declared.Station.{Station}
+use Rattle.station_rules.specs.Calls.{posted}
+use Rattle.group_rules.specs.declared.KeptGroup.{KeptGroup}
+use Rattle.group_rules.specs.State.{stationAt, sizeOf, groupInside}
+use Rattle.group_rules.proofs.Members.{group-high}
 use Rattle.group.proofs.CallSteps.{post-outside, post-nobody, post-no-edit, post-full, post-done}
 use Rattle.group.proofs.post.Statement.{statement}
 use Rattle.group.proofs.post.Tie as tie

@@ -6,8 +6,8 @@ use lib.ListN.{length, length-replicate}
 use borrow.Author.Needs.{needs}
 use borrow.Author.Tests.{not-true, not-false}
 use Rattle.places.proofs.Laws.{allBelow-at}
-use Rattle.station.specs.Calls.{ownCountInside}
-use Rattle.group.specs.State.{stationAt, sizeOf, groupInside}
+use Rattle.station_rules.specs.Calls.{ownCountInside}
+use Rattle.group_rules.specs.State.{stationAt, sizeOf, groupInside}
 use Rattle.group.proofs.RoundSteps.{round-outside, round-count}
 use Rattle.group.proofs.round.Statement.{statement}
 use Rattle.group.proofs.round.Tie as tie

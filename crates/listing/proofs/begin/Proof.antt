@@ -1,8 +1,8 @@
 -- `listing::begin` keeps the group of one that the call returned.
 use mathlib.Core.Path.{ap, _∙_}
 use mathlib.Core.Bool.{false}
-use Rattle.group.specs.declared.KeptGroup.{KeptGroup}
-use Rattle.group.specs.Calls.{freshCall}
+use Rattle.group_rules.specs.declared.KeptGroup.{KeptGroup}
+use Rattle.group_rules.specs.Calls.{freshCall}
 use Rattle.listing.specs.declared.Session.{Session}
 use Rattle.listing.specs.Listing.{begun}
 use borrow.Author.Needs.{needs}

@@ -1,7 +1,7 @@
 -- `station::fresh` meets its contract.
 use native.Mathlib.Omega.{arith}
 use mathlib.Core.Path.{sym, _∙_}
-use Rattle.station.proofs.CallSteps.{valid-parts, fresh-done, fresh-refused}
+use Rattle.station_rules.proofs.CallSteps.{valid-parts, fresh-done, fresh-refused}
 use borrow.Author.Needs.{needs}
 use Rattle.station.proofs.fresh.Statement.{statement}
 use Rattle.station.proofs.fresh.Tie as tie

@@ -6,14 +6,14 @@ use mathlib.Core.List.{List}
 use lib.ListN.{getD, replicate}
 use native.Mathlib.Omega.{arith}
 use borrow.Author.Tests.{not-true, not-false}
-use Rattle.station.specs.declared.Station.{Station}
-use Rattle.station.specs.Limits.{stationInside}
-use Rattle.station.specs.Hearing.{Hearing, hearRecords}
-use Rattle.station.specs.Frames.{hearFrames, FrameAt}
-use Rattle.station.specs.Calls.{sourcesOf}
+use Rattle.station_rules.specs.declared.Station.{Station}
+use Rattle.station_rules.specs.Limits.{stationInside}
+use Rattle.station_rules.specs.Hearing.{Hearing, hearRecords}
+use Rattle.station_rules.specs.Frames.{hearFrames, FrameAt}
+use Rattle.station_rules.specs.Calls.{sourcesOf}
 use Rattle.frames.specs.Frame.{frameRefusal}
-use Rattle.station.proofs.StationLimits.{inside-open}
-use Rattle.station.proofs.CallSteps.{heardFrame, hear-outside, hear-refused, hear-full, hear-done, one-frame, frame-at, takings-are}
+use Rattle.station_rules.proofs.StationLimits.{inside-open}
+use Rattle.station_rules.proofs.CallSteps.{heardFrame, hear-outside, hear-refused, hear-full, hear-done, one-frame, frame-at, takings-are}
 use borrow.Author.Needs.{needs}
 use Rattle.station.proofs.hear.Statement.{statement}
 use Rattle.station.proofs.hear.Tie as tie

@@ -1,11 +1,11 @@
 -- `station::post` meets its contract, refusal by refusal.
 use mathlib.Core.Path.{_≡_, sym, ap, _∙_}
 use borrow.Author.Tests.{not-true, not-false}
-use Rattle.station.specs.declared.Queue.{Queue}
-use Rattle.station.specs.declared.Station.{Station}
-use Rattle.station.specs.declared.Kept.{Kept}
-use Rattle.station.specs.Calls.{posted}
-use Rattle.station.proofs.CallSteps.{post-outside, post-no-edit, post-full, post-done}
+use Rattle.lanes.specs.declared.Queue.{Queue}
+use Rattle.station_rules.specs.declared.Station.{Station}
+use Rattle.station_rules.specs.declared.Kept.{Kept}
+use Rattle.station_rules.specs.Calls.{posted}
+use Rattle.station_rules.proofs.CallSteps.{post-outside, post-no-edit, post-full, post-done}
 use borrow.Author.Needs.{needs}
 use Rattle.station.proofs.post.Statement.{statement}
 use Rattle.station.proofs.post.Tie as tie

@@ -7,9 +7,9 @@ use native.Mathlib.Omega.{arith}
 use lib.ListN.{length}
 use borrow.Author.Tests.{not-true, not-false}
 use Rattle.frames.specs.Calls.{written, bufferWith}
-use Rattle.station.specs.Limits.{stationInside}
-use Rattle.station.proofs.StationLimits.{Inside, inside-open}
-use Rattle.station.proofs.WriteSteps.{writable, frame-is, write-outside, kept-outside, write-count, kept-count, write-frame, buffer-frame}
+use Rattle.station_rules.specs.Limits.{stationInside}
+use Rattle.station_rules.proofs.StationLimits.{Inside, inside-open}
+use Rattle.station_rules.proofs.WriteSteps.{writable, frame-is, write-outside, kept-outside, write-count, kept-count, write-frame, buffer-frame}
 use borrow.Author.Needs.{needs}
 use Rattle.station.proofs.write.Statement.{statement}
 use Rattle.station.proofs.write.Tie as tie

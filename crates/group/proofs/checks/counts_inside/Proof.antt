@@ -7,9 +7,9 @@ use borrow.Author.Needs.{needs}
 use borrow.Author.Tests.{not-true, not-false}
 use Rattle.places.specs.Places.{allBelow}
 use Rattle.places.proofs.Laws.{allBelow-more, allBelow-fails}
-use Rattle.station.specs.Calls.{ownCountInside}
-use Rattle.group.specs.State.{stationAt, sizeOf}
-use Rattle.group.proofs.Members.{member-at, group-high}
+use Rattle.station_rules.specs.Calls.{ownCountInside}
+use Rattle.group_rules.specs.State.{stationAt, sizeOf}
+use Rattle.group_rules.proofs.Members.{member-at, group-high}
 use Rattle.group.proofs.checks.counts_inside.Statement.{statement}
 use Rattle.group.proofs.checks.counts_inside.Tie as tie
 

@@ -8,9 +8,9 @@ use borrow.Author.Needs.{needs}
 use borrow.Author.Tests.{not-true, not-false}
 use Rattle.places.specs.Places.{allBelow}
 use Rattle.places.proofs.Laws.{allBelow-more, allBelow-fails}
-use Rattle.station.specs.declared.Station.{Station}
-use Rattle.group.specs.State.{stationAt, sizeOf, memberInside, groupInside}
-use Rattle.group.proofs.Members.{member-open}
+use Rattle.station_rules.specs.declared.Station.{Station}
+use Rattle.group_rules.specs.State.{stationAt, sizeOf, memberInside, groupInside}
+use Rattle.group_rules.proofs.Members.{member-open}
 use Rattle.group.proofs.checks.group_inside.Statement.{statement}
 use Rattle.group.proofs.checks.group_inside.Tie as tie
 

@@ -5,8 +5,8 @@ use mathlib.Core.Bool.{Bool, true, false, _&&_}
 use lib.Dec.{eqb}
 use borrow.Author.Needs.{needs}
 use borrow.Author.Tests.{eq-eqb, ne-eqb}
-use Rattle.station.specs.declared.Station.{Station}
-use Rattle.station.specs.Limits.{stationInside}
+use Rattle.station_rules.specs.declared.Station.{Station}
+use Rattle.station_rules.specs.Limits.{stationInside}
 use Rattle.group.proofs.checks.member_inside.Statement.{statement}
 use Rattle.group.proofs.checks.member_inside.Tie as tie
 

@@ -8,13 +8,13 @@ use lib.ListN.{set, replicate}
 use borrow.Author.Needs.{needs}
 use Rattle.places.specs.Places.{anyBelow, fill}
 use Rattle.places.proofs.Laws.{fill-more}
-use Rattle.station.specs.declared.Station.{Station}
-use Rattle.station.specs.Turn.{afterTurn}
-use Rattle.group.specs.declared.Report.{Report}
-use Rattle.group.specs.declared.RoundDone.{RoundDone}
-use Rattle.group.specs.State.{stationAt, sizeOf, groupInside}
-use Rattle.group.specs.Calls.{heard, noReport, reportOf, afterRound}
-use Rattle.group.proofs.Members.{GroupShaped, group-high}
+use Rattle.station_rules.specs.declared.Station.{Station}
+use Rattle.station_rules.specs.Turn.{afterTurn}
+use Rattle.group_rules.specs.declared.Report.{Report}
+use Rattle.group_rules.specs.declared.RoundDone.{RoundDone}
+use Rattle.group_rules.specs.State.{stationAt, sizeOf, groupInside}
+use Rattle.group_rules.specs.Calls.{heard, noReport, reportOf, afterRound}
+use Rattle.group_rules.proofs.Members.{GroupShaped, group-high}
 use Rattle.group.proofs.GroupLengths.{group-lengths}
 use Rattle.group.proofs.HeardTurn.{may-hear, full-is, may-turn, after-is, report-is}
 use Rattle.group.proofs.RoundSteps.{anyBelow-more, round-full, round-done}

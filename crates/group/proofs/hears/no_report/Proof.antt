@@ -1,7 +1,7 @@
 -- `group::hears::no_report` meets its contract.
 use mathlib.Core.Path.{_≡_, sym, ap, _∙_}
 use borrow.Author.Needs.{needs}
-use Rattle.group.specs.Calls.{noReport}
+use Rattle.group_rules.specs.Calls.{noReport}
 use Rattle.group.proofs.hears.no_report.Statement.{statement}
 use Rattle.group.proofs.hears.no_report.Tie as tie
 

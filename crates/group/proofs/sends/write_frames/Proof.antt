@@ -6,9 +6,9 @@ use mathlib.Core.Path.{_≡_, refl, sym, ap, subst, _∙_}
 use lib.ListN.{length, take, drop, length-take, length-drop}
 use borrow.Author.Needs.{needs}
 use Rattle.frames.specs.Calls.{bufferWith}
-use Rattle.group.specs.State.{stationAt, sizeOf}
+use Rattle.group_rules.specs.State.{stationAt, sizeOf}
 use Rattle.group.specs.Frames.{FramesBelow}
-use Rattle.group.proofs.Members.{group-high}
+use Rattle.group_rules.proofs.Members.{group-high}
 use Rattle.group.proofs.WrittenFrames.{member-writable, member-frame, member-fits, frames-none, frames-more}
 use Rattle.group.proofs.sends.write_frames.Statement.{statement}
 use Rattle.group.proofs.sends.write_frames.Tie as tie

@@ -6,8 +6,8 @@ use lib.ListN.{replicate}
 use borrow.Author.Needs.{needs}
 use Rattle.places.specs.Places.{fill}
 use Rattle.places.proofs.Laws.{fill-more}
-use Rattle.station.specs.State.{freshStation}
-use Rattle.group.specs.State.{freshGroup}
+use Rattle.station_rules.specs.State.{freshStation}
+use Rattle.group_rules.specs.State.{freshGroup}
 use Rattle.group.proofs.starts.fresh_group.Statement.{statement}
 use Rattle.group.proofs.starts.fresh_group.Tie as tie
 

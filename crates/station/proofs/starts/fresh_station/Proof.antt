@@ -1,7 +1,7 @@
 -- `station::starts::fresh_station` meets its contract: it makes the record of the definition.
 use mathlib.Core.Path.{refl}
-use Rattle.station.specs.Queue.{noneWaiting}
-use Rattle.station.specs.State.{freshStation}
+use Rattle.lanes.specs.Queue.{noneWaiting}
+use Rattle.station_rules.specs.State.{freshStation}
 use borrow.Author.Needs.{needs}
 use Rattle.station.proofs.starts.fresh_station.Statement.{statement}
 use Rattle.station.proofs.starts.fresh_station.Tie as tie

@@ -1,0 +1,150 @@
+-- The parts of one step of hearing, as facts about single values: the acknowledgement, the label, the count, the lane and what is taken, and the record
+-- put in the place of the held one. b says each time whether the record advances the cell.
+use Prim.Native.Nat.{ℕ, suc, _+_, _%_, _≤_, _<_}
+use mathlib.Core.Bool.{Bool, true, false, cond, not, _&&_, _||_, or-true}
+use mathlib.Core.List.{List, [], _∷_, _++_, append-nil, append-assoc}
+use mathlib.Core.Path.{_≡_, refl, sym, ap, _∙_, subst}
+use native.Mathlib.Decide.{ℕ-discrete}
+use native.Mathlib.Omega.{arith}
+use borrow.Author.Tests.{lt-ltb, le-ltb, eq-eqb, ne-eqb}
+use lib.ListN.{length}
+use lib.Dec.{ltb, eqb}
+use Rattle.kinds.specs.declared.Body.{Body}
+use Rattle.kinds.specs.Body.{kindOf}
+use Rattle.labels.specs.Label.{successor}
+use Rattle.links.specs.Relay.{Links}
+use Rattle.links.specs.Number.{numOf, got}
+use Rattle.frames.specs.declared.Record.{Record}
+use Rattle.lanes.specs.declared.Lane.{Lane}
+use Rattle.places.proofs.Laws.{cond-not}
+use Rattle.station_rules.specs.declared.Station.{Station}
+use Rattle.station_rules.specs.declared.Taking.{Taking}
+use Rattle.lanes.specs.Lane.{pushed}
+use Rattle.station_rules.specs.State.{recordOf}
+use Rattle.station_rules.specs.Hearing.{raised, replaced, heardNewer}
+use Rattle.station_rules.proofs.Cells
+use Rattle.group_rules.specs.History.{takingsOf}
+use Rattle.group_rules.proofs.Run.{Run, linksOf}
+use Rattle.group_rules.proofs.Version.{Stands, Cell, Caught, shown, caught-same}
+use Rattle.group_rules.proofs.Standing.{Formed}
+
+-- an acknowledgement at most two behind, read modulo 3, is one of this very broadcast; and one that was there is still one
+pub acked-mod : (g₀ g m : ℕ) → g₀ ≤ g → g ≤ m → m ≤ g + 2 → (eqb g₀ m || eqb (g % 3) (m % 3)) ≡ eqb g m
+acked-mod g₀ g m a b c =
+    elim (ℕ-discrete g m) [
+      | yes e ↦ rw (eq-eqb g m e, eq-eqb (g % 3) (m % 3) (ap (λ (i : ℕ). i % 3) e)) (or-true (eqb g₀ m))
+      | no d ↦ rw (ne-eqb g m d, ne-eqb (g % 3) (m % 3) (omega arith), ne-eqb g₀ m (omega arith))
+    ]
+
+pub label-step : (b : Bool) (l a a′ : ℕ) → l ≡ a % 3 → a′ ≡ cond b (suc a) a → cond b (successor l) l ≡ a′ % 3
+label-step true l a a′ e f = omega arith
+label-step false l a a′ e f = e ∙ ap (λ (i : ℕ). i % 3) (sym f)
+
+pub raised-step : (b : Bool) (c t : ℕ) → c < 255 → t ≡ cond b (suc c) c → cond b (raised c) c ≡ t
+raised-step true c t l e = rw (lt-ltb c 255 l) (omega arith)
+raised-step false c t l e = sym e
+
+pub takingsOf-append : (q : ℕ) (xs ys : List Taking) → takingsOf q (xs ++ ys) ≡ takingsOf q xs ++ takingsOf q ys
+unfolding takingsOf
+takingsOf-append q [] ys = refl
+takingsOf-append q (t ∷ xs) ys =
+    ap (λ (z : List Body). cond (eqb (t .source) q) (t .body ∷ []) [] ++ z) (takingsOf-append q xs ys)
+    ∙ sym (append-assoc (cond (eqb (t .source) q) (t .body ∷ []) []) (takingsOf q xs) (takingsOf q ys))
+
+pub taking-other : (q k : ℕ) (b : Bool) (body : Body) → (k ≡ q → ⊥) → takingsOf q (cond b (record { source = k; body = body } ∷ []) []) ≡ []
+unfolding takingsOf
+taking-other q k true body d = rw (ne-eqb k q d)
+taking-other q k false body d = refl
+
+pub taking-here : (k : ℕ) (b : Bool) (body : Body) → takingsOf k (cond b (record { source = k; body = body } ∷ []) []) ≡ cond b (body ∷ []) []
+unfolding takingsOf
+taking-here k true body = rw (eq-eqb k k refl)
+taking-here k false body = refl
+
+module _ (R : Run) where
+  abbrev L : Links
+  L = linksOf R
+
+  -- the same values, the same cell
+  pub cell-move :
+      {u p q v : ℕ} {held held′ acked acked′ : Bool} {label label′ : ℕ} {r r′ : Record} → held′ ≡ held → acked′ ≡ acked → label′ ≡ label →
+      r′ ≡ r → Cell R u p q v held acked label r → Cell R u p q v held′ acked′ label′ r′
+  cell-move {q = q} a b c d x =
+      record {
+        is-held = a ∙ x .is-held;
+        is-acked = b ∙ x .is-acked;
+        is-label = c ∙ x .is-label;
+        stands = λ w e. subst (λ i. Stands R i q w) (sym d) (x .stands w e);
+      }
+
+  pub caught-move :
+      {u p q v : ℕ} {before lane lane′ : Lane} {taken taken′ : List Body} → lane′ ≡ lane → taken′ ≡ taken →
+      Caught R u p q v before lane taken → Caught R u p q v before lane′ taken′
+  caught-move a b x = record { lane-now = a ∙ x .lane-now; taken-now = b ∙ x .taken-now }
+
+  -- a body that comes with a number: not yet risen before, risen after
+  pub not-risen :
+      (u p k v w : ℕ) → numOf L k (suc w) ≡ suc (numOf L k v) → numOf L k (suc w) ≤ got L u p k + 1 → ltb (got L u p k) (numOf L k v) ≡ false
+  not-risen u p k v w e l = le-ltb (got L u p k) (numOf L k v) (omega arith)
+
+  pub risen :
+      (u p k v w : ℕ) → numOf L k (suc w) ≡ suc (numOf L k v) → got L u p k ≤ numOf L k v → ltb (got L u p k) (numOf L k (suc w)) ≡ true
+  risen u p k v w e l = lt-ltb (got L u p k) (numOf L k (suc w)) (omega arith)
+
+  pub lane-before :
+      (u p k v w : ℕ) (before lane : Lane) (taken : List Body) → numOf L k (suc w) ≡ suc (numOf L k v) →
+      numOf L k (suc w) ≤ got L u p k + 1 → Caught R u p k v before lane taken → lane ≡ before
+  lane-before u p k v w before lane taken e l c = c .lane-now ∙ rw (not-risen u p k v w e l)
+
+  pub caught-step :
+      (u p k v w : ℕ) (b : Bool) (body : Body) (before lane : Lane) (taken : List Body) →
+      numOf L k (suc w) ≡ cond b (suc (numOf L k v)) (numOf L k v) →
+      got L u p k ≤ numOf L k v → numOf L k (suc w) ≤ got L u p k + 1 →
+      body ≡ shown R k (suc w) → Caught R u p k v before lane taken →
+      Caught R u p k (suc w) before (cond (b && not (eqb (kindOf body) 0)) (pushed lane body) lane)
+      (taken ++ cond (b && not (eqb (kindOf body) 0)) (body ∷ []) [])
+  caught-step u p k v w true body before lane taken e low high f c =
+      let still = not-risen u p k v w e high in
+      let up = risen u p k v w e low in
+      let x : lane ≡ before = lane-before u p k v w before lane taken e high c in
+      let y : taken ≡ [] = c .taken-now ∙ rw still in
+      record {
+        lane-now = rw (up, x, f);
+        taken-now = rw (up, y, f) (cond-not (eqb (kindOf (shown R k (suc w))) 0) (shown R k (suc w) ∷ []) []);
+      }
+  caught-step u p k v w false body before lane taken e low high f c =
+      let d = caught-same R u p k v (suc w) before lane taken (sym e) c in
+      record { lane-now = d .lane-now; taken-now = append-nil taken ∙ d .taken-now }
+
+  pub stands-replaced :
+      (n : ℕ) (old r : Record) (k w : ℕ) → n ≡ R .n → length (old .labels) ≡ 16 → Stands R r k w → Stands R (replaced n old r) k w
+  stands-replaced n old r k w e l t =
+      let high = R .high in
+      record {
+        station = Cells.replaced-station n old r ∙ t .station;
+        count = Cells.replaced-count n old r ∙ t .count;
+        body = Cells.replaced-body n old r ∙ t .body;
+        labels = λ i b. Cells.replaced-label n old r i (omega arith) (omega arith) ∙ t .labels i b;
+      }
+
+  pub formed-heard : (p : ℕ) (s : Station) (r : Record) → r .station < R .n → Formed R p s → Formed R p (heardNewer s r)
+  formed-heard p s r lk f =
+      record {
+        size = Cells.heard-n s r ∙ f .size;
+        own = Cells.heard-own s r ∙ f .own;
+        acked = Cells.heard-acked s r ∙ f .acked;
+        labels = Cells.heard-labels s r ∙ f .labels;
+        held = Cells.heard-held s r ∙ f .held;
+        table = Cells.heard-table s r ∙ f .table;
+        lanes = Cells.heard-lanes s r ∙ f .lanes;
+        record-labels = λ q l. one q l (ℕ-discrete q (r .station));
+      }
+    where
+      one : (q : ℕ) → q < R .n → Dec (q ≡ r .station) → length ((recordOf (heardNewer s r) q) .labels) ≡ 16
+      one q l (yes e) =
+          let high = R .high in
+          subst (λ i. length ((recordOf (heardNewer s r) i) .labels) ≡ 16) (sym e)
+          (ap (λ (x : Record). length (x .labels)) (Cells.record-here s r (omega (arith, f .table)))
+          ∙ Cells.replaced-length (s .n) (recordOf s (r .station)) r
+          ∙ f .record-labels (r .station) lk)
+      one q l (no d) = ap (λ (x : Record). length (x .labels)) (Cells.record-other s r q d) ∙ f .record-labels q l

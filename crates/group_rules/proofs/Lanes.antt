@@ -1,0 +1,359 @@
+-- T2 to T4 of a run: a lane holds what was taken beyond the rows aired, round after round. The counts of bodies and rows then follow the two rules of
+-- counting, so no lane has more than one body after a round or two while hearing, and none is ever overfull.
+use mathlib.Core.Bool.{Bool, true, false, cond, not, _&&_, true≢false}
+use mathlib.Core.Logic.{_⊎_, inl, inr}
+use mathlib.Core.List.{List, [], _∷_, _++_, append-nil}
+use mathlib.Core.Path.{_≡_, refl, sym, ap, subst, _∙_}
+use Prim.Native.Nat.{ℕ, zero, suc, min, _+_, _-_, _≤_, _<_}
+use native.Mathlib.Decide.{ℕ-discrete, decLe}
+use native.Mathlib.Omega.{arith}
+use borrow.Author.Tests.{lt-ltb, le-ltb, lt-leb, eqb-true}
+use lib.Dec.{eqb, ltb, leb}
+use lib.ListN.{length, getD, drop, length-drop, length-append, getD-replicate}
+use lib.Seq.{drop-drop, drop-append-le}
+use Rattle.kinds.specs.declared.Body.{Body}
+use Rattle.kinds.specs.Body.{kindOf}
+use Rattle.links.specs.Relay.{Links}
+use Rattle.links.specs.Clock.{news}
+use Rattle.links.proofs.Clock.{news-own, news-other, news-start}
+use Rattle.places.specs.Places.{allBelow}
+use Rattle.places.proofs.Laws.{allBelow-ext, anyBelow-none}
+use Rattle.lanes.specs.declared.Lane.{Lane}
+use Rattle.station_rules.specs.declared.Station.{Station}
+use Rattle.lanes.specs.Lane.{noLane, pushed, popped}
+use Rattle.station_rules.specs.State.{laneAt, freshStation}
+use Rattle.station_rules.specs.Turn.{airs, lanesAfter, mayStart, startedBody, afterTurn}
+use Rattle.lanes.proofs.LaneLaws.{Holds, holds-none, holds-pushed, holds-popped}
+use Rattle.station_rules.proofs.TurnParts.{airs-each, started-waits, report-aired, lanesAfter-at, lane-other, lane-own}
+use Rattle.group_rules.specs.State.{stationAt}
+use Rattle.group_rules.specs.History.{unlessEmpty}
+use Rattle.group_rules.proofs.Run.{Run, linksOf, hearingIn, bodyAt, rises, comes}
+use Rattle.group_rules.proofs.Simulation.{simulated, heard-standing}
+use Rattle.group_rules.proofs.Standing.{Formed}
+use Rattle.group_rules.proofs.Rounds.{first-at, after-at}
+use Rattle.group_rules.proofs.Lists.{startedBy, takenBy, rowsBy, madeBy, startedAt}
+use Rattle.group_rules.proofs.Taken.{startedBy-step, version-step, taken-version, length-version, startedAt-some, startedAt-none, startedBy-none}
+use Rattle.group_rules.proofs.Counting.{Counting, reached, airsRow, ahead, rows-limit, rows-reached, made-ahead, rows-keeps, hearing-ahead}
+
+-- A lane that holds all of a list but its first k, and may get one more body, or Empty.
+grown : (l : Lane) (k : ℕ) (xs : List Body) (b : Body) (more empty : Bool)
+    → Holds l (drop k xs)
+    → length xs ≤ k + 1
+    → k ≤ length xs
+    → Holds (cond (more && not empty) (pushed l b) l) (drop k (xs ++ cond more (cond empty [] (b ∷ [])) []))
+grown l k xs b true true h r c = rw (append-nil xs) h
+grown l k xs b true false h r c =
+    rw (drop-append-le k xs (b ∷ []) c) (holds-pushed l (drop k xs) b h (omega (arith, length-drop k xs)))
+grown l k xs b false empty h r c = rw (append-nil xs) h
+
+-- the same at the airing step
+lowered : (l : Lane) (k : ℕ) (xs : List Body) (air : Bool) → Holds l (drop k xs) → Holds (cond air (popped l) l) (drop (cond air (suc k) k) xs)
+lowered l k xs true h =
+    let e : k + 1 ≡ suc k = omega arith in
+    subst (λ (ys : List Body). Holds (popped l) ys) (drop-drop 1 k xs ∙ ap (λ (j : ℕ). drop j xs) e) (holds-popped l (drop k xs) h)
+lowered l k xs false h = h
+
+ltb-sub : (a b : ℕ) → ltb 0 (a - b) ≡ ltb b a
+ltb-sub a b =
+    elim (decLe (suc b) a) [
+      | yes h ↦ lt-ltb 0 (a - b) (omega arith) ∙ sym (lt-ltb b a h)
+      | no h ↦ le-ltb 0 (a - b) (omega arith) ∙ sym (le-ltb b a (omega arith))
+    ]
+
+fresh-lane : (n p s : ℕ) → s < 16 → laneAt (freshStation n p) s ≡ noLane
+unfolding freshStation
+fresh-lane n p s l = getD-replicate 16 s noLane noLane l
+
+module _ (R : Run) where
+  abbrev L : Links
+  L = linksOf R
+
+  -- what p has taken of s by the end of round u, and in round u + 1 once it has heard
+  abbrev had : ℕ → ℕ → ℕ → List Body
+  had u p s = startedAt R s (news L u p s)
+
+  abbrev hasHeard : ℕ → ℕ → ℕ → List Body
+  hasHeard u p s = startedAt R s (min (suc u) (news L (suc u) p s))
+
+  abbrev heardLane : ℕ → ℕ → ℕ → Lane
+  heardLane u p s = laneAt ((hearingIn R u p) .station) s
+
+  abbrev afterLane : ℕ → ℕ → ℕ → Lane
+  afterLane u p s = laneAt (stationAt (R .after u) p) s
+
+  abbrev airedLane : ℕ → ℕ → ℕ → Lane
+  airedLane u p s = getD (lanesAfter ((hearingIn R u p) .station)) s noLane
+
+  -- all that is carried from round to round
+  record Carried (u : ℕ) : Type 0 where
+    counting : Counting L (madeBy R) (rowsBy R) u
+    lanes : (p s : ℕ) → p < R .n → s < R .n → Holds (afterLane u p s) (drop (rowsBy R u p) (had u p s))
+
+  ready-lane : (u p s : ℕ) → laneAt (stationAt (R .ready u) p) s ≡ afterLane u p s
+  ready-lane u p s = ap (λ (l : List Lane). getD l s noLane) (sym ((R .posts u p) .lanes))
+
+  rowsBy-step : (u p : ℕ) → rowsBy R (suc u) p ≡ cond (airs ((hearingIn R u p) .station)) (suc (rowsBy R u p)) (rowsBy R u p)
+  unfolding rowsBy
+  rowsBy-step u p = ap (λ (b : Bool). cond b (suc (rowsBy R u p)) (rowsBy R u p)) (report-aired ((hearingIn R u p) .station))
+
+  rowsBy-none : (p : ℕ) → rowsBy R 0 p ≡ 0
+  unfolding rowsBy
+  rowsBy-none p = refl
+
+  had-none : (p s : ℕ) → had 0 p s ≡ []
+  had-none p s =
+      elim (ℕ-discrete p s) [
+        | yes e ↦
+            rw (← e)
+            (ap (λ (v : ℕ). startedAt R p v) (news-own L 0 p) ∙ startedAt-some R p 0 ∙ startedBy-none R p)
+        | no d ↦ ap (λ (v : ℕ). startedAt R s v) (news-start L p s d) ∙ startedAt-none R s
+      ]
+
+  -- once it has heard
+  has-heard : (u p s : ℕ) → p < R .n → s < R .n → Carried u → Holds (heardLane u p s) (drop (rowsBy R u p) (hasHeard u p s))
+  has-heard u p s lp ls c = elim (ℕ-discrete p s) [ yes e ↦ own e | no d ↦ other d ]
+    where
+      own : p ≡ s → Holds (heardLane u p s) (drop (rowsBy R u p) (hasHeard u p s))
+      own e =
+          let v : min (suc u) (news L (suc u) p s) ≡ news L u p s =
+          rw (← e) (omega (arith, news-own L (suc u) p, news-own L u p)) in
+          let m : heardLane u p s ≡ afterLane u p s = rw (← e) (simulated R .own-lane u p lp ∙ ready-lane u p p) in
+          rw (v, m) (c .lanes p s lp ls)
+
+      other : (p ≡ s → ⊥) → Holds (heardLane u p s) (drop (rowsBy R u p) (hasHeard u p s))
+      other d =
+          let v : min (suc u) (news L (suc u) p s) ≡ news L (suc u) p s = omega (arith, news-other L (suc u) p s d) in
+          let b = bodyAt R s (news L (suc u) p s) in
+          let m : heardLane u p s ≡ cond (comes R u p s) (pushed (afterLane u p s) b) (afterLane u p s) =
+          simulated R .lanes u p s lp ls d ∙ ap (λ (l : Lane). cond (comes R u p s) (pushed l b) l) (ready-lane u p s) in
+          let len = length-version R s (news L u p s) in
+          rw (v, m, version-step R u p s lp ls)
+          (grown
+          (afterLane u p s)
+          (rowsBy R u p)
+          (had u p s)
+          b
+          (rises R u p s)
+          (eqb (kindOf b) 0)
+          (c .lanes p s lp ls)
+          (omega (arith, len, ahead L (madeBy R) (rowsBy R) u (c .counting) u p s (omega arith) lp ls))
+          (omega (arith, len, rows-limit L (madeBy R) (rowsBy R) u (c .counting) u p s (omega arith) lp ls)))
+
+  -- a row is aired exactly where there is one more of everybody
+  airs-row : (u p : ℕ) → p < R .n → Carried u → airs ((hearingIn R u p) .station) ≡ airsRow L (madeBy R) (rowsBy R) u p
+  airs-row u p lp c =
+      airs-each ((hearingIn R u p) .station)
+      ∙ ap (λ (k : ℕ). allBelow k (λ s. ltb 0 ((heardLane u p s) .len))) (heard-standing R u p lp .formed .size)
+      ∙ allBelow-ext
+      (R .n)
+      (λ s. ltb 0 ((heardLane u p s) .len))
+      (λ s. ltb (rowsBy R u p) (reached L (madeBy R) u p s))
+      (λ s ls.
+      let h = has-heard u p s lp ls c in
+      ap
+      (λ (k : ℕ). ltb 0 k)
+      (h .many
+      ∙ length-drop (rowsBy R u p) (hasHeard u p s)
+      ∙ ap (λ (k : ℕ). k - rowsBy R u p) (length-version R s (min (suc u) (news L (suc u) p s))))
+      ∙ ltb-sub (reached L (madeBy R) u p s) (rowsBy R u p))
+
+  -- after the airing step
+  has-aired : (u p s : ℕ) → p < R .n → s < R .n → Carried u → Holds (airedLane u p s) (drop (rowsBy R (suc u) p) (hasHeard u p s))
+  has-aired u p s lp ls c =
+      let t = (hearingIn R u p) .station in
+      let m = heard-standing R u p lp .formed in
+      rw (rowsBy-step u p, lanesAfter-at t s (omega (arith, m .size)) (omega (arith, m .lanes, R .high)))
+      (lowered (heardLane u p s) (rowsBy R u p) (hasHeard u p s) (airs t) (has-heard u p s lp ls c))
+
+  -- of itself a station has, until it starts a body, what it had started
+  own-heard : (u p : ℕ) → hasHeard u p p ≡ startedBy R u p
+  own-heard u p =
+      let v : min (suc u) (news L (suc u) p p) ≡ suc u = omega (arith, news-own L (suc u) p) in
+      ap (λ (k : ℕ). startedAt R p k) v ∙ startedAt-some R p u
+
+  -- the rules of counting in one round more
+  starts-low : (u p : ℕ) → p < R .n → Carried u → (eqb (kindOf (startedBody ((hearingIn R u p) .station))) 0) ≡ false
+      → madeBy R u p ≤ rowsBy R (suc u) p
+  starts-low u p lp c k = go (mayStart t) refl
+    where
+      t : Station
+      t = (hearingIn R u p) .station
+
+      go : (b : Bool) → mayStart t ≡ b → madeBy R u p ≤ rowsBy R (suc u) p
+      go true e =
+          let h = has-aired u p p lp lp c in
+          let z : (airedLane u p p) .len ≡ 0 =
+          ap (λ (k : ℕ). (getD (lanesAfter t) k noLane) .len) (sym (heard-standing R u p lp .formed .own))
+          ∙ eqb-true ((getD (lanesAfter t) (t .own) noLane) .len) 0 e in
+          omega (
+            arith,
+            h .many,
+            z,
+            length-drop (rowsBy R (suc u) p) (hasHeard u p p),
+            ap length (own-heard u p),
+          )
+      go false e =
+          let z : true ≡ false = sym (ap (λ (b : Body). eqb (kindOf b) 0) (started-waits t e)) ∙ k in
+          absurd (true≢false z)
+
+  one-more : (u p : ℕ) → p < R .n → Carried u
+      → (madeBy R (suc u) p ≡ madeBy R u p) ⊎ ((madeBy R u p ≤ rowsBy R (suc u) p) × (madeBy R (suc u) p ≡ suc (madeBy R u p)))
+  one-more u p lp c = go (eqb (kindOf b) 0) refl
+    where
+      b : Body
+      b = startedBody ((hearingIn R u p) .station)
+
+      more : (z : Bool) → eqb (kindOf b) 0 ≡ z → madeBy R (suc u) p ≡ madeBy R u p + length (cond z [] (b ∷ []))
+      more z e =
+          ap length (startedBy-step R u p)
+          ∙ length-append (startedBy R u p) (unlessEmpty b)
+          ∙ ap (λ (y : Bool). madeBy R u p + length (cond y [] (b ∷ []))) e
+
+      go : (z : Bool) → eqb (kindOf b) 0 ≡ z
+          → (madeBy R (suc u) p ≡ madeBy R u p) ⊎ ((madeBy R u p ≤ rowsBy R (suc u) p) × (madeBy R (suc u) p ≡ suc (madeBy R u p)))
+      go true e = inl (omega (arith, more true e))
+      go false e = inr (starts-low u p lp c e, omega (arith, more false e))
+
+  counted : (u : ℕ) → Carried u → Counting L (madeBy R) (rowsBy R) (suc u)
+  counted u c =
+      record {
+        made-zero = c .counting .made-zero;
+        rows-zero = c .counting .rows-zero;
+        made-step =
+            λ w s lw ls.
+            elim (ℕ-discrete w u) [
+              | yes e ↦ rw e (one-more u s ls c)
+              | no d ↦ c .counting .made-step w s (omega arith) ls
+            ];
+        rows-step =
+            λ w p lw lp.
+            elim (ℕ-discrete w u) [
+              | yes e ↦ rw (e, ← airs-row u p lp c) (rowsBy-step u p)
+              | no d ↦ c .counting .rows-step w p (omega arith) lp
+            ];
+      }
+
+  -- after the turn
+  has-turned : (u p s : ℕ) → p < R .n → s < R .n → Carried u → Holds (afterLane (suc u) p s) (drop (rowsBy R (suc u) p) (had (suc u) p s))
+  has-turned u p s lp ls c = rw (after-at R u p lp) (elim (ℕ-discrete p s) [ yes e ↦ own e | no d ↦ other d ])
+    where
+      t : Station
+      t = (hearingIn R u p) .station
+
+      m : Formed R p t
+      m = heard-standing R u p lp .formed
+
+      own : p ≡ s → Holds (laneAt (afterTurn t) s) (drop (rowsBy R (suc u) p) (had (suc u) p s))
+      own e =
+          let C = counted u c in
+          let b = startedBody t in
+          let v : had (suc u) p p ≡ hasHeard u p p ++ unlessEmpty b =
+          ap (λ (k : ℕ). startedAt R p k) (news-own L (suc u) p)
+          ∙ startedAt-some R p (suc u)
+          ∙ startedBy-step R u p
+          ∙ ap (λ (xs : List Body). xs ++ unlessEmpty b) (sym (own-heard u p)) in
+          let l : laneAt (afterTurn t) p ≡ cond (not (eqb (kindOf b) 0)) (pushed (airedLane u p p) b) (airedLane u p p) =
+          subst
+          (λ (k : ℕ).
+          laneAt (afterTurn t) k
+          ≡ cond (not (eqb (kindOf b) 0)) (pushed (getD (lanesAfter t) k noLane) b) (getD (lanesAfter t) k noLane))
+          (m .own)
+          (lane-own t (omega (arith, m .own, m .lanes, R .high))) in
+          rw (← e, v, l)
+          (grown
+          (airedLane u p p)
+          (rowsBy R (suc u) p)
+          (hasHeard u p p)
+          b
+          true
+          (eqb (kindOf b) 0)
+          (has-aired u p p lp lp c)
+          (omega (
+            arith,
+            ap length (own-heard u p),
+            made-ahead L (madeBy R) (rowsBy R) (suc u) C u p (omega arith) lp,
+            rows-keeps L (madeBy R) (rowsBy R) (suc u) C u p (omega arith) lp,
+          ))
+          (omega (
+            arith,
+            length-version R p (min (suc u) (news L (suc u) p p)),
+            rows-reached L (madeBy R) (rowsBy R) (suc u) C u p p (omega arith) lp lp,
+          )))
+
+      other : (p ≡ s → ⊥) → Holds (laneAt (afterTurn t) s) (drop (rowsBy R (suc u) p) (had (suc u) p s))
+      other d =
+          let v : news L (suc u) p s ≡ min (suc u) (news L (suc u) p s) = omega (arith, news-other L (suc u) p s d) in
+          let w : had (suc u) p s ≡ hasHeard u p s = ap (λ (k : ℕ). startedAt R s k) v in
+          rw (lane-other t s (λ e. d (sym (m .own) ∙ sym e)), w) (has-aired u p s lp ls c)
+
+  carried : (u : ℕ) → Carried u
+  carried zero =
+      record {
+        counting =
+            record {
+              made-zero = λ s l. ap length (startedBy-none R s);
+              rows-zero = λ p l. rowsBy-none p;
+              made-step = λ u s l ls. absurd (omega arith);
+              rows-step = λ u p l lp. absurd (omega arith);
+            };
+        lanes =
+            λ p s lp ls.
+            rw (first-at R p lp, fresh-lane (R .n) p s (omega (arith, R .high)), rowsBy-none p, had-none p s) holds-none;
+      }
+  carried (suc u) =
+      let c = carried u in
+      record { counting = counted u c; lanes = λ p s lp ls. has-turned u p s lp ls c }
+
+  -- The numbers of bodies and rows of a run follow the rules of counting.
+  pub counting : (u : ℕ) → Counting L (madeBy R) (rowsBy R) u
+  counting u = (carried u) .counting
+
+  -- T2: a lane holds what was taken beyond the rows aired, after a round and while hearing.
+  pub lane-holds : (u p s : ℕ) → p < R .n → s < R .n → Holds (laneAt (stationAt (R .after u) p) s) (drop (rowsBy R u p) (takenBy R u p s))
+  lane-holds u p s lp ls = rw (taken-version R u p s lp ls) ((carried u) .lanes p s lp ls)
+
+  pub hearing-holds : (u p s : ℕ) → p < R .n → s < R .n
+      → Holds (laneAt ((hearingIn R u p) .station) s) (drop (rowsBy R u p) (startedAt R s (min (suc u) (news L (suc u) p s))))
+  hearing-holds u p s lp ls = has-heard u p s lp ls (carried u)
+
+  -- T4: a lane has at most one body after a round, and at most two while hearing.
+  pub lane-limit : (u p s : ℕ) → p < R .n → s < R .n → (laneAt (stationAt (R .after u) p) s) .len ≤ 1
+  lane-limit u p s lp ls =
+      omega (
+        arith,
+        (carried u) .lanes p s lp ls .many,
+        length-drop (rowsBy R u p) (had u p s),
+        length-version R s (news L u p s),
+        ahead L (madeBy R) (rowsBy R) u (counting u) u p s (omega arith) lp ls,
+      )
+
+  pub ready-limit : (u p s : ℕ) → p < R .n → s < R .n → (laneAt (stationAt (R .ready u) p) s) .len ≤ 1
+  ready-limit u p s lp ls = rw (ready-lane u p s) (lane-limit u p s lp ls)
+
+  pub hearing-limit : (u p s : ℕ) → p < R .n → s < R .n → (laneAt ((hearingIn R u p) .station) s) .len ≤ 2
+  hearing-limit u p s lp ls =
+      omega (
+        arith,
+        hearing-holds u p s lp ls .many,
+        length-drop (rowsBy R u p) (hasHeard u p s),
+        length-version R s (min (suc u) (news L (suc u) p s)),
+        hearing-ahead L (madeBy R) (rowsBy R) (suc u) (counting (suc u)) u p s (omega arith) lp ls,
+      )
+
+  -- So no lane that holds two gets a third.
+  pub never-overfull : (u p : ℕ) → p < R .n → (hearingIn R u p) .overfull ≡ false
+  never-overfull u p lp =
+      simulated R .overfull u p lp
+      ∙ anyBelow-none
+      (R .n)
+      (λ s. not (eqb p s) && (comes R u p s && leb 2 ((laneAt (stationAt (R .ready u) p) s) .len)))
+      (λ s ls. rw (lt-leb 2 ((laneAt (stationAt (R .ready u) p) s) .len) (omega (arith, ready-limit u p s lp ls))) (go (not (eqb p s)) (comes R u p s)))
+    where
+      go : (a b : Bool) → (a && (b && false)) ≡ false
+      go true true = refl
+      go true false = refl
+      go false b = refl
+
+  -- A row is aired exactly where there is one more of everybody.
+  pub airs-exactly : (u p : ℕ) → p < R .n → airs ((hearingIn R u p) .station) ≡ airsRow L (madeBy R) (rowsBy R) u p
+  airs-exactly u p lp = airs-row u p lp (carried u)

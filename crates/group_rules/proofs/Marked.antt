@@ -1,0 +1,129 @@
+-- Document 01's marked examples M1 to M12, of the definitions. Labels, words and limits are those of the crates below; a post is judged by its refusals in order;
+-- a group of one computes, once its edit is known to be one.
+use Prim.Native.Nat.{ℕ, _<_}
+use mathlib.Core.Bool.{true, false}
+use mathlib.Core.List.{List, [], _∷_}
+use mathlib.Core.Path.{_≡_, refl, ap}
+use native.Mathlib.Omega.{arith}
+use lib.Dec.{leb, eqb}
+use lib.IntN.{pos, negsuc}
+use lib.ListN.{getD, set}
+use borrow.Author.Tests.{lt-leb, le-leb}
+use Rattle.kinds.specs.declared.Body.{Body}
+use Rattle.kinds.specs.declared.Body.the-variants.{Empty, Neutral, Insert, Shift}
+use Rattle.kinds.specs.Body.{kindOf}
+use Rattle.kinds.specs.Limits.{isEdit, bodyInside, numbersInside}
+use Rattle.kinds.specs.Refusals.{done, queueFull, notAnEdit}
+use Rattle.kinds.proofs.Laws.{edit-inside, edit-kind, edit-not-empty}
+use Rattle.kinds.proofs.Examples as kinds
+use Rattle.labels.proofs.Examples as labels
+use Rattle.frames.proofs.Bytes.{length-frame}
+use Rattle.station_rules.specs.declared.Station.{Station}
+use Rattle.station_rules.specs.Calls.{posted, postCall}
+use Rattle.lanes.specs.Queue.{noSlot, noneWaiting, queued, unqueued, oldest}
+use Rattle.lanes.specs.Lane.{laneOf, bodies}
+use Rattle.station_rules.specs.Turn.{airs, rowOf, lanesAfter, ends, startedBody, passed, ownRecord, rewritten, afterTurn, turnReport}
+use Rattle.station_rules.specs.State.{freshStation}
+use Rattle.station_rules.specs.Limits.{stationInside, queueInside, placeInside, recordInside, laneInside}
+use Rattle.places.specs.Places.{allBelow, anyBelow, fill}
+use Rattle.links.specs.Log.{hearsIn}
+use Rattle.group_rules.specs.State.{stationAt, freshGroup, groupInside}
+use Rattle.group_rules.specs.Calls.{groupPostRefusal, roundRefusal, hearing, afterRound, reportOf, roundCall}
+use Rattle.group_rules.specs.Calls.{postCall as groupPost}
+use Rattle.group_rules.specs.History.{History, Call.post, Call.round, next, begun, continued}
+use Rattle.group_rules.specs.Marked.{Marked, oneStation, turnIn}
+
+module _ (s : Station) (inside : stationInside s ≡ true) where
+  -- an edit is accepted where there is room, and anything else is refused
+  post-edit : (b : Body) → s .waiting .len < 32 → isEdit b ≡ true → (postCall s b) .refusal ≡ done
+  unfolding postCall
+  post-edit b room e = rw (inside, e, lt-leb 32 (s .waiting .len) room)
+
+  post-other : (b : Body) → isEdit b ≡ false → (postCall s b) .refusal ≡ notAnEdit
+  unfolding postCall
+  post-other b e = rw (inside, e)
+
+  post-full : (b : Body) → s .waiting .len ≡ 32 → isEdit b ≡ true → (postCall s b) .refusal ≡ queueFull
+  unfolding postCall
+  post-full b full e = rw (inside, e, full)
+
+-- a group of one in which one edit is posted
+module _ (b : Body) (e : isEdit b ≡ true) where
+  inside : bodyInside b ≡ true
+  inside = edit-inside b e
+
+  kind : eqb (kindOf b) 0 ≡ false
+  kind = edit-not-empty b e
+
+  positive : leb 1 (kindOf b) ≡ true
+  positive = le-leb 1 (kindOf b) (omega (arith, edit-kind b e))
+
+  -- the group once the edit is posted
+  before : List Station
+  before = set (freshGroup 1) 0 (posted (freshStation 1 0) b)
+
+  abbrev ready : History
+  ready = record { group = before; rounds = []; log = []; accepted = 0 ∷ [] }
+
+  post-done : next (begun 1) (post 0 b) ≡ ready
+  unfolding before next begun groupPost groupPostRefusal freshGroup freshStation noneWaiting posted queued groupInside stationInside queueInside placeInside recordInside laneInside allBelow anyBelow numbersInside bodyInside fill
+  post-done = simp e
+
+  module _ (masks₁ masks₂ : List ℕ) where
+    one-done : roundRefusal before masks₁ ≡ done
+    unfolding before roundRefusal hearing hearsIn freshGroup freshStation noneWaiting posted queued groupInside stationInside queueInside placeInside recordInside laneInside allBelow anyBelow numbersInside bodyInside fill
+    one-done = simp e
+
+    two-done : roundRefusal (afterRound before masks₁) masks₂ ≡ done
+    unfolding before roundRefusal freshGroup freshStation noneWaiting posted queued groupInside stationInside queueInside placeInside recordInside laneInside allBelow anyBelow numbersInside bodyInside fill afterRound hearing hearsIn afterTurn passed rewritten ownRecord startedBody ends lanesAfter airs oldest unqueued laneOf bodies
+    two-done = simp (kind, inside, positive)
+
+    abbrev ran : History
+    ran = continued ready (round masks₁ ∷ round masks₂ ∷ [])
+
+    post-first : oneStation b masks₁ masks₂ ≡ ran
+    unfolding continued
+    post-first = ap (λ (H : History). continued H (round masks₁ ∷ round masks₂ ∷ [])) post-done
+
+    turn-one : turnIn ran 0 ≡ turnReport (stationAt before 0)
+    unfolding before continued next roundCall reportOf hearing hearsIn fill freshGroup freshStation noneWaiting posted queued
+    turn-one = rw one-done
+
+    turn-two : turnIn ran 1 ≡ turnReport (stationAt (afterRound before masks₁) 0)
+    unfolding before continued next roundCall reportOf fill freshGroup freshStation noneWaiting posted queued afterRound hearing hearsIn afterTurn passed rewritten ownRecord startedBody ends lanesAfter airs oldest unqueued laneOf bodies
+    turn-two = rw (one-done, two-done)
+
+    starts :
+        let t = turnIn (oneStation b masks₁ masks₂) 0 in
+        (t .aired ≡ false) × (t .ended ≡ true) × (t .«ended_body» ≡ Empty) × (t .«started_body» ≡ b)
+    unfolding before turnReport freshGroup freshStation noneWaiting posted queued startedBody ends lanesAfter airs oldest allBelow fill
+    starts = rw (post-first, turn-one) (refl, refl, refl, refl)
+
+    aired :
+        let t = turnIn (oneStation b masks₁ masks₂) 1 in
+        (t .aired ≡ true) × ((getD (t .row) 0 noSlot) .body ≡ b) × (t .ended ≡ true) × (t .«ended_body» ≡ b) × (t .«started_body» ≡ Neutral)
+    unfolding before turnReport rowOf freshGroup freshStation noneWaiting posted queued afterRound hearing hearsIn afterTurn passed rewritten ownRecord startedBody ends lanesAfter airs oldest unqueued laneOf bodies allBelow fill
+    aired = rw (post-first, turn-two) (simp kind (refl, refl, refl, refl, refl))
+
+pub marked : Marked
+marked =
+    record {
+      m1 = labels.m1;
+      m2 = labels.m2;
+      m3 = labels.m3;
+      m4 = labels.m4;
+      m5 = labels.m5;
+      m6 = labels.m6;
+      m7 = labels.m7;
+      m8-one = λ n sender r. length-frame n sender (r ∷ []);
+      m8-all = λ n sender rs sixteen. omega (arith, length-frame n sender rs);
+      m9 = λ s inside room event least most.
+          let limits = kinds.m9 event least most in
+          (post-edit s inside (Shift event (negsuc 89_999)) room (limits .0), post-other s inside (Shift event (negsuc 90_000)) (limits .1));
+      m10 = λ s inside room event least most.
+          let limits = kinds.m10 event least most in
+          (post-edit s inside (Insert event (pos 2_159_999)) room (limits .0), post-other s inside (Insert event (pos 2_160_000)) (limits .1));
+      m11 = λ s b inside full e. post-full s inside b full e;
+      m12-starts = λ b masks₁ masks₂ e. starts b e masks₁ masks₂;
+      m12-airs = λ b masks₁ masks₂ e. aired b e masks₁ masks₂;
+    }

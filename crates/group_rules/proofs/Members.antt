@@ -1,0 +1,124 @@
+-- The limits of a group as facts about its stations, and the other way round; the fresh group is inside them. The group's arrays have their lengths by
+-- type, and every call keeps them.
+use Prim.Native.Nat.{ℕ, _≤_, _<_}
+use mathlib.Core.Bool.{true, _&&_}
+use mathlib.Core.List.{List}
+use mathlib.Core.Path.{_≡_, refl, sym, ap, _∙_}
+use native.Mathlib.Omega.{arith}
+use lib.Dec.{eqb}
+use lib.ListN.{replicate, length, getD-replicate}
+use borrow.Author.Tests.{eqb-true, eq-eqb}
+use Rattle.places.specs.Places.{allBelow}
+use Rattle.places.proofs.Laws.{and-both, and-left, and-right, allBelow-at, allBelow-make, length-fill, fill-below}
+use Rattle.places.proofs.Keeps.{fill-keeps}
+use Rattle.station_rules.specs.declared.Station.{Station}
+use Rattle.station_rules.specs.State.{freshStation}
+use Rattle.station_rules.specs.Limits.{stationInside}
+use Rattle.station_rules.proofs.Shape.{Shaped, fresh-shaped}
+use Rattle.station_rules.proofs.StationLimits.{Inside, inside-open, inside-make}
+use Rattle.station_rules.proofs.LimitsFresh.{fresh-holds}
+use Rattle.group_rules.specs.State.{noStation, stationAt, sizeOf, memberInside, groupInside, freshGroup}
+
+-- station k is a member of the group of n
+pub record Member (n : ℕ) (g : List Station) (k : ℕ) : Type 0 where
+  pub inside : Inside (stationAt g k)
+  pub size : stationAt g k .n ≡ n
+  pub own : stationAt g k .own ≡ k
+
+-- the lengths that a group's arrays have by type
+pub record GroupShaped (g : List Station) : Type 0 where
+  pub places : length g ≡ 16
+  pub stations : (k : ℕ) → k < 16 → Shaped (stationAt g k)
+
+-- a group of n, inside its limits
+pub record Members (n : ℕ) (g : List Station) : Type 0 where
+  pub low : 1 ≤ n
+  pub high : n ≤ 16
+  pub size : sizeOf g ≡ n
+  pub shape : GroupShaped g
+  pub member : (k : ℕ) → k < n → Member n g k
+
+pub member-open : (g : List Station) (k : ℕ) → memberInside g k ≡ true → Member (sizeOf g) g k
+member-open g k h =
+    let inside = stationInside (stationAt g k) in
+    let size = eqb (stationAt g k .n) (sizeOf g) in
+    let own = eqb (stationAt g k .own) k in
+    let rest : (size && own) ≡ true = and-right inside (size && own) h in
+    record {
+      inside = inside-open (stationAt g k) (and-left inside (size && own) h);
+      size = eqb-true (stationAt g k .n) (sizeOf g) (and-left size own rest);
+      own = eqb-true (stationAt g k .own) k (and-right size own rest);
+    }
+
+module _ (g : List Station) (h : groupInside g ≡ true) where
+  first-member : Member (sizeOf g) g 0
+  unfolding groupInside
+  first-member = member-open g 0 (and-left (memberInside g 0) (allBelow (sizeOf g) (memberInside g)) h)
+
+  pub group-low : 1 ≤ sizeOf g
+  group-low = first-member .inside .low
+
+  pub group-high : sizeOf g ≤ 16
+  group-high = first-member .inside .high
+
+  pub member-at : (k : ℕ) → k < sizeOf g → Member (sizeOf g) g k
+  unfolding groupInside
+  member-at k l =
+      member-open g k
+      (allBelow-at (sizeOf g) (memberInside g) (and-right (memberInside g 0) (allBelow (sizeOf g) (memberInside g)) h) k l)
+
+pub members-open : (g : List Station) → GroupShaped g → groupInside g ≡ true → Members (sizeOf g) g
+members-open g shape h =
+    record { low = group-low g h; high = group-high g h; size = refl; shape = shape; member = member-at g h }
+
+pub members-inside : (n : ℕ) (g : List Station) → Members n g → groupInside g ≡ true
+unfolding groupInside
+members-inside n g c =
+    and-both (each 0 (c .low)) (allBelow-make (sizeOf g) (memberInside g) (λ k l. each k (omega (arith, c .size))))
+  where
+    each : (k : ℕ) → k < n → memberInside g k ≡ true
+    each k l =
+        let m = c .member k l in
+        and-both (inside-make (stationAt g k) (m .inside))
+        (and-both (eq-eqb (stationAt g k .n) (sizeOf g) (m .size ∙ sym (c .size))) (eq-eqb (stationAt g k .own) k (m .own)))
+
+module _ (n : ℕ) (high : n ≤ 16) where
+  pub fresh-at : (k : ℕ) → k < n → stationAt (freshGroup n) k ≡ freshStation n k
+  unfolding freshGroup
+  fresh-at k l = fill-below n (freshStation n) (replicate 16 (freshStation 1 0)) k noStation l (omega arith)
+
+  pub fresh-shape : GroupShaped (freshGroup n)
+  unfolding freshGroup
+  fresh-shape =
+      record {
+        places = length-fill n (freshStation n) (replicate 16 (freshStation 1 0));
+        stations =
+            λ k l. fill-keeps Shaped n (freshStation n) (replicate 16 (freshStation 1 0)) noStation k l
+            (rw (getD-replicate 16 k (freshStation 1 0) noStation l) (fresh-shaped 1 0)) (λ j m. fresh-shaped n j);
+      }
+
+  fresh-n : (k : ℕ) → freshStation n k .n ≡ n
+  unfolding freshStation
+  fresh-n k = refl
+
+  fresh-number : (k : ℕ) → freshStation n k .own ≡ k
+  unfolding freshStation
+  fresh-number k = refl
+
+  pub fresh-members : 1 ≤ n → Members n (freshGroup n)
+  fresh-members low =
+      record {
+        low = low;
+        high = high;
+        size = ap (λ (s : Station). s .n) (fresh-at 0 low) ∙ fresh-n 0;
+        shape = fresh-shape;
+        member =
+            λ k l. record {
+              inside = rw (fresh-at k l) (fresh-holds n k high l);
+              size = rw (fresh-at k l) (fresh-n k);
+              own = rw (fresh-at k l) (fresh-number k);
+            };
+      }
+
+pub fresh-inside : (n : ℕ) → 1 ≤ n → n ≤ 16 → groupInside (freshGroup n) ≡ true
+fresh-inside n low high = members-inside n (freshGroup n) (fresh-members n high low)

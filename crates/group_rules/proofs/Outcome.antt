@@ -1,0 +1,150 @@
+-- What "newer" decides. The versions of a station that are in flight in one round have numbers at most one apart, so labels modulo 3 tell the same, the
+-- next and the previous number apart; and within one number a later version has no smaller count. So a record counts exactly if it is later than what
+-- the cell stands for, or else the cell stands for it already; and it advances exactly if its number is the next one.
+use Prim.Native.Nat.{ℕ, zero, suc, max, _%_, _≤_, _<_}
+use mathlib.Core.Bool.{Bool, true, false}
+use mathlib.Core.Logic.{inl, inr}
+use mathlib.Core.Path.{_≡_, refl, sym, ap, _∙_}
+use native.Mathlib.Decide.{ℕ-discrete, decLe}
+use native.Mathlib.Omega.{arith}
+use borrow.Author.Tests.{lt-ltb, le-ltb, eq-eqb, ne-eqb}
+use Rattle.labels.specs.Label.{successor}
+use Rattle.labels.specs.Newer.{isNewer}
+use Rattle.labels.proofs.NewerLaws.{newer-next, newer-same, newer-past, newer-none}
+use Rattle.links.specs.Relay.{Links}
+use Rattle.links.specs.Clock.{news}
+use Rattle.links.specs.Number.{num, numOf, fresh}
+use Rattle.links.proofs.Number.{num-positive, num-mono}
+use Rattle.links.proofs.Got.{numOf-none, numOf-some, got-own}
+use Rattle.links.proofs.Version.{numOf-close, fresh-mono}
+use Rattle.links.proofs.Clock.{news-limit}
+use Rattle.frames.specs.declared.Record.{Record}
+use Rattle.station_rules.specs.declared.Station.{Station}
+use Rattle.station_rules.specs.State.{labelOf, heldOf, recordOf, recordLabel}
+use Rattle.station_rules.specs.Hearing.{counts, advances}
+use Rattle.station_rules.proofs.Cells.{counts-newer}
+use Rattle.group_rules.proofs.Run.{Run, linksOf}
+use Rattle.group_rules.proofs.Version.{Stands, CellAt, Alike}
+
+newer-at : {h h′ : Bool} {l l′ c c′ m m′ d d′ : ℕ} → h ≡ h′ → l ≡ l′ → c ≡ c′ → m ≡ m′ → d ≡ d′ → isNewer h l c m d ≡ isNewer h′ l′ c′ m′ d′
+newer-at {h′ = h′} {l′ = l′} {c′ = c′} {m′ = m′} {d′ = d′} a b c d e = rw (a, b, c, d, e)
+
+module _ (R : Run) where
+  abbrev L : Links
+  L = linksOf R
+
+  -- a cell of k that stands for version v hears a record r that stands for version w + 1
+  pub data Outcome (s : Station) (r : Record) (k v w : ℕ) : Type 0 where
+    skipped : counts s r ≡ false → Alike R k v (max v (suc w)) → Outcome s r k v w
+    renewed : counts s r ≡ true → advances s r ≡ false → v < suc w → numOf L k (suc w) ≡ numOf L k v → Outcome s r k v w
+    advanced :
+        counts s r ≡ true → advances s r ≡ true → v < suc w → numOf L k (suc w) ≡ suc (numOf L k v) →
+        Outcome s r k v w
+
+  module _ (s : Station) (r : Record) where
+    abbrev k : ℕ
+    k = r .station
+
+    module _ (u p : ℕ) (lp : p < R .n) (own : s .own ≡ p) (other : k ≡ p → ⊥) (lk : k < R .n) where
+      away : k ≡ s .own → ⊥
+      away e = other (e ∙ own)
+
+      label-number : (q : Record) (w : ℕ) → Stands R q k w → recordLabel q k ≡ num L w k % 3
+      label-number q w t = t .labels k lk ∙ ap (λ (g : ℕ). g % 3) (got-own L w k)
+
+      advances-next :
+          (w a : ℕ) → Stands R r k w → labelOf s k ≡ a % 3 → num L w k ≡ suc a →
+          advances s r ≡ true
+      advances-next w a t l e =
+          eq-eqb (recordLabel r k) (successor (labelOf s k)) (omega (arith, label-number r w t))
+
+      advances-same :
+          (w a : ℕ) → Stands R r k w → labelOf s k ≡ a % 3 → num L w k ≡ a →
+          advances s r ≡ false
+      advances-same w a t l e =
+          ne-eqb (recordLabel r k) (successor (labelOf s k)) (λ f. omega (arith, label-number r w t))
+
+      newer-held :
+          (x w : ℕ) → heldOf s k ≡ true → Stands R (recordOf s k) k x → Stands R r k w →
+          counts s r ≡ isNewer true (num L x k % 3) (fresh L x k) (num L w k % 3)
+          (fresh L w k)
+      newer-held x w e a b =
+          counts-newer s r away ∙ newer-at e (label-number (recordOf s k) x a) (a .count) (label-number r w b) (b .count)
+
+      pub outcome :
+          (v w j : ℕ) → j < R .n →
+          CellAt R u p k v s →
+          Stands R r k w →
+          news L u p k ≤ v → v ≤ suc u → suc w ≡ news L u j k →
+          Outcome s r k v w
+      outcome zero w j lj c t low high from =
+          let e : num L w k ≡ suc 0 =
+          omega (
+            arith,
+            num-positive L w k,
+            numOf-close L u p k 0 (suc w) lp low (omega (arith, news-limit L u j k)),
+            numOf-some L k (suc w) w refl,
+            numOf-none L k 0 refl,
+          ) in
+          let z = numOf-none L k 0 refl in
+          advanced
+          (counts-newer s r away
+          ∙ newer-none (heldOf s k) (recordLabel (recordOf s k) k) ((recordOf s k) .count)
+          (recordLabel r k) (r .count) (c .is-held))
+          (advances-next w 0 t (c .is-label ∙ ap (λ (g : ℕ). g % 3) z) e)
+          (omega arith)
+          (omega (arith, numOf-some L k (suc w) w refl))
+      outcome (suc x) w j lj c t low high from =
+          let cx = c .stands x refl in
+          let held : heldOf s k ≡ true = c .is-held ∙ lt-ltb 0 (suc x) (omega arith) in
+          let nx = numOf-some L k (suc x) x refl in
+          let nw = numOf-some L k (suc w) w refl in
+          let lw : suc w ≤ suc u = omega (arith, news-limit L u j k) in
+          let up = numOf-close L u p k (suc x) (suc w) lp low lw in
+          let down = numOf-close L u j k (suc w) (suc x) lj (omega arith) high in
+          let label : labelOf s k ≡ num L x k % 3 = c .is-label ∙ ap (λ (g : ℕ). g % 3) nx in
+          elim (decLe (suc w) (suc x)) [
+            | yes l ↦
+                (let m = num-mono L w x k (omega arith) in
+                elim (ℕ-discrete (num L w k) (num L x k)) [
+                  | yes e ↦
+                      skipped
+                      (newer-held x w held cx t
+                      ∙ newer-same (num L x k) (num L w k) (fresh L x k) (fresh L w k) e
+                      ∙ le-ltb (fresh L x k) (fresh L w k) (fresh-mono L w x k (omega arith) e))
+                      (inl (omega arith))
+                  | no d ↦
+                      skipped
+                      (newer-held x w held cx t
+                      ∙ newer-past (num L x k) (num L w k) (fresh L x k) (fresh L w k) (omega arith))
+                      (inl (omega arith))
+                ])
+            | no l ↦
+                (let m = num-mono L x w k (omega arith) in
+                elim (ℕ-discrete (num L w k) (num L x k)) [
+                  | yes e ↦
+                      (let f = fresh-mono L x w k (omega arith) (sym e) in
+                      let n =
+                      newer-held x w held cx t
+                      ∙ newer-same (num L x k) (num L w k) (fresh L x k) (fresh L w k) e in
+                      elim (ℕ-discrete (fresh L x k) (fresh L w k)) [
+                        | yes i ↦
+                            skipped
+                            (n ∙ le-ltb (fresh L x k) (fresh L w k) (omega arith))
+                            (inr (x, w, refl, omega arith, omega arith, sym e, i))
+                        | no i ↦
+                            renewed
+                            (n ∙ lt-ltb (fresh L x k) (fresh L w k) (omega arith))
+                            (advances-same w (num L x k) t label e)
+                            (omega arith)
+                            (omega arith)
+                      ])
+                  | no d ↦
+                      advanced
+                      (newer-held x w held cx t
+                      ∙ newer-next (num L x k) (num L w k) (fresh L x k) (fresh L w k) (omega arith))
+                      (advances-next w (num L x k) t label (omega arith))
+                      (omega arith)
+                      (omega arith)
+                ])
+          ]

@@ -1,0 +1,187 @@
+-- All rounds: the fresh group is as round 0 leaves it, what happens between two rounds touches no cell, and a round's hearing and turn lead on. One
+-- induction over the rounds.
+use Prim.Native.Nat.{ℕ, zero, suc, _%_, _<_}
+use mathlib.Core.Bool.{Bool, true, false}
+use mathlib.Core.List.{List}
+use mathlib.Core.Path.{_≡_, refl, sym, ap, _∙_, subst}
+use native.Mathlib.Decide.{ℕ-discrete}
+use native.Mathlib.Omega.{arith}
+use borrow.Author.Tests.{eq-eqb}
+use lib.ListN.{getD, set, length, replicate, getD-replicate}
+use lib.Seq.{getD-set-same, getD-set-other}
+use lib.Dec.{eqb}
+use Rattle.links.specs.Relay.{Links}
+use Rattle.links.specs.Clock.{news}
+use Rattle.links.specs.Number.{num, numOf, got, gotOf}
+use Rattle.links.proofs.Clock.{news-own, news-start}
+use Rattle.links.proofs.Number.{num-zero, start-zero}
+use Rattle.links.proofs.Got.{got-none, got-own}
+use Rattle.frames.specs.declared.Record.{Record}
+use Rattle.station_rules.specs.declared.Station.{Station}
+use Rattle.station_rules.specs.State.{recordOf, noRecord, zeroRecord, freshStation}
+use Rattle.station_rules.specs.Turn.{afterTurn}
+use Rattle.group_rules.specs.State.{stationAt, sizeOf}
+use Rattle.group_rules.proofs.Run.{Run, SameButWaiting, linksOf, hearingIn}
+use Rattle.station_rules.proofs.Shape.{fresh-shaped}
+use Rattle.group_rules.proofs.Members.{fresh-at, fresh-shape}
+use Rattle.group_rules.proofs.MembersRound.{round-at, round-length}
+use Rattle.group_rules.proofs.Version.{Stands, CellAt}
+use Rattle.group_rules.proofs.Standing.{Formed}
+use Rattle.group_rules.proofs.HearParts.{cell-move}
+use Rattle.group_rules.proofs.RoundHeard.{After, hear-round, heard-version}
+use Rattle.group_rules.proofs.TurnStep.{fresh-start, turn-step}
+
+-- a list of sixteen of which one entry is another
+module _ {A : Type 0} (a b d : A) (p : ℕ) (lp : p < 16) where
+  one-here : getD (set (replicate 16 a) p b) p d ≡ b
+  one-here = getD-set-same (replicate 16 a) p b d lp
+
+  one-other : (q : ℕ) → q < 16 → (q ≡ p → ⊥) → getD (set (replicate 16 a) p b) q d ≡ a
+  one-other q l n = getD-set-other (replicate 16 a) p q b d n ∙ getD-replicate 16 q a d l
+
+module _ (R : Run) where
+  abbrev L : Links
+  L = linksOf R
+
+  -- the waiting edits play no part
+  pub after-same : (u p : ℕ) (s t : Station) → SameButWaiting s t → After R u p s → After R u p t
+  after-same u p s t e a =
+      record {
+        formed =
+            record {
+              size = sym (e .n) ∙ a .formed .size;
+              own = sym (e .own) ∙ a .formed .own;
+              acked = ap length (sym (e .acked)) ∙ a .formed .acked;
+              labels = ap length (sym (e .labels)) ∙ a .formed .labels;
+              held = ap length (sym (e .held)) ∙ a .formed .held;
+              table = ap length (sym (e .table)) ∙ a .formed .table;
+              lanes = ap length (sym (e .lanes)) ∙ a .formed .lanes;
+              record-labels =
+                  λ q l.
+                  ap (λ (x : List Record). length ((getD x q noRecord) .labels)) (sym (e .table)) ∙ a .formed .record-labels q l;
+            };
+        body = sym (e .body) ∙ a .body;
+        count = sym (e .count) ∙ a .count;
+        cells =
+            λ q l.
+            cell-move R
+            (ap (λ (x : List Bool). getD x q false) (sym (e .held)))
+            (ap (λ (x : List Bool). getD x q false) (sym (e .acked)))
+            (ap (λ (x : List ℕ). getD x q 0) (sym (e .labels)))
+            (ap (λ (x : List Record). getD x q noRecord) (sym (e .table)))
+            (a .cells q l);
+      }
+
+  -- the fresh group
+  module _ (p : ℕ) (lp : p < R .n) where
+    pub first-at : stationAt (R .after 0) p ≡ freshStation (R .n) p
+    first-at = ap (λ g. stationAt g p) (R .first) ∙ fresh-at (R .n) (R .high) p lp
+
+    fresh-labels : (q : ℕ) → q < R .n → Dec (q ≡ p) → getD (set (replicate 16 0) p 1) q 0 ≡ got L 0 p q % 3
+    fresh-labels q l (yes e) =
+        let high = R .high in
+        subst (λ i. getD (set (replicate 16 0) p 1) i 0 ≡ got L 0 p i % 3) (sym e)
+        (one-here 0 1 0 p (omega arith) ∙ ap (λ (i : ℕ). i % 3) (sym (got-own L 0 p ∙ num-zero L p)))
+    fresh-labels q l (no d) =
+        let high = R .high in
+        one-other 0 1 0 p (omega arith) q (omega arith) d
+        ∙ ap (λ (i : ℕ). i % 3) (sym (got-none L 0 p q (news-start L p q (λ e. d (sym e)))))
+
+    fresh-cell :
+        (q : ℕ) → q < R .n → Dec (q ≡ p) →
+        CellAt R 0 p q (news L 0 p q) (freshStation (R .n) p)
+    unfolding freshStation gotOf numOf
+    fresh-cell q l (yes e) =
+        let high = R .high in
+        subst (λ i. CellAt R 0 p i (news L 0 p i) (freshStation (R .n) p))
+        (sym e)
+        (subst (λ v. CellAt R 0 p p v (freshStation (R .n) p))
+        (sym (news-own L 0 p))
+        (record {
+          is-held = one-here false true false p (omega arith);
+          is-acked = one-here false true false p (omega arith) ∙ sym (eq-eqb (got L 0 p p) (num L 0 p) (got-own L 0 p));
+          is-label = one-here 0 1 0 p (omega arith) ∙ ap (λ (i : ℕ). i % 3) (sym (num-zero L p));
+          stands =
+              λ w f.
+              subst (λ i. Stands R (recordOf (freshStation (R .n) p) p) p i) (omega (arith, f))
+              (subst (λ r. Stands R r p 0) (sym (one-here zeroRecord _ noRecord p (omega arith)))
+              (record {
+                station = refl;
+                count = sym (fresh-start R 0 p lp (start-zero L p));
+                body =
+                    ap (λ (s : Station). s .body) (sym first-at)
+                    ∙ ap (λ (t : ℕ). (stationAt (R .after t) p) .body) (sym (start-zero L p));
+                labels = λ k b. fresh-labels k b (ℕ-discrete k p);
+              }));
+        }))
+    fresh-cell q l (no d) =
+        let high = R .high in
+        subst (λ v. CellAt R 0 p q v (freshStation (R .n) p))
+        (sym (news-start L p q (λ e. d (sym e))))
+        (record {
+          is-held = one-other false true false p (omega arith) q (omega arith) d;
+          is-acked =
+              one-other false true false p (omega arith) q (omega arith) d ∙ ap (λ (m : ℕ). eqb 0 m) (sym (num-zero L p));
+          is-label = one-other 0 1 0 p (omega arith) q (omega arith) d;
+          stands = λ w f. absurd (omega (arith, f));
+        })
+
+    fresh-formed : Formed R p (freshStation (R .n) p)
+    unfolding freshStation
+    fresh-formed =
+        let c = fresh-shaped (R .n) p in
+        let high = R .high in
+        record {
+          size = refl;
+          own = refl;
+          acked = c .acked;
+          labels = c .labels;
+          held = c .held;
+          table = c .table;
+          lanes = c .lanes;
+          record-labels = λ q l. c .record-labels q (omega arith);
+        }
+
+    fresh-after : After R 0 p (stationAt (R .after 0) p)
+    unfolding freshStation
+    fresh-after =
+        record {
+          formed = subst (λ s. Formed R p s) (sym first-at) fresh-formed;
+          body = ap (λ (t : ℕ). (stationAt (R .after t) p) .body) (sym (start-zero L p));
+          count = ap (λ (s : Station). s .count) first-at ∙ sym (fresh-start R 0 p lp (start-zero L p));
+          cells =
+              λ q l.
+              subst (λ s. CellAt R 0 p q (news L 0 p q) s) (sym first-at)
+              (fresh-cell q l (ℕ-discrete q p));
+        }
+
+  -- sixteen stations
+  pub after-length : (u : ℕ) → length (R .after u) ≡ 16
+  after-length zero = ap length (R .first) ∙ fresh-shape (R .n) (R .high) .places
+  after-length (suc u) =
+      ap length (R .step u) ∙ round-length (R .ready u) (R .masks (suc u)) ∙ R .length-ready u ∙ after-length u
+
+  round-station :
+      (u p : ℕ) → p < R .n → sizeOf (R .ready u) ≡ R .n → stationAt (R .after (suc u)) p ≡ afterTurn ((hearingIn R u p) .station)
+  round-station u p lp e =
+      let high = R .high in
+      ap (λ g. stationAt g p) (R .step u)
+      ∙ round-at (R .ready u) (R .masks (suc u)) p (omega arith) (omega (arith, R .length-ready u, after-length u))
+
+  -- every round
+  pub after-all : (u p : ℕ) → p < R .n → After R u p (stationAt (R .after u) p)
+  after-all zero p lp = fresh-after p lp
+  after-all (suc u) p lp =
+      let all : (j : ℕ) → j < R .n → After R u j (stationAt (R .ready u) j) =
+      λ j l. after-same u j (stationAt (R .after u) j) (stationAt (R .ready u) j) (R .posts u j) (after-all u j l) in
+      turn-step R (hearingIn R u p) u p lp (stationAt (R .ready u) p) _ (hear-round R u p lp all)
+      (λ q d. heard-version R u p lp all q (λ e. d (sym e)))
+      (all p lp .body)
+      (round-station u p lp (all 0 (R .low) .formed .size))
+
+  pub ready-all : (u p : ℕ) → p < R .n → After R u p (stationAt (R .ready u) p)
+  ready-all u p lp = after-same u p (stationAt (R .after u) p) (stationAt (R .ready u) p) (R .posts u p) (after-all u p lp)
+
+  -- station p after round u + 1
+  pub after-at : (u p : ℕ) → p < R .n → stationAt (R .after (suc u)) p ≡ afterTurn ((hearingIn R u p) .station)
+  after-at u p lp = round-station u p lp (ready-all u 0 (R .low) .formed .size)

@@ -1,0 +1,87 @@
+-- Document 01, "A group and its rounds" and "Turned down": group fresh, group post and round, each with its refusals in their order.
+use Prim.Native.Nat.{ℕ, zero, suc, _-_}
+use mathlib.Core.Bool.{Bool, true, false, cond, not, _&&_}
+use mathlib.Core.List.{List, [], _∷_, _++_}
+use lib.ListN.{getD, set, replicate, length}
+use lib.Dec.{leb, ltb, eqb}
+use Rattle.kinds.specs.declared.Body.{Body}
+use Rattle.kinds.specs.declared.Body.the-variants.{Empty}
+use Rattle.kinds.specs.Refusals.{done, badNumber, outsideLimits, laneFull, countTooHigh, refuse}
+use Rattle.links.specs.Log.{hearsIn}
+use Rattle.places.specs.Places.{anyBelow, fill}
+use Rattle.station_rules.specs.declared.Station.{Station}
+use Rattle.station_rules.specs.declared.Taking.{Taking}
+use Rattle.station_rules.specs.State.{sentRecords}
+use Rattle.station_rules.specs.Hearing.{Hearing, silent, hearRecords}
+use Rattle.station_rules.specs.Turn.{afterTurn, turnReport}
+use Rattle.station_rules.specs.Calls.{posted, postRefusal, ownCountInside, noTurn}
+use Rattle.group_rules.specs.declared.Report.{Report}
+use Rattle.group_rules.specs.declared.KeptGroup.{KeptGroup}
+use Rattle.group_rules.specs.declared.RoundDone.{RoundDone}
+use Rattle.group_rules.specs.State.{stationAt, sizeOf, groupInside, freshGroup}
+
+-- group fresh: 1; a refused call returns the fresh group of N = 1
+unfoldable pub freshCall : ℕ → KeptGroup
+freshCall n =
+    cond (leb 1 n && leb n 16)
+    (record { refusal = done; group = freshGroup n })
+    (record { refusal = badNumber; group = freshGroup 1 })
+
+-- group post: 2, 1, 4, 3
+unfoldable pub groupPostRefusal : List Station → ℕ → Body → ℕ
+groupPostRefusal g k b =
+    refuse (not (groupInside g)) outsideLimits
+    (refuse (not (ltb k (sizeOf g))) badNumber (postRefusal (stationAt g k) b))
+
+unfoldable pub postCall : List Station → ℕ → Body → KeptGroup
+postCall g k b =
+    record {
+      refusal = groupPostRefusal g k b;
+      group = cond (eqb (groupPostRefusal g k b) done) (set g k (posted (stationAt g k) b)) g;
+    }
+
+-- station i once it has heard the frames of the senders below k of its mask, by ascending sender; each frame is of the group before any hearing
+unfoldable pub hearing : List Station → List ℕ → ℕ → ℕ → Hearing
+hearing g masks i zero = silent (stationAt g i)
+hearing g masks i (suc j) =
+    cond (hearsIn (sizeOf g) masks i j)
+    (hearRecords (hearing g masks i j) (sentRecords (stationAt g j)))
+    (hearing g masks i j)
+
+-- station i once it has heard all of its mask
+abbrev pub heard : List Station → List ℕ → ℕ → Hearing
+heard g masks i = hearing g masks i (sizeOf g)
+
+abbrev pub noTaking : Taking
+noTaking = record { source = 0; body = Empty }
+
+-- what a round reports of a station that is not in it
+unfoldable pub noReport : Report
+noReport = record { «takings_len» = 0; takings = replicate 30 noTaking; turn = noTurn }
+
+-- what a round reports of station i
+unfoldable pub reportOf : List Station → List ℕ → ℕ → Report
+reportOf g masks i =
+    let h = heard g masks i in
+    record {
+      «takings_len» = length (h .takings);
+      takings = h .takings ++ replicate (30 - length (h .takings)) noTaking;
+      turn = turnReport (h .station);
+    }
+
+-- 2, 10, 8
+unfoldable pub roundRefusal : List Station → List ℕ → ℕ
+roundRefusal g masks =
+    refuse (not (groupInside g)) outsideLimits
+    (refuse (anyBelow (sizeOf g) (λ k. not (ownCountInside (stationAt g k)))) countTooHigh
+    (refuse (anyBelow (sizeOf g) (λ i. (heard g masks i) .overfull)) laneFull done))
+
+-- the group after a round that is not refused
+unfoldable pub afterRound : List Station → List ℕ → List Station
+afterRound g masks = fill (sizeOf g) (λ i. afterTurn ((heard g masks i) .station)) g
+
+unfoldable pub roundCall : List Station → List ℕ → RoundDone
+roundCall g masks =
+    cond (eqb (roundRefusal g masks) done)
+    (record { refusal = done; group = afterRound g masks; reports = fill (sizeOf g) (reportOf g masks) (replicate 16 noReport) })
+    (record { refusal = roundRefusal g masks; group = g; reports = replicate 16 noReport })

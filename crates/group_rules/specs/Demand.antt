@@ -1,0 +1,50 @@
+-- Demand 3 of document 01, as one claim about one list of calls. Each field is one sentence of the demand.
+use Prim.Native.Nat.{ℕ, suc, _+_, _*_, _-_, _≤_, _<_}
+use mathlib.Core.Bool.{Bool, true}
+use mathlib.Core.List.{List, _++_}
+use mathlib.Core.Logic.{_⊎_, _↔_}
+use mathlib.Core.Path.{_≡_}
+use lib.ListN.{getD, length}
+use Rattle.kinds.specs.Refusals.{done}
+use Rattle.links.specs.Relay.{ofLog}
+use Rattle.links.specs.EndRule.{EndsIn}
+use Rattle.lanes.specs.Lane.{bodies}
+use Rattle.station_rules.specs.State.{heldOf, recordOf, laneAt}
+use Rattle.group_rules.specs.State.{stationAt}
+use Rattle.group_rules.specs.History.{History, Call, noRound, historyOf, started, takenFrom, airedList, airedOwn, occurrences, editsIn, endsAt, startedIn}
+
+module _ {A : Type 0} where
+  -- "A beginning of a list is its first entries: none, some or all."
+  pub record Begins (xs ys : List A) : Type 0 where
+    pub rest : List A
+    pub whole : xs ++ rest ≡ ys
+
+pub record Demand (n : ℕ) (H : History) : Type 0 where
+  -- what is taken is a beginning of what was started
+  pub taken-begins-started : (p s : ℕ) → p < n → s < n → Begins (takenFrom H p s) (started H s)
+  -- of two aired lists one is a beginning of the other
+  pub aired-lists-agree :
+      (p q : ℕ) → p < n → q < n → Begins (airedList n H p) (airedList n H q) ⊎ Begins (airedList n H q) (airedList n H p)
+  -- no round is refused
+  pub no-round-refused :
+      (u : ℕ) → u < length (H .rounds) → (getD (H .rounds) u noRound) .refusal ≡ done
+  -- no count above 2 × (N - 1), its own and those in its table
+  pub own-count-bounded : (p : ℕ) → p < n → (stationAt (H .group) p) .count ≤ 2 * (n - 1)
+  pub held-count-bounded :
+      (p s : ℕ) → p < n → s < n → heldOf (stationAt (H .group) p) s ≡ true → (recordOf (stationAt (H .group) p) s) .count ≤ 2 * (n - 1)
+  -- no lane above two
+  pub lanes-bounded : (p s : ℕ) → p < n → s < n → (laneAt (stationAt (H .group) p) s) .len ≤ 2
+  -- accepted posts = waiting + edits in the own lane + own edits aired
+  pub posts-accounted :
+      (p : ℕ) → p < n →
+      occurrences p (H .accepted)
+      ≡ (stationAt (H .group) p) .waiting .len + editsIn (bodies (laneAt (stationAt (H .group) p) p)) + airedOwn p (airedList n H p)
+  -- a broadcast ends in round u + 1 exactly when that is the first after its start by which every other station had a relay from the sender and then
+  -- one back
+  pub ends-exactly :
+      (s u : ℕ) → s < n → u < length (H .rounds) →
+      (endsAt H s (suc u) ≡ true) ↔ EndsIn (ofLog n (H .log)) s (startedIn H s u) (suc u)
+
+-- Demand 3: every fresh group, every list of calls
+abbrev pub DemandThree : Type 0
+DemandThree = (n : ℕ) → 1 ≤ n → n ≤ 16 → (calls : List Call) → Demand n (historyOf n calls)

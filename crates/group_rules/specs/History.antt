@@ -1,0 +1,134 @@
+-- Document 01, "A group and its rounds", demand 3: one list of calls from a fresh group, and what the demand's words mean of it.
+use Prim.Native.Nat.{ℕ, zero, suc, _+_}
+use mathlib.Core.Bool.{Bool, true, false, cond, not, _&&_}
+use mathlib.Core.List.{List, [], _∷_, _++_}
+use mathlib.Core.Path.{_≡_}
+use lib.ListN.{getD, take, length}
+use lib.Dec.{eqb}
+use Rattle.kinds.specs.declared.Body.{Body}
+use Rattle.kinds.specs.declared.Body.the-variants.{Empty}
+use Rattle.kinds.specs.Body.{kindOf}
+use Rattle.kinds.specs.Limits.{isEdit}
+use Rattle.kinds.specs.Refusals.{done}
+use Rattle.places.specs.Places.{gather}
+use Rattle.station_rules.specs.declared.Station.{Station}
+use Rattle.lanes.specs.declared.Slot.{Slot}
+use Rattle.station_rules.specs.declared.Taking.{Taking}
+use Rattle.lanes.specs.Queue.{noSlot}
+use Rattle.group_rules.specs.declared.Report.{Report}
+use Rattle.group_rules.specs.declared.RoundDone.{RoundDone}
+use Rattle.group_rules.specs.declared.KeptGroup.{KeptGroup}
+use Rattle.group_rules.specs.State.{freshGroup}
+use Rattle.group_rules.specs.Calls.{postCall, roundCall, noReport}
+
+-- a group post or a round, with any arguments
+pub data Call : Type 0 where
+  post : ℕ → Body → Call
+  round : List ℕ → Call
+
+-- what a list of calls leaves: the group, what its rounds returned, the masks they were given, and where its accepted posts were
+pub record History : Type 0 where
+  pub group : List Station
+  pub rounds : List RoundDone
+  pub log : List (List ℕ)
+  pub accepted : List ℕ
+
+-- one call more
+unfoldable pub next : History → Call → History
+next H (post k b) =
+    let made = postCall (H .group) k b in
+    record {
+      group = made .group;
+      rounds = H .rounds;
+      log = H .log;
+      accepted = H .accepted ++ cond (eqb (made .refusal) done) (k ∷ []) [];
+    }
+next H (round masks) =
+    let made = roundCall (H .group) masks in
+    record {
+      group = made .group;
+      rounds = H .rounds ++ (made ∷ []);
+      log = H .log ++ (masks ∷ []);
+      accepted = H .accepted;
+    }
+
+unfoldable pub begun : ℕ → History
+begun n = record { group = freshGroup n; rounds = []; log = []; accepted = [] }
+
+unfoldable pub continued : History → List Call → History
+continued H [] = H
+continued H (c ∷ cs) = continued (next H c) cs
+
+-- the history of a list of calls from the fresh group of n
+abbrev pub historyOf : ℕ → List Call → History
+historyOf n calls = continued (begun n) calls
+
+-- a round that is not there
+abbrev pub noRound : RoundDone
+noRound = record { refusal = 0; group = []; reports = [] }
+
+-- the report of station p in a round
+abbrev pub reportIn : RoundDone → ℕ → Report
+reportIn r p = getD (r .reports) p noReport
+
+-- a body, where it is not Empty
+abbrev pub unlessEmpty : Body → List Body
+unlessEmpty b = cond (eqb (kindOf b) 0) [] (b ∷ [])
+
+module _ {A : Type 0} where
+  -- what each round adds, round after round
+  unfoldable pub collect : (RoundDone → List A) → List RoundDone → List A
+  collect f [] = []
+  collect f (r ∷ rs) = f r ++ collect f rs
+
+-- the bodies of those takings that are of station s
+unfoldable pub takingsOf : ℕ → List Taking → List Body
+takingsOf s [] = []
+takingsOf s (t ∷ ts) = cond (eqb (t .source) s) (t .body ∷ []) [] ++ takingsOf s ts
+
+-- "Started": the started bodies of its turns, Empty left out
+unfoldable pub started : History → ℕ → List Body
+started H s = collect (λ r. unlessEmpty ((reportIn r s) .turn .«started_body»)) (H .rounds)
+
+-- "Taken from another": what the rounds report as taken from it; from itself, what it started
+unfoldable pub takenFrom : History → ℕ → ℕ → List Body
+takenFrom H p s =
+    cond (eqb p s)
+    (started H s)
+    (collect (λ r. takingsOf s (take ((reportIn r p) .«takings_len») ((reportIn r p) .takings))) (H .rounds))
+
+-- the edits of a row, each with its source, in station order
+unfoldable pub editsOf : ℕ → List Slot → List Taking
+editsOf n row =
+    gather n (λ k. isEdit ((getD row k noSlot) .body)) (λ k. record { source = k; body = (getD row k noSlot) .body })
+
+-- "Aired list" of station p among n
+unfoldable pub airedList : ℕ → History → ℕ → List Taking
+airedList n H p =
+    collect (λ r. cond ((reportIn r p) .turn .aired) (editsOf n ((reportIn r p) .turn .row)) []) (H .rounds)
+
+-- how many posts at station p returned 0
+unfoldable pub occurrences : ℕ → List ℕ → ℕ
+occurrences p [] = 0
+occurrences p (k ∷ ks) = cond (eqb k p) 1 0 + occurrences p ks
+
+-- how many bodies of a list are edits
+unfoldable pub editsIn : List Body → ℕ
+editsIn [] = 0
+editsIn (b ∷ bs) = cond (isEdit b) 1 0 + editsIn bs
+
+-- the bodies of an aired list whose source is p
+unfoldable pub airedOwn : ℕ → List Taking → ℕ
+airedOwn p [] = 0
+airedOwn p (t ∷ ts) = cond (eqb (t .source) p) 1 0 + airedOwn p ts
+
+-- station s reports an end in round u; rounds are numbered from 1
+unfoldable pub endsAt : History → ℕ → ℕ → Bool
+endsAt H s zero = false
+endsAt H s (suc u) =
+    (reportIn (getD (H .rounds) u noRound) s) .turn .ended
+
+-- the round in which the broadcast that s has after round u started: its last reported end, or 0
+unfoldable pub startedIn : History → ℕ → ℕ → ℕ
+startedIn H s zero = 0
+startedIn H s (suc u) = cond (endsAt H s (suc u)) (suc u) (startedIn H s u)

@@ -1,0 +1,63 @@
+-- Document 01, "Marked examples of the trade": M1 to M12 as one list of statements about the definitions.
+use Prim.Native.Nat.{ℕ, _≤_, _<_}
+use mathlib.Core.Bool.{Bool, true, false}
+use mathlib.Core.List.{List, [], _∷_}
+use mathlib.Core.Path.{_≡_}
+use lib.IntN.{ℤ, pos, negsuc}
+use lib.ListN.{getD, length, replicate}
+use Rattle.kinds.specs.declared.Body.{Body}
+use Rattle.kinds.specs.declared.Body.the-variants.{Empty, Neutral, Insert, Shift}
+use Rattle.kinds.specs.Limits.{isEdit}
+use Rattle.kinds.specs.Refusals.{done, queueFull, notAnEdit}
+use Rattle.labels.specs.Packing.{packed}
+use Rattle.labels.specs.Newer.{isNewer}
+use Rattle.frames.specs.declared.Record.{Record}
+use Rattle.frames.specs.Frame.{frameBytes}
+use Rattle.station_rules.specs.declared.Station.{Station}
+use Rattle.station_rules.specs.declared.TurnReport.{TurnReport}
+use Rattle.lanes.specs.Queue.{noSlot}
+use Rattle.station_rules.specs.Limits.{stationInside}
+use Rattle.station_rules.specs.Calls.{postCall}
+use Rattle.group_rules.specs.History.{History, Call, post, round, noRound, historyOf, reportIn}
+
+-- a group of one, one edit posted and two rounds with any masks
+abbrev pub oneStation : Body → List ℕ → List ℕ → History
+oneStation b masks₁ masks₂ = historyOf 1 (post 0 b ∷ round masks₁ ∷ round masks₂ ∷ [])
+
+-- the turn that its only station reports in one of the two rounds
+abbrev pub turnIn : History → ℕ → TurnReport
+turnIn H u = (reportIn (getD (H .rounds) u noRound) 0) .turn
+
+pub record Marked : Type 0 where
+  -- held label 1 count 0, seen 1 count 1: newer; seen 1 count 0: not
+  pub m1 : isNewer true 1 0 1 1 ≡ true
+  pub m2 : isNewer true 1 0 1 0 ≡ false
+  -- held 2, seen 0: newer; held 0, seen 2: not; at any count
+  pub m3 : (held seen : ℕ) → isNewer true 2 held 0 seen ≡ true
+  pub m4 : (held seen : ℕ) → isNewer true 0 held 2 seen ≡ false
+  -- labels as words
+  pub m5 : packed (1 ∷ 2 ∷ []) ≡ 9
+  pub m6 : packed (2 ∷ 2 ∷ 1 ∷ []) ≡ 26
+  pub m7 : packed (replicate 16 2) ≡ 0xAAAAAAAA
+  -- one record: 20 bytes; sixteen: 260
+  pub m8-one : (n sender : ℕ) (r : Record) → length (frameBytes n sender (r ∷ [])) ≡ 20
+  pub m8-all : (n sender : ℕ) (rs : List Record) → length rs ≡ 16 → length (frameBytes n sender rs) ≡ 260
+  -- a station inside its limits with room in its queue takes a shift by -90,000 and refuses -90,001
+  pub m9 :
+      (s : Station) → stationInside s ≡ true → (s .waiting) .len < 32 → (event : ℕ) → 1 ≤ event → event ≤ 99_999_999 →
+      ((postCall s (Shift event (negsuc 89_999))) .refusal ≡ done) × ((postCall s (Shift event (negsuc 90_000))) .refusal ≡ notAnEdit)
+  -- it takes a start at 2,159,999 and refuses 2,160,000
+  pub m10 :
+      (s : Station) → stationInside s ≡ true → (s .waiting) .len < 32 → (event : ℕ) → 1 ≤ event → event ≤ 99_999_999 →
+      ((postCall s (Insert event (pos 2_159_999))) .refusal ≡ done) × ((postCall s (Insert event (pos 2_160_000))) .refusal ≡ notAnEdit)
+  -- where 32 edits wait, one more is refused
+  pub m11 : (s : Station) (b : Body) → stationInside s ≡ true → (s .waiting) .len ≡ 32 → isEdit b ≡ true → (postCall s b) .refusal ≡ queueFull
+  -- N = 1, one edit posted: round 1 ends Empty and starts it; round 2 airs it, ends it and starts Neutral
+  pub m12-starts :
+      (b : Body) (masks₁ masks₂ : List ℕ) → isEdit b ≡ true →
+      let t = turnIn (oneStation b masks₁ masks₂) 0 in
+      (t .aired ≡ false) × (t .ended ≡ true) × (t .«ended_body» ≡ Empty) × (t .«started_body» ≡ b)
+  pub m12-airs :
+      (b : Body) (masks₁ masks₂ : List ℕ) → isEdit b ≡ true →
+      let t = turnIn (oneStation b masks₁ masks₂) 1 in
+      (t .aired ≡ true) × ((getD (t .row) 0 noSlot) .body ≡ b) × (t .ended ≡ true) × (t .«ended_body» ≡ b) × (t .«started_body» ≡ Neutral)

@@ -1,0 +1,48 @@
+-- Document 01, "A group and its rounds": a group by its places, its limits, and the fresh group.
+use Prim.Native.Nat.{ℕ}
+use mathlib.Core.Bool.{Bool, true, false, cond, not, _&&_}
+use mathlib.Core.List.{List, []}
+use lib.ListN.{getD, replicate}
+use lib.Dec.{eqb}
+use Rattle.kinds.specs.declared.Body.the-variants.{Empty}
+use Rattle.places.specs.Places.{allBelow, fill}
+use Rattle.station_rules.specs.declared.Station.{Station}
+use Rattle.station_rules.specs.State.{freshStation}
+use Rattle.station_rules.specs.Limits.{stationInside}
+
+-- what stands past the end of a group
+abbrev pub noStation : Station
+noStation =
+    record {
+      n = 0;
+      own = 0;
+      waiting = record { len = 0; slots = [] };
+      acked = [];
+      body = Empty;
+      count = 0;
+      labels = [];
+      held = [];
+      table = [];
+      lanes = [];
+    }
+
+-- the station at place k
+abbrev pub stationAt : List Station → ℕ → Station
+stationAt g k = getD g k noStation
+
+-- "Its N is station 0's"
+abbrev pub sizeOf : List Station → ℕ
+sizeOf g = (stationAt g 0) .n
+
+-- station k is inside its limits, has the group's N, and its number is its place
+abbrev pub memberInside : List Station → ℕ → Bool
+memberInside g k =
+    stationInside (stationAt g k) && (eqb ((stationAt g k) .n) (sizeOf g) && eqb ((stationAt g k) .own) k)
+
+-- the group is inside its limits
+unfoldable pub groupInside : List Station → Bool
+groupInside g = memberInside g 0 && allBelow (sizeOf g) (memberInside g)
+
+-- the fresh group of n; its places from n up hold the fresh station 0 of N = 1
+unfoldable pub freshGroup : ℕ → List Station
+freshGroup n = fill n (freshStation n) (replicate 16 (freshStation 1 0))

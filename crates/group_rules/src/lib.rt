@@ -1,0 +1,25 @@
+// The answers of a group's calls. The definitions of the calls, their laws and demand 3 stand beside; there is no code.
+
+use station_rules::Station;
+use station_rules::Taking;
+use station_rules::TurnReport;
+
+// What a round reports of one station: the bodies it took in the order heard, and its turn.
+pub struct Report {
+    pub takings_len: usize,
+    pub takings: [Taking; 30],
+    pub turn: TurnReport,
+}
+
+// The answer of fresh and of post.
+pub struct KeptGroup {
+    pub refusal: u32,
+    pub group: [Station; 16],
+}
+
+// The answer of a round.
+pub struct RoundDone {
+    pub refusal: u32,
+    pub group: [Station; 16],
+    pub reports: [Report; 16],
+}

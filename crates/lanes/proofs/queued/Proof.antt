@@ -1,0 +1,26 @@
+use mathlib.Core.Path.{refl}
+use borrow.Author.Needs.{needs}
+use Rattle.lanes.proofs.queued.Statement.{statement}
+use Rattle.lanes.proofs.queued.Tie as tie
+use Rattle.lanes.proofs.queued.Reads as reads
+use Rattle.lanes.proofs.queued.Lts as lts
+
+-- src/queues.rt:18:5
+mul-slots : tie.Need-mul-slots
+mul-slots c = search needs
+
+-- src/queues.rt:18:5
+array-set-from-slots : tie.Need-array-set-from-slots
+array-set-from-slots c = search needs
+
+-- src/queues.rt:20:14
+add-t6 : tie.Need-add-t6
+add-t6 c = search needs
+
+-- src/queues.rt:12:1
+returns : tie.Need-returns
+unfolding Rattle.lanes.specs.Queue.queued
+returns c = refl
+
+pub queued-spec : {M : Type 1} → statement M
+queued-spec = tie.close (tie.spec mul-slots array-set-from-slots add-t6 returns)

@@ -1,8 +1,0 @@
-pub mod Lane
-pub mod Queue
-pub mod State
-pub mod Limits
-pub mod Hearing
-pub mod Frames
-pub mod Turn
-pub mod Calls

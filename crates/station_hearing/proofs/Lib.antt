@@ -1,0 +1,3 @@
+pub mod HearBytes
+pub mod HearSteps
+pub mod SourceSteps

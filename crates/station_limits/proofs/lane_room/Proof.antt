@@ -1,0 +1,13 @@
+-- `station::checks::lane_room` meets its contract.
+use borrow.Author.Tests.{eq-eqb, ne-eqb}
+use Rattle.station_limits.proofs.lane_room.Statement.{statement}
+use Rattle.station_limits.proofs.lane_room.Tie as tie
+
+returns : tie.Need-returns
+returns c = simp (eq-eqb _ _ (c .if1 .taken))
+
+returns-2 : tie.Need-returns-2
+returns-2 c = simp (ne-eqb _ _ (c .if1 .left))
+
+pub lane-room-spec : {M : Type 1} → statement M
+lane-room-spec = tie.close (tie.spec returns returns-2)

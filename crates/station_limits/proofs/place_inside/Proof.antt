@@ -1,0 +1,44 @@
+-- `station::checks::place_inside` meets its contract, test by test.
+use mathlib.Core.Path.{_≡_, sym, ap, _∙_}
+use mathlib.Core.Bool.{true, false, not, _||_}
+use borrow.Author.Tests.{le-leb, lt-leb, not-true, not-false}
+use Rattle.station_rules.specs.Limits.{recordInside, laneInside}
+use Prim.Native.Nat.{ℕ}
+use borrow.Author.Needs.{needs}
+use Rattle.station_limits.proofs.place_inside.Statement.{statement}
+use Rattle.station_limits.proofs.place_inside.Tie as tie
+
+returns : tie.Need-returns
+returns c = rw (lt-leb _ _ (c .if1 .taken))
+
+held-inside-requires : tie.Need-held-inside-requires
+held-inside-requires c κs = search needs
+
+returns-2 : tie.Need-returns-2
+returns-2 c =
+    let a = c .before .before .before .args in
+    let e : (not (a .held) || recordInside (a .n) (a .own) (a .k) (a .«record»)) ≡ false = sym (c .before .held-inside .ensures) ∙ not-true _ (c .if2 .taken) in
+    rw (le-leb _ _ (c .before .before .if1 .left), e)
+
+lane-room-requires : tie.Need-lane-room-requires
+lane-room-requires c κs = search needs
+
+lane-inside-requires : tie.Need-lane-inside-requires
+lane-inside-requires c κs = search needs
+
+returns-3 : tie.Need-returns-3
+returns-3 c =
+    let a = c .before .before .before .before .before .args in
+    let e : (not (a .held) || recordInside (a .n) (a .own) (a .k) (a .«record»)) ≡ true = sym (c .before .before .before .held-inside .ensures) ∙ not-false _ (c .before .before .if2 .left) in
+    rw (le-leb _ _ (c .before .before .before .before .if1 .left), e) (c .lane-inside .ensures ∙ ap (λ (m : ℕ). laneInside m (a .lane)) (c .before .lane-room .ensures))
+
+pub place-inside-spec : {M : Type 1} → statement M
+place-inside-spec =
+    tie.close
+    (tie.spec
+    returns
+    held-inside-requires
+    returns-2
+    lane-room-requires
+    lane-inside-requires
+    returns-3)

@@ -1,0 +1,95 @@
+-- `station::checks::queue_inside` meets its contract: what was passed are edits.
+use Prim.Native.Nat.{ℕ, _≤_, _-_}
+use native.Mathlib.Omega.{arith}
+use mathlib.Core.Path.{_≡_, refl, sym, _∙_}
+use mathlib.Core.Bool.{true, false}
+use borrow.Author.Needs.{needs}
+use lib.ListN.{getD}
+use Rattle.kinds.specs.Limits.{isEdit}
+use borrow.Author.Tests.{le-leb, lt-leb, not-true, not-false}
+use Rattle.places.specs.Places.{allBelow}
+use Rattle.places.proofs.Laws.{allBelow-more, allBelow-fails}
+use Rattle.lanes.specs.Queue.{noSlot}
+use Rattle.station_rules.specs.Limits.{queueInside}
+use Rattle.station_limits.proofs.queue_inside.Statement.{statement}
+use Rattle.station_limits.proofs.queue_inside.Tie as tie
+use Rattle.station_limits.proofs.queue_inside.Reads as reads
+use Rattle.station_limits.proofs.queue_inside.Lts as lts
+use Rattle.kinds.proofs.is_edit.Reads as is-edit-reads
+
+abbrev Inv-loop : tie.InvT-loop
+Inv-loop queue len i₀ i = (i ≤ len) × (len ≡ queue .len) × (len ≤ 32) × (allBelow i (λ k. isEdit ((getD (queue .slots) k noSlot) .body)) ≡ true)
+
+abbrev μ-loop : tie.MeasureT-loop
+μ-loop queue len i₀ i = len - i
+
+-- src/limits.rt:78:9
+returns : tie.Need-returns Inv-loop μ-loop
+unfolding queueInside
+returns c = rw (lt-leb _ _ (c .if1 .taken))
+
+-- src/limits.rt:81:5
+loop-holds : tie.Need-loop-holds Inv-loop μ-loop
+unfolding allBelow
+loop-holds c = search needs
+
+-- src/limits.rt:82:20
+mul-slot : tie.Need-mul-slot Inv-loop μ-loop
+mul-slot c = search needs
+
+-- src/limits.rt:82:20
+element-copy-out-slot : tie.Need-element-copy-out-slot Inv-loop μ-loop
+element-copy-out-slot c = search needs
+
+-- src/limits.rt:84:13
+is-edit-requires : tie.Need-is-edit-requires Inv-loop μ-loop
+is-edit-requires c κs = search needs
+
+-- src/limits.rt:85:13
+returns-2 : tie.Need-returns-2 Inv-loop μ-loop
+unfolding queueInside
+returns-2 c =
+    let a = c .before .before .before in
+    let q = a .before .before .before .args .t1 in
+    let e : isEdit ((getD (q .slots) (a .before .loop .i) noSlot) .body) ≡ false = sym (c .before .is-edit .ensures) ∙ not-true _ (c .if2 .taken) in
+    rw (le-leb _ _ (a .before .loop .inv .2)) (sym (allBelow-fails (q .len) _ (a .before .loop .i) (omega arith) e))
+
+-- src/limits.rt:87:9
+add-i : tie.Need-add-i Inv-loop μ-loop
+add-i c = search needs
+
+-- src/limits.rt:81:5
+loop-less : tie.Need-loop-less Inv-loop μ-loop
+loop-less c = search needs
+
+-- src/limits.rt:81:5
+loop-again : tie.Need-loop-again Inv-loop μ-loop
+loop-again c =
+    let a = c .before .before .before in
+    let q = a .before .before .before .args .t1 in
+    let e : isEdit ((getD (q .slots) (a .before .loop .i) noSlot) .body) ≡ true = sym (c .before .is-edit .ensures) ∙ not-false _ (c .if2 .left) in
+    (omega arith, refl, a .before .loop .inv .2, allBelow-more (a .before .loop .i) _ (a .before .loop .inv .3) e)
+
+-- src/limits.rt:73:1
+returns-3 : tie.Need-returns-3 Inv-loop μ-loop
+unfolding queueInside
+returns-3 c =
+    let e : c .before .loop .i ≡ c .before .before .before .args .t1 .len = omega arith in
+    rw (le-leb _ _ (c .before .loop .inv .2)) (sym (rw e at (c .before .loop .inv .3)))
+
+pub queue-inside-spec : {M : Type 1} → statement M
+queue-inside-spec =
+    tie.close
+    (tie.spec
+    Inv-loop
+    μ-loop
+    returns
+    loop-holds
+    mul-slot
+    element-copy-out-slot
+    is-edit-requires
+    returns-2
+    add-i
+    loop-less
+    loop-again
+    returns-3)

@@ -1,0 +1,61 @@
+-- `station::checks::record_inside` meets its contract, test by test.
+use mathlib.Core.Path.{_≡_, sym, _∙_}
+use mathlib.Core.Bool.{true, false, _||_}
+use lib.Dec.{eqb}
+use borrow.Author.Tests.{eq-eqb, ne-eqb, not-true, not-false}
+use Rattle.kinds.specs.Limits.{bodyInside}
+use Rattle.frames.specs.Record.{countInside}
+use Rattle.station_rules.specs.Limits.{recordInside}
+use borrow.Author.Needs.{needs}
+use Rattle.station_limits.proofs.record_inside.Statement.{statement}
+use Rattle.station_limits.proofs.record_inside.Tie as tie
+
+returns : tie.Need-returns
+unfolding recordInside
+returns c = rw (ne-eqb _ _ (c .if1 .taken))
+
+count-inside-requires : tie.Need-count-inside-requires
+count-inside-requires c κs = search needs
+
+returns-2 : tie.Need-returns-2
+unfolding recordInside
+returns-2 c =
+    let a = c .before .before .before .before .args in
+    let e : (eqb (a .k) (a .own) || countInside (a .n) (a .«record» .count)) ≡ false = sym (c .before .count-inside .ensures) ∙ not-true _ (c .if2 .taken) in
+    rw (eq-eqb _ _ (c .before .before .if1 .left), e)
+
+body-inside-requires : tie.Need-body-inside-requires
+body-inside-requires c κs = search needs
+
+returns-3 : tie.Need-returns-3
+unfolding recordInside
+returns-3 c =
+    let b = c .before .before .before in
+    let a = b .before .before .before .args in
+    let e : (eqb (a .k) (a .own) || countInside (a .n) (a .«record» .count)) ≡ true = sym (b .count-inside .ensures) ∙ not-false _ (c .before .before .if2 .left) in
+    let f : bodyInside (a .«record» .body) ≡ false = sym (c .before .body-inside .ensures) ∙ not-true _ (c .if3 .taken) in
+    rw (eq-eqb _ _ (b .before .if1 .left), e, f)
+
+labels-inside-requires : tie.Need-labels-inside-requires
+labels-inside-requires c κs = search needs
+
+returns-4 : tie.Need-returns-4
+unfolding recordInside
+returns-4 c =
+    let b = c .before .before .before .before .before in
+    let a = b .before .before .before .args in
+    let e : (eqb (a .k) (a .own) || countInside (a .n) (a .«record» .count)) ≡ true = sym (b .count-inside .ensures) ∙ not-false _ (c .before .before .before .before .if2 .left) in
+    let f : bodyInside (a .«record» .body) ≡ true = sym (c .before .before .before .body-inside .ensures) ∙ not-false _ (c .before .before .if3 .left) in
+    rw (eq-eqb _ _ (b .before .if1 .left), e, f) (c .labels-inside .ensures)
+
+pub record-inside-spec : {M : Type 1} → statement M
+record-inside-spec =
+    tie.close
+    (tie.spec
+    returns
+    count-inside-requires
+    returns-2
+    body-inside-requires
+    returns-3
+    labels-inside-requires
+    returns-4)

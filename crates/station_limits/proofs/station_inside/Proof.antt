@@ -1,0 +1,180 @@
+-- `station::checks::station_inside` meets its contract: the station as a whole first, then place after place.
+use Prim.Native.Nat.{ℕ, _≤_, _<_, _-_}
+use native.Mathlib.Omega.{arith}
+use mathlib.Core.Path.{_≡_, refl, sym, _∙_}
+use mathlib.Core.Bool.{Bool, true, false, _&&_}
+use lib.Dec.{leb, ltb}
+use borrow.Author.Needs.{needs}
+use borrow.Author.Tests.{le-leb, lt-leb, leb-true, ltb-true, not-true, not-false}
+use Rattle.kinds.specs.Limits.{bodyInside}
+use Rattle.frames.specs.Frame.{validNumber}
+use Rattle.places.specs.Places.{allBelow}
+use Rattle.places.proofs.Laws.{and-left, and-right, allBelow-more, allBelow-fails}
+use Rattle.station_rules.specs.declared.Station.{Station}
+use Rattle.station_rules.specs.State.{ackedOf, heldOf}
+use Rattle.station_rules.specs.Limits.{queueInside, placeInside, stationInside}
+use Rattle.station_rules.proofs.CallSteps.{valid-parts}
+use Rattle.station_limits.proofs.station_inside.Statement.{statement}
+use Rattle.station_limits.proofs.station_inside.Tie as tie
+
+-- all but the places
+abbrev whole : Station → Bool
+whole s = validNumber (s .n) (s .own) && ackedOf s (s .own) && heldOf s (s .own) && bodyInside (s .body) && queueInside (s .waiting)
+
+abbrev Inv-loop : tie.InvT-loop
+Inv-loop s n own k₀ k =
+    (n ≡ s .n) × (own ≡ s .own) × (k ≤ n) × (1 ≤ n) × (n ≤ 16) × (whole s ≡ true) × (allBelow k (placeInside s) ≡ true)
+
+abbrev μ-loop : tie.MeasureT-loop
+μ-loop s n own k₀ k = n - k
+
+-- what each passed test says
+valid : (c : tie.Else1 Inv-loop μ-loop) → validNumber (c .before .before .args .t1 .n) (c .before .before .args .t1 .own) ≡ true
+valid c = sym (c .before .valid-number .ensures) ∙ not-false _ (c .if1 .left)
+
+sixteen : (c : tie.Else1 Inv-loop μ-loop) → (1 ≤ c .before .before .args .t1 .n) × (c .before .before .args .t1 .n ≤ 16) × (c .before .before .args .t1 .own < c .before .before .args .t1 .n)
+sixteen c = valid-parts _ _ (valid c)
+
+acked : (c : tie.Else2 Inv-loop μ-loop) → ackedOf (c .before .before .before .before .args .t1) (c .before .before .before .before .args .t1 .own) ≡ true
+acked c = not-false _ (c .if2 .left)
+
+held : (c : tie.Else3 Inv-loop μ-loop) → heldOf (c .before .before .before .before .before .before .args .t1) (c .before .before .before .before .before .before .args .t1 .own) ≡ true
+held c = not-false _ (c .if3 .left)
+
+body : (c : tie.Else4 Inv-loop μ-loop) → bodyInside (c .before .before .before .before .before .before .before .before .args .t1 .body) ≡ true
+body c = sym (c .before .body-inside .ensures) ∙ not-false _ (c .if4 .left)
+
+valid-number-requires : tie.Need-valid-number-requires Inv-loop μ-loop
+valid-number-requires c κs = search needs
+
+returns : tie.Need-returns Inv-loop μ-loop
+unfolding stationInside
+returns c =
+    let e : validNumber (c .before .before .args .t1 .n) (c .before .before .args .t1 .own) ≡ false = sym (c .before .valid-number .ensures) ∙ not-true _ (c .if1 .taken) in
+    rw e
+
+element-copy-out-if2 : tie.Need-element-copy-out-if2 Inv-loop μ-loop
+element-copy-out-if2 c = omega (arith, sixteen c)
+
+returns-2 : tie.Need-returns-2 Inv-loop μ-loop
+unfolding stationInside
+returns-2 c = rw (valid (c .before .before), not-true (ackedOf (c .before .before .before .before .args .t1) (c .before .before .before .before .args .t1 .own)) (c .if2 .taken))
+
+element-copy-out-if3 : tie.Need-element-copy-out-if3 Inv-loop μ-loop
+element-copy-out-if3 c = omega (arith, sixteen (c .before .before))
+
+returns-3 : tie.Need-returns-3 Inv-loop μ-loop
+unfolding stationInside
+returns-3 c =
+    let s = c .before .before .before .before .before .before .args .t1 in
+    rw (valid (c .before .before .before .before), acked (c .before .before), not-true (heldOf s (s .own)) (c .if3 .taken))
+
+body-inside-requires : tie.Need-body-inside-requires Inv-loop μ-loop
+body-inside-requires c κs = search needs
+
+returns-4 : tie.Need-returns-4 Inv-loop μ-loop
+unfolding stationInside
+returns-4 c =
+    let s = c .before .before .before .before .before .before .before .before .args .t1 in
+    let e : bodyInside (s .body) ≡ false = sym (c .before .body-inside .ensures) ∙ not-true _ (c .if4 .taken) in
+    rw (valid (c .before .before .before .before .before .before), acked (c .before .before .before .before), held (c .before .before), e)
+
+queue-inside-requires : tie.Need-queue-inside-requires Inv-loop μ-loop
+queue-inside-requires c κs = search needs
+
+returns-5 : tie.Need-returns-5 Inv-loop μ-loop
+unfolding stationInside
+returns-5 c =
+    let d = c .before .before .before in
+    let s = d .before .before .before .before .before .before .before .before .args .t1 in
+    let e : queueInside (s .waiting) ≡ false = sym (c .before .queue-inside .ensures) ∙ not-true _ (c .if5 .taken) in
+    rw (valid (d .before .before .before .before .before .before), acked (d .before .before .before .before), held (d .before .before), body d, e)
+
+loop-holds : tie.Need-loop-holds Inv-loop μ-loop
+unfolding allBelow
+loop-holds c =
+    let d = c .before .before .before in
+    let s = d .before .before .before .before .before .before .before .before .args .t1 in
+    let e : queueInside (s .waiting) ≡ true = sym (c .before .queue-inside .ensures) ∙ not-false _ (c .if5 .left) in
+    let w = sixteen (d .before .before .before .before .before .before) in
+    (refl, refl, omega arith, w .0, w .1, rw (valid (d .before .before .before .before .before .before), acked (d .before .before .before .before), held (d .before .before), body d, e), refl)
+
+element-copy-out-place-inside : tie.Need-element-copy-out-place-inside Inv-loop μ-loop
+element-copy-out-place-inside c = search needs
+
+element-copy-out-place-inside-2 : tie.Need-element-copy-out-place-inside-2 Inv-loop μ-loop
+element-copy-out-place-inside-2 c = search needs
+
+mul-place-inside : tie.Need-mul-place-inside Inv-loop μ-loop
+mul-place-inside c = search needs
+
+element-copy-out-place-inside-3 : tie.Need-element-copy-out-place-inside-3 Inv-loop μ-loop
+element-copy-out-place-inside-3 c = search needs
+
+mul-place-inside-2 : tie.Need-mul-place-inside-2 Inv-loop μ-loop
+mul-place-inside-2 c = search needs
+
+element-copy-out-place-inside-4 : tie.Need-element-copy-out-place-inside-4 Inv-loop μ-loop
+element-copy-out-place-inside-4 c = search needs
+
+place-inside-requires : tie.Need-place-inside-requires Inv-loop μ-loop
+place-inside-requires c κs = search needs
+
+returns-6 : tie.Need-returns-6 Inv-loop μ-loop
+unfolding stationInside
+returns-6 c =
+    let h = c .before .before .before .before .before .before .before in
+    let s = h .before .before .before .before .before .before .before .before .before .before .before .before .args .t1 in
+    let e : placeInside s (h .loop .k) ≡ false = unfold placeInside in (sym (c .before .place-inside .ensures) ∙ not-true _ (c .if6 .taken)) in
+    rw (h .loop .inv .5) (sym (allBelow-fails (s .n) (placeInside s) (h .loop .k) (omega arith) e))
+
+add-k : tie.Need-add-k Inv-loop μ-loop
+add-k c = search needs
+
+loop-less : tie.Need-loop-less Inv-loop μ-loop
+loop-less c = search needs
+
+loop-again : tie.Need-loop-again Inv-loop μ-loop
+loop-again c =
+    let h = c .before .before .before .before .before .before .before in
+    let s = h .before .before .before .before .before .before .before .before .before .before .before .before .args .t1 in
+    let e : placeInside s (h .loop .k) ≡ true = unfold placeInside in (sym (c .before .place-inside .ensures) ∙ not-false _ (c .if6 .left)) in
+    let w = h .loop .inv in
+    (refl, refl, omega arith, w .3, w .4, w .5, allBelow-more (h .loop .k) (placeInside s) (w .6) e)
+
+returns-7 : tie.Need-returns-7 Inv-loop μ-loop
+unfolding stationInside
+returns-7 c =
+    let s = c .before .before .before .before .before .before .before .before .before .before .before .before .before .args .t1 in
+    let e : c .before .loop .k ≡ s .n = omega arith in
+    rw (c .before .loop .inv .5) (sym (rw e at (c .before .loop .inv .6)))
+
+pub station-inside-spec : {M : Type 1} → statement M
+station-inside-spec =
+    tie.close
+    (tie.spec
+    Inv-loop
+    μ-loop
+    valid-number-requires
+    returns
+    element-copy-out-if2
+    returns-2
+    element-copy-out-if3
+    returns-3
+    body-inside-requires
+    returns-4
+    queue-inside-requires
+    returns-5
+    loop-holds
+    element-copy-out-place-inside
+    element-copy-out-place-inside-2
+    mul-place-inside
+    element-copy-out-place-inside-3
+    mul-place-inside-2
+    element-copy-out-place-inside-4
+    place-inside-requires
+    returns-6
+    add-k
+    loop-less
+    loop-again
+    returns-7)

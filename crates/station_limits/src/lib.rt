@@ -1,0 +1,209 @@
+// When a station is inside its limits. Entries from N up, places past a length, and records that are not held are not looked at.
+
+ghost use mathlib.Core.Path.{_≡_};
+ghost use mathlib.Core.Bool.{cond, not, _&&_, _||_};
+ghost use Prim.Native.Nat.{_≤_};
+ghost use lib.ListN.{getD};
+ghost use lib.Dec.{eqb};
+ghost use Rattle.labels.specs.Label.{isLabel};
+ghost use Rattle.frames.specs.Frame.{validNumber};
+ghost use Rattle.frames.specs.Record.{countInside};
+ghost use Rattle.places.specs.Places.{allBelow};
+ghost use Rattle.station_rules.specs.Limits as spec;
+use frames::Record;
+use kinds::Body;
+use lanes::Lane;
+use lanes::Queue;
+use station_rules::Station;
+
+// Is n a number of stations, and own one of them?
+pub fn valid_number(n: usize, own: usize) -> bool
+    ensures { λ r. ⌜ r ≡ validNumber n own ⌝ }
+{
+    if n < 1 {
+        return false;
+    }
+    if 16 < n {
+        return false;
+    }
+    own < n
+}
+
+// May a lane hold this body?
+fn takeable(body: Body) -> bool
+    ensures { λ r. ⌜ r ≡ spec.takeable body ⌝ }
+{
+    if kinds::kind_of(body) < 1 {
+        return false;
+    }
+    kinds::body_inside(body)
+}
+
+// How many bodies the lane of station k may hold.
+fn lane_room(k: usize, own: usize) -> usize
+    ensures { λ r. ⌜ r ≡ cond (eqb k own) 1 2 ⌝ }
+{
+    if k == own {
+        return 1;
+    }
+    2
+}
+
+fn lane_inside(most: usize, lane: Lane) -> bool
+    ensures { λ r. ⌜ r ≡ spec.laneInside most lane ⌝ }
+{
+    let len = lane.len;
+    if most < len {
+        return false;
+    }
+    if len == 0 {
+        return true;
+    }
+    let first = lane.first;
+    if !takeable(first) {
+        return false;
+    }
+    if len <= 1 {
+        return true;
+    }
+    let second = lane.second;
+    takeable(second)
+}
+
+fn queue_inside(queue: Queue) -> bool
+    ensures { λ r. ⌜ r ≡ spec.queueInside queue ⌝ }
+{
+    let len = queue.len;
+    if 32 < len {
+        return false;
+    }
+    let mut i: usize = 0;
+    while i < len {
+        let slot = queue.slots[i];
+        let body = slot.body;
+        if !kinds::is_edit(body) {
+            return false;
+        }
+        i += 1;
+    }
+    true
+}
+
+// Are the first n labels labels?
+fn labels_inside(labels: [u8; 16], n: usize) -> bool
+    requires { ⌜ n ≤ 16 ⌝ }
+    ensures { λ r. ⌜ r ≡ allBelow n (λ j. isLabel (getD labels j 0)) ⌝ }
+{
+    let mut j: usize = 0;
+    while j < n {
+        if 2 < labels[j] {
+            return false;
+        }
+        j += 1;
+    }
+    true
+}
+
+// May a record in a frame have this count?
+pub fn count_fits(n: usize, count: u8) -> bool
+    requires { ⌜ (1 ≤ n) × (n ≤ 16) ⌝ }
+    ensures { λ r. ⌜ r ≡ countInside n count ⌝ }
+{
+    (count as usize) <= 2 * (n - 1)
+}
+
+// May the record of station k have this count? The own record's may reach 255.
+fn count_inside(n: usize, own: usize, k: usize, count: u8) -> bool
+    requires { ⌜ (1 ≤ n) × (n ≤ 16) ⌝ }
+    ensures { λ r. ⌜ r ≡ (eqb k own || countInside n count) ⌝ }
+{
+    if k == own {
+        return true;
+    }
+    count_fits(n, count)
+}
+
+// Is this a record of station k, inside its limits, in the table of station own among n?
+fn record_inside(n: usize, own: usize, k: usize, record: Record) -> bool
+    requires { ⌜ (1 ≤ n) × (n ≤ 16) ⌝ }
+    ensures { λ r. ⌜ r ≡ spec.recordInside n own k «record» ⌝ }
+{
+    if record.station != k {
+        return false;
+    }
+    if !count_inside(n, own, k, record.count) {
+        return false;
+    }
+    let body = record.body;
+    if !kinds::body_inside(body) {
+        return false;
+    }
+    let labels = record.labels;
+    labels_inside(labels, n)
+}
+
+// Is the record of station k inside its limits, if one is held?
+fn held_inside(n: usize, own: usize, k: usize, held: bool, record: Record) -> bool
+    requires { ⌜ (1 ≤ n) × (n ≤ 16) ⌝ }
+    ensures { λ r. ⌜ r ≡ (not held || spec.recordInside n own k «record») ⌝ }
+{
+    if !held {
+        return true;
+    }
+    record_inside(n, own, k, record)
+}
+
+// Is what a station of number own among n has of station k inside its limits: its label, its record where one is held, its lane?
+fn place_inside(
+    n: usize,
+    own: usize,
+    k: usize,
+    label: u8,
+    held: bool,
+    record: Record,
+    lane: Lane,
+) -> bool
+    requires { ⌜ (1 ≤ n) × (n ≤ 16) ⌝ }
+    ensures { λ r. ⌜ r ≡ spec.entryInside n own k label held «record» lane ⌝ }
+{
+    if 2 < label {
+        return false;
+    }
+    if !held_inside(n, own, k, held, record) {
+        return false;
+    }
+    lane_inside(lane_room(k, own), lane)
+}
+
+// Is the station inside its limits?
+pub fn station_inside(s: Station) -> bool
+    ensures { λ r. ⌜ r ≡ spec.stationInside s ⌝ }
+{
+    let n = s.n;
+    let own = s.own;
+    if !valid_number(n, own) {
+        return false;
+    }
+    if !s.acked[own] {
+        return false;
+    }
+    if !s.held[own] {
+        return false;
+    }
+    let body = s.body;
+    if !kinds::body_inside(body) {
+        return false;
+    }
+    let waiting = s.waiting;
+    if !queue_inside(waiting) {
+        return false;
+    }
+    let mut k: usize = 0;
+    while k < n {
+        if !place_inside(n, own, k, s.labels[k], s.held[k], s.table[k], s.lanes[k]) {
+            return false;
+        }
+        k += 1;
+    }
+    true
+}

@@ -1,0 +1,106 @@
+-- The answers of the open calls, each with the tests on its way decided.
+use Prim.Native.Nat.{ℕ, _-_, _≤_, _<_}
+use mathlib.Core.Path.{_≡_, refl, sym, ap, _∙_}
+use mathlib.Core.Bool.{Bool, true, false, _&&_}
+use native.Mathlib.Omega.{arith}
+use mathlib.Core.List.{List, _++_}
+use lib.ListN.{getD, take, length, replicate}
+use lib.Seq.{take-at}
+use lib.Dec.{leb, ltb, eqb}
+use borrow.Author.Tests.{leb-true, ltb-true, le-leb, lt-leb, ne-eqb}
+use Rattle.kinds.specs.declared.Body.{Body}
+use Rattle.kinds.specs.Limits.{isEdit}
+use Rattle.frames.specs.Record.{bytesInside}
+use Rattle.frames.specs.Frame.{validNumber, part, recordsInside, frameRefusal, recordsOf}
+use Rattle.frames.proofs.Check.{accepted-frame, shape}
+use Rattle.places.proofs.Laws.{and-left, and-right, allBelow-at, allBelow-make}
+use Rattle.station_rules.specs.declared.Station.{Station}
+use Rattle.station_rules.specs.declared.Kept.{Kept}
+use Rattle.station_rules.specs.declared.Taking.{Taking}
+use Rattle.station_rules.specs.declared.Heard.{Heard}
+use Rattle.station_rules.specs.Hearing.{Hearing, silent, hearRecords}
+use Rattle.station_rules.specs.Frames.{hearFrames, FrameAt, noTaking}
+use Rattle.station_rules.specs.State.{freshStation}
+use Rattle.station_rules.specs.Limits.{stationInside}
+use Rattle.station_rules.specs.Calls.{freshCall, posted, postCall, sourcesOf, hearCall}
+
+pub valid-parts : (n own : ℕ) → validNumber n own ≡ true → (1 ≤ n) × (n ≤ 16) × (own < n)
+valid-parts n own h =
+    let p = and-left (leb 1 n && leb n 16) (ltb own n) h in
+    (leb-true _ _ (and-left _ _ p), leb-true _ _ (and-right (leb 1 n) _ p), ltb-true _ _ (and-right (leb 1 n && leb n 16) _ h))
+
+-- fresh: 1
+pub fresh-done : (n own : ℕ) (s : Station) → validNumber n own ≡ true → s ≡ freshStation n own → record { refusal = 0; station = s } ≡ freshCall n own
+unfolding freshCall
+fresh-done n own s v e = rw (v, e)
+
+pub fresh-refused : (n own : ℕ) (s : Station) → validNumber n own ≡ false → s ≡ freshStation 1 0 → record { refusal = 1; station = s } ≡ freshCall n own
+unfolding freshCall
+fresh-refused n own s v e = rw (v, e)
+
+-- post: 2, 4, 3
+module _ (s : Station) (b : Body) where
+  pub post-outside : stationInside s ≡ false → record { refusal = 2; station = s } ≡ postCall s b
+  unfolding postCall
+  post-outside i = rw i
+
+  pub post-no-edit : stationInside s ≡ true → isEdit b ≡ false → record { refusal = 4; station = s } ≡ postCall s b
+  unfolding postCall
+  post-no-edit i e = rw (i, e)
+
+  pub post-full : stationInside s ≡ true → isEdit b ≡ true → 32 ≤ s .waiting .len → record { refusal = 3; station = s } ≡ postCall s b
+  unfolding postCall
+  post-full i e f = rw (i, e, le-leb 32 (s .waiting .len) f)
+
+  pub post-done : stationInside s ≡ true → isEdit b ≡ true → s .waiting .len < 32 → record { refusal = 0; station = posted s b } ≡ postCall s b
+  unfolding postCall
+  post-done i e f = rw (i, e, lt-leb 32 (s .waiting .len) f)
+
+-- hear: 2, 5, 6, 7, 8
+module _ (s : Station) (bytes : List ℕ) where
+  abbrev pub heardFrame : Hearing
+  heardFrame = hearRecords (silent s) (recordsOf bytes)
+
+  pub hear-outside : stationInside s ≡ false → record { refusal = 2; station = s; taken = replicate 16 false } ≡ hearCall s bytes
+  unfolding hearCall
+  hear-outside i = rw i
+
+  pub hear-refused :
+      (q : ℕ) → stationInside s ≡ true → q ≡ frameRefusal bytes (s .n) (s .own) → (q ≡ 0 → ⊥) →
+      record { refusal = q; station = s; taken = replicate 16 false } ≡ hearCall s bytes
+  unfolding hearCall
+  hear-refused q i e ne =
+      let f : eqb (frameRefusal bytes (s .n) (s .own)) 0 ≡ false = ne-eqb _ 0 (λ z. ne (e ∙ z)) in
+      rw (i, f, f, e)
+
+  module _ (i : stationInside s ≡ true) (e : frameRefusal bytes (s .n) (s .own) ≡ 0) where
+    pub hear-full : heardFrame .overfull ≡ true → record { refusal = 8; station = s; taken = replicate 16 false } ≡ hearCall s bytes
+    unfolding hearCall
+    hear-full f = rw (i, e, f)
+
+    pub hear-done :
+        (x : Station) (t : List Bool) → heardFrame .overfull ≡ false → x ≡ heardFrame .station → t ≡ sourcesOf (heardFrame .takings) →
+        record { refusal = 0; station = x; taken = t } ≡ hearCall s bytes
+    unfolding hearCall
+    hear-done x t f a b = rw (i, e, f, a, b)
+
+-- one frame, which begins at the first byte
+pub one-frame : (s : Station) (bytes : List ℕ) → hearFrames (silent s) bytes (replicate 16 0) 1 ≡ heardFrame s bytes
+unfolding hearFrames
+one-frame s bytes = refl
+
+pub frame-at : (bytes : List ℕ) (n own : ℕ) → frameRefusal bytes n own ≡ 0 → FrameAt n bytes 0
+unfolding recordsInside
+frame-at bytes n own e =
+    let a = accepted-frame bytes n own e in
+    let h = shape bytes (a .shape-right) in
+    record {
+      room = omega (arith, h .long);
+      inside =
+          allBelow-make (getD bytes 2 0) (λ k. bytesInside n (part bytes k))
+          (λ k l. and-left _ _ (allBelow-at (getD bytes 2 0) _ (and-left _ _ (a .records-right)) k l));
+    }
+
+pub takings-are :
+    (t u : List Taking) (len : ℕ) → len ≡ length u → t ≡ u ++ replicate (30 - length u) noTaking → take len t ≡ u
+takings-are t u len l e = rw e (take-at u _ len (sym l))

@@ -1,0 +1,67 @@
+-- Document 01's marked examples M1 to M4 and M9 to M11 at a station: which seen record counts, and which posts are refused.
+use Prim.Native.Nat.{ℕ, _≤_, _<_}
+use mathlib.Core.Bool.{true, false, not, _&&_}
+use mathlib.Core.Path.{_≡_, refl, sym, ap, _∙_}
+use native.Mathlib.Omega.{arith}
+use lib.Dec.{eqb}
+use lib.IntN.{pos, negsuc}
+use Rattle.kinds.specs.declared.Body.{Body}
+use Rattle.kinds.specs.declared.Body.the-variants.{Insert, Shift}
+use Rattle.kinds.specs.Limits.{isEdit}
+use Rattle.kinds.proofs.Examples as kinds
+use Rattle.labels.specs.Newer.{isNewer}
+use Rattle.labels.proofs.Examples as labels
+use Rattle.frames.specs.declared.Record.{Record}
+use Rattle.station_rules.specs.declared.Station.{Station}
+use Rattle.station_rules.specs.declared.Kept.{Kept}
+use Rattle.station_rules.specs.State.{heldOf, recordOf, recordLabel}
+use Rattle.station_rules.specs.Limits.{stationInside}
+use Rattle.station_rules.specs.Hearing.{counts}
+use Rattle.station_rules.specs.Calls.{postCall}
+use Rattle.station_rules.proofs.CallSteps.{post-no-edit, post-full, post-done}
+
+-- a station that holds a record of another station with some own label and count, and sees one with another
+pub record Seen (s : Station) (r : Record) (heldLabel heldCount seenLabel seenCount : ℕ) : Type 0 where
+  pub other : eqb (r .station) (s .own) ≡ false
+  pub held : heldOf s (r .station) ≡ true
+  pub held-label : recordLabel (recordOf s (r .station)) (r .station) ≡ heldLabel
+  pub held-count : (recordOf s (r .station)) .count ≡ heldCount
+  pub seen-label : recordLabel r (r .station) ≡ seenLabel
+  pub seen-count : r .count ≡ seenCount
+
+module _ (s : Station) (r : Record) where
+  decided : {a b c d : ℕ} → Seen s r a b c d → counts s r ≡ isNewer true a b c d
+  decided v = rw (v .other) (λ i. isNewer (v .held i) (v .held-label i) (v .held-count i) (v .seen-label i) (v .seen-count i))
+
+  pub m1 : Seen s r 1 0 1 1 → counts s r ≡ true
+  m1 v = decided v ∙ labels.m1
+
+  pub m2 : Seen s r 1 0 1 0 → counts s r ≡ false
+  m2 v = decided v ∙ labels.m2
+
+  pub m3 : (a b : ℕ) → Seen s r 2 a 0 b → counts s r ≡ true
+  m3 a b v = decided v ∙ labels.m3 a b
+
+  pub m4 : (a b : ℕ) → Seen s r 0 a 2 b → counts s r ≡ false
+  m4 a b v = decided v ∙ labels.m4 a b
+
+-- what a post at a station inside its limits returns
+module _ (s : Station) (i : stationInside s ≡ true) where
+  refused : (b : Body) → isEdit b ≡ false → (postCall s b) .refusal ≡ 4
+  refused b e = sym (ap (λ (k : Kept). k .refusal) (post-no-edit s b i e))
+
+  taken : (b : Body) → isEdit b ≡ true → s .waiting .len < 32 → (postCall s b) .refusal ≡ 0
+  taken b e l = sym (ap (λ (k : Kept). k .refusal) (post-done s b i e l))
+
+  module _ (event : ℕ) (least : 1 ≤ event) (most : event ≤ 99_999_999) (room : s .waiting .len < 32) where
+    -- a shift of -90,000 is taken, one of -90,001 is not
+    pub m9 : ((postCall s (Shift event (negsuc 89_999))) .refusal ≡ 0) × ((postCall s (Shift event (negsuc 90_000))) .refusal ≡ 4)
+    m9 = let e = kinds.m9 event least most in (taken _ (e .0) room, refused _ (e .1))
+
+    -- a start of 2,159,999 is taken, 2,160,000 is not
+    pub m10 : ((postCall s (Insert event (pos 2_159_999))) .refusal ≡ 0) × ((postCall s (Insert event (pos 2_160_000))) .refusal ≡ 4)
+    m10 = let e = kinds.m10 event least most in (taken _ (e .0) room, refused _ (e .1))
+
+  -- the 33rd waiting edit
+  pub m11 : (b : Body) → isEdit b ≡ true → s .waiting .len ≡ 32 → (postCall s b) .refusal ≡ 3
+  m11 b e l = sym (ap (λ (k : Kept). k .refusal) (post-full s b i e (omega arith)))

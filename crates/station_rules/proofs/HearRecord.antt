@@ -1,0 +1,31 @@
+-- What one record does to a hearing: nothing where it does not count, and else the three parts of it, each by itself.
+use mathlib.Core.Bool.{true, false, cond, _&&_, _||_}
+use mathlib.Core.List.{[], _∷_, _++_}
+use mathlib.Core.Path.{_≡_, refl}
+use lib.Dec.{leb}
+use Rattle.frames.specs.declared.Record.{Record}
+use Rattle.station_rules.specs.State.{laneAt}
+use Rattle.station_rules.specs.Hearing.{Hearing, counts, takes, heardNewer, hearRecord}
+
+-- a newer record of another station
+unfoldable pub heardOne : Hearing → Record → Hearing
+heardOne h r =
+    record {
+      station = heardNewer (h .station) r;
+      takings = h .takings ++ cond (takes (h .station) r) (record { source = r .station; body = r .body } ∷ []) [];
+      overfull = h .overfull || (takes (h .station) r && leb 2 ((laneAt (h .station) (r .station)) .len));
+    }
+
+hearRecord-cond : (h : Hearing) (r : Record) → hearRecord h r ≡ cond (counts (h .station) r) (heardOne h r) h
+unfolding hearRecord heardOne
+hearRecord-cond h r = refl
+
+pub hearRecord-skips : (h : Hearing) (r : Record) → counts (h .station) r ≡ false → hearRecord h r ≡ h
+hearRecord-skips h r e = rw (hearRecord-cond h r, e)
+
+pub hearRecord-counts : (h : Hearing) (r : Record) → counts (h .station) r ≡ true → hearRecord h r ≡ heardOne h r
+hearRecord-counts h r e = rw (hearRecord-cond h r, e)
+
+pub heardOne-station : (h : Hearing) (r : Record) → (heardOne h r) .station ≡ heardNewer (h .station) r
+unfolding heardOne
+heardOne-station h r = refl

@@ -1,0 +1,57 @@
+-- The lengths that a station's arrays have by their types, out of what owning a station tells: each array says how many entries it has, and the table's
+-- array says it of each record's labels.
+use Prim.Native.Nat.{ℕ, zero, suc, _<_}
+use native.Mathlib.Omega.{arith}
+use mathlib.Core.Path.{_≡_, refl, sym, ap, subst, _∙_}
+use mathlib.Core.List.{List, [], _∷_, map}
+use lib.ListN.{getD, length, length-map, List·getD-map}
+use mir.Val.{Val}
+use base.Fml.{Fml}
+use denote.Shadow.{shadow}
+use denote.Array.{each}
+use denote.Struct as Struct
+use denote.Struct.Laws as Laws
+use Rattle.station_rules.specs.declared.Station.{Station}
+use Rattle.station_rules.specs.State.{recordOf, noRecord}
+use Rattle.station_rules.proofs.Shape.{Shaped}
+use Rattle.frames.proofs.Record as Carried
+use Rattle.station_rules.proofs.Station as Declared
+use Rattle.station_rules.proofs.Station.Laws as DeclaredLaws
+
+-- what is said of each element is said of the one at a place
+pub each-at :
+    {X : Type 0} (own : X → List Val → Fml) (xs : List X) (us : List Val) → shadow (each X own xs us) → (i : ℕ) (d : X) → i < length xs →
+    (u : Val) × shadow (own (getD xs i d) (u ∷ []))
+each-at own [] us h i d l = absurd (omega arith)
+each-at own (x ∷ xs) [] h i d l = absurd h
+each-at own (x ∷ xs) (u ∷ us) h zero d l = (u, h .0)
+each-at own (x ∷ xs) (u ∷ us) h (suc i) d l = each-at own xs us (h .1) i d (omega arith)
+
+-- what owning a station tells
+abbrev pub Owned : Station → Type 0
+Owned s = shadow ((Struct.Declared.row Declared.the-type) .own s (Laws.val Declared.the-type DeclaredLaws.the-laws s ∷ []))
+
+-- the labels of a record of the table
+labels-at :
+    (s : Station) (us : List Val) → shadow (each (Carried.the-field .row .Denot) (Carried.the-field .row .own) ((Declared.the-type .to s) .1 .1 .1 .1 .1 .1 .1 .1 .0) us) →
+    (k : ℕ) → k < length (s .table) → length ((recordOf s k) .labels) ≡ 16
+labels-at s us h k l =
+    let f = Carried.the-type .to in
+    let o = each-at (Carried.the-field .row .own) ((Declared.the-type .to s) .1 .1 .1 .1 .1 .1 .1 .1 .0) us h k (f noRecord) (rw (length-map (s .table) f) l) in
+    let e = subst (λ (x : Carried.the-field .row .Denot). shadow (Carried.the-field .row .own x (o .0 ∷ []))) (List·getD-map f (s .table) k noRecord) (o .1) in
+    simp length-map at (e .1 .1 .1 .1 .1 .0 .1 .0 .1)
+
+pub lengths-at : (s : Station) (vs : List Val) → shadow ((Struct.Declared.row Declared.the-type) .own s vs) → Shaped s
+lengths-at s vs h =
+    record {
+      acked = simp length-map at (h .1 .1 .1 .1 .1 .0 .1 .0 .1);
+      labels = simp length-map at (h .1 .1 .1 .1 .1 .1 .1 .1 .0 .1 .0 .1);
+      held = simp length-map at (h .1 .1 .1 .1 .1 .1 .1 .1 .1 .0 .1 .0 .1);
+      table = simp length-map at (h .1 .1 .1 .1 .1 .1 .1 .1 .1 .1 .0 .1 .0 .1);
+      lanes = simp length-map at (h .1 .1 .1 .1 .1 .1 .1 .1 .1 .1 .1 .0 .1 .0 .1);
+      slots = simp length-map at (h .1 .1 .1 .1 .0 .1 .1 .1 .0 .1 .0 .1);
+      record-labels = λ k l. labels-at s (h .1 .1 .1 .1 .1 .1 .1 .1 .1 .1 .0 .0) (h .1 .1 .1 .1 .1 .1 .1 .1 .1 .1 .0 .1 .1) k (rw (simp length-map at (h .1 .1 .1 .1 .1 .1 .1 .1 .1 .1 .0 .1 .0 .1)) l);
+    }
+
+pub lengths : (s : Station) → Owned s → Shaped s
+lengths s h = lengths-at s (Laws.val Declared.the-type DeclaredLaws.the-laws s ∷ []) h

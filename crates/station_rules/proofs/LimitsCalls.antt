@@ -1,0 +1,147 @@
+-- No call takes a station outside its limits. The records of a frame that passes its check may stand in a frame; so hearing one keeps the limits, as
+-- fresh, post and turn do, and a refused call leaves the station.
+use Prim.Native.Nat.{ℕ, zero, suc, pred, _≤_, _<_}
+use mathlib.Core.Bool.{Bool, true, false, cond, not, _&&_, _||_, false≢true}
+use mathlib.Core.List.{List, [], _∷_}
+use mathlib.Core.Path.{_≡_, refl}
+use native.Mathlib.Omega.{arith}
+use lib.Dec.{leb, ltb, eqb}
+use lib.ListN.{getD}
+use borrow.Author.Tests.{ltb-true, leb-false, le-leb}
+use Rattle.kinds.specs.declared.Body.{Body}
+use Rattle.kinds.specs.Limits.{numbersInside, isEdit}
+use Rattle.kinds.specs.Refusals.{done, laneFull}
+use Rattle.kinds.proofs.Laws.{inside-back}
+use Rattle.labels.specs.Packing.{unpacked, wordInside}
+use Rattle.labels.proofs.Laws.{inside-all, all-at}
+use Rattle.frames.specs.Words.{wordAt, signed}
+use Rattle.frames.specs.Record as frames
+use Rattle.frames.specs.Frame.{validNumber, part, stationAt, shapeWrong, addressWrong, recordsInside, frameRefusal, recordsOf}
+use Rattle.places.specs.Places.{allBelow, anyBelow, tabulate}
+use Rattle.places.proofs.Laws.{and-left, and-right, allBelow-at}
+use Rattle.station_rules.specs.declared.Station.{Station}
+use Rattle.station_rules.specs.declared.Heard.{Heard}
+use Rattle.station_rules.specs.Limits.{stationInside}
+use Rattle.station_rules.specs.Hearing.{Hearing, silent, hearRecords}
+use Rattle.station_rules.specs.Calls.{freshCall, posted, postCall, hearCall, turnCall}
+use Rattle.station_rules.proofs.Shape.{Shaped}
+use Rattle.station_rules.proofs.LimitsFresh.{fresh-inside, posted-inside}
+use Rattle.station_rules.proofs.LimitsHear.{Carried}
+use Rattle.station_rules.proofs.LimitsHearing.{AllCarried, hearRecords-inside}
+use Rattle.station_rules.proofs.LimitsSent.{carried-append}
+use Rattle.station_rules.proofs.LimitsTurn.{turn-inside}
+
+-- sixteen bytes inside the record limits
+pub bytes-carried : (n : ℕ) (bytes : List ℕ) → frames.bytesInside n bytes ≡ true → Carried n (frames.recordOf bytes)
+unfolding frames.bytesInside frames.recordOf
+bytes-carried n bytes h =
+    let station = ltb (getD bytes 0 0) n in
+    let count = frames.countInside n (getD bytes 1 0) in
+    let body = numbersInside (getD bytes 2 0) (wordAt bytes 4) (signed (wordAt bytes 8)) in
+    let mark = eqb (getD bytes 3 0) frames.recordMark in
+    let labels = wordInside n (wordAt bytes 12) in
+    let h₄ : (station && count && body && mark) ≡ true = and-left (station && count && body && mark) labels h in
+    let h₃ : (station && count && body) ≡ true = and-left (station && count && body) mark h₄ in
+    let h₂ : (station && count) ≡ true = and-left (station && count) body h₃ in
+    let whole = inside-all n (wordAt bytes 12) (and-right (station && count && body && mark) labels h) in
+    record {
+      station = ltb-true (getD bytes 0 0) n (and-left station count h₂);
+      count = and-right station count h₂;
+      body = inside-back (getD bytes 2 0) (wordAt bytes 4) (signed (wordAt bytes 8)) (and-right (station && count) body h₃);
+      labels = λ j l. le-leb (getD (unpacked 16 (wordAt bytes 12)) j 0) 2 (all-at (unpacked 16 (wordAt bytes 12)) whole j);
+    }
+
+-- a frame that passes the check of its records
+pub frame-carried : (n : ℕ) (bytes : List ℕ) → recordsInside bytes n ≡ true → AllCarried n (recordsOf bytes)
+unfolding recordsInside recordsOf
+frame-carried n bytes h = go (getD bytes 2 0) (omega arith)
+  where
+    fine : ℕ → Bool
+    fine k = frames.bytesInside n (part bytes k) && (eqb k 0 || ltb (stationAt bytes (pred k)) (stationAt bytes k))
+
+    each : (k : ℕ) → k < getD bytes 2 0 → Carried n (frames.recordOf (part bytes k))
+    each k l =
+        bytes-carried n (part bytes k)
+        (and-left (frames.bytesInside n (part bytes k)) (eqb k 0 || ltb (stationAt bytes (pred k)) (stationAt bytes k))
+        (allBelow-at (getD bytes 2 0) fine
+        (and-left (allBelow (getD bytes 2 0) fine) (anyBelow (getD bytes 2 0) (λ k. eqb (stationAt bytes k) (getD bytes 1 0))) h) k l))
+
+    go : (m : ℕ) → m ≤ getD bytes 2 0 → AllCarried n (tabulate m (λ k. frames.recordOf (part bytes k)))
+    go m = elim m [
+      | zero ↦ λ l. unfold tabulate in tt
+      | suc (j → ih) ↦
+          λ l. unfold tabulate in
+          (carried-append n (tabulate j (λ k. frames.recordOf (part bytes k))) (frames.recordOf (part bytes j) ∷ [])
+          (ih (omega arith)) (each j l, tt))
+    ]
+
+pub fresh-call-inside : (n own : ℕ) → stationInside ((freshCall n own) .station) ≡ true
+unfolding freshCall
+fresh-call-inside n own = go (validNumber n own) refl
+  where
+    go :
+        (t : Bool) → validNumber n own ≡ t →
+        stationInside ((freshCall n own) .station) ≡ true
+    go true e = rw e (fresh-inside n own e)
+    go false e = rw e (fresh-inside 1 0 refl)
+
+module _ (s : Station) (shape : Shaped s) (inside : stationInside s ≡ true) where
+  pub post-call-inside : (b : Body) → stationInside ((postCall s b) .station) ≡ true
+  unfolding postCall
+  post-call-inside b = rw inside (go (isEdit b) (leb 32 (s .waiting .len)) refl refl)
+    where
+      go :
+          (e f : Bool) → isEdit b ≡ e → leb 32 (s .waiting .len) ≡ f →
+          stationInside (cond (eqb (cond (not e) 4 (cond f 3 0)) 0) (posted s b) s) ≡ true
+      go true false p q = posted-inside s b shape inside p (leb-false 32 (s .waiting .len) q)
+      go true true p q = inside
+      go false f p q = inside
+
+  pub turn-call-inside : stationInside ((turnCall s) .station) ≡ true
+  unfolding turnCall
+  turn-call-inside = rw inside (turn-inside s shape inside)
+
+  frame-fine : (bytes : List ℕ) → eqb (frameRefusal bytes (s .n) (s .own)) done ≡ true → recordsInside bytes (s .n) ≡ true
+  unfolding frameRefusal
+  frame-fine bytes h = go (shapeWrong bytes) (addressWrong bytes (s .n) (s .own)) (recordsInside bytes (s .n)) h
+    where
+      go : (a b c : Bool) → eqb (cond a 5 (cond b 6 (cond (not c) 7 0))) 0 ≡ true → c ≡ true
+      go false false true z = refl
+      go false false false z = z
+      go false true c z = absurd (false≢true z)
+      go true b c z = absurd (false≢true z)
+
+  -- what hearing answers, where the station is inside its limits
+  hear-answer : (bytes : List ℕ) → ℕ
+  hear-answer bytes =
+      cond (not (eqb (frameRefusal bytes (s .n) (s .own)) done)) (frameRefusal bytes (s .n) (s .own))
+      (cond ((hearRecords (silent s) (recordsOf bytes)) .overfull) laneFull done)
+
+  hear-station :
+      (bytes : List ℕ) →
+      (hearCall s bytes) .station ≡ cond (eqb (hear-answer bytes) done) ((hearRecords (silent s) (recordsOf bytes)) .station) s
+  unfolding hearCall hear-answer
+  hear-station bytes = rw inside (pick (eqb (hear-answer bytes) done) _ _ _ _ _ _)
+    where
+      pick :
+          (t : Bool) (a b : ℕ) (x y : Station) (u v : List Bool) →
+          (cond {A = Heard} t (record { refusal = a; station = x; taken = u }) (record { refusal = b; station = y; taken = v })) .station
+          ≡ cond t x y
+      pick true a b x y u v = refl
+      pick false a b x y u v = refl
+
+  pub hear-call-inside : (bytes : List ℕ) → stationInside ((hearCall s bytes) .station) ≡ true
+  unfolding hear-answer
+  hear-call-inside bytes =
+      rw (hear-station bytes) (go (eqb (frameRefusal bytes (s .n) (s .own)) done) (heard .overfull) refl refl)
+    where
+      heard : Hearing
+      heard = hearRecords (silent s) (recordsOf bytes)
+
+      go :
+          (a b : Bool) → eqb (frameRefusal bytes (s .n) (s .own)) done ≡ a → heard .overfull ≡ b →
+          stationInside (cond (eqb (cond (not a) (frameRefusal bytes (s .n) (s .own)) (cond b laneFull done)) done) (heard .station) s) ≡ true
+      go true false p q =
+          hearRecords-inside (silent s) (recordsOf bytes) shape inside (frame-carried (s .n) bytes (frame-fine bytes p)) q
+      go true true p q = inside
+      go false b p q = rw p inside

@@ -1,0 +1,129 @@
+-- Hearing keeps the limits: a record that a frame may carry, heard by a station inside its limits, leaves it inside, unless a lane that holds two would
+-- get a third. Only the record's own place changes, and it is never the hearer's.
+use Prim.Native.Nat.{ℕ, _+_, _%_, _<_}
+use mathlib.Core.Bool.{Bool, true, false, cond, not, _&&_, _||_}
+use mathlib.Core.Path.{_≡_, refl, sym, subst, _∙_}
+use native.Mathlib.Decide.{ℕ-discrete}
+use native.Mathlib.Omega.{arith}
+use lib.Dec.{leb, eqb}
+use borrow.Author.Tests.{leb-false, le-leb, ne-eqb, eqb-false, not-true}
+use Rattle.kinds.specs.Body.{kindOf}
+use Rattle.kinds.specs.Limits.{bodyInside}
+use Rattle.labels.specs.Label.{isLabel, successor}
+use Rattle.labels.specs.Newer.{isNewer}
+use Rattle.frames.specs.declared.Record.{Record}
+use Rattle.frames.specs.Record.{countInside}
+use Rattle.places.proofs.Laws.{and-both, and-left, and-right, fill-below}
+use Rattle.places.proofs.Keeps.{cond-keeps}
+use Rattle.station_rules.specs.declared.Station.{Station}
+use Rattle.lanes.specs.Lane.{pushed}
+use Rattle.station_rules.specs.State.{labelOf, heldOf, recordOf, laneAt, recordLabel}
+use Rattle.station_rules.specs.Limits.{laneInside, takeable}
+use Rattle.station_rules.specs.Hearing.{counts, advances, takes, replaced, heardNewer}
+use Rattle.station_rules.proofs.Shape.{Shaped}
+use Rattle.station_rules.proofs.LimitsLane.{pushed-inside}
+use Rattle.station_rules.proofs.StationLimits.{RecordHolds, PlaceHolds, Inside}
+use Rattle.station_rules.proofs.Cells.{heard-n, heard-own, heard-waiting, heard-body, label-here, label-other, acked-other, held-other, record-here, record-other, lane-here, lane-other}
+
+-- a record that a frame among n stations may carry
+pub record Carried (n : ℕ) (r : Record) : Type 0 where
+  pub station : r .station < n
+  pub count : countInside n (r .count) ≡ true
+  pub body : bodyInside (r .body) ≡ true
+  pub labels : (j : ℕ) → j < n → isLabel (recordLabel r j) ≡ true
+
+pub successor-label : (x : ℕ) → isLabel (successor x) ≡ true
+successor-label x = le-leb ((x + 1) % 3) 2 (omega arith)
+
+-- a record that counts is of another station
+pub counts-other : (s : Station) (r : Record) → counts s r ≡ true → r .station ≡ s .own → ⊥
+counts-other s r h =
+    eqb-false (r .station) (s .own)
+    (not-true (eqb (r .station) (s .own))
+    (and-left (not (eqb (r .station) (s .own)))
+    (isNewer (heldOf s (r .station)) (recordLabel (recordOf s (r .station)) (r .station)) ((recordOf s (r .station)) .count)
+    (recordLabel r (r .station)) (r .count)) h))
+
+takes-takeable : (s : Station) (r : Record) → bodyInside (r .body) ≡ true → takes s r ≡ true → takeable (r .body) ≡ true
+takes-takeable s r b h =
+    let ne : kindOf (r .body) ≡ 0 → ⊥ =
+    eqb-false (kindOf (r .body)) 0
+    (not-true (eqb (kindOf (r .body)) 0) (and-right (advances s r) (not (eqb (kindOf (r .body)) 0)) h)) in
+    and-both (le-leb 1 (kindOf (r .body)) (omega arith)) b
+
+module _ (s : Station) (r : Record) (shape : Shaped s) (c : Inside s) (carry : Carried (s .n) r) where
+  replaced-holds :
+      (own : ℕ) → RecordHolds (s .n) own (r .station) (replaced (s .n) (recordOf s (r .station)) r)
+  unfolding replaced
+  replaced-holds own =
+      record {
+        station = refl;
+        count = cond-or (eqb (r .station) own) (countInside (s .n) (r .count)) (carry .count);
+        body = carry .body;
+        labels =
+            λ j l. rw (fill-below (s .n) (recordLabel r) ((recordOf s (r .station)) .labels) j 0 l
+            (rw (shape .record-labels (r .station) (omega arith)) (omega arith)))
+            (carry .labels j l);
+      }
+    where
+      cond-or : (a b : Bool) → b ≡ true → (a || b) ≡ true
+      cond-or true b e = refl
+      cond-or false b e = e
+
+  heard-lane-inside :
+      (counts s r ≡ true) → (takes s r && leb 2 ((laneAt s (r .station)) .len)) ≡ false → laneInside 2 (laneAt s (r .station)) ≡ true →
+      laneInside 2 (cond (takes s r) (pushed (laneAt s (r .station)) (r .body)) (laneAt s (r .station))) ≡ true
+  heard-lane-inside h full before = go (takes s r) refl
+    where
+      go : (t : Bool) → takes s r ≡ t → laneInside 2 (cond t (pushed (laneAt s (r .station)) (r .body)) (laneAt s (r .station))) ≡ true
+      go true e =
+          let room : (laneAt s (r .station)) .len < 2 = leb-false 2 ((laneAt s (r .station)) .len) (rw e at full) in
+          pushed-inside 2 (laneAt s (r .station)) (r .body) before room room (takes-takeable s r (carry .body) e)
+      go false e = before
+
+  heard-place :
+      (counts s r ≡ true) → (takes s r && leb 2 ((laneAt s (r .station)) .len)) ≡ false → PlaceHolds (heardNewer s r) (r .station)
+  heard-place h full =
+      let below : r .station < 16 = omega arith in
+      let before = c .places (r .station) (carry .station) in
+      let most : _≡_ {A = ℕ} (cond (eqb (r .station) (s .own)) 1 2) 2 = rw (ne-eqb (r .station) (s .own) (counts-other s r h)) in
+      record {
+        label =
+            rw (label-here s r (rw (shape .labels) below))
+            (cond-keeps (λ (x : ℕ). isLabel x ≡ true) (advances s r) (successor (labelOf s (r .station))) (labelOf s (r .station))
+            (successor-label (labelOf s (r .station))) (before .label));
+        held =
+            λ e. rw (heard-n s r, heard-own s r, record-here s r (rw (shape .table) below)) (replaced-holds (s .own));
+        lane =
+            rw (heard-own s r, most, lane-here s r (rw (shape .lanes) below))
+            (heard-lane-inside h full (rw most at (before .lane)));
+      }
+
+  heard-place-other : (j : ℕ) → j < s .n → (j ≡ r .station → ⊥) → PlaceHolds (heardNewer s r) j
+  heard-place-other j l ne =
+      let before = c .places j l in
+      record {
+        label = rw (label-other s r j ne) (before .label);
+        held =
+            λ e. rw (heard-n s r, heard-own s r, record-other s r j ne) (before .held (sym (held-other s r j ne) ∙ e));
+        lane = rw (heard-own s r, lane-other s r j ne) (before .lane);
+      }
+
+  pub heard-holds :
+      (counts s r ≡ true) → (takes s r && leb 2 ((laneAt s (r .station)) .len)) ≡ false → Inside (heardNewer s r)
+  heard-holds h full =
+      let ne : s .own ≡ r .station → ⊥ = λ e. counts-other s r h (sym e) in
+      record {
+        low = rw (heard-n s r) (c .low);
+        high = rw (heard-n s r) (c .high);
+        own = rw (heard-n s r, heard-own s r) (c .own);
+        acked = rw (heard-own s r, acked-other s r (s .own) ne) (c .acked);
+        held = rw (heard-own s r, held-other s r (s .own) ne) (c .held);
+        body = rw (heard-body s r) (c .body);
+        waiting = rw (heard-waiting s r) (c .waiting);
+        places =
+            λ j l. elim (ℕ-discrete j (r .station)) [
+              | yes e ↦ subst (λ (i : ℕ). PlaceHolds (heardNewer s r) i) (sym e) (heard-place h full)
+              | no d ↦ heard-place-other j (rw (heard-n s r) at l) d
+            ];
+      }

@@ -1,0 +1,203 @@
+-- A station while it hears. One fold carries all of it: N, the own number, the waiting edits, the body and the own lane stay; the shape and the limits
+-- are kept as long as no lane is overfull; and every taking stands in a lane of another station, so from silence on there are at most 30.
+use Prim.Native.Nat.{ℕ, suc, _+_, _*_, _≤_, _<_}
+use mathlib.Core.Bool.{Bool, true, false, cond, _&&_, _||_}
+use mathlib.Core.List.{List, [], _∷_, _++_, append-nil}
+use mathlib.Core.Path.{_≡_, refl, sym, subst, _∙_}
+use native.Mathlib.Decide.{ℕ-discrete}
+use native.Mathlib.Omega.{arith}
+use lib.Dec.{leb, eqb}
+use lib.ListN.{length, length-append}
+use borrow.Author.Tests.{leb-false, eq-eqb, ne-eqb}
+use Rattle.frames.specs.declared.Record.{Record}
+use Rattle.places.proofs.Laws.{or-left, or-right}
+use Rattle.places.proofs.Total.{total, total-ext, total-gap, total-raised}
+use Rattle.station_rules.specs.declared.Station.{Station}
+use Rattle.station_rules.specs.State.{laneAt}
+use Rattle.station_rules.specs.Limits.{stationInside}
+use Rattle.station_rules.specs.Hearing.{Hearing, silent, counts, takes, heardNewer, hearRecord, hearRecords}
+use Rattle.station_rules.proofs.HearRecord.{heardOne, hearRecord-counts, hearRecord-skips}
+use Rattle.station_rules.proofs.Shape.{Shaped, heardNewer-shaped, hearRecord-shaped}
+use Rattle.station_rules.proofs.LimitsLane.{pushed-len, lane-most}
+use Rattle.station_rules.proofs.StationLimits.{Inside, inside-open, inside-make}
+use Rattle.station_rules.proofs.Cells.{heard-n, heard-own, heard-waiting, heard-body, lane-here, lane-other}
+use Rattle.station_rules.proofs.LimitsHear.{Carried, counts-other, heard-holds}
+
+-- how many bodies stand in the lane of another station, and in all of those
+abbrev otherLen : Station → ℕ → ℕ
+otherLen s k = cond (eqb k (s .own)) 0 ((laneAt s k) .len)
+
+unfoldable pub otherLens : Station → ℕ
+otherLens s = total (s .n) (otherLen s)
+
+pub otherLens-most : (s : Station) → Inside s → otherLens s ≤ 30
+unfolding otherLens
+otherLens-most s c =
+    let gap : total (s .n) (otherLen s) + 2 ≤ s .n * 2 =
+    total-gap (s .n) 2 (otherLen s) each (s .own) (c .own) (rw (eq-eqb (s .own) (s .own) refl)) in
+    omega (arith, c .high)
+  where
+    each : (k : ℕ) → k < s .n → otherLen s k ≤ 2
+    each k l = go (eqb k (s .own)) refl
+      where
+        go : (t : Bool) → eqb k (s .own) ≡ t → cond t 0 ((laneAt s k) .len) ≤ 2
+        go true e = omega arith
+        go false e = lane-most 2 (laneAt s k) (rw e at (c .places k l .lane))
+
+module _ (s : Station) (r : Record) (other : r .station ≡ s .own → ⊥) where
+  otherLen-same : (j : ℕ) → (j ≡ r .station → ⊥) → otherLen (heardNewer s r) j ≡ otherLen s j
+  otherLen-same j ne = rw (heard-own s r, lane-other s r j ne)
+
+  -- nothing is taken
+  otherLens-kept : r .station < length (s .lanes) → takes s r ≡ false → otherLens (heardNewer s r) ≡ otherLens s
+  unfolding otherLens
+  otherLens-kept b e =
+      rw (heard-n s r) (total-ext (s .n) (otherLen (heardNewer s r)) (otherLen s) each)
+    where
+      each : (k : ℕ) → k < s .n → otherLen (heardNewer s r) k ≡ otherLen s k
+      each k l =
+          elim (ℕ-discrete k (r .station)) [
+            | yes same ↦ rw (same, heard-own s r, lane-here s r b, e)
+            | no ne ↦ otherLen-same k ne
+          ]
+
+  -- a body is taken
+  otherLens-raised :
+      r .station < s .n → r .station < length (s .lanes) → takes s r ≡ true → (laneAt s (r .station)) .len < 2 →
+      otherLens (heardNewer s r) ≡ suc (otherLens s)
+  unfolding otherLens
+  otherLens-raised l b e room =
+      rw (heard-n s r)
+      (total-raised (s .n) (otherLen s) (otherLen (heardNewer s r)) (r .station) l
+      (rw (heard-own s r, ne-eqb (r .station) (s .own) other, lane-here s r b, e) (pushed-len (laneAt s (r .station)) (r .body) room))
+      (λ k m ne. otherLen-same k ne))
+
+-- what holds of a hearing h that began as a
+pub record Hears (a h : Hearing) : Type 0 where
+  pub n : h .station .n ≡ a .station .n
+  pub own : h .station .own ≡ a .station .own
+  pub waiting : h .station .waiting ≡ a .station .waiting
+  pub body : h .station .body ≡ a .station .body
+  pub lane : laneAt (h .station) (a .station .own) ≡ laneAt (a .station) (a .station .own)
+  pub shaped : Shaped (h .station)
+  pub inside : h .overfull ≡ false → Inside (h .station)
+  pub takings : h .overfull ≡ false → length (h .takings) ≤ length (a .takings) + otherLens (h .station)
+
+-- every record of a list may stand in a frame among n
+abbrev pub AllCarried : ℕ → List Record → Type 0
+AllCarried n [] = Unit {0}
+AllCarried n (r ∷ rs) = Carried n r × AllCarried n rs
+
+module _ (a : Hearing) (c : Inside (a .station)) where
+  pub hears-none : Shaped (a .station) → Hears a a
+  hears-none shape =
+      record {
+        n = refl;
+        own = refl;
+        waiting = refl;
+        body = refl;
+        lane = refl;
+        shaped = shape;
+        inside = λ f. c;
+        takings = λ f. omega arith;
+      }
+
+  module _ (h : Hearing) (r : Record) (hs : Hears a h) (carry : Carried (a .station .n) r) where
+    here : Carried (h .station .n) r
+    here = subst (λ (m : ℕ). Carried m r) (sym (hs .n)) carry
+
+    below : r .station < 16
+    below = omega (arith, c .high, carry .station)
+
+    fits : r .station < length (h .station .lanes)
+    fits = rw (hs .shaped .lanes) below
+
+    takings-most :
+        counts (h .station) r ≡ true → (h .overfull || (takes (h .station) r && leb 2 ((laneAt (h .station) (r .station)) .len))) ≡ false →
+        length (h .takings ++ cond (takes (h .station) r) (record { source = r .station; body = r .body } ∷ []) [])
+        ≤ length (a .takings) + otherLens (heardNewer (h .station) r)
+    takings-most e f = go (takes (h .station) r) refl
+      where
+        full : Bool
+        full = takes (h .station) r && leb 2 ((laneAt (h .station) (r .station)) .len)
+
+        so-far : length (h .takings) ≤ length (a .takings) + otherLens (h .station)
+        so-far = hs .takings (or-left (h .overfull) full f)
+
+        go :
+            (t : Bool) → takes (h .station) r ≡ t →
+            length (h .takings ++ cond t (record { source = r .station; body = r .body } ∷ []) [])
+            ≤ length (a .takings) + otherLens (heardNewer (h .station) r)
+        go true taken =
+            let room : (laneAt (h .station) (r .station)) .len < 2 =
+            leb-false 2 ((laneAt (h .station) (r .station)) .len) (rw taken at (or-right (h .overfull) full f)) in
+            let more : otherLens (heardNewer (h .station) r) ≡ suc (otherLens (h .station)) =
+            otherLens-raised (h .station) r (counts-other (h .station) r e) (here .station) fits taken room in
+            rw (length-append (h .takings) (record { source = r .station; body = r .body } ∷ [])) (omega (arith, so-far))
+        go false passed =
+            let same : otherLens (heardNewer (h .station) r) ≡ otherLens (h .station) =
+            otherLens-kept (h .station) r (counts-other (h .station) r e) fits passed in
+            rw (append-nil (h .takings)) (omega (arith, so-far))
+
+    hears-newer : counts (h .station) r ≡ true → Hears a (heardOne h r)
+    unfolding heardOne
+    hears-newer e =
+        let full = takes (h .station) r && leb 2 ((laneAt (h .station) (r .station)) .len) in
+        record {
+          n = heard-n (h .station) r ∙ hs .n;
+          own = heard-own (h .station) r ∙ hs .own;
+          waiting = heard-waiting (h .station) r ∙ hs .waiting;
+          body = heard-body (h .station) r ∙ hs .body;
+          lane =
+              lane-other (h .station) r (a .station .own) (λ z. counts-other (h .station) r e (sym z ∙ sym (hs .own))) ∙ hs .lane;
+          shaped = heardNewer-shaped (h .station) r below (hs .shaped);
+          inside =
+              λ f. heard-holds (h .station) r (hs .shaped) (hs .inside (or-left (h .overfull) full f)) here e (or-right (h .overfull) full f);
+          takings = takings-most e;
+        }
+
+    pub hears-record : Hears a (hearRecord h r)
+    hears-record = go (counts (h .station) r) refl
+      where
+        go : (t : Bool) → counts (h .station) r ≡ t → Hears a (hearRecord h r)
+        go true e = rw (hearRecord-counts h r e) (hears-newer e)
+        go false e = rw (hearRecord-skips h r e) hs
+
+  pub hears-records : (h : Hearing) (rs : List Record) → Hears a h → AllCarried (a .station .n) rs → Hears a (hearRecords h rs)
+  unfolding hearRecords
+  hears-records h [] hs all = hs
+  hears-records h (r ∷ rs) hs all = hears-records (hearRecord h r) rs (hears-record h r hs (all .0)) (all .1)
+
+-- the shape is kept whether or not the station is inside its limits
+pub hearRecords-shaped :
+    (n : ℕ) → n ≤ 16 → (h : Hearing) (rs : List Record) → AllCarried n rs → Shaped (h .station) → Shaped ((hearRecords h rs) .station)
+unfolding hearRecords
+hearRecords-shaped n high h [] all shape = shape
+hearRecords-shaped n high h (r ∷ rs) all shape =
+    hearRecords-shaped n high (hearRecord h r) rs (all .1) (hearRecord-shaped h r (omega (arith, all .0 .station)) shape)
+
+-- at most two in the lane of each of at most fifteen others
+pub takings-bounded : (s : Station) (h : Hearing) → Hears (silent s) h → h .overfull ≡ false → length (h .takings) ≤ 30
+takings-bounded s h hs f = omega (arith, hs .takings f, otherLens-most (h .station) (hs .inside f))
+
+pub hearRecord-inside :
+    (h : Hearing) (r : Record) → Shaped (h .station) → stationInside (h .station) ≡ true → Carried (h .station .n) r →
+    (hearRecord h r) .overfull ≡ false → stationInside ((hearRecord h r) .station) ≡ true
+hearRecord-inside h r shape i carry f =
+    let c = inside-open (h .station) i in
+    inside-make ((hearRecord h r) .station) (hears-record h c h r (hears-none h c shape) carry .inside f)
+
+pub hearRecords-inside :
+    (h : Hearing) (rs : List Record) → Shaped (h .station) → stationInside (h .station) ≡ true → AllCarried (h .station .n) rs →
+    (hearRecords h rs) .overfull ≡ false → stationInside ((hearRecords h rs) .station) ≡ true
+hearRecords-inside h rs shape i all f =
+    let c = inside-open (h .station) i in
+    inside-make ((hearRecords h rs) .station) (hears-records h c h rs (hears-none h c shape) all .inside f)
+
+-- the takings of one frame
+pub frame-takings-bounded :
+    (s : Station) (rs : List Record) → Shaped s → stationInside s ≡ true → AllCarried (s .n) rs →
+    (hearRecords (silent s) rs) .overfull ≡ false → length ((hearRecords (silent s) rs) .takings) ≤ 30
+frame-takings-bounded s rs shape i all f =
+    let c = inside-open s i in
+    takings-bounded s (hearRecords (silent s) rs) (hears-records (silent s) c (silent s) rs (hears-none (silent s) c shape) all) f

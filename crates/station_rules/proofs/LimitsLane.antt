@@ -1,0 +1,89 @@
+-- Lanes inside their limits: a body that a lane may hold can be put into one that has a place, and the oldest can be removed from any. A lane has
+-- none, one or two bodies; each law looks at the three cases.
+use Prim.Native.Nat.{ℕ, zero, suc, _≤_, _<_}
+use mathlib.Core.Bool.{Bool, true, false, true≢false, _&&_, _||_}
+use mathlib.Core.Path.{_≡_, refl}
+use native.Mathlib.Omega.{arith}
+use lib.Dec.{leb, eqb, leb·zero}
+use lib.Seq.{take-nil}
+use borrow.Author.Tests.{leb-true, lt-leb, le-leb, ne-eqb}
+use Rattle.kinds.specs.declared.Body.{Body}
+use Rattle.places.proofs.Laws.{and-both, and-left, and-right}
+use Rattle.lanes.specs.declared.Lane.{Lane}
+use Rattle.lanes.specs.Lane.{bodies, laneOf, pushed, popped}
+use Rattle.station_rules.specs.Limits.{laneInside, takeable}
+
+or-second : (a b : Bool) → (a || b) ≡ true → a ≡ false → b ≡ true
+or-second true b h e = absurd (true≢false e)
+or-second false b h e = h
+
+abbrev lane : ℕ → Body → Body → Lane
+lane k a b = record { len = k; first = a; second = b }
+
+pub lane-most : (most : ℕ) (l : Lane) → laneInside most l ≡ true → l .len ≤ most
+unfolding laneInside
+lane-most most l h =
+    leb-true (l .len) most
+    (and-left (leb (l .len) most) (eqb (l .len) 0 || takeable (l .first))
+    (and-left (leb (l .len) most && (eqb (l .len) 0 || takeable (l .first))) (leb (l .len) 1 || takeable (l .second)) h))
+
+pub lane-first : (most : ℕ) (l : Lane) → laneInside most l ≡ true → 0 < l .len → takeable (l .first) ≡ true
+unfolding laneInside
+lane-first most l h p =
+    or-second (eqb (l .len) 0) (takeable (l .first))
+    (and-right (leb (l .len) most) (eqb (l .len) 0 || takeable (l .first))
+    (and-left (leb (l .len) most && (eqb (l .len) 0 || takeable (l .first))) (leb (l .len) 1 || takeable (l .second)) h))
+    (ne-eqb (l .len) 0 (λ e. absurd (omega arith)))
+
+pub lane-second : (most : ℕ) (l : Lane) → laneInside most l ≡ true → 1 < l .len → takeable (l .second) ≡ true
+unfolding laneInside
+lane-second most l h p =
+    or-second (leb (l .len) 1) (takeable (l .second))
+    (and-right (leb (l .len) most && (eqb (l .len) 0 || takeable (l .first))) (leb (l .len) 1 || takeable (l .second)) h)
+    (lt-leb (l .len) 1 p)
+
+pub lane-none : (most : ℕ) (a b : Body) → laneInside most (lane 0 a b) ≡ true
+unfolding laneInside
+lane-none most a b = and-both (and-both (leb·zero most) refl) refl
+
+lane-one : (most : ℕ) (a b : Body) → 1 ≤ most → takeable a ≡ true → laneInside most (lane 1 a b) ≡ true
+unfolding laneInside
+lane-one most a b m p = and-both (and-both (le-leb 1 most m) p) refl
+
+lane-two : (most : ℕ) (a b : Body) → 2 ≤ most → takeable a ≡ true → takeable b ≡ true → laneInside most (lane 2 a b) ≡ true
+unfolding laneInside
+lane-two most a b m p q = and-both (and-both (le-leb 2 most m) p) q
+
+pub popped-inside : (most : ℕ) (l : Lane) → laneInside most l ≡ true → laneInside most (popped l) ≡ true
+unfolding bodies laneOf
+popped-inside most l h = go (l .len) (l .first) (l .second) h
+  where
+    go : (k : ℕ) (a b : Body) → laneInside most (lane k a b) ≡ true → laneInside most (popped (lane k a b)) ≡ true
+    go zero a b h = lane-none most _ _
+    go (suc zero) a b h = lane-none most _ _
+    go (suc (suc k)) a b h =
+        rw (take-nil {A = Body} k)
+        (lane-one most b _ (omega (arith, lane-most most (lane (suc (suc k)) a b) h))
+        (lane-second most (lane (suc (suc k)) a b) h (omega arith)))
+
+pub pushed-inside :
+    (most : ℕ) (l : Lane) (b : Body) → laneInside most l ≡ true → l .len < most → l .len < 2 → takeable b ≡ true →
+    laneInside most (pushed l b) ≡ true
+unfolding bodies laneOf
+pushed-inside most l b h m t p = go (l .len) (l .first) (l .second) h m t
+  where
+    go :
+        (k : ℕ) (x y : Body) → laneInside most (lane k x y) ≡ true → k < most → k < 2 →
+        laneInside most (pushed (lane k x y) b) ≡ true
+    go zero x y h m t = lane-one most b _ m p
+    go (suc zero) x y h m t = lane-two most x b m (lane-first most (lane 1 x y) h (omega arith)) p
+    go (suc (suc k)) x y h m t = absurd (omega arith)
+
+pub pushed-len : (l : Lane) (b : Body) → l .len < 2 → (pushed l b) .len ≡ suc (l .len)
+unfolding bodies laneOf
+pushed-len l b t = go (l .len) (l .first) (l .second) t
+  where
+    go : (k : ℕ) (x y : Body) → k < 2 → (pushed (lane k x y) b) .len ≡ suc k
+    go zero x y t = refl
+    go (suc zero) x y t = refl
+    go (suc (suc k)) x y t = absurd (omega arith)

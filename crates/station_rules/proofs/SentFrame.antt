@@ -1,0 +1,54 @@
+-- Hearing a written frame is hearing the writer's table: a station's frame reads back as the records that it sent, and every other station among as many
+-- accepts it. So a round may hand over records in the place of bytes.
+use Prim.Native.Nat.{ℕ, _<_, _≤_}
+use native.Mathlib.Omega.{arith}
+use mathlib.Core.Bool.{Bool, true, false, _||_}
+use mathlib.Core.Path.{_≡_, refl, sym, ap, subst, _∙_}
+use lib.ListN.{getD, take}
+use lib.Dec.{eqb}
+use borrow.Author.Tests.{lt-ltb, eqb-true}
+use Rattle.kinds.specs.Limits.{bodyInside}
+use Rattle.kinds.specs.Refusals.{done}
+use Rattle.frames.specs.Record.{countInside, recordFits}
+use Rattle.frames.specs.Frame.{frameBytes, recordsOf, frameRefusal}
+use Rattle.frames.specs.Calls.{tableRecords}
+use Rattle.frames.proofs.TableTrip.{table-read, table-accepted}
+use Rattle.places.proofs.Laws.{and-both}
+use Rattle.station_rules.specs.declared.Station.{Station}
+use Rattle.station_rules.specs.State.{heldOf, recordOf, sentRecords}
+use Rattle.station_rules.specs.Hearing.{Hearing, silent, hearRecords}
+use Rattle.station_rules.specs.Calls.{ownCountInside, frameOf}
+use Rattle.station_rules.proofs.StationLimits.{Inside, RecordHolds}
+use Rattle.station_rules.proofs.WriteSteps.{writable, frame-is}
+
+either : (a b : Bool) → (a || b) ≡ true → (a ≡ true → b ≡ true) → b ≡ true
+either true b h f = f refl
+either false b h f = h
+
+module _ (s : Station) (c : Inside s) (fits : ownCountInside s ≡ true) where
+  place : (k : ℕ) → k < s .n → heldOf s k ≡ true → (recordOf s k) .station ≡ k
+  place k l e = c .places k l .held e .station
+
+  record-fits : (k : ℕ) → k < s .n → heldOf s k ≡ true → recordFits (s .n) (recordOf s k) ≡ true
+  unfolding recordFits
+  record-fits k l e =
+      let h = c .places k l .held e in
+      and-both
+      (and-both
+      (and-both (lt-ltb ((recordOf s k) .station) (s .n) (rw (h .station) l))
+      (either (eqb k (s .own)) (countInside (s .n) ((recordOf s k) .count)) (h .count)
+      (λ same. subst (λ (j : ℕ). countInside (s .n) ((recordOf s j) .count) ≡ true) (sym (eqb-true k (s .own) same)) fits)))
+      (h .body))
+      (writable s c .labels k l e)
+
+  pub sent-read : recordsOf (frameOf s) ≡ sentRecords s
+  unfolding sentRecords tableRecords frameOf
+  sent-read = table-read (s .n) (s .own) (s .held) (s .table) (c .high) place record-fits (c .held) (c .own)
+
+  pub sent-accepted : (own : ℕ) → (s .own ≡ own → ⊥) → frameRefusal (frameOf s) (s .n) own ≡ done
+  unfolding sentRecords tableRecords frameOf
+  sent-accepted = table-accepted (s .n) (s .own) (s .held) (s .table) (c .high) place record-fits (c .held) (c .own)
+
+  -- the hearer makes the same of the frame as of the table
+  pub hear-sent : (h : Hearing) → hearRecords h (recordsOf (frameOf s)) ≡ hearRecords h (sentRecords s)
+  hear-sent h = ap (hearRecords h) sent-read

@@ -1,0 +1,135 @@
+-- The limits of a station as facts: what the test says of the station and of each place, and the other way round. Laws about the limits are proved on
+-- the facts.
+use Prim.Native.Nat.{ℕ, _≤_, _<_}
+use mathlib.Core.Bool.{Bool, true, false, cond, not, _&&_, _||_, false≢true}
+use mathlib.Core.Path.{_≡_, refl}
+use lib.Dec.{leb, ltb, eqb}
+use borrow.Author.Tests.{leb-true, ltb-true, le-leb, lt-ltb, eqb-true, eq-eqb}
+use Rattle.kinds.specs.Limits.{bodyInside}
+use Rattle.labels.specs.Label.{isLabel}
+use Rattle.frames.specs.declared.Record.{Record}
+use Rattle.frames.specs.Record.{countInside}
+use Rattle.frames.specs.Frame.{validNumber}
+use Rattle.places.specs.Places.{allBelow}
+use Rattle.places.proofs.Laws.{and-both, and-left, and-right, allBelow-at, allBelow-make}
+use Rattle.station_rules.specs.declared.Station.{Station}
+use Rattle.station_rules.specs.State.{labelOf, ackedOf, heldOf, recordOf, laneAt, recordLabel}
+use Rattle.station_rules.specs.Limits.{laneInside, queueInside, recordInside, placeInside, stationInside}
+
+-- a record of station k inside the limits of the table of station own
+pub record RecordHolds (n own k : ℕ) (r : Record) : Type 0 where
+  pub station : r .station ≡ k
+  pub count : (eqb k own || countInside n (r .count)) ≡ true
+  pub body : bodyInside (r .body) ≡ true
+  pub labels : (j : ℕ) → j < n → isLabel (recordLabel r j) ≡ true
+
+-- what a station has of station k, inside its limits
+pub record PlaceHolds (s : Station) (k : ℕ) : Type 0 where
+  pub label : isLabel (labelOf s k) ≡ true
+  pub held : heldOf s k ≡ true → RecordHolds (s .n) (s .own) k (recordOf s k)
+  pub lane : laneInside (cond (eqb k (s .own)) 1 2) (laneAt s k) ≡ true
+
+-- a station inside its limits
+pub record Inside (s : Station) : Type 0 where
+  pub low : 1 ≤ s .n
+  pub high : s .n ≤ 16
+  pub own : s .own < s .n
+  pub acked : ackedOf s (s .own) ≡ true
+  pub held : heldOf s (s .own) ≡ true
+  pub body : bodyInside (s .body) ≡ true
+  pub waiting : queueInside (s .waiting) ≡ true
+  pub places : (k : ℕ) → k < s .n → PlaceHolds s k
+
+or-not-make : (a b : Bool) → (a ≡ true → b ≡ true) → (not a || b) ≡ true
+or-not-make true b h = h refl
+or-not-make false b h = refl
+
+or-not-use : (a b : Bool) → (not a || b) ≡ true → a ≡ true → b ≡ true
+or-not-use true b h e = h
+or-not-use false b h e = absurd (false≢true e)
+
+record-open : (n own k : ℕ) (r : Record) → recordInside n own k r ≡ true → RecordHolds n own k r
+unfolding recordInside
+record-open n own k r h =
+    let labels = allBelow n (λ j. isLabel (recordLabel r j)) in
+    let one = eqb (r .station) k in
+    let two = eqb k own || countInside n (r .count) in
+    let three = bodyInside (r .body) in
+    let front : (one && two && three) ≡ true = and-left (one && two && three) labels h in
+    record {
+      station = eqb-true (r .station) k (and-left one two (and-left (one && two) three front));
+      count = and-right one two (and-left (one && two) three front);
+      body = and-right (one && two) three front;
+      labels = allBelow-at n (λ j. isLabel (recordLabel r j)) (and-right (one && two && three) labels h);
+    }
+
+record-make : (n own k : ℕ) (r : Record) → RecordHolds n own k r → recordInside n own k r ≡ true
+unfolding recordInside
+record-make n own k r c =
+    and-both
+    (and-both (and-both (eq-eqb (r .station) k (c .station)) (c .count)) (c .body))
+    (allBelow-make n (λ j. isLabel (recordLabel r j)) (c .labels))
+
+place-open : (s : Station) (k : ℕ) → placeInside s k ≡ true → PlaceHolds s k
+unfolding placeInside
+place-open s k h =
+    let label = isLabel (labelOf s k) in
+    let recorded = recordInside (s .n) (s .own) k (recordOf s k) in
+    let lane = laneInside (cond (eqb k (s .own)) 1 2) (laneAt s k) in
+    let front : (label && (not (heldOf s k) || recorded)) ≡ true = and-left (label && (not (heldOf s k) || recorded)) lane h in
+    record {
+      label = and-left label (not (heldOf s k) || recorded) front;
+      held =
+          λ e. record-open (s .n) (s .own) k (recordOf s k)
+          (or-not-use (heldOf s k) recorded (and-right label (not (heldOf s k) || recorded) front) e);
+      lane = and-right (label && (not (heldOf s k) || recorded)) lane h;
+    }
+
+place-make : (s : Station) (k : ℕ) → PlaceHolds s k → placeInside s k ≡ true
+unfolding placeInside
+place-make s k c =
+    and-both
+    (and-both (c .label)
+    (or-not-make (heldOf s k) (recordInside (s .n) (s .own) k (recordOf s k)) (λ e. record-make (s .n) (s .own) k (recordOf s k) (c .held e))))
+    (c .lane)
+
+pub inside-open : (s : Station) → stationInside s ≡ true → Inside s
+unfolding stationInside
+inside-open s h =
+    let valid = validNumber (s .n) (s .own) in
+    let acked = ackedOf s (s .own) in
+    let held = heldOf s (s .own) in
+    let body = bodyInside (s .body) in
+    let queue = queueInside (s .waiting) in
+    let places = allBelow (s .n) (placeInside s) in
+    let h₅ : (valid && acked && held && body && queue) ≡ true = and-left (valid && acked && held && body && queue) places h in
+    let h₄ : (valid && acked && held && body) ≡ true = and-left (valid && acked && held && body) queue h₅ in
+    let h₃ : (valid && acked && held) ≡ true = and-left (valid && acked && held) body h₄ in
+    let h₂ : (valid && acked) ≡ true = and-left (valid && acked) held h₃ in
+    let h₁ : valid ≡ true = and-left valid acked h₂ in
+    let size : (leb 1 (s .n) && leb (s .n) 16) ≡ true = and-left (leb 1 (s .n) && leb (s .n) 16) (ltb (s .own) (s .n)) h₁ in
+    record {
+      low = leb-true 1 (s .n) (and-left (leb 1 (s .n)) (leb (s .n) 16) size);
+      high = leb-true (s .n) 16 (and-right (leb 1 (s .n)) (leb (s .n) 16) size);
+      own = ltb-true (s .own) (s .n) (and-right (leb 1 (s .n) && leb (s .n) 16) (ltb (s .own) (s .n)) h₁);
+      acked = and-right valid acked h₂;
+      held = and-right (valid && acked) held h₃;
+      body = and-right (valid && acked && held) body h₄;
+      waiting = and-right (valid && acked && held && body) queue h₅;
+      places =
+          λ k l. place-open s k
+          (allBelow-at (s .n) (placeInside s) (and-right (valid && acked && held && body && queue) places h) k l);
+    }
+
+pub inside-make : (s : Station) → Inside s → stationInside s ≡ true
+unfolding stationInside
+inside-make s c =
+    and-both
+    (and-both
+    (and-both
+    (and-both
+    (and-both (and-both (and-both (le-leb 1 (s .n) (c .low)) (le-leb (s .n) 16 (c .high))) (lt-ltb (s .own) (s .n) (c .own))) (c .acked))
+    (c .held))
+    (c .body))
+    (c .waiting))
+    (allBelow-make (s .n) (placeInside s) (λ k l. place-make s k (c .places k l)))

@@ -1,0 +1,77 @@
+-- Writing the frame of a station: a table inside its limits can be written, and the answers of the definition with the tests on their way decided.
+use Prim.Native.Nat.{ℕ, _<_, _≤_}
+use native.Mathlib.Omega.{arith}
+use mathlib.Core.Path.{_≡_, refl, sym, ap, _∙_}
+use mathlib.Core.Bool.{Bool, true, false, cond, not}
+use mathlib.Core.List.{List, _++_}
+use lib.ListN.{getD, take, drop, length, length-take}
+use lib.Seq.{getD-take}
+use lib.Dec.{ltb, eqb}
+use borrow.Author.Tests.{leb-true}
+use Rattle.labels.specs.Packing.{allLabels}
+use Rattle.labels.proofs.Laws.{at-all}
+use Rattle.frames.specs.Frame.{frameBytes}
+use Rattle.frames.specs.Calls.{tableRecords, written, bufferWith, Writable}
+use Rattle.station_rules.specs.declared.Station.{Station}
+use Rattle.station_rules.specs.declared.Written.{Written}
+use Rattle.station_rules.specs.State.{heldOf, recordOf, recordLabel, sentRecords}
+use Rattle.station_rules.specs.Limits.{stationInside}
+use Rattle.station_rules.specs.Calls.{ownCountInside, frameOf, writeRefusal, writeCall, bufferAfter}
+use Rattle.station_rules.proofs.StationLimits.{Inside}
+
+labels-fit : (n : ℕ) (l : List ℕ) → ((j : ℕ) → j < n → getD l j 0 ≤ 2) → allLabels (take n l) ≡ true
+labels-fit n l h =
+    at-all (take n l)
+    (λ i b. let m : i < n = omega (arith, b, length-take n l) in rw (getD-take n l i 0 m) (h i m))
+
+-- the table of a station inside its limits
+pub writable : (s : Station) → Inside s → Writable (s .n) (s .own) (s .held) (s .table)
+writable s c =
+    record {
+      few = c .high;
+      below = omega (arith, c .own, c .high);
+      station = λ k l e. omega (arith, c .high, c .places k l .held e .station);
+      labels = λ k l e. labels-fit (s .n) ((recordOf s k) .labels) (λ j m. leb-true (recordLabel (recordOf s k) j) 2 (c .places k l .held e .labels j m));
+    }
+
+-- the records that are sent are those of the table
+pub frame-is : (s : Station) → frameBytes (s .n) (s .own) (tableRecords (s .n) (s .held) (s .table)) ≡ frameOf s
+unfolding tableRecords sentRecords frameOf
+frame-is s = refl
+
+module _ (s : Station) (b : List ℕ) where
+  pub write-outside : stationInside s ≡ false → record { refusal = 2; len = 0 } ≡ writeCall s (length b)
+  unfolding writeCall writeRefusal
+  write-outside i = rw i
+
+  pub kept-outside : stationInside s ≡ false → b ≡ bufferAfter s b
+  unfolding bufferAfter writeRefusal
+  kept-outside i = rw i
+
+  module _ (i : stationInside s ≡ true) where
+    pub write-count : ownCountInside s ≡ false → record { refusal = 10; len = 0 } ≡ writeCall s (length b)
+    unfolding writeCall writeRefusal
+    write-count c = rw (i, c)
+
+    pub kept-count : ownCountInside s ≡ false → b ≡ bufferAfter s b
+    unfolding bufferAfter writeRefusal
+    kept-count c = rw (i, c)
+
+    module _ (c : ownCountInside s ≡ true) where
+      pub write-frame : record { refusal = (written (frameOf s) (length b)) .refusal; len = (written (frameOf s) (length b)) .len } ≡ writeCall s (length b)
+      unfolding writeCall writeRefusal written
+      write-frame = go (ltb (length b) (length (frameOf s))) refl
+        where
+          go :
+              (t : Bool) → ltb (length b) (length (frameOf s)) ≡ t →
+              record { refusal = (written (frameOf s) (length b)) .refusal; len = (written (frameOf s) (length b)) .len } ≡ writeCall s (length b)
+          go true e = rw (i, c, e)
+          go false e = rw (i, c, e)
+
+      pub buffer-frame : bufferWith (frameOf s) b ≡ bufferAfter s b
+      unfolding bufferAfter writeRefusal bufferWith
+      buffer-frame = go (ltb (length b) (length (frameOf s))) refl
+        where
+          go : (t : Bool) → ltb (length b) (length (frameOf s)) ≡ t → bufferWith (frameOf s) b ≡ bufferAfter s b
+          go true e = rw (i, c, e)
+          go false e = rw (i, c, e)

@@ -1,0 +1,117 @@
+-- Document 01, "A station and its calls" and "Turned down": the open calls, each with its refusals in their order.
+use Prim.Native.Nat.{ℕ, _+_, _*_}
+use mathlib.Core.Bool.{Bool, true, false, cond, not, _&&_}
+use mathlib.Core.List.{List, [], _∷_, _++_}
+use lib.ListN.{getD, set, replicate, length, drop}
+use lib.Dec.{leb, ltb, eqb}
+use Rattle.kinds.specs.declared.Body.{Body}
+use Rattle.kinds.specs.declared.Body.the-variants.{Empty}
+use Rattle.kinds.specs.Limits.{isEdit}
+use Rattle.kinds.specs.Refusals.{done, badNumber, outsideLimits, queueFull, notAnEdit, laneFull, shortBuffer, countTooHigh, refuse}
+use Rattle.frames.specs.Record.{countInside}
+use Rattle.frames.specs.Frame.{validNumber, frameRefusal, recordsOf, frameBytes}
+use Rattle.places.specs.Places.{fill}
+use Rattle.station_rules.specs.declared.Station.{Station}
+use Rattle.station_rules.specs.declared.Taking.{Taking}
+use Rattle.station_rules.specs.declared.TurnReport.{TurnReport}
+use Rattle.station_rules.specs.declared.Kept.{Kept}
+use Rattle.station_rules.specs.declared.Written.{Written}
+use Rattle.station_rules.specs.declared.Heard.{Heard}
+use Rattle.station_rules.specs.declared.Turned.{Turned}
+use Rattle.lanes.specs.Queue.{noSlot, queued}
+use Rattle.station_rules.specs.State.{recordOf, sentRecords, freshStation}
+use Rattle.station_rules.specs.Limits.{stationInside}
+use Rattle.station_rules.specs.Hearing.{Hearing, silent, hearRecords}
+use Rattle.station_rules.specs.Turn.{afterTurn, turnReport}
+
+-- "Fresh": 1; a refused call returns the fresh station of N = 1
+unfoldable pub freshCall : ℕ → ℕ → Kept
+freshCall n own =
+    cond (validNumber n own)
+    (record { refusal = done; station = freshStation n own })
+    (record { refusal = badNumber; station = freshStation 1 0 })
+
+-- the station with one more waiting edit (source document 001, Algorithm 2, lines 1 and 2)
+unfoldable pub posted : Station → Body → Station
+posted s b =
+    record {
+      n = s .n;
+      own = s .own;
+      waiting = queued (s .waiting) b;
+      acked = s .acked;
+      body = s .body;
+      count = s .count;
+      labels = s .labels;
+      held = s .held;
+      table = s .table;
+      lanes = s .lanes;
+    }
+
+-- 4, 3: what a post judges of the body and the queue
+abbrev pub postRefusal : Station → Body → ℕ
+postRefusal s b = refuse (not (isEdit b)) notAnEdit (refuse (leb 32 ((s .waiting) .len)) queueFull done)
+
+-- "Post": 2, 4, 3
+unfoldable pub postCall : Station → Body → Kept
+postCall s b =
+    let refusal = refuse (not (stationInside s)) outsideLimits (postRefusal s b) in
+    record { refusal = refusal; station = cond (eqb refusal done) (posted s b) s }
+
+-- the own record's count fits a frame
+abbrev pub ownCountInside : Station → Bool
+ownCountInside s = countInside (s .n) ((recordOf s (s .own)) .count)
+
+-- the station's frame
+unfoldable pub frameOf : Station → List ℕ
+frameOf s = frameBytes (s .n) (s .own) (sentRecords s)
+
+-- "Write frame": 2, 10, 9
+unfoldable pub writeRefusal : Station → ℕ → ℕ
+writeRefusal s room =
+    refuse (not (stationInside s)) outsideLimits
+    (refuse (not (ownCountInside s)) countTooHigh
+    (refuse (ltb room (length (frameOf s))) shortBuffer done))
+
+unfoldable pub writeCall : Station → ℕ → Written
+writeCall s room =
+    cond (eqb (writeRefusal s room) done)
+    (record { refusal = done; len = length (frameOf s) })
+    (record { refusal = writeRefusal s room; len = 0 })
+
+-- the buffer afterwards: the frame and then what stood past it, or as it was
+unfoldable pub bufferAfter : Station → List ℕ → List ℕ
+bufferAfter s buffer =
+    cond (eqb (writeRefusal s (length buffer)) done) (frameOf s ++ drop (length (frameOf s)) buffer) buffer
+
+-- the stations in a list of takings
+unfoldable pub sourcesOf : List Taking → List Bool
+sourcesOf [] = replicate 16 false
+sourcesOf (t ∷ ts) = set (sourcesOf ts) (t .source) true
+
+-- "Hear": 2, 5, 6, 7, 8
+unfoldable pub hearCall : Station → List ℕ → Heard
+hearCall s bytes =
+    let h = hearRecords (silent s) (recordsOf bytes) in
+    let refusal =
+    refuse (not (stationInside s)) outsideLimits
+    (refuse (not (eqb (frameRefusal bytes (s .n) (s .own)) done)) (frameRefusal bytes (s .n) (s .own))
+    (refuse (h .overfull) laneFull done)) in
+    cond (eqb refusal done)
+    (record { refusal = done; station = h .station; taken = sourcesOf (h .takings) })
+    (record { refusal = refusal; station = s; taken = replicate 16 false })
+
+-- a turn's report where there was no turn
+unfoldable pub noTurn : TurnReport
+noTurn =
+    record { aired = false; row = replicate 16 noSlot; ended = false; «ended_body» = Empty; «started_body» = Empty }
+
+-- the answer of a turn that is not refused
+abbrev pub turnDone : Station → Turned
+turnDone s = record { refusal = done; station = afterTurn s; report = turnReport s }
+
+-- "Turn": 2
+unfoldable pub turnCall : Station → Turned
+turnCall s =
+    cond (stationInside s)
+    (turnDone s)
+    (record { refusal = outsideLimits; station = s; report = noTurn })

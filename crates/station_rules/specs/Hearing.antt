@@ -1,0 +1,84 @@
+-- Document 01, "A station and its calls", Hear: what one record does to the hearer, and a frame's records in order.
+use Prim.Native.Nat.{ℕ, _+_}
+use mathlib.Core.Bool.{Bool, true, false, cond, not, _&&_, _||_}
+use mathlib.Core.List.{List, [], _∷_, _++_}
+use lib.ListN.{getD, set}
+use lib.Dec.{leb, ltb, eqb}
+use Rattle.kinds.specs.declared.Body.{Body}
+use Rattle.kinds.specs.Body.{kindOf}
+use Rattle.labels.specs.Label.{successor}
+use Rattle.labels.specs.Newer.{isNewer}
+use Rattle.frames.specs.declared.Record.{Record}
+use Rattle.places.specs.Places.{fill}
+use Rattle.station_rules.specs.declared.Station.{Station}
+use Rattle.station_rules.specs.declared.Taking.{Taking}
+use Rattle.lanes.specs.Lane.{pushed}
+use Rattle.station_rules.specs.State.{labelOf, ackedOf, heldOf, recordOf, laneAt, recordLabel}
+
+-- the record is of another station, and newer than the one held of it (source document 001, Algorithm 2, lines 6 to 8)
+abbrev pub counts : Station → Record → Bool
+counts s r =
+    let k = r .station in
+    not (eqb k (s .own))
+    && isNewer (heldOf s k) (recordLabel (recordOf s k) k) ((recordOf s k) .count) (recordLabel r k) (r .count)
+
+-- its own label is the successor of the hearer's label for that station (line 14)
+abbrev pub advances : Station → Record → Bool
+advances s r = eqb (recordLabel r (r .station)) (successor (labelOf s (r .station)))
+
+-- its body is taken (line 17; Algorithm 3, line 4)
+abbrev pub takes : Station → Record → Bool
+takes s r = advances s r && not (eqb (kindOf (r .body)) 0)
+
+-- the seen record in the place of the held one, whose labels from n up stay (lines 9 to 11)
+unfoldable pub replaced : ℕ → Record → Record → Record
+replaced n old r =
+    record { station = r .station; count = r .count; body = r .body; labels = fill n (recordLabel r) (old .labels) }
+
+-- one more, and 255 stays 255
+abbrev pub raised : ℕ → ℕ
+raised count = cond (ltb count 255) (count + 1) 255
+
+-- the hearer after a newer record: replaced, acknowledged, advanced, taken (lines 9 to 17). H1: a record of a station that was not seen before is
+-- no discovery, for all N stations are known
+unfoldable pub heardNewer : Station → Record → Station
+heardNewer s r =
+    let k = r .station in
+    record {
+      n = s .n;
+      own = s .own;
+      waiting = s .waiting;
+      acked = set (s .acked) k (ackedOf s k || eqb (recordLabel r (s .own)) (labelOf s (s .own)));
+      body = s .body;
+      count = cond (advances s r) (raised (s .count)) (s .count);
+      labels = set (s .labels) k (cond (advances s r) (successor (labelOf s k)) (labelOf s k));
+      held = set (s .held) k true;
+      table = set (s .table) k (replaced (s .n) (recordOf s k) r);
+      lanes = set (s .lanes) k (cond (takes s r) (pushed (laneAt s k) (r .body)) (laneAt s k));
+    }
+
+-- a station while it hears: what it took so far, in the order heard, and whether a lane that held two would have got a third
+pub record Hearing : Type 0 where
+  pub station : Station
+  pub takings : List Taking
+  pub overfull : Bool
+
+abbrev pub silent : Station → Hearing
+silent s = record { station = s; takings = []; overfull = false }
+
+-- what one record does
+unfoldable pub hearRecord : Hearing → Record → Hearing
+hearRecord h r =
+    let s = h .station in
+    cond (counts s r)
+    (record {
+      station = heardNewer s r;
+      takings = h .takings ++ cond (takes s r) (record { source = r .station; body = r .body } ∷ []) [];
+      overfull = h .overfull || (takes s r && leb 2 ((laneAt s (r .station)) .len));
+    })
+    h
+
+-- a frame's records in order
+unfoldable pub hearRecords : Hearing → List Record → Hearing
+hearRecords h [] = h
+hearRecords h (r ∷ rs) = hearRecords (hearRecord h r) rs

@@ -1,0 +1,59 @@
+-- Document 01, "A station and its calls", Limits: when a station is inside its limits. Entries from N up, places past a length, and the record of a
+-- station of which none is held are not looked at.
+use Prim.Native.Nat.{ℕ}
+use mathlib.Core.Bool.{Bool, cond, not, _&&_, _||_}
+use lib.ListN.{getD}
+use lib.Dec.{leb, ltb, eqb}
+use Rattle.kinds.specs.declared.Body.{Body}
+use Rattle.kinds.specs.Body.{kindOf}
+use Rattle.kinds.specs.Limits.{bodyInside, isEdit}
+use Rattle.labels.specs.Label.{isLabel}
+use Rattle.frames.specs.declared.Record.{Record}
+use Rattle.frames.specs.Record.{countInside}
+use Rattle.frames.specs.Frame.{validNumber}
+use Rattle.places.specs.Places.{allBelow}
+use Rattle.lanes.specs.declared.Lane.{Lane}
+use Rattle.lanes.specs.declared.Queue.{Queue}
+use Rattle.station_rules.specs.declared.Station.{Station}
+use Rattle.lanes.specs.Queue.{noSlot}
+use Rattle.station_rules.specs.State.{labelOf, ackedOf, heldOf, recordOf, laneAt, recordLabel}
+
+-- a body that a lane may hold: inside its limits, and not Empty
+abbrev pub takeable : Body → Bool
+takeable b = leb 1 (kindOf b) && bodyInside b
+
+-- a lane of at most `most` bodies, each of which it may hold
+unfoldable pub laneInside : ℕ → Lane → Bool
+laneInside most l =
+    leb (l .len) most && (eqb (l .len) 0 || takeable (l .first)) && (leb (l .len) 1 || takeable (l .second))
+
+-- at most 32 wait, and each is an edit
+unfoldable pub queueInside : Queue → Bool
+queueInside q = leb (q .len) 32 && allBelow (q .len) (λ i. isEdit ((getD (q .slots) i noSlot) .body))
+
+-- a record of station k in the table of station `own` among n: the own record's count may reach 255
+unfoldable pub recordInside : ℕ → ℕ → ℕ → Record → Bool
+recordInside n own k r =
+    eqb (r .station) k
+    && (eqb k own || countInside n (r .count))
+    && bodyInside (r .body)
+    && allBelow n (λ j. isLabel (recordLabel r j))
+
+-- what station `own` among n has of station k: its label, its record where one is held, and its lane
+abbrev pub entryInside : ℕ → ℕ → ℕ → ℕ → Bool → Record → Lane → Bool
+entryInside n own k label held r lane =
+    isLabel label && (not held || recordInside n own k r) && laneInside (cond (eqb k own) 1 2) lane
+
+-- what a station has of station k
+unfoldable pub placeInside : Station → ℕ → Bool
+placeInside s k = entryInside (s .n) (s .own) k (labelOf s k) (heldOf s k) (recordOf s k) (laneAt s k)
+
+-- "Limits"
+unfoldable pub stationInside : Station → Bool
+stationInside s =
+    validNumber (s .n) (s .own)
+    && ackedOf s (s .own)
+    && heldOf s (s .own)
+    && bodyInside (s .body)
+    && queueInside (s .waiting)
+    && allBelow (s .n) (placeInside s)

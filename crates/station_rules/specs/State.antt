@@ -1,0 +1,70 @@
+-- Document 01, "A station and its calls": what a station has of station k, place by place, and the fresh station.
+use Prim.Native.Nat.{ℕ}
+use mathlib.Core.Bool.{Bool, true, false}
+use mathlib.Core.List.{List, []}
+use lib.ListN.{getD, set, replicate}
+use Rattle.kinds.specs.declared.Body.{Body}
+use Rattle.kinds.specs.declared.Body.the-variants.{Empty}
+use Rattle.frames.specs.declared.Record.{Record}
+use Rattle.frames.specs.Record.{framed}
+use Rattle.places.specs.Places.{gather}
+use Rattle.lanes.specs.declared.Lane.{Lane}
+use Rattle.station_rules.specs.declared.Station.{Station}
+use Rattle.lanes.specs.Lane.{noLane}
+use Rattle.lanes.specs.Queue.{noneWaiting}
+
+-- a record of no labels, which stands where nothing is held
+abbrev pub noRecord : Record
+noRecord = record { station = 0; count = 0; body = Empty; labels = [] }
+
+-- the label for station k
+abbrev pub labelOf : Station → ℕ → ℕ
+labelOf s k = getD (s .labels) k 0
+
+-- station k is acknowledged
+abbrev pub ackedOf : Station → ℕ → Bool
+ackedOf s k = getD (s .acked) k false
+
+-- the table holds a record of station k
+abbrev pub heldOf : Station → ℕ → Bool
+heldOf s k = getD (s .held) k false
+
+-- that record
+abbrev pub recordOf : Station → ℕ → Record
+recordOf s k = getD (s .table) k noRecord
+
+-- the lane of station k
+abbrev pub laneAt : Station → ℕ → Lane
+laneAt s k = getD (s .lanes) k noLane
+
+-- the label of a record for station k
+abbrev pub recordLabel : Record → ℕ → ℕ
+recordLabel r k = getD (r .labels) k 0
+
+-- the records of the table in station order, as the station's frame carries them (source document 001, Algorithm 2, line 4)
+unfoldable pub sentRecords : Station → List Record
+sentRecords s = gather (s .n) (heldOf s) (λ k. framed (s .n) (recordOf s k))
+
+-- the record of a fresh station
+abbrev pub freshLabels : ℕ → List ℕ
+freshLabels own = set (replicate 16 0) own 1
+
+abbrev pub zeroRecord : Record
+zeroRecord = record { station = 0; count = 0; body = Empty; labels = replicate 16 0 }
+
+-- "Fresh": own label 1, others 0; count 0; body Empty; self acknowledged; the table holds the own record only (Algorithm 1, the
+-- initial values)
+unfoldable pub freshStation : ℕ → ℕ → Station
+freshStation n own =
+    record {
+      n = n;
+      own = own;
+      waiting = noneWaiting;
+      acked = set (replicate 16 false) own true;
+      body = Empty;
+      count = 0;
+      labels = freshLabels own;
+      held = set (replicate 16 false) own true;
+      table = set (replicate 16 zeroRecord) own (record { station = own; count = 0; body = Empty; labels = freshLabels own });
+      lanes = replicate 16 noLane;
+    }

@@ -1,0 +1,70 @@
+// What a station is, and the answers of its calls. The definitions of the calls and their laws stand beside; there is no code.
+
+use frames::Record;
+use kinds::Body;
+use lanes::Lane;
+use lanes::Queue;
+use lanes::Slot;
+
+// A station, place by place: what it has of station k stands at place k of each array.
+pub struct Station {
+    pub n: usize,
+    pub own: usize,
+    pub waiting: Queue,
+    pub acked: [bool; 16],
+    pub body: Body,
+    pub count: u8,
+    pub labels: [u8; 16],
+    pub held: [bool; 16],
+    pub table: [Record; 16],
+    pub lanes: [Lane; 16],
+}
+
+// A body taken while hearing, and the station it is of.
+pub struct Taking {
+    pub source: usize,
+    pub body: Body,
+}
+
+// What a turn reports: the aired row and the ended broadcast, Empty where there is none.
+pub struct TurnReport {
+    pub aired: bool,
+    pub row: [Slot; 16],
+    pub ended: bool,
+    pub ended_body: Body,
+    pub started_body: Body,
+}
+
+// The answer of fresh and of post.
+pub struct Kept {
+    pub refusal: u32,
+    pub station: Station,
+}
+
+// The answer of write frame.
+pub struct Written {
+    pub refusal: u32,
+    pub len: usize,
+}
+
+// The answer of hear: the station, and from which stations a body was taken.
+pub struct Heard {
+    pub refusal: u32,
+    pub station: Station,
+    pub taken: [bool; 16],
+}
+
+// What a station makes of several frames: where no lane would have got a third body, the station and what it took, in the order heard.
+pub struct HeardAll {
+    pub overfull: bool,
+    pub station: Station,
+    pub takings_len: usize,
+    pub takings: [Taking; 30],
+}
+
+// The answer of turn.
+pub struct Turned {
+    pub refusal: u32,
+    pub station: Station,
+    pub report: TurnReport,
+}

@@ -1,0 +1,63 @@
+-- `station::turns::all_full` meets its contract: the lanes passed have a body.
+use Prim.Native.Nat.{ℕ, _≤_, _-_}
+use native.Mathlib.Omega.{arith}
+use mathlib.Core.Path.{_≡_, refl, sym, ap, _∙_}
+use mathlib.Core.Bool.{Bool, true, false}
+use lib.ListN.{getD, replicate}
+use lib.Dec.{ltb, eqb}
+use borrow.Author.Needs.{needs}
+use borrow.Author.Tests.{lt-ltb, le-ltb, eq-eqb, ne-eqb, not-true, not-false}
+use Rattle.places.specs.Places.{allBelow, fill}
+use Rattle.places.proofs.Laws.{allBelow-more, allBelow-fails, fill-more, fill-above}
+use Rattle.lanes.specs.Lane.{noLane, popped}
+use Rattle.lanes.specs.Queue.{noSlot}
+use Rattle.station_turns.proofs.all_full.Statement.{statement}
+use Rattle.station_turns.proofs.all_full.Tie as tie
+
+abbrev Inv-loop : tie.InvT-loop
+Inv-loop n lanes k₀ k = (k ≤ n) × (allBelow k (λ j. ltb 0 ((getD lanes j noLane) .len)) ≡ true)
+
+abbrev μ-loop : tie.MeasureT-loop
+μ-loop n lanes k₀ k = n - k
+
+loop-holds : tie.Need-loop-holds Inv-loop μ-loop
+unfolding allBelow
+loop-holds c = search needs
+
+mul-lane : tie.Need-mul-lane Inv-loop μ-loop
+mul-lane c = search needs
+
+array-copy-out-lane : tie.Need-array-copy-out-lane Inv-loop μ-loop
+array-copy-out-lane c = search needs
+
+returns : tie.Need-returns Inv-loop μ-loop
+returns c = sym (allBelow-fails _ _ (c .before .before .before .before .loop .k) (omega arith) (le-ltb 0 ((getD (c .before .before .before .before .before .args .t2) (c .before .before .before .before .loop .k) noLane) .len) (omega arith)))
+
+add-k : tie.Need-add-k Inv-loop μ-loop
+add-k c = search needs
+
+loop-less : tie.Need-loop-less Inv-loop μ-loop
+loop-less c = search needs
+
+loop-again : tie.Need-loop-again Inv-loop μ-loop
+loop-again c = (omega arith, allBelow-more (c .before .before .before .before .loop .k) _ (c .before .before .before .before .loop .inv .1) (lt-ltb 0 ((getD (c .before .before .before .before .before .args .t2) (c .before .before .before .before .loop .k) noLane) .len) (omega arith)))
+
+returns-2 : tie.Need-returns-2 Inv-loop μ-loop
+returns-2 c =
+    let e : c .before .loop .k ≡ c .before .before .args .n = omega arith in
+    sym (rw e at (c .before .loop .inv .1))
+
+pub all-full-spec : {M : Type 1} → statement M
+all-full-spec =
+    tie.close
+    (tie.spec
+    Inv-loop
+    μ-loop
+    loop-holds
+    mul-lane
+    array-copy-out-lane
+    returns
+    add-k
+    loop-less
+    loop-again
+    returns-2)

@@ -1,0 +1,47 @@
+-- `station::turns::only_own` meets its contract: of the places passed only the own one is acknowledged.
+use Prim.Native.Nat.{ℕ, _≤_, _-_}
+use native.Mathlib.Omega.{arith}
+use mathlib.Core.Path.{_≡_, refl, sym, ap, _∙_}
+use mathlib.Core.Bool.{Bool, true, false}
+use lib.ListN.{getD, replicate}
+use lib.Dec.{ltb, eqb}
+use borrow.Author.Needs.{needs}
+use borrow.Author.Tests.{lt-ltb, le-ltb, eq-eqb, ne-eqb, not-true, not-false}
+use Rattle.places.specs.Places.{allBelow, fill}
+use Rattle.places.proofs.Laws.{allBelow-more, allBelow-fails, fill-more, fill-above}
+use Rattle.lanes.specs.Lane.{noLane, popped}
+use Rattle.lanes.specs.Queue.{noSlot}
+use Rattle.station_turns.proofs.only_own.Statement.{statement}
+use Rattle.station_turns.proofs.only_own.Tie as tie
+
+abbrev Inv-loop : tie.InvT-loop
+Inv-loop n own left₀ k₀ left k = (k ≤ n) × (left ≡ fill k (λ j. eqb j own) left₀)
+
+abbrev μ-loop : tie.MeasureT-loop
+μ-loop n own left₀ k₀ left k = n - k
+
+loop-holds : tie.Need-loop-holds Inv-loop μ-loop
+unfolding fill
+loop-holds c = (omega arith, refl)
+
+array-write-left : tie.Need-array-write-left Inv-loop μ-loop
+array-write-left c = search needs
+
+add-k : tie.Need-add-k Inv-loop μ-loop
+add-k c = search needs
+
+loop-less : tie.Need-loop-less Inv-loop μ-loop
+loop-less c = search needs
+
+loop-again : tie.Need-loop-again Inv-loop μ-loop
+loop-again c = (omega arith, rw (c .before .loop .inv .1) (fill-more (c .before .loop .k) _ _))
+
+returns : tie.Need-returns Inv-loop μ-loop
+returns c =
+    let e : c .before .loop .k ≡ c .before .before .args .n = omega arith in
+    c .before .loop .inv .1 ∙ rw e
+
+pub only-own-spec : {M : Type 1} → statement M
+only-own-spec =
+    tie.close
+    (tie.spec Inv-loop μ-loop loop-holds array-write-left add-k loop-less loop-again returns)
