@@ -1,4 +1,4 @@
--- `station::lanes::popped` meets its contract, by the lane's length.
+-- `lanes::popped` meets its contract, by the lane's length.
 use native.Mathlib.Omega.{arith}
 use Rattle.lanes.proofs.LaneSteps.{pop-one, pop-two}
 use Rattle.lanes.proofs.popped.Statement.{statement}

@@ -1,4 +1,4 @@
--- `station::lanes::pushed` meets its contract, by the lane's length.
+-- `lanes::pushed` meets its contract, by the lane's length.
 use native.Mathlib.Omega.{arith}
 use Rattle.lanes.proofs.LaneSteps.{push-none, push-one, push-two}
 use Rattle.lanes.proofs.pushed.Statement.{statement}

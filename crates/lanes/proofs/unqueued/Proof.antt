@@ -1,4 +1,4 @@
--- `station::queues::unqueued` meets its contract: the loop moves the slots down by one place.
+-- `lanes::unqueued` meets its contract: the loop moves the slots down by one place.
 use Prim.Native.Nat.{_≤_, _-_, _+_}
 use mathlib.Core.Path.{_≡_, refl}
 use native.Mathlib.Omega.{arith}

@@ -1,4 +1,4 @@
--- `station::hearings::count_after` meets its contract.
+-- `station_hearing::count_after` meets its contract.
 use borrow.Author.Tests.{not-true, not-false, lt-ltb, le-ltb}
 use borrow.Author.Needs.{needs}
 use Rattle.station_hearing.proofs.count_after.Statement.{statement}

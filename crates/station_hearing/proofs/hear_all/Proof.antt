@@ -1,4 +1,4 @@
--- `station::hearings::hear_all` meets its contract. After f frames the station, the takings and their number are those of the definition's hearing
+-- `station_hearing::hear_all` meets its contract. After f frames the station, the takings and their number are those of the definition's hearing
 -- of f frames, and in a frame after r records those of its hearing of r records more.
 use Prim.Native.Nat.{ℕ, _+_, _-_, _*_, _^_, _≤_, _<_}
 use native.Mathlib.Omega.{arith}

@@ -1,4 +1,4 @@
--- `station::hearings::is_newer` meets its contract: the answer's case as a truth value.
+-- `station_hearing::is_newer` meets its contract: the answer's case as a truth value.
 use mathlib.Core.Path.{_≡_, refl, sym, _∙_}
 use mathlib.Core.Bool.{Bool, true, false}
 use Rattle.labels.specs.declared.Age.the-variants.{Newer, NotNewer}

@@ -1,4 +1,4 @@
--- `station::hearings::lane_after` meets its contract.
+-- `station_hearing::lane_after` meets its contract.
 use borrow.Author.Tests.{not-true, not-false, lt-ltb, le-ltb}
 use borrow.Author.Needs.{needs}
 use Rattle.station_hearing.proofs.lane_after.Statement.{statement}

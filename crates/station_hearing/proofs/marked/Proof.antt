@@ -1,4 +1,4 @@
--- `station::hearings::marked` meets its contract: a place from 16 up is none, and setting it changes nothing.
+-- `station_hearing::marked` meets its contract: a place from 16 up is none, and setting it changes nothing.
 use Prim.Native.Nat.{_≤_}
 use mathlib.Core.Path.{_≡_, sym}
 use native.Mathlib.Omega.{arith}

@@ -1,4 +1,4 @@
--- `station::hearings::overfills` meets its contract.
+-- `station_hearing::overfills` meets its contract.
 use borrow.Author.Tests.{not-true, not-false, lt-ltb, le-ltb}
 use Rattle.station_hearing.proofs.overfills.Statement.{statement}
 use Rattle.station_hearing.proofs.overfills.Tie as tie

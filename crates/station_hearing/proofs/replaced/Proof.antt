@@ -1,4 +1,4 @@
--- `station::hearings::replaced` meets its contract.
+-- `station_hearing::replaced` meets its contract.
 use Rattle.station_rules.specs.Hearing.{replaced}
 use borrow.Author.Needs.{needs}
 use Rattle.station_hearing.proofs.replaced.Statement.{statement}

@@ -1,4 +1,4 @@
--- `station::hearings::sources` meets its contract: the loop goes from the last taking to the first.
+-- `station_hearing::sources` meets its contract: the loop goes from the last taking to the first.
 use Prim.Native.Nat.{ℕ, _+_, _-_, _≤_}
 use mathlib.Core.Path.{_≡_, sym, ap, _∙_}
 use mathlib.Core.Bool.{Bool, true}

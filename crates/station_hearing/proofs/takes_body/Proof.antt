@@ -1,4 +1,4 @@
--- `station::hearings::takes_body` meets its contract.
+-- `station_hearing::takes_body` meets its contract.
 use mathlib.Core.Bool.{Bool, not}
 use mathlib.Core.Path.{ap}
 use borrow.Author.Tests.{not-true, not-false, lt-ltb, le-ltb}

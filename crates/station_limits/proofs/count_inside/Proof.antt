@@ -1,4 +1,4 @@
--- `station::checks::count_inside` meets its contract.
+-- `station_limits::count_inside` meets its contract.
 use borrow.Author.Tests.{eq-eqb, ne-eqb}
 use borrow.Author.Needs.{needs}
 use Rattle.station_limits.proofs.count_inside.Statement.{statement}

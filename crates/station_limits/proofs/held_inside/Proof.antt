@@ -1,4 +1,4 @@
--- `station::checks::held_inside` meets its contract.
+-- `station_limits::held_inside` meets its contract.
 use borrow.Author.Tests.{not-true, not-false}
 use borrow.Author.Needs.{needs}
 use Rattle.station_limits.proofs.held_inside.Statement.{statement}

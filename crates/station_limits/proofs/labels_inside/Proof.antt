@@ -1,4 +1,4 @@
--- `station::checks::labels_inside` meets its contract: what was passed are labels.
+-- `station_limits::labels_inside` meets its contract: what was passed are labels.
 use Prim.Native.Nat.{ℕ, _≤_, _-_}
 use native.Mathlib.Omega.{arith}
 use mathlib.Core.Path.{_≡_, refl, sym}

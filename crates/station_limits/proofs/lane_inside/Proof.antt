@@ -1,4 +1,4 @@
--- `station::checks::lane_inside` meets its contract, test by test.
+-- `station_limits::lane_inside` meets its contract, test by test.
 use mathlib.Core.Path.{_≡_, refl, sym, _∙_}
 use mathlib.Core.Bool.{Bool, true, false}
 use Prim.Native.Nat.{_≤_}

@@ -1,4 +1,4 @@
--- `station::checks::lane_room` meets its contract.
+-- `station_limits::lane_room` meets its contract.
 use borrow.Author.Tests.{eq-eqb, ne-eqb}
 use Rattle.station_limits.proofs.lane_room.Statement.{statement}
 use Rattle.station_limits.proofs.lane_room.Tie as tie

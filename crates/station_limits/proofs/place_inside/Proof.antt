@@ -1,4 +1,4 @@
--- `station::checks::place_inside` meets its contract, test by test.
+-- `station_limits::place_inside` meets its contract, test by test.
 use mathlib.Core.Path.{_≡_, sym, ap, _∙_}
 use mathlib.Core.Bool.{true, false, not, _||_}
 use borrow.Author.Tests.{le-leb, lt-leb, not-true, not-false}

@@ -1,4 +1,4 @@
--- `station::checks::queue_inside` meets its contract: what was passed are edits.
+-- `station_limits::queue_inside` meets its contract: what was passed are edits.
 use Prim.Native.Nat.{ℕ, _≤_, _-_}
 use native.Mathlib.Omega.{arith}
 use mathlib.Core.Path.{_≡_, refl, sym, _∙_}

@@ -1,4 +1,4 @@
--- `station::checks::record_inside` meets its contract, test by test.
+-- `station_limits::record_inside` meets its contract, test by test.
 use mathlib.Core.Path.{_≡_, sym, _∙_}
 use mathlib.Core.Bool.{true, false, _||_}
 use lib.Dec.{eqb}

@@ -1,4 +1,4 @@
--- `station::checks::station_inside` meets its contract: the station as a whole first, then place after place.
+-- `station_limits::station_inside` meets its contract: the station as a whole first, then place after place.
 use Prim.Native.Nat.{ℕ, _≤_, _<_, _-_}
 use native.Mathlib.Omega.{arith}
 use mathlib.Core.Path.{_≡_, refl, sym, _∙_}

@@ -1,4 +1,4 @@
--- `station::checks::takeable` meets its contract: the body's kind is asked first, then its limits.
+-- `station_limits::takeable` meets its contract: the body's kind is asked first, then its limits.
 use native.Mathlib.Omega.{arith}
 use Prim.Native.Nat.{_<_, _≤_}
 use borrow.Author.Needs.{needs}

@@ -1,4 +1,4 @@
--- `station::checks::valid_number` meets its contract, test by test.
+-- `station_limits::valid_number` meets its contract, test by test.
 use mathlib.Core.Path.{refl}
 use borrow.Author.Tests.{le-leb, lt-leb}
 use Rattle.station_limits.proofs.valid_number.Statement.{statement}

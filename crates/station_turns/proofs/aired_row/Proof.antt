@@ -1,4 +1,4 @@
--- `station::turns::aired_row` meets its contract.
+-- `station_turns::aired_row` meets its contract.
 use borrow.Author.Tests.{not-true, not-false}
 use borrow.Author.Needs.{needs}
 use Rattle.station_turns.proofs.aired_row.Statement.{statement}

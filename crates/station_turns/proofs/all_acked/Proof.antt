@@ -1,4 +1,4 @@
--- `station::turns::all_acked` meets its contract: what was passed is acknowledged.
+-- `station_turns::all_acked` meets its contract: what was passed is acknowledged.
 use Prim.Native.Nat.{ℕ, _≤_, _-_}
 use native.Mathlib.Omega.{arith}
 use mathlib.Core.Path.{_≡_, refl, sym, ap, _∙_}

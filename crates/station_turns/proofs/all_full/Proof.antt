@@ -1,4 +1,4 @@
--- `station::turns::all_full` meets its contract: the lanes passed have a body.
+-- `station_turns::all_full` meets its contract: the lanes passed have a body.
 use Prim.Native.Nat.{ℕ, _≤_, _-_}
 use native.Mathlib.Omega.{arith}
 use mathlib.Core.Path.{_≡_, refl, sym, ap, _∙_}

@@ -1,4 +1,4 @@
--- `station::turns::all_popped` meets its contract: the lanes passed are popped.
+-- `station_turns::all_popped` meets its contract: the lanes passed are popped.
 use Prim.Native.Nat.{ℕ, _≤_, _-_}
 use native.Mathlib.Omega.{arith}
 use mathlib.Core.Path.{_≡_, refl, sym, ap, _∙_}

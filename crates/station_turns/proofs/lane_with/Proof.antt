@@ -1,4 +1,4 @@
--- `station::turns::lane_with` meets its contract.
+-- `station_turns::lane_with` meets its contract.
 use mathlib.Core.Path.{sym, _∙_}
 use borrow.Author.Needs.{needs}
 use Rattle.station_turns.proofs.lane_with.Statement.{statement}

@@ -1,4 +1,4 @@
--- `station::turns::oldest_row` meets its contract: the slots passed hold the oldest bodies.
+-- `station_turns::oldest_row` meets its contract: the slots passed hold the oldest bodies.
 use Prim.Native.Nat.{ℕ, _≤_, _-_}
 use native.Mathlib.Omega.{arith}
 use mathlib.Core.Path.{_≡_, refl, sym, ap, _∙_}

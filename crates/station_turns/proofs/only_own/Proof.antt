@@ -1,4 +1,4 @@
--- `station::turns::only_own` meets its contract: of the places passed only the own one is acknowledged.
+-- `station_turns::only_own` meets its contract: of the places passed only the own one is acknowledged.
 use Prim.Native.Nat.{ℕ, _≤_, _-_}
 use native.Mathlib.Omega.{arith}
 use mathlib.Core.Path.{_≡_, refl, sym, ap, _∙_}

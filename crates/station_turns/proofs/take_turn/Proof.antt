@@ -1,4 +1,4 @@
--- `station::turns::take_turn` meets its contract: the airing is decided, then the end.
+-- `station_turns::take_turn` meets its contract: the airing is decided, then the end.
 use native.Mathlib.Omega.{arith}
 use Prim.Native.Nat.{_≤_, _<_}
 use mathlib.Core.Path.{_≡_, sym, ap, _∙_}

@@ -1,4 +1,4 @@
--- `station::turns::turn_end` meets its contract: its answer is the definition's where the broadcast ends.
+-- `station_turns::turn_end` meets its contract: its answer is the definition's where the broadcast ends.
 use Rattle.station_turns.proofs.TurnSteps.{end-turn}
 use borrow.Author.Needs.{needs}
 use Rattle.station_turns.proofs.turn_end.Statement.{statement}

@@ -1,4 +1,4 @@
--- `station::turns::turn_on` meets its contract: its answer is the definition's where the broadcast does not end.
+-- `station_turns::turn_on` meets its contract: its answer is the definition's where the broadcast does not end.
 use Rattle.station_turns.proofs.TurnSteps.{on-turn}
 use borrow.Author.Needs.{needs}
 use Rattle.station_turns.proofs.turn_on.Statement.{statement}

@@ -1,4 +1,4 @@
--- `station::turns::waiting_after` meets its contract.
+-- `station_turns::waiting_after` meets its contract.
 use native.Mathlib.Omega.{arith}
 use borrow.Author.Tests.{eq-eqb, ne-eqb, lt-ltb, le-ltb}
 use borrow.Author.Needs.{needs}
