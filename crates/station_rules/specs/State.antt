@@ -41,6 +41,10 @@ laneAt s k = getD (s .lanes) k noLane
 abbrev pub recordLabel : Record → ℕ → ℕ
 recordLabel r k = getD (r .labels) k 0
 
+-- the own label of a record: the one for its station
+abbrev pub ownLabel : Record → ℕ
+ownLabel r = recordLabel r (r .station)
+
 -- the records of the table in station order, as the station's frame carries them (source document 001, Algorithm 2, line 4)
 unfoldable pub sentRecords : Station → List Record
 sentRecords s = gather (s .n) (heldOf s) (λ k. framed (s .n) (recordOf s k))
