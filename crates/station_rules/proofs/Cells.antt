@@ -12,11 +12,11 @@ use borrow.Author.Tests.{eq-eqb, ne-eqb}
 use Rattle.labels.specs.Label.{successor}
 use Rattle.labels.specs.Newer.{isNewer}
 use Rattle.frames.specs.declared.Record.{Record}
-use Rattle.frames.specs.Record.{framed}
+use Rattle.frames.specs.Record.{framed, noRecord}
 use Rattle.places.proofs.Laws.{fill-below, fill-above, length-fill}
 use Rattle.station_rules.specs.declared.Station.{Station}
 use Rattle.lanes.specs.Lane.{noLane, pushed}
-use Rattle.station_rules.specs.State.{labelOf, ackedOf, heldOf, recordOf, laneAt, recordLabel, ownLabel, noRecord}
+use Rattle.station_rules.specs.State.{labelOf, ackedOf, heldOf, recordOf, laneAt, recordLabel, ownLabel}
 use Rattle.station_rules.specs.Hearing.{Hearing, heeds, advances, takes, raised, replaced, heardNewer, hearRecord, hearRecords}
 
 -- a station never heeds a record of itself, and heeds one of another station where it is newer

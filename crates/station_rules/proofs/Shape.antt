@@ -18,7 +18,8 @@ use Rattle.lanes.specs.declared.Queue.{Queue}
 use Rattle.station_rules.specs.declared.Station.{Station}
 use Rattle.lanes.specs.Lane.{noLane, pushed, popped}
 use Rattle.lanes.specs.Queue.{queued, unqueued, noneWaiting}
-use Rattle.station_rules.specs.State.{noRecord, recordOf, recordLabel, labelOf, laneAt, freshStation, zeroRecord}
+use Rattle.frames.specs.Record.{noRecord, zeroRecord}
+use Rattle.station_rules.specs.State.{recordOf, recordLabel, labelOf, laneAt, freshStation}
 use Rattle.station_rules.specs.Hearing.{Hearing, heeds, replaced, heardNewer, hearRecord}
 use Rattle.station_rules.specs.Turn.{airs, ends, startsEdit, startedBody, lanesAfter, passed, ownRecord, rewritten, afterTurn}
 use Rattle.station_rules.specs.Calls.{posted}
