@@ -8,7 +8,7 @@ use lib.Dec.{ltb}
 use lib.IntN.{ℤ, pos, natAbs}
 use lib.Signed.{ltZ}
 
--- what stands in the w columns before the first digit: blanks, and a minus in the last of them
+-- what stands in the w columns before the first digit: blanks, or blanks with a minus in the last of them
 unfoldable pub lead : Bool → ℕ → List ℕ
 lead false w = replicate w 32
 lead true zero = []

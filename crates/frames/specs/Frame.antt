@@ -9,19 +9,19 @@ use Rattle.places.specs.Places.{allBelow, anyBelow, tabulate}
 use Rattle.frames.specs.declared.Record.{Record}
 use Rattle.frames.specs.Record.{recordOf, recordBytes, noRecord, bytesInside, recordFits}
 
--- byte 3 of a frame, which edition 0 keeps at zero
+-- byte 3 of a frame
 abbrev pub frameMark : ℕ
 frameMark = 0
 
--- "N is 1 to 16; stations are 0 to N - 1"
+-- N can be a number of stations, and own is one of them
 abbrev pub validNumber : ℕ → ℕ → Bool
 validNumber n own = (leb 1 n && leb n 16) && ltb own n
 
--- "Each record is read from, and written to, its own part": the sixteen bytes of record k
+-- the part of a frame that is record k's: sixteen bytes
 abbrev pub part : List ℕ → ℕ → List ℕ
 part bytes k = take 16 (drop (4 + 16 * k) bytes)
 
--- 5: under 4 bytes, byte 2 is 0 or above 16, byte 3 isn't 0, or another length than R records ask for
+-- 5: too short for a frame; no record, or more than 16; byte 3 not zero; or not as long as so many records are
 unfoldable pub shapeWrong : List ℕ → Bool
 shapeWrong bytes =
     ltb (length bytes) 4
@@ -30,7 +30,7 @@ shapeWrong bytes =
     || not (eqb (getD bytes 3 0) frameMark)
     || not (eqb (length bytes) (4 + 16 * getD bytes 2 0))
 
--- 6: byte 0 isn't the hearer's N, or byte 1 is its own number or not below N
+-- 6: made for another N; or its sender is the hearer, or no station among N
 unfoldable pub addressWrong : List ℕ → ℕ → ℕ → Bool
 addressWrong bytes n own = not (eqb (getD bytes 0 0) n) || eqb (getD bytes 1 0) own || not (ltb (getD bytes 1 0) n)
 

@@ -12,7 +12,7 @@ use Rattle.places.specs.Places.{fill}
 use Rattle.frames.specs.declared.Record.{Record}
 use Rattle.frames.specs.Words.{wordAt, wordBytes, signed, unsigned}
 
--- byte 3 of a record, which edition 0 keeps at zero
+-- byte 3 of a record
 abbrev pub recordMark : ℕ
 recordMark = 0
 

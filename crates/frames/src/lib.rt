@@ -18,7 +18,7 @@ use kinds::refusals::BAD_SHAPE;
 use kinds::refusals::DONE;
 use kinds::refusals::SHORT_BUFFER;
 
-// Byte 3 of a frame, and byte 3 of a record: edition 0 keeps both at zero.
+// Byte 3 of a frame, and byte 3 of a record, are zero.
 const FRAME_MARK: u8 = 0;
 
 const RECORD_MARK: u8 = 0;

@@ -6,7 +6,7 @@ ghost use Rattle.group_rules.specs.State.{freshGroup};
 use station::starts::fresh_station;
 use station_rules::Station;
 
-// The group of n, as it begins; its places from n up hold the fresh station 0 of N = 1.
+// The group of n, as it begins; a station alone, fresh, stands at each place from n up.
 pub fn fresh_group(n: usize) -> [Station; 16]
     requires { ⌜ n ≤ 16 ⌝ }
     ensures { λ r. ⌜ r ≡ freshGroup n ⌝ }

@@ -89,7 +89,7 @@ module _ (R : Run) where
       ∙ ap (λ (i : ℕ). getD (startedAt R s w) i Empty) (add-zero k)
       ∙ begins-getD (startedAt R s w) (startedBy R v s) (version-begins R w v s (omega arith)) k Empty (omega arith)
 
-  -- T2: the row that p airs after k others has the k-th body that each station started.
+  -- The row that p airs after k others has the k-th body that each station started.
   pub row-body : (u v p s : ℕ) → u ≤ v → p < R .n → s < R .n → airs ((hearingIn R u p) .station) ≡ true
       → (getD ((turnIn R u p) .row) s noSlot) .body ≡ getD (startedBy R v s) (rowsBy R u p) Empty
   row-body u v p s h lp ls e =

@@ -91,7 +91,7 @@ module _ (L : Links) (made rows : ℕ → ℕ → ℕ) (last : ℕ) (C : Countin
   pub rows-keeps : (u p : ℕ) → u < last → p < L .size → rows u p ≤ rows (suc u) p
   rows-keeps u p l lp = ⊎-elim (λ e. omega (arith, e .0)) (λ e. omega (arith, e .0)) (rows-cases u p l lp)
 
-  -- T3: a station is at most one body ahead of its rows.
+  -- A station is at most one body ahead of its rows.
   pub made-ahead : (u p : ℕ) → u ≤ last → p < L .size → made u p ≤ rows u p + 1
   made-ahead zero p l lp = omega (arith, C .made-zero p lp)
   made-ahead (suc u) p l lp =
@@ -144,7 +144,7 @@ module _ (L : Links) (made rows : ℕ → ℕ → ℕ) (last : ℕ) (C : Countin
   pub rows-reached : (u p s : ℕ) → u < last → p < L .size → s < L .size → rows (suc u) p ≤ reached L made u p s
   rows-reached u p s l lp ls = rows-covered u p s l lp ls (rows-limit u p s (omega arith) lp ls)
 
-  -- T3: after the airing step the rows are the least of what was reached of anybody.
+  -- After the airing step the rows are the least of what was reached of anybody.
   pub rows-least : (u p k : ℕ) → u < last → p < L .size → ((s : ℕ) → s < L .size → k ≤ reached L made u p s) → k ≤ rows (suc u) p
   rows-least u p k l lp h =
       ⊎-elim
@@ -152,7 +152,7 @@ module _ (L : Links) (made rows : ℕ → ℕ → ℕ) (last : ℕ) (C : Countin
       (λ e. omega (arith, e .0, e .1 .2, h (e .1 .0) (e .1 .1)))
       (rows-cases u p l lp)
 
-  -- T4: after a round nobody has more than one body of anybody beyond its rows.
+  -- After a round nobody has more than one body of anybody beyond its rows.
   heard-ahead : (u p s w : ℕ) → u < last → p < L .size → s < L .size → w ≤ u → news L (suc u) p s ≡ suc w → made w s ≤ rows (suc u) p + 1
   heard-ahead u p s w l lp ls lw e =
       omega (
@@ -190,7 +190,7 @@ module _ (L : Links) (made rows : ℕ → ℕ → ℕ) (last : ℕ) (C : Countin
       other (suc u) (suc w) l e b =
           omega (arith, shown-some s (news L (suc u) p s) w e, heard-ahead u p s w (omega arith) lp ls (omega arith) e)
 
-  -- T4: and not more than two while it hears, before the turn.
+  -- And not more than two while it hears, before the turn.
   pub hearing-ahead : (u p s : ℕ) → u < last → p < L .size → s < L .size → reached L made u p s ≤ rows u p + 2
   hearing-ahead u p s l lp ls =
       ⊎-elim

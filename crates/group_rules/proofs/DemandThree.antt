@@ -7,7 +7,8 @@ use mathlib.Core.Path.{_≡_, ap, _∙_}
 use native.Mathlib.Omega.{arith}
 use lib.ListN.{getD, length}
 use Rattle.frames.specs.declared.Record.{Record}
-use Rattle.station_rules.specs.State.{noRecord, heldOf, recordOf}
+use Rattle.frames.specs.Record.{noRecord}
+use Rattle.station_rules.specs.State.{heldOf, recordOf}
 use Rattle.group_rules.specs.State.{stationAt}
 use Rattle.group_rules.specs.History.{History, Call, historyOf}
 use Rattle.group_rules.specs.Demand.{Demand, DemandThree}

@@ -28,8 +28,8 @@ use Rattle.station_rules.specs.declared.Station.{Station}
 use Rattle.station_rules.specs.declared.Taking.{Taking}
 use Rattle.lanes.specs.Lane.{pushed}
 use Rattle.station_rules.specs.State.{labelOf, ackedOf, recordOf, laneAt, recordLabel}
-use Rattle.station_rules.specs.Hearing.{Hearing, counts, advances, takes, raised, heardNewer, hearRecord}
-use Rattle.station_rules.proofs.HearRecord.{heardOne, hearRecord-skips, hearRecord-counts}
+use Rattle.station_rules.specs.Hearing.{Hearing, heeds, advances, takes, raised, heardNewer, hearRecord}
+use Rattle.station_rules.proofs.HearRecord.{heardOne, hearRecord-skips, hearRecord-heeds}
 use Rattle.station_rules.proofs.Cells
 use Rattle.group_rules.specs.History.{takingsOf}
 use Rattle.group_rules.proofs.Run.{Run, linksOf}
@@ -42,7 +42,7 @@ module _ (R : Run) where
   abbrev L : Links
   L = linksOf R
 
-  -- a record that counts; b says whether it advances the cell
+  -- a record that the station heeds; b says whether it advances the cell
   module _ (h : Hearing) (r : Record) where
     abbrev s : Station
     s = h .station
@@ -233,10 +233,10 @@ module _ (R : Run) where
             let e = number-after q l (ℕ-discrete q k) f in
             rw (e, shown-same R q (vs′ q) (vs q) e))))
 
-        standing-counted : counts s r ≡ true → Standing R u p first (hearRecord h r) vs′
+        standing-heeded : heeds s r ≡ true → Standing R u p first (hearRecord h r) vs′
         unfolding heardOne
-        standing-counted e =
-            subst (λ x. Standing R u p first x vs′) (sym (hearRecord-counts h r e))
+        standing-heeded e =
+            subst (λ x. Standing R u p first x vs′) (sym (hearRecord-heeds h r e))
             (record {
               formed = formed-heard R p s r lk (c .formed);
               body = Cells.heard-body s r ∙ c .body;
@@ -279,5 +279,5 @@ module _ (R : Run) where
                   subst (λ x. vs′ x ≤ suc u) (sym i)
                   (omega (arith, here, c .high k lk, news-limit L u j k))
               below q l (no d) = omega (arith, c .high q l, rest q d)
-          go (renewed e adv later number) = standing-counted (omega arith) false adv later number e
-          go (advanced e adv later number) = standing-counted (omega arith) true adv later number e
+          go (renewed e adv later number) = standing-heeded (omega arith) false adv later number e
+          go (advanced e adv later number) = standing-heeded (omega arith) true adv later number e

@@ -1,4 +1,4 @@
--- T2 to T4 of a run: a lane holds what was taken beyond the rows aired, round after round. The counts of bodies and rows then follow the two rules of
+-- The lanes of a run: a lane holds what was taken beyond the rows aired, round after round. The counts of bodies and rows then follow the two rules of
 -- counting, so no lane has more than one body after a round or two while hearing, and none is ever overfull.
 use mathlib.Core.Bool.{Bool, true, false, cond, not, _&&_, true≢false}
 use mathlib.Core.Logic.{_⊎_, inl, inr}
@@ -308,7 +308,7 @@ module _ (R : Run) where
   pub counting : (u : ℕ) → Counting L (madeBy R) (rowsBy R) u
   counting u = (carried u) .counting
 
-  -- T2: a lane holds what was taken beyond the rows aired, after a round and while hearing.
+  -- A lane holds what was taken beyond the rows aired, after a round and while hearing.
   pub lane-holds : (u p s : ℕ) → p < R .n → s < R .n → Holds (laneAt (stationAt (R .after u) p) s) (drop (rowsBy R u p) (takenBy R u p s))
   lane-holds u p s lp ls = rw (taken-version R u p s lp ls) ((carried u) .lanes p s lp ls)
 
@@ -316,7 +316,7 @@ module _ (R : Run) where
       → Holds (laneAt ((hearingIn R u p) .station) s) (drop (rowsBy R u p) (startedAt R s (min (suc u) (news L (suc u) p s))))
   hearing-holds u p s lp ls = has-heard u p s lp ls (carried u)
 
-  -- T4: a lane has at most one body after a round, and at most two while hearing.
+  -- A lane has at most one body after a round, and at most two while hearing.
   pub lane-limit : (u p s : ℕ) → p < R .n → s < R .n → (laneAt (stationAt (R .after u) p) s) .len ≤ 1
   lane-limit u p s lp ls =
       omega (

@@ -1,25 +1,24 @@
--- Document 01's marked examples M1 to M12, of the definitions. Labels, words and limits are those of the crates below; a post is judged by its refusals in order;
+-- Document 01's marked examples M1 to M12, of the definitions. Those of labels, words, frames and posts are shown in the crates below;
 -- a group of one computes, once its edit is known to be one.
-use Prim.Native.Nat.{ℕ, _<_}
+use Prim.Native.Nat.{ℕ}
 use mathlib.Core.Bool.{true, false}
 use mathlib.Core.List.{List, [], _∷_}
 use mathlib.Core.Path.{_≡_, refl, ap}
 use native.Mathlib.Omega.{arith}
 use lib.Dec.{leb, eqb}
-use lib.IntN.{pos, negsuc}
 use lib.ListN.{getD, set}
-use borrow.Author.Tests.{lt-leb, le-leb}
+use borrow.Author.Tests.{le-leb}
 use Rattle.kinds.specs.declared.Body.{Body}
-use Rattle.kinds.specs.declared.Body.the-variants.{Empty, Neutral, Insert, Shift}
+use Rattle.kinds.specs.declared.Body.the-variants.{Empty, Neutral}
 use Rattle.kinds.specs.Body.{kindOf}
 use Rattle.kinds.specs.Limits.{isEdit, bodyInside, numbersInside}
-use Rattle.kinds.specs.Refusals.{done, queueFull, notAnEdit}
+use Rattle.kinds.specs.Refusals.{done}
 use Rattle.kinds.proofs.Laws.{edit-inside, edit-kind, edit-not-empty}
-use Rattle.kinds.proofs.Examples as kinds
 use Rattle.labels.proofs.Examples as labels
-use Rattle.frames.proofs.Bytes.{length-frame}
+use Rattle.frames.proofs.FrameTrip as frames
+use Rattle.station_rules.proofs.Examples as station
 use Rattle.station_rules.specs.declared.Station.{Station}
-use Rattle.station_rules.specs.Calls.{posted, postCall}
+use Rattle.station_rules.specs.Calls.{posted}
 use Rattle.lanes.specs.Queue.{noSlot, noneWaiting, queued, unqueued, oldest}
 use Rattle.lanes.specs.Lane.{laneOf, bodies}
 use Rattle.station_rules.specs.Turn.{airs, rowOf, lanesAfter, ends, startedBody, passed, ownRecord, rewritten, afterTurn, turnReport}
@@ -32,20 +31,6 @@ use Rattle.group_rules.specs.Calls.{groupPostRefusal, roundRefusal, hear
 use Rattle.group_rules.specs.Calls.{postCall as groupPost}
 use Rattle.group_rules.specs.History.{History, Call.post, Call.round, next, begun, continued}
 use Rattle.group_rules.specs.Marked.{Marked, oneStation, turnIn}
-
-module _ (s : Station) (inside : stationInside s ≡ true) where
-  -- an edit is accepted where there is room, and anything else is refused
-  post-edit : (b : Body) → s .waiting .len < 32 → isEdit b ≡ true → (postCall s b) .refusal ≡ done
-  unfolding postCall
-  post-edit b room e = rw (inside, e, lt-leb 32 (s .waiting .len) room)
-
-  post-other : (b : Body) → isEdit b ≡ false → (postCall s b) .refusal ≡ notAnEdit
-  unfolding postCall
-  post-other b e = rw (inside, e)
-
-  post-full : (b : Body) → s .waiting .len ≡ 32 → isEdit b ≡ true → (postCall s b) .refusal ≡ queueFull
-  unfolding postCall
-  post-full b full e = rw (inside, e, full)
 
 -- a group of one in which one edit is posted
 module _ (b : Body) (e : isEdit b ≡ true) where
@@ -115,15 +100,12 @@ marked =
       m5 = labels.m5;
       m6 = labels.m6;
       m7 = labels.m7;
-      m8-one = λ n sender r. length-frame n sender (r ∷ []);
-      m8-all = λ n sender rs sixteen. omega (arith, length-frame n sender rs);
-      m9 = λ s inside room event least most.
-          let limits = kinds.m9 event least most in
-          (post-edit s inside (Shift event (negsuc 89_999)) room (limits .0), post-other s inside (Shift event (negsuc 90_000)) (limits .1));
-      m10 = λ s inside room event least most.
-          let limits = kinds.m10 event least most in
-          (post-edit s inside (Insert event (pos 2_159_999)) room (limits .0), post-other s inside (Insert event (pos 2_160_000)) (limits .1));
-      m11 = λ s b inside full e. post-full s inside b full e;
+      m8-one = λ n sender r. frames.m8 n sender (r ∷ []) .0 refl;
+      m8-all = λ n sender rs sixteen. frames.m8 n sender rs .1 sixteen;
+      m9 = λ s inside room event least most. station.m9 s inside event least most room;
+      m10 = λ s inside room event least most. station.m10 s inside event least most room;
+      m11-room = λ s b inside room e. station.m11-room s inside b e room;
+      m11 = λ s b inside full e. station.m11 s inside b e full;
       m12-starts = λ b masks₁ masks₂ e. starts b e masks₁ masks₂;
       m12-airs = λ b masks₁ masks₂ e. aired b e masks₁ masks₂;
     }

@@ -1,6 +1,6 @@
 -- What "newer" decides. The versions of a station that are in flight in one round have numbers at most one apart, so labels modulo 3 tell the same, the
--- next and the previous number apart; and within one number a later version has no smaller count. So a record counts exactly if it is later than what
--- the cell stands for, or else the cell stands for it already; and it advances exactly if its number is the next one.
+-- next and the previous number apart; and within one number a later version has no smaller count. So a station heeds a record exactly if the record
+-- is later than what the cell stands for, or else the cell stands for it already; and it advances exactly if its number is the next one.
 use Prim.Native.Nat.{ℕ, zero, suc, max, _%_, _≤_, _<_}
 use mathlib.Core.Bool.{Bool, true, false}
 use mathlib.Core.Logic.{inl, inr}
@@ -21,8 +21,8 @@ use Rattle.links.proofs.Clock.{news-limit}
 use Rattle.frames.specs.declared.Record.{Record}
 use Rattle.station_rules.specs.declared.Station.{Station}
 use Rattle.station_rules.specs.State.{labelOf, heldOf, recordOf, recordLabel}
-use Rattle.station_rules.specs.Hearing.{counts, advances}
-use Rattle.station_rules.proofs.Cells.{counts-newer}
+use Rattle.station_rules.specs.Hearing.{heeds, advances}
+use Rattle.station_rules.proofs.Cells.{heeds-newer}
 use Rattle.group_rules.proofs.Run.{Run, linksOf}
 use Rattle.group_rules.proofs.Version.{Stands, CellAt, Alike}
 
@@ -35,10 +35,10 @@ module _ (R : Run) where
 
   -- a cell of k that stands for version v hears a record r that stands for version w + 1
   pub data Outcome (s : Station) (r : Record) (k v w : ℕ) : Type 0 where
-    skipped : counts s r ≡ false → Alike R k v (max v (suc w)) → Outcome s r k v w
-    renewed : counts s r ≡ true → advances s r ≡ false → v < suc w → numOf L k (suc w) ≡ numOf L k v → Outcome s r k v w
+    skipped : heeds s r ≡ false → Alike R k v (max v (suc w)) → Outcome s r k v w
+    renewed : heeds s r ≡ true → advances s r ≡ false → v < suc w → numOf L k (suc w) ≡ numOf L k v → Outcome s r k v w
     advanced :
-        counts s r ≡ true → advances s r ≡ true → v < suc w → numOf L k (suc w) ≡ suc (numOf L k v) →
+        heeds s r ≡ true → advances s r ≡ true → v < suc w → numOf L k (suc w) ≡ suc (numOf L k v) →
         Outcome s r k v w
 
   module _ (s : Station) (r : Record) where
@@ -66,10 +66,10 @@ module _ (R : Run) where
 
       newer-held :
           (x w : ℕ) → heldOf s k ≡ true → Stands R (recordOf s k) k x → Stands R r k w →
-          counts s r ≡ isNewer true (num L x k % 3) (fresh L x k) (num L w k % 3)
+          heeds s r ≡ isNewer true (num L x k % 3) (fresh L x k) (num L w k % 3)
           (fresh L w k)
       newer-held x w e a b =
-          counts-newer s r away ∙ newer-at e (label-number (recordOf s k) x a) (a .count) (label-number r w b) (b .count)
+          heeds-newer s r away ∙ newer-at e (label-number (recordOf s k) x a) (a .count) (label-number r w b) (b .count)
 
       pub outcome :
           (v w j : ℕ) → j < R .n →
@@ -88,7 +88,7 @@ module _ (R : Run) where
           ) in
           let z = numOf-none L k 0 refl in
           advanced
-          (counts-newer s r away
+          (heeds-newer s r away
           ∙ newer-none (heldOf s k) (recordLabel (recordOf s k) k) ((recordOf s k) .count)
           (recordLabel r k) (r .count) (c .is-held))
           (advances-next w 0 t (c .is-label ∙ ap (λ (g : ℕ). g % 3) z) e)

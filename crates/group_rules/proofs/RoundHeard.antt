@@ -21,6 +21,7 @@ use Rattle.frames.specs.Record.{framed}
 use Rattle.places.specs.Places.{gather}
 use Rattle.places.proofs.Laws.{anyBelow-none}
 use Rattle.station_rules.specs.declared.Station.{Station}
+use Rattle.frames.specs.Calls.{tableRecords}
 use Rattle.station_rules.specs.State.{heldOf, recordOf, laneAt, sentRecords}
 use Rattle.station_rules.specs.Hearing.{Hearing, silent, hearRecord, hearRecords}
 use Rattle.station_rules.proofs.HearRecord.{hearRecord-skips}
@@ -135,7 +136,7 @@ module _ (R : Run) where
             subst (λ z. Standing R u p first z (upTo (suc k)))
             (sym
             (hearRecord-skips x (framed (s .n) (recordOf s k))
-            (Cells.counts-own (x .station) (framed (s .n) (recordOf s k)) (t .station ∙ i ∙ sym (c .formed .own)))))
+            (Cells.heeds-own (x .station) (framed (s .n) (recordOf s k)) (t .station ∙ i ∙ sym (c .formed .own)))))
             (same-versions k x lk c
             (let y : vs k ≡ suc u = sym (upTo-above k k (le-refl k)) ∙ ap (upTo k) i ∙ c .own-version in
             omega (arith, news-limit L u j k)))
@@ -170,7 +171,7 @@ module _ (R : Run) where
     pub hear-sent :
         Standing R u p first h vs →
         Standing R u p first (hearRecords h (sentRecords s)) (λ q. max (vs q) (news L u j q))
-    unfolding sentRecords
+    unfolding sentRecords tableRecords
     hear-sent c =
         let e = a .formed .size in
         let d = hear-frame (s .n) (omega arith) c in

@@ -18,7 +18,8 @@ use Rattle.links.proofs.Number.{num-zero, start-zero}
 use Rattle.links.proofs.Got.{got-none, got-own}
 use Rattle.frames.specs.declared.Record.{Record}
 use Rattle.station_rules.specs.declared.Station.{Station}
-use Rattle.station_rules.specs.State.{recordOf, noRecord, zeroRecord, freshStation}
+use Rattle.frames.specs.Record.{noRecord, zeroRecord}
+use Rattle.station_rules.specs.State.{recordOf, freshStation}
 use Rattle.station_rules.specs.Turn.{afterTurn}
 use Rattle.group_rules.specs.State.{stationAt, sizeOf}
 use Rattle.group_rules.proofs.Run.{Run, SameButWaiting, linksOf, hearingIn}

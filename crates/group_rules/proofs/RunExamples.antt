@@ -12,6 +12,7 @@ use Rattle.kinds.specs.Limits.{isEdit, bodyInside, numbersInside}
 use Rattle.links.specs.Log.{bit, hearsIn}
 use Rattle.places.specs.Places.{allBelow, anyBelow, fill, gather, tabulate}
 use Rattle.frames.specs.Record.{framed}
+use Rattle.frames.specs.Calls.{tableRecords}
 use Rattle.labels.specs.Newer.{isNewer}
 use Rattle.station_rules.specs.declared.Taking.{Taking}
 use Rattle.lanes.specs.Lane.{laneOf, bodies}
@@ -87,7 +88,7 @@ pub record Runs : Type 0 where
 
 -- all by computation
 pub runs : Runs
-unfolding linesOf linesIn seven listing isEdit bodyInside numbersInside bit hearsIn allBelow anyBelow fill gather framed isNewer laneOf bodies noneWaiting queued unqueued oldest sentRecords freshStation laneInside queueInside recordInside placeInside stationInside replaced heardNewer hearRecord hearRecords airs rowOf lanesAfter ends startedBody passed ownRecord rewritten afterTurn turnReport posted noTurn groupInside freshGroup groupPostRefusal postCall hearing noReport reportOf roundRefusal afterRound roundCall next begun continued editsOf edit three tabulate takenFrom takingsOf airedList started collect endsAt
+unfolding linesOf linesIn seven listing isEdit bodyInside numbersInside bit hearsIn allBelow anyBelow fill gather framed isNewer laneOf bodies noneWaiting queued unqueued oldest sentRecords tableRecords freshStation laneInside queueInside recordInside placeInside stationInside replaced heardNewer hearRecord hearRecords airs rowOf lanesAfter ends startedBody passed ownRecord rewritten afterTurn turnReport posted noTurn groupInside freshGroup groupPostRefusal postCall hearing noReport reportOf roundRefusal afterRound roundCall next begun continued editsOf edit three tabulate takenFrom takingsOf airedList started collect endsAt
 runs =
     record {
       listing-one = refl;

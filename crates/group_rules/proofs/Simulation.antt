@@ -60,7 +60,7 @@ module _ (R : Run) where
     pub ready-formed : Formed R p (stationAt (R .ready u) p)
     ready-formed = ready-all R u p lp .formed
 
-    -- S1: nothing is held of a station of which there is no news, and else that station's own record as the round of the news left it
+    -- the table: nothing is held of a station of which there is no news, and else that station's own record as the round of the news left it
     pub table-none : (q : ℕ) → q < R .n → news L u p q ≡ 0 → heldOf (stationAt (R .after u) p) q ≡ false
     table-none q l e = after-all R u p lp .cells q l .is-held ∙ le-ltb 0 (news L u p q) (omega arith)
 
@@ -77,7 +77,7 @@ module _ (R : Run) where
         stands-agree (recordOf (stationAt (R .after u) p) q) (recordOf (stationAt (R .after w) q) q) q w (table-stands q w l e)
         (after-all R w q l .cells q l .stands w (news-own L w q))
 
-    -- S2
+    -- the labels
     pub labels-got : (q : ℕ) → q < R .n → labelOf (stationAt (R .after u) p) q ≡ got L u p q % 3
     labels-got q l =
         after-all R u p lp .cells q l .is-label ∙ ap (λ (i : ℕ). i % 3) (sym (got-numOf L u p q))
@@ -85,13 +85,13 @@ module _ (R : Run) where
     pub own-label : labelOf (stationAt (R .after u) p) p ≡ num L u p % 3
     own-label = labels-got p lp ∙ ap (λ (i : ℕ). i % 3) (got-own L u p)
 
-    -- S3
+    -- the acknowledgements
     pub acked-number :
         (q : ℕ) → q < R .n →
         ackedOf (stationAt (R .after u) p) q ≡ eqb (gotOf L q p (news L u p q)) (num L u p)
     acked-number q l = after-all R u p lp .cells q l .is-acked
 
-    -- S4
+    -- the count
     pub count-fresh : (stationAt (R .after u) p) .count ≡ fresh L u p
     count-fresh = after-all R u p lp .count
 
@@ -135,7 +135,7 @@ module _ (R : Run) where
         heardVersion R u p (R .n) q ≡ news L (suc u) p q
     heard-clock = heard-version R u p lp (λ j l. ready-all R u j l)
 
-    -- S4 while hearing, so that 255 is never met
+    -- the count while hearing, so that 255 is never met
     pub heard-count : ((hearingIn R u p) .station) .count ≤ 3 * (R .n - 1)
     heard-count = standing-count R u p (stationAt (R .ready u) p) (hearingIn R u p) _ lp heard-standing
 

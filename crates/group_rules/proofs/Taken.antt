@@ -1,4 +1,4 @@
--- T1: what p has taken of s is what s had started as p's news of it shows it, so a beginning of what s has started. From one version of s to a later
+-- What p has taken of s is what s had started as p's news of it shows it, so a beginning of what s has started. From one version of s to a later
 -- one whose number is at most one higher, at most one body comes: that of the later version.
 use mathlib.Core.Bool.{Bool, true, false, cond}
 use mathlib.Core.Logic.{_⊎_, inl, inr, ⊎-elim}
@@ -155,7 +155,7 @@ module _ (R : Run) where
       (λ e. rw (e .0, e .1, e .2) before)
       (next s (d + v) l))
 
-  -- T1: what p took of another is what that one had started as the news of it shows.
+  -- What p took of another is what that one had started as the news of it shows.
   rises-numOf : (u p s : ℕ) → rises R u p s ≡ ltb (numOf L s (news L u p s)) (numOf L s (news L (suc u) p s))
   unfolding got
   rises-numOf u p s = refl

@@ -68,7 +68,7 @@ module _ (R : Run) where
           ∙ eq-eqb (gotOf L p p (vs p)) (num L u p)
           (gotOf-some L p p (vs p) u (c .own-version) ∙ got-own L u p)
 
-      -- S5
+      -- the end
       pub ends-agree : turn.ends s ≡ number.ends L (suc u) p
       ends-agree =
           ends-each s
@@ -166,7 +166,7 @@ module _ (R : Run) where
             ∙ ap (λ (i : ℕ). i % 3) (numOf-some L p (vs p) u (c .own-version)))
             num-now)
 
-        -- S2
+        -- the labels
         label-now : (q : ℕ) → q < R .n → Dec (q ≡ p) → labelOf (afterTurn s) q ≡ got L (suc u) p q % 3
         label-now q l (yes e) =
             subst (λ i. labelOf (afterTurn s) i ≡ got L (suc u) p i % 3) (sym e)
@@ -201,7 +201,7 @@ module _ (R : Run) where
             ∙ ap (λ (x : Bool). cond x (eqb q (s .own)) (ackedOf s q)) ended
             ∙ ap (λ (i : ℕ). cond b (eqb q i) (ackedOf s q)) (c .formed .own)
 
-        -- S3
+        -- the acknowledgements
         acked-now :
             (q : ℕ) → q < R .n → Dec (q ≡ p) →
             ackedOf (afterTurn s) q ≡ eqb (gotOf L q p (news L (suc u) p q)) (num L (suc u) p)
@@ -245,7 +245,7 @@ module _ (R : Run) where
         held-now q l (no d) =
             TurnCells.turn-held s q ∙ c .cells q l .is-held ∙ ap (λ (v : ℕ). ltb 0 v) (clock q d)
 
-        -- S1
+        -- the table
         stands-now :
             (q : ℕ) → q < R .n → Dec (q ≡ p) → (w : ℕ) → news L (suc u) p q ≡ suc w →
             Stands R (recordOf (afterTurn s) q) q w

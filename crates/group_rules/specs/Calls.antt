@@ -13,6 +13,7 @@ use Rattle.station_rules.specs.declared.Station.{Station}
 use Rattle.station_rules.specs.declared.Taking.{Taking}
 use Rattle.station_rules.specs.State.{sentRecords}
 use Rattle.station_rules.specs.Hearing.{Hearing, silent, hearRecords}
+pub use Rattle.station_rules.specs.Frames.{noTaking}
 use Rattle.station_rules.specs.Turn.{afterTurn, turnReport}
 use Rattle.station_rules.specs.Calls.{posted, postRefusal, ownCountInside, noTurn}
 use Rattle.group_rules.specs.declared.Report.{Report}
@@ -51,9 +52,6 @@ hearing g masks i (suc j) =
 -- station i once it has heard all of its mask
 abbrev pub heard : List Station → List ℕ → ℕ → Hearing
 heard g masks i = hearing g masks i (sizeOf g)
-
-abbrev pub noTaking : Taking
-noTaking = record { source = 0; body = Empty }
 
 -- what a round reports of a station that is not in it
 unfoldable pub noReport : Report

@@ -1,4 +1,4 @@
--- Demand 3 of document 01, as one claim about one list of calls. Each field is one sentence of the demand.
+-- Demand 3 of document 01, as one claim about one list of calls. Each field is a sentence of the demand, or half of one.
 use Prim.Native.Nat.{ℕ, suc, _+_, _*_, _-_, _≤_, _<_}
 use mathlib.Core.Bool.{Bool, true}
 use mathlib.Core.List.{List, _++_}
@@ -14,7 +14,7 @@ use Rattle.group_rules.specs.State.{stationAt}
 use Rattle.group_rules.specs.History.{History, Call, noRound, historyOf, started, takenFrom, airedList, airedOwn, occurrences, editsIn, endsAt, startedIn}
 
 module _ {A : Type 0} where
-  -- "A beginning of a list is its first entries: none, some or all."
+  -- the term "beginning": so many first entries of a list
   pub record Begins (xs ys : List A) : Type 0 where
     pub rest : List A
     pub whole : xs ++ rest ≡ ys
@@ -28,7 +28,7 @@ pub record Demand (n : ℕ) (H : History) : Type 0 where
   -- no round is refused
   pub no-round-refused :
       (u : ℕ) → u < length (H .rounds) → (getD (H .rounds) u noRound) .refusal ≡ done
-  -- no count above 2 × (N - 1), its own and those in its table
+  -- no station counts, or holds a count, above 2 × (N - 1)
   pub own-count-bounded : (p : ℕ) → p < n → (stationAt (H .group) p) .count ≤ 2 * (n - 1)
   pub held-count-bounded :
       (p s : ℕ) → p < n → s < n → heldOf (stationAt (H .group) p) s ≡ true → (recordOf (stationAt (H .group) p) s) .count ≤ 2 * (n - 1)

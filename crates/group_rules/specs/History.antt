@@ -86,23 +86,23 @@ unfoldable pub takingsOf : ℕ → List Taking → List Body
 takingsOf s [] = []
 takingsOf s (t ∷ ts) = cond (eqb (t .source) s) (t .body ∷ []) [] ++ takingsOf s ts
 
--- "Started": the started bodies of its turns, Empty left out
+-- the term "started": what the turns of s report as started, the Empty ones left out
 unfoldable pub started : History → ℕ → List Body
 started H s = collect (λ r. unlessEmpty ((reportIn r s) .turn .«started_body»)) (H .rounds)
 
--- "Taken from another": what the rounds report as taken from it; from itself, what it started
+-- the term "taken": of another station, what the rounds report that p took of it; of p itself, what p started
 unfoldable pub takenFrom : History → ℕ → ℕ → List Body
 takenFrom H p s =
     cond (eqb p s)
     (started H s)
     (collect (λ r. takingsOf s (take ((reportIn r p) .«takings_len») ((reportIn r p) .takings))) (H .rounds))
 
--- the edits of a row, each with its source, in station order
+-- the edits of a row (all bodies of a row are inside their limits), each with its source, in station order
 unfoldable pub editsOf : ℕ → List Slot → List Taking
 editsOf n row =
     gather n (λ k. isEdit ((getD row k noSlot) .body)) (λ k. record { source = k; body = (getD row k noSlot) .body })
 
--- "Aired list" of station p among n
+-- the term "aired list", of station p among n
 unfoldable pub airedList : ℕ → History → ℕ → List Taking
 airedList n H p =
     collect (λ r. cond ((reportIn r p) .turn .aired) (editsOf n ((reportIn r p) .turn .row)) []) (H .rounds)
@@ -117,7 +117,7 @@ unfoldable pub editsIn : List Body → ℕ
 editsIn [] = 0
 editsIn (b ∷ bs) = cond (isEdit b) 1 0 + editsIn bs
 
--- the bodies of an aired list whose source is p
+-- how many entries of an aired list are of station p
 unfoldable pub airedOwn : ℕ → List Taking → ℕ
 airedOwn p [] = 0
 airedOwn p (t ∷ ts) = cond (eqb (t .source) p) 1 0 + airedOwn p ts

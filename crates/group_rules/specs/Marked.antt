@@ -1,5 +1,5 @@
 -- Document 01, "Marked examples of the trade": M1 to M12 as one list of statements about the definitions.
-use Prim.Native.Nat.{ℕ, _≤_, _<_}
+use Prim.Native.Nat.{ℕ, _+_, _≤_, _<_}
 use mathlib.Core.Bool.{Bool, true, false}
 use mathlib.Core.List.{List, [], _∷_}
 use mathlib.Core.Path.{_≡_}
@@ -29,30 +29,33 @@ abbrev pub turnIn : History → ℕ → TurnReport
 turnIn H u = (reportIn (getD (H .rounds) u noRound) 0) .turn
 
 pub record Marked : Type 0 where
-  -- held label 1 count 0, seen 1 count 1: newer; seen 1 count 0: not
+  -- M1, M2: at one label the count decides
   pub m1 : isNewer true 1 0 1 1 ≡ true
   pub m2 : isNewer true 1 0 1 0 ≡ false
-  -- held 2, seen 0: newer; held 0, seen 2: not; at any count
+  -- M3, M4: 0 comes after 2, whatever the counts
   pub m3 : (held seen : ℕ) → isNewer true 2 held 0 seen ≡ true
   pub m4 : (held seen : ℕ) → isNewer true 0 held 2 seen ≡ false
-  -- labels as words
+  -- M5 to M7: labels as words
   pub m5 : packed (1 ∷ 2 ∷ []) ≡ 9
   pub m6 : packed (2 ∷ 2 ∷ 1 ∷ []) ≡ 26
   pub m7 : packed (replicate 16 2) ≡ 0xAAAAAAAA
-  -- one record: 20 bytes; sixteen: 260
+  -- M8: the length of a frame
   pub m8-one : (n sender : ℕ) (r : Record) → length (frameBytes n sender (r ∷ [])) ≡ 20
   pub m8-all : (n sender : ℕ) (rs : List Record) → length rs ≡ 16 → length (frameBytes n sender rs) ≡ 260
-  -- a station inside its limits with room in its queue takes a shift by -90,000 and refuses -90,001
+  -- M9: a station inside its limits with room in its queue takes a shift by -90,000 and refuses -90,001
   pub m9 :
       (s : Station) → stationInside s ≡ true → (s .waiting) .len < 32 → (event : ℕ) → 1 ≤ event → event ≤ 99_999_999 →
       ((postCall s (Shift event (negsuc 89_999))) .refusal ≡ done) × ((postCall s (Shift event (negsuc 90_000))) .refusal ≡ notAnEdit)
-  -- it takes a start at 2,159,999 and refuses 2,160,000
+  -- M10: it takes a start at 2,159,999 and refuses 2,160,000
   pub m10 :
       (s : Station) → stationInside s ≡ true → (s .waiting) .len < 32 → (event : ℕ) → 1 ≤ event → event ≤ 99_999_999 →
       ((postCall s (Insert event (pos 2_159_999))) .refusal ≡ done) × ((postCall s (Insert event (pos 2_160_000))) .refusal ≡ notAnEdit)
-  -- where 32 edits wait, one more is refused
+  -- M11: as long as fewer than 32 wait, an edit is accepted and waits; where 32 wait, one more is refused
+  pub m11-room :
+      (s : Station) (b : Body) → stationInside s ≡ true → (s .waiting) .len < 32 → isEdit b ≡ true →
+      ((postCall s b) .refusal ≡ done) × (((postCall s b) .station) .waiting .len ≡ (s .waiting) .len + 1)
   pub m11 : (s : Station) (b : Body) → stationInside s ≡ true → (s .waiting) .len ≡ 32 → isEdit b ≡ true → (postCall s b) .refusal ≡ queueFull
-  -- N = 1, one edit posted: round 1 ends Empty and starts it; round 2 airs it, ends it and starts Neutral
+  -- M12: one edit at a station alone: in round 1 it starts where Empty ends; in round 2 it is aired and ends, and Neutral starts
   pub m12-starts :
       (b : Body) (masks₁ masks₂ : List ℕ) → isEdit b ≡ true →
       let t = turnIn (oneStation b masks₁ masks₂) 0 in

@@ -43,6 +43,6 @@ memberInside g k =
 unfoldable pub groupInside : List Station → Bool
 groupInside g = memberInside g 0 && allBelow (sizeOf g) (memberInside g)
 
--- the fresh group of n; its places from n up hold the fresh station 0 of N = 1
+-- the fresh group of n; a station alone, fresh, stands at each place from n up
 unfoldable pub freshGroup : ℕ → List Station
 freshGroup n = fill n (freshStation n) (replicate 16 (freshStation 1 0))

@@ -34,7 +34,7 @@ argumentOf (Shift event frames) = frames
 abbrev pub isEmpty : Body → Bool
 isEmpty b = eqb (kindOf b) 0
 
--- the body of a kind with its event and argument; a number that is no kind gives Empty
+-- the body of a kind with its event and argument; numbers that the kind does not have are left out, and a number that is no kind gives Empty
 unfoldable pub bodyOf : ℕ → ℕ → ℤ → Body
 bodyOf kind event argument =
     cond (eqb kind 1) Neutral

@@ -1,4 +1,4 @@
--- Document 01, "Bodies, labels and records": the table of kinds, and when a body is inside its limits. Request A6 is one row of this table.
+-- Document 01, "Bodies, labels and records": the table of kinds, and when a body is inside its limits.
 use Prim.Native.Nat.{ℕ}
 use mathlib.Core.Bool.{Bool, _&&_}
 use mathlib.Core.List.{List, [], _∷_}
@@ -38,10 +38,10 @@ between l event argument =
 unfoldable pub numbersInside : ℕ → ℕ → ℤ → Bool
 numbersInside kind event argument = ltb kind (length kinds) && between (limitsOf kind) event argument
 
--- "body by the kind table"
+-- the limits of a body: those of its kind's row
 unfoldable pub bodyInside : Body → Bool
 bodyInside b = numbersInside (kindOf b) (eventOf b) (argumentOf b)
 
--- kinds 2 to 4 are "edits"; refusal 4 is for a posted body that is not one inside its limits
+-- the term "edit": a body of kind 2, 3 or 4, here with its limits kept. This is what may be posted (else refusal 4), and what may wait
 unfoldable pub isEdit : Body → Bool
 isEdit b = leb 2 (kindOf b) && bodyInside b

@@ -5,19 +5,19 @@ use mathlib.Core.Bool.{Bool, cond}
 abbrev pub done : ℕ
 done = 0
 
--- N outside 1 to 16, or a station number not below N
+-- there is no such N, or no such station among N
 abbrev pub badNumber : ℕ
 badNumber = 1
 
--- station or group outside its limits
+-- what the call was given as its station or group breaks a limit
 abbrev pub outsideLimits : ℕ
 outsideLimits = 2
 
--- 32 edits wait already
+-- no room: as many edits wait as may
 abbrev pub queueFull : ℕ
 queueFull = 3
 
--- the posted body is no edit of the kind table
+-- what is posted is no edit, or breaks the limits of its kind
 abbrev pub notAnEdit : ℕ
 notAnEdit = 4
 
@@ -29,15 +29,15 @@ badShape = 5
 abbrev pub badAddress : ℕ
 badAddress = 6
 
--- a record limit is broken
+-- the frame has a record that breaks its limits, or its stations are not in order, or the sender's is missing
 abbrev pub badRecord : ℕ
 badRecord = 7
 
--- a lane that holds two would get a third
+-- hearing would put a third body into a lane
 abbrev pub laneFull : ℕ
 laneFull = 8
 
--- the buffer is shorter than the frame
+-- the frame does not fit into the lent buffer
 abbrev pub shortBuffer : ℕ
 shortBuffer = 9
 
@@ -45,7 +45,7 @@ shortBuffer = 9
 abbrev pub countTooHigh : ℕ
 countTooHigh = 10
 
--- a script line is malformed
+-- a line of a script does not have its form
 abbrev pub malformedLine : ℕ
 malformedLine = 11
 

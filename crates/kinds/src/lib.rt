@@ -103,7 +103,7 @@ pub fn is_empty(body: Body) -> bool
     kind_of(body) == 0
 }
 
-// The body with these numbers; where no kind has them the answer is Empty.
+// The body of a kind with its event and argument. A kind leaves out the numbers that it does not have, and a number that is no kind gives Empty.
 pub fn body_of(kind: u32, event: u32, argument: i32) -> Body
     ensures { λ r. ⌜ r ≡ bodyOf kind event argument ⌝ }
 {

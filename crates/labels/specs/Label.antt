@@ -1,4 +1,4 @@
--- Document 01, "Bodies, labels and records": a label is 0, 1 or 2, and its successor is the next one modulo 3.
+-- Document 01, "Bodies, labels and records": the three labels, which follow each other in a circle.
 use Prim.Native.Nat.{ℕ, _+_, _%_}
 use mathlib.Core.Bool.{Bool}
 use lib.Dec.{leb}

@@ -1,4 +1,4 @@
--- Document 01, "Bodies, labels and records": when a seen record is newer than the held one of the same station.
+-- Document 01, "Bodies, labels and records": of two records of one station, when the seen one counts as newer than the held one.
 use Prim.Native.Nat.{ℕ}
 use mathlib.Core.Bool.{Bool, not, cond, _&&_, _||_}
 use lib.Dec.{ltb, eqb}
@@ -6,8 +6,8 @@ use Rattle.labels.specs.declared.Age.{Age}
 use Rattle.labels.specs.declared.Age.the-variants.{Newer, NotNewer}
 use Rattle.labels.specs.Label.{successor}
 
--- "newer": none is held, or the seen own label is the successor of the held one, or they are equal and the seen count is larger (source
--- document 001, Algorithm 1, the order of labels with counts)
+-- the term "newer", by the own labels and the counts: nothing is held yet; or the seen label comes next after the held one; or, at the same label, more
+-- is counted (source document 001, Algorithm 1, the order of labels with counts)
 unfoldable pub isNewer : Bool → ℕ → ℕ → ℕ → ℕ → Bool
 isNewer held heldLabel heldCount seenLabel seenCount =
     not held || (eqb seenLabel (successor heldLabel) || (eqb seenLabel heldLabel && ltb heldCount seenCount))

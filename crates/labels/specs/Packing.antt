@@ -26,6 +26,6 @@ unfoldable pub allZero : List ℕ → Bool
 allZero [] = true
 allZero (label ∷ labels) = eqb label 0 && allZero labels
 
--- the record limit "labels 0 to 2, and in a frame 0 for stations from N up"
+-- the limit of a frame's record: its first n labels are labels, and nothing but zeros stands above them
 unfoldable pub wordInside : ℕ → ℕ → Bool
 wordInside n word = allLabels (take n (unpacked 16 word)) && allZero (drop n (unpacked 16 word))

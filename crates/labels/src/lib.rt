@@ -9,7 +9,7 @@ ghost use Rattle.labels.specs.Label.{successor};
 ghost use Rattle.labels.specs.Packing.{packed, unpacked, allLabels, wordInside};
 ghost use Rattle.labels.specs.Newer.{isNewer, ageOf};
 
-// Whether a seen record is newer than the held one.
+// What is decided of a seen record beside the held one.
 pub enum Age {
     Newer,
     NotNewer,
@@ -71,7 +71,7 @@ pub fn unpack(word: u32) -> [u8; 16]
     labels
 }
 
-// Does the word hold n labels and nothing above them? A label is no 3, so of its two bits one is 0.
+// Does the word hold n labels and nothing above them? A label is no 3, so its two bits are not both 1.
 pub fn word_inside(word: u32, n: usize) -> bool
     requires { ⌜ n ≤ 16 ⌝ }
     ensures { λ r. ⌜ r ≡ wordInside n word ⌝ }

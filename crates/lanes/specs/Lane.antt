@@ -12,7 +12,7 @@ use Rattle.lanes.specs.declared.Lane.{Lane}
 unfoldable pub bodies : Lane → List Body
 bodies l = take (l .len) (l .first ∷ l .second ∷ [])
 
--- the lane of at most two bodies; unused places are Empty
+-- the lane with the first two of these bodies; unused places are Empty
 unfoldable pub laneOf : List Body → Lane
 laneOf [] = record { len = 0; first = Empty; second = Empty }
 laneOf (a ∷ []) = record { len = 1; first = a; second = Empty }

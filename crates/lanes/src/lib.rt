@@ -11,7 +11,7 @@ pub struct Slot {
     pub body: Body,
 }
 
-// The bodies taken from one station and not yet aired, oldest first.
+// The bodies taken from one station that are in no row yet, oldest first.
 pub struct Lane {
     pub len: usize,
     pub first: Body,

@@ -8,7 +8,7 @@ use Rattle.kinds.specs.declared.Body.the-variants.{Empty}
 use Rattle.kinds.specs.Body.{kindOf, eventOf, argumentOf}
 use Rattle.columns.specs.Writing.{natColumns, intColumns}
 
--- the letters D, A, E and X
+-- the letters D (taken), A (aired), E (ended) and X (turned down)
 abbrev pub delivered : ℕ
 delivered = 68
 
@@ -34,7 +34,7 @@ bodyBytes body = natColumns 2 (kindOf body) ++ natColumns 9 (eventOf body) ++ in
 unfoldable pub lineBytes : ℕ → ℕ → ℕ → ℕ → Body → List ℕ
 lineBytes round letter station source body = headBytes round letter station source ++ bodyBytes body
 
--- the last line: the three letters, and its line end like all others
+-- the last line: E, N, D and the line end
 unfoldable pub endLine : List ℕ
 endLine = 69 ∷ 78 ∷ 68 ∷ 10 ∷ []
 

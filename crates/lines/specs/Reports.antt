@@ -1,4 +1,5 @@
--- Document 01, "The relay listing": what a round prints, station by station: D for each taken as heard, A for each aired edit, E with the ended body, D for an own start.
+-- Document 01, "The relay listing": what a round prints, station by station, in the order in which a station does it: what it took (D), what it aired (A), what it
+-- ended (E), what it started (D again, with itself as the source).
 use Prim.Native.Nat.{ℕ}
 use Rattle.kinds.specs.declared.Body.the-variants.{Empty}
 use mathlib.Core.Bool.{Bool, false, cond, not, _&&_}
@@ -20,7 +21,7 @@ use Rattle.lines.specs.Lines.{delivered, airing, ending, lineBytes, join
 abbrev pub lineIf : Bool → ℕ → ℕ → ℕ → ℕ → Body → List ℕ
 lineIf wanted round letter station source body = cond wanted (lineBytes round letter station source body) []
 
--- the bodies taken, in the order heard
+-- a D line for a body taken; they come in the order heard
 abbrev pub takingText : ℕ → ℕ → ℕ → List Taking → ℕ → List ℕ
 takingText round p len takings k =
     lineIf (ltb k len) round delivered p ((getD takings k noTaking) .source) ((getD takings k noTaking) .body)
@@ -28,7 +29,7 @@ takingText round p len takings k =
 unfoldable pub takenText : ℕ → ℕ → Report → List ℕ
 takenText round p r = joined 30 (takingText round p (r .«takings_len») (r .takings))
 
--- the edits of an aired row of n bodies, by station
+-- an A line for an edit of an aired row of n bodies; they come by station. A Neutral in the row has no line
 abbrev pub editText : ℕ → ℕ → Bool → List Slot → ℕ → List ℕ
 editText round p aired row k =
     lineIf (aired && isEdit ((getD row k noSlot) .body)) round airing p k ((getD row k noSlot) .body)
@@ -36,7 +37,7 @@ editText round p aired row k =
 unfoldable pub airedText : ℕ → ℕ → ℕ → TurnReport → List ℕ
 airedText n round p t = joined n (editText round p (t .aired) (t .row))
 
--- the ended body, and then the started one where it is not Empty
+-- an E line for the ended body, be it Empty; then a D line for the started one where it is not
 unfoldable pub turnText : ℕ → ℕ → TurnReport → List ℕ
 turnText round p t =
     lineIf (t .ended) round ending p p (t .«ended_body»)

@@ -144,7 +144,7 @@ fn put_aired(out: &mut [u8], at: usize, n: usize, round: u32, p: usize, turn: Tu
     end
 }
 
-// An E line with the ended body, and a D line for an own start other than Empty.
+// An E line for a broadcast that ended, and a D line for what station p then started, unless that is Empty.
 fn put_turn(out: &mut [u8], at: usize, round: u32, p: usize, turn: TurnReport) -> usize
     requires { ⌜ at + 70 ≤ length (now out) ⌝ }
     ensures { λ r. ⌜ Put (now (out .entry)) (now (out .exit)) at r (turnText round p turn) × (r ≤ at + 70) ⌝ }

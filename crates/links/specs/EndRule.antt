@@ -3,7 +3,7 @@ use mathlib.Core.Path.{_≡_}
 use Prim.Native.Nat.{ℕ, suc, _<_, _≤_}
 use Rattle.links.specs.Relay.{Links, Relay}
 
--- A relay from a to b after round t that has arrived by round v.
+-- Some relay from a, later than round t, has come to b by round v.
 pub record RelayBy (L : Links) (a t b v : ℕ) : Type 0 where
   pub arrival : ℕ
   pub by : arrival ≤ v

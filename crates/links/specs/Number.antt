@@ -53,6 +53,7 @@ unfoldable pub tally : ℕ → ℕ → (ℕ → ℕ) → (ℕ → ℕ) → ℕ
 tally zero p now before = 0
 tally (suc n) p now before = tally n p now before + cond (eqb n p) 0 (now n - before n)
 
--- How many broadcasts of other stations came to p within the present broadcast of p, up to round u: what document 01 has p keep as its count.
+-- How many broadcasts of other stations came to p within the present broadcast of p, up to round u: what document 01 has p keep as its count. (Not
+-- document 01's "fresh".)
 unfoldable pub fresh : Links → ℕ → ℕ → ℕ
 fresh L u p = tally (L .size) p (λ r. got L u p r) (λ r. got L (start L u p) p r)

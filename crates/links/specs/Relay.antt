@@ -21,8 +21,8 @@ ofMasks n masks = record { size = n; hears = λ u p j. hearsIn n (masks u) p j; 
 abbrev pub ofLog : ℕ → List (List ℕ) → Links
 ofLog n log = ofMasks n (masksIn log)
 
--- A relay from a to b after round t that arrives in round k: a is heard in the first hearing, which is later than t; in each other, in a later round
--- than the one before it, the station that heard before is heard; b hears in the last, in round k.
+-- The term "relay", from a, after round t: to b, arriving in round k. It is one hearing of a by b in round k, later than t; or a relay to some c that has
+-- arrived in an earlier round i, and a hearing of c by b in round k.
 pub data Relay (L : Links) (a t : ℕ) : ℕ → ℕ → Type 0 where
   direct : {b k : ℕ} → t < k → L .hears k b a ≡ true → Relay L a t b k
   onward : {c b i k : ℕ} → Relay L a t c i → i < k → L .hears k b c ≡ true → Relay L a t b k

@@ -1,4 +1,4 @@
--- Document 01's example: the definition gives its listing, byte for byte.
+-- Document 01's example: the definition gives its listing, line by line. What bytes a line has is said by Lines.
 use mathlib.Core.Path.{_≡_, refl}
 use mathlib.Core.List.{List, [], _∷_, _++_}
 use Prim.Native.Nat.{ℕ}
@@ -12,6 +12,7 @@ use Rattle.kinds.specs.Limits.{numbersInside, bodyInside, isEdit}
 use Rattle.labels.specs.Newer.{isNewer}
 use Rattle.links.specs.Log.{bit, hearsIn}
 use Rattle.frames.specs.Record.{framed}
+use Rattle.frames.specs.Calls.{tableRecords}
 use Rattle.lanes.specs.Lane.{bodies, laneOf}
 use Rattle.lanes.specs.Queue.{noneWaiting, queued, oldest, unqueued}
 use Rattle.station_rules.specs.State.{sentRecords, freshStation}
@@ -54,7 +55,7 @@ pub example :
     ++ lineBytes 3 delivered 1 0 edit
     ++ lineBytes 3 airing 1 0 edit
     ++ endLine
-unfolding headBytes bodyBytes allBelow anyBelow fill gather tabulate bodyOf numbersInside bodyInside isEdit isNewer bit hearsIn framed bodies laneOf noneWaiting queued oldest unqueued sentRecords freshStation laneInside queueInside recordInside placeInside stationInside replaced heardNewer hearRecord hearRecords airs rowOf lanesAfter ends startedBody passed ownRecord rewritten afterTurn turnReport posted noTurn groupInside freshGroup freshCall groupPostRefusal postCall hearing noReport reportOf roundRefusal afterRound roundCall started grown next readFrom lead columns fieldOf sizeLine postShaped postLine isMask masksInside roundLine commandOf maskAt masksOf lineBytes endLine joined takenText airedText turnText reportText roundText begun postedBody sizedBy postedBy roundedBy obeyed refusedText answered after printed restText linesOf listed listingOf
+unfolding headBytes bodyBytes allBelow anyBelow fill gather tabulate bodyOf numbersInside bodyInside isEdit isNewer bit hearsIn framed bodies laneOf noneWaiting queued oldest unqueued sentRecords tableRecords freshStation laneInside queueInside recordInside placeInside stationInside replaced heardNewer hearRecord hearRecords airs rowOf lanesAfter ends startedBody passed ownRecord rewritten afterTurn turnReport posted noTurn groupInside freshGroup freshCall groupPostRefusal postCall hearing noReport reportOf roundRefusal afterRound roundCall started grown next readFrom lead columns fieldOf sizeLine postShaped postLine isMask masksInside roundLine commandOf maskAt masksOf lineBytes endLine joined takenText airedText turnText reportText roundText begun postedBody sizedBy postedBy roundedBy obeyed refusedText answered after printed restText linesOf listed listingOf
 example = refl
 
 -- an empty script, and one whose first line is not `N`: the reading stops

@@ -36,7 +36,7 @@ postedBody kind event argument = cond (numbersInside kind event argument) (bodyO
 abbrev pub refusalText : ℕ → ℕ → ℕ → List ℕ
 refusalText rounds station refusal = lineBytes rounds turnedDown station refusal Empty
 
--- a line that stops the reading
+-- what is printed where the reading stops: at a malformed line, or at a round that has no number
 abbrev pub malformedText : Session → List ℕ
 malformedText s = refusalText (s .rounds) 0 malformedLine
 
@@ -87,7 +87,8 @@ after s line = obeyed s (masksOf (s .n) line) (commandOf (s .n) line)
 unfoldable pub printed : Session → List ℕ → List ℕ
 printed s line = answered s (masksOf (s .n) line) (commandOf (s .n) line)
 
--- the end of the script, where `rest` is what stands after its last line end: nothing, and an `N` line was read; or a malformed last line
+-- the end of a script whose reading did not stop; so many bytes stand after its last line end. With none there, and an `N` line read, nothing is printed; else the
+-- script breaks off in a line, or has no `N` line, and that is malformed
 unfoldable pub restText : Session → ℕ → List ℕ
 restText s length = cond (ltb 0 (s .n) && eqb length 0) [] (malformedText s)
 

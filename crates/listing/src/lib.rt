@@ -40,7 +40,7 @@ fn posted_body(kind: u32, event: u32, argument: i32) -> Body
     Body::Empty
 }
 
-// A malformed line: the reading stops.
+// A malformed line, or a round that has no number: the reading stops.
 fn halt(s: Session, out: &mut [u8]) -> Applied
     requires { ⌜ 35 ≤ length (now out) ⌝ }
     ensures { λ r. ⌜ Answer (halted s) (malformedText s) (now (out .entry)) (now (out .exit)) r ⌝ }
@@ -143,7 +143,7 @@ fn is_over(n: usize, rest: usize) -> bool
     rest == 0
 }
 
-// A last line without its line end, and a script without an `N` line, are malformed.
+// Malformed at the end of a script: that it breaks off in a line, or has no `N` line.
 fn put_rest(s: Session, rest: usize, out: &mut [u8]) -> usize
     requires { ⌜ 35 ≤ length (now out) ⌝ }
     ensures { λ r. ⌜ Put (now (out .entry)) (now (out .exit)) 0 r (restText s rest) × (r ≤ 35) ⌝ }
@@ -154,7 +154,7 @@ fn put_rest(s: Session, rest: usize, out: &mut [u8]) -> usize
     lines::put_line(out, 0, s.rounds, 88, 0, 11, Body::Empty)
 }
 
-// The end of the script, with what stands after its last line end, and the last line.
+// The end of a script whose reading did not stop, with what stands after its last line end; then the listing's last line.
 pub fn close(s: Session, rest: &[u8], out: &mut [u8]) -> usize
     requires { ⌜ 39 ≤ length (now out) ⌝ }
     ensures { λ r. ⌜ Put (now (out .entry)) (now (out .exit)) 0 r (closed s (now (rest .entry)) ++ endLine) ⌝ }

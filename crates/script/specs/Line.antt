@@ -12,7 +12,7 @@ use Rattle.columns.specs.Reading.{readColumns}
 use Rattle.script.specs.declared.Command.{Command}
 use Rattle.script.specs.declared.Command.the-variants.{Size, Post, Round, Malformed as MalformedLine}
 
--- what stands in nine columns: a number without a minus, and any number
+-- what stands in nine columns is a number without a minus; is any number
 abbrev pub isNatural : Reading → Bool
 isNatural Blank = false
 isNatural Minus = false
@@ -25,6 +25,7 @@ isWhole Minus = false
 isWhole (Number minus v) = true
 isWhole Malformed = false
 
+-- the number without its sign, 0 where there is none
 abbrev pub naturalOf : Reading → ℕ
 naturalOf Blank = 0
 naturalOf Minus = 0
@@ -34,6 +35,7 @@ naturalOf Malformed = 0
 abbrev pub signedOf : Bool → ℕ → ℤ
 signedOf minus v = cond minus (negℤ (pos v)) (pos v)
 
+-- the number with its sign, 0 where there is none
 abbrev pub wholeOf : Reading → ℤ
 wholeOf Blank = pos 0
 wholeOf Minus = pos 0
@@ -80,7 +82,7 @@ masksInside line n = allBelow n (λ k. isMask (fieldOf line k))
 unfoldable pub roundLine : ℕ → List ℕ → Command
 roundLine n line = cond (shaped line 82 n && masksInside line n) Round MalformedLine
 
--- a line of a script whose group has n stations, with n = 0 where no `N` line was read: that comes first, and once
+-- a line of a script whose group has n stations; n = 0 says that no `N` line was read yet. An `N` line is wanted first, and is malformed later
 unfoldable pub commandOf : ℕ → List ℕ → Command
 commandOf n line =
     cond (eqb n 0)

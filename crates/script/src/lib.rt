@@ -35,7 +35,7 @@ fn field(line: &[u8], k: usize) -> Reading
     columns::read_columns(&line[start..end])
 }
 
-// A number without a minus; a number.
+// Is it a number without a minus?
 fn is_natural(reading: Reading) -> bool
     ensures { λ r. ⌜ r ≡ isNatural reading ⌝ }
 {
@@ -47,6 +47,7 @@ fn is_natural(reading: Reading) -> bool
     }
 }
 
+// Is it a number?
 fn is_whole(reading: Reading) -> bool
     ensures { λ r. ⌜ r ≡ isWhole reading ⌝ }
 {
@@ -58,7 +59,7 @@ fn is_whole(reading: Reading) -> bool
     }
 }
 
-// Its value, 0 where there is none.
+// The number without its sign, 0 where there is none.
 fn natural(reading: Reading) -> u32
     ensures { λ r. ⌜ r ≡ naturalOf reading ⌝ }
 {
@@ -81,6 +82,7 @@ fn signed(minus: bool, value: u32) -> i32
     value as i32
 }
 
+// The number with its sign, 0 where there is none.
 fn whole(reading: Reading) -> i32
     requires { ⌜ naturalOf reading ≤ 999_999_999 ⌝ }
     ensures { λ r. ⌜ r ≡ wholeOf reading ⌝ }
@@ -93,7 +95,7 @@ fn whole(reading: Reading) -> i32
     }
 }
 
-// The same of field k.
+// The same four, of field k.
 fn is_natural_at(line: &[u8], k: usize) -> bool
     ensures { λ r. ⌜ r ≡ isNatural (fieldOf (now (line .entry)) k) ⌝ }
 {

@@ -19,9 +19,9 @@ use Rattle.labels.specs.Label.{successor}
 use Rattle.lanes.specs.declared.Lane.{Lane}
 use Rattle.lanes.specs.Lane.{pushed}
 use Rattle.station_rules.specs.State.{ackedOf, labelOf, recordOf, laneAt, recordLabel}
-use Rattle.station_rules.specs.Hearing.{Hearing, silent, counts, advances, takes, replaced, raised, heardNewer, hearRecord, hearRecords}
+use Rattle.station_rules.specs.Hearing.{Hearing, silent, heeds, advances, takes, replaced, raised, heardNewer, hearRecord, hearRecords}
 use Rattle.station_rules.specs.Frames.{hearFrames, noTaking}
-use Rattle.station_rules.proofs.HearRecord.{heardOne, hearRecord-skips, hearRecord-counts}
+use Rattle.station_rules.proofs.HearRecord.{heardOne, hearRecord-skips, hearRecord-heeds}
 use Rattle.station_hearing.proofs.HearBytes.{recordAt}
 
 pub records-append : (h : Hearing) (xs ys : List Record) → hearRecords h (xs ++ ys) ≡ hearRecords (hearRecords h xs) ys
@@ -62,10 +62,10 @@ frames-none h bytes starts = refl
 -- a lane that would have overfilled stays so
 overfull-record : (h : Hearing) (r : Record) → h .overfull ≡ true → (hearRecord h r) .overfull ≡ true
 unfolding heardOne
-overfull-record h r e = go (counts (h .station) r) refl
+overfull-record h r e = go (heeds (h .station) r) refl
   where
-    go : (t : Bool) → counts (h .station) r ≡ t → (hearRecord h r) .overfull ≡ true
-    go true c = rw (hearRecord-counts h r c, e)
+    go : (t : Bool) → heeds (h .station) r ≡ t → (hearRecord h r) .overfull ≡ true
+    go true c = rw (hearRecord-heeds h r c, e)
     go false c = rw (hearRecord-skips h r c) e
 
 overfull-records : (h : Hearing) (rs : List Record) → h .overfull ≡ true → (hearRecords h rs) .overfull ≡ true
@@ -135,15 +135,15 @@ put-next p x d l e b =
     (set-at p d (replicate (30 - (length p + 1)) d) x l (sym e) ∙ sym (append-assoc p (x ∷ []) (replicate (30 - (length p + 1)) d)))
 
 module _ (h : Hearing) (r : Record) (s : Station) (t : List Taking) (l : ℕ) (a : At h s t l) where
-  pub at-skip : counts s r ≡ false → At (hearRecord h r) s t l
+  pub at-skip : heeds s r ≡ false → At (hearRecord h r) s t l
   at-skip c = rw (hearRecord-skips h r (rw (a .station) at c)) a
 
-  pub at-kept : counts s r ≡ true → takes s r ≡ false → At (hearRecord h r) (heardNewer s r) t l
+  pub at-kept : heeds s r ≡ true → takes s r ≡ false → At (hearRecord h r) (heardNewer s r) t l
   unfolding heardOne
   at-kept c k =
-      let c' : counts (h .station) r ≡ true = rw (a .station) at c in
+      let c' : heeds (h .station) r ≡ true = rw (a .station) at c in
       let k' : takes (h .station) r ≡ false = rw (a .station) at k in
-      rw (hearRecord-counts h r c')
+      rw (hearRecord-heeds h r c')
       (record {
         free = rw (a .free, k');
         station = ap (λ (x : Station). heardNewer x r) (a .station);
@@ -152,15 +152,15 @@ module _ (h : Hearing) (r : Record) (s : Station) (t : List Taking) (l : ℕ) (a
       })
 
   pub at-taken :
-      counts s r ≡ true → takes s r ≡ true → leb 2 ((laneAt s (r .station)) .len) ≡ false → l < 30 →
+      heeds s r ≡ true → takes s r ≡ true → leb 2 ((laneAt s (r .station)) .len) ≡ false → l < 30 →
       At (hearRecord h r) (heardNewer s r) (set t l (record { source = r .station; body = r .body })) (l + 1)
   unfolding heardOne
   at-taken c k f b =
       let x : Taking = record { source = r .station; body = r .body } in
-      let c' : counts (h .station) r ≡ true = rw (a .station) at c in
+      let c' : heeds (h .station) r ≡ true = rw (a .station) at c in
       let k' : takes (h .station) r ≡ true = rw (a .station) at k in
       let f' : leb 2 ((laneAt (h .station) (r .station)) .len) ≡ false = rw (a .station) at f in
-      rw (hearRecord-counts h r c')
+      rw (hearRecord-heeds h r c')
       (record {
         free = rw (a .free, k', f');
         station = ap (λ (x : Station). heardNewer x r) (a .station);
@@ -168,27 +168,27 @@ module _ (h : Hearing) (r : Record) (s : Station) (t : List Taking) (l : ℕ) (a
         takings = rw (k', a .takings) (put-next (h .takings) x noTaking l (a .len) b);
       })
 
-  pub taken-len : counts s r ≡ true → takes s r ≡ true → length ((hearRecord h r) .takings) ≡ l + 1
+  pub taken-len : heeds s r ≡ true → takes s r ≡ true → length ((hearRecord h r) .takings) ≡ l + 1
   unfolding heardOne
   taken-len c k =
-      let c' : counts (h .station) r ≡ true = rw (a .station) at c in
+      let c' : heeds (h .station) r ≡ true = rw (a .station) at c in
       let k' : takes (h .station) r ≡ true = rw (a .station) at k in
-      rw (hearRecord-counts h r c', k', length-append) (ap (λ (m : ℕ). m + 1) (sym (a .len)))
+      rw (hearRecord-heeds h r c', k', length-append) (ap (λ (m : ℕ). m + 1) (sym (a .len)))
 
-  pub taken-free : counts s r ≡ true → takes s r ≡ true → leb 2 ((laneAt s (r .station)) .len) ≡ false → (hearRecord h r) .overfull ≡ false
+  pub taken-free : heeds s r ≡ true → takes s r ≡ true → leb 2 ((laneAt s (r .station)) .len) ≡ false → (hearRecord h r) .overfull ≡ false
   unfolding heardOne
   taken-free c k f =
-      let c' : counts (h .station) r ≡ true = rw (a .station) at c in
+      let c' : heeds (h .station) r ≡ true = rw (a .station) at c in
       let k' : takes (h .station) r ≡ true = rw (a .station) at k in
       let f' : leb 2 ((laneAt (h .station) (r .station)) .len) ≡ false = rw (a .station) at f in
-      rw (hearRecord-counts h r c', a .free, k', f')
+      rw (hearRecord-heeds h r c', a .free, k', f')
 
-  pub over : counts s r ≡ true → (takes s r && leb 2 ((laneAt s (r .station)) .len)) ≡ true → (hearRecord h r) .overfull ≡ true
+  pub over : heeds s r ≡ true → (takes s r && leb 2 ((laneAt s (r .station)) .len)) ≡ true → (hearRecord h r) .overfull ≡ true
   unfolding heardOne
   over c f =
-      let c' : counts (h .station) r ≡ true = rw (a .station) at c in
+      let c' : heeds (h .station) r ≡ true = rw (a .station) at c in
       let f' : (takes (h .station) r && leb 2 ((laneAt (h .station) (r .station)) .len)) ≡ true = rw (a .station) at f in
-      rw (hearRecord-counts h r c', a .free, f')
+      rw (hearRecord-heeds h r c', a .free, f')
 
 -- the station after a newer record, entry by entry
 module _

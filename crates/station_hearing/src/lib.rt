@@ -50,7 +50,7 @@ fn replaced(n: usize, old: Record, seen: Record) -> Record
     }
 }
 
-// One more where the broadcast advances, and 255 stays 255.
+// One more where the label advances, and 255 stays 255.
 fn count_after(advances: bool, count: u8) -> u8
     ensures { λ r. ⌜ r ≡ cond advances (spec.raised count) count ⌝ }
 {
@@ -63,7 +63,7 @@ fn count_after(advances: bool, count: u8) -> u8
     255
 }
 
-// The next label where the broadcast advances.
+// The next label where it advances.
 fn label_after(advances: bool, label: u8) -> u8
     ensures { λ r. ⌜ r ≡ cond advances (successor label) label ⌝ }
 {

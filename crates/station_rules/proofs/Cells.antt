@@ -1,5 +1,5 @@
--- Hearing cell by cell: the cell of station k is the entry at k of each array of the hearer. A record that counts changes the cell of its own station and the
--- count, and no other cell.
+-- Hearing cell by cell: the cell of station k is the entry at k of each array of the hearer. A record that the station heeds changes the cell of its own
+-- station and the count, and no other cell.
 use Prim.Native.Nat.{ℕ, _<_, _≤_}
 use mathlib.Core.Bool.{true, false, cond, _||_}
 use mathlib.Core.List.{List, [], _∷_, _++_}
@@ -12,24 +12,24 @@ use borrow.Author.Tests.{eq-eqb, ne-eqb}
 use Rattle.labels.specs.Label.{successor}
 use Rattle.labels.specs.Newer.{isNewer}
 use Rattle.frames.specs.declared.Record.{Record}
-use Rattle.frames.specs.Record.{framed}
+use Rattle.frames.specs.Record.{framed, noRecord}
 use Rattle.places.proofs.Laws.{fill-below, fill-above, length-fill}
 use Rattle.station_rules.specs.declared.Station.{Station}
 use Rattle.lanes.specs.Lane.{noLane, pushed}
-use Rattle.station_rules.specs.State.{labelOf, ackedOf, heldOf, recordOf, laneAt, recordLabel, noRecord}
-use Rattle.station_rules.specs.Hearing.{Hearing, counts, advances, takes, raised, replaced, heardNewer, hearRecord, hearRecords}
+use Rattle.station_rules.specs.State.{labelOf, ackedOf, heldOf, recordOf, laneAt, recordLabel, ownLabel}
+use Rattle.station_rules.specs.Hearing.{Hearing, heeds, advances, takes, raised, replaced, heardNewer, hearRecord, hearRecords}
 
--- a record of the hearer itself never counts; one of another station does where it is newer
+-- a station never heeds a record of itself, and heeds one of another station where it is newer
 module _ (s : Station) (r : Record) where
-  pub counts-own : r .station ≡ s .own → counts s r ≡ false
-  counts-own e = rw (eq-eqb (r .station) (s .own) e)
+  pub heeds-own : r .station ≡ s .own → heeds s r ≡ false
+  heeds-own e = rw (eq-eqb (r .station) (s .own) e)
 
-  pub counts-newer :
+  pub heeds-newer :
       (r .station ≡ s .own → ⊥) →
-      counts s r
+      heeds s r
       ≡ isNewer (heldOf s (r .station)) (recordLabel (recordOf s (r .station)) (r .station)) ((recordOf s (r .station)) .count)
-      (recordLabel r (r .station)) (r .count)
-  counts-newer d = rw (ne-eqb (r .station) (s .own) d)
+      (ownLabel r) (r .count)
+  heeds-newer d = rw (ne-eqb (r .station) (s .own) d)
 
 -- the labels below n of a record as a frame carries it, and of one put in the place of another
 pub framed-label : (n : ℕ) (r : Record) (k : ℕ) → k < n → n ≤ 16 → recordLabel (framed n r) k ≡ recordLabel r k

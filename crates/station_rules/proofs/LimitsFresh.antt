@@ -18,7 +18,8 @@ use Rattle.places.proofs.Keeps.{set-keeps}
 use Rattle.station_rules.specs.declared.Station.{Station}
 use Rattle.lanes.specs.Lane.{noLane}
 use Rattle.lanes.specs.Queue.{noneWaiting}
-use Rattle.station_rules.specs.State.{heldOf, recordOf, noRecord, zeroRecord, freshLabels, freshStation}
+use Rattle.frames.specs.Record.{noRecord, zeroRecord}
+use Rattle.station_rules.specs.State.{heldOf, recordOf, freshLabels, freshStation}
 use Rattle.station_rules.specs.Limits.{queueInside, stationInside}
 use Rattle.station_rules.specs.Calls.{posted}
 use Rattle.station_rules.proofs.BodyLaws.{empty-inside}

@@ -17,9 +17,9 @@ use Rattle.places.proofs.Laws.{and-both, and-left, and-right, fill-below}
 use Rattle.places.proofs.Keeps.{cond-keeps}
 use Rattle.station_rules.specs.declared.Station.{Station}
 use Rattle.lanes.specs.Lane.{pushed}
-use Rattle.station_rules.specs.State.{labelOf, heldOf, recordOf, laneAt, recordLabel}
+use Rattle.station_rules.specs.State.{labelOf, heldOf, recordOf, laneAt, recordLabel, ownLabel}
 use Rattle.station_rules.specs.Limits.{laneInside, takeable}
-use Rattle.station_rules.specs.Hearing.{counts, advances, takes, replaced, heardNewer}
+use Rattle.station_rules.specs.Hearing.{heeds, advances, takes, replaced, heardNewer}
 use Rattle.station_rules.proofs.Shape.{Shaped}
 use Rattle.station_rules.proofs.LimitsLane.{pushed-inside}
 use Rattle.station_rules.proofs.StationLimits.{RecordHolds, PlaceHolds, Inside}
@@ -35,14 +35,14 @@ pub record Carried (n : ℕ) (r : Record) : Type 0 where
 pub successor-label : (x : ℕ) → isLabel (successor x) ≡ true
 successor-label x = le-leb ((x + 1) % 3) 2 (omega arith)
 
--- a record that counts is of another station
-pub counts-other : (s : Station) (r : Record) → counts s r ≡ true → r .station ≡ s .own → ⊥
-counts-other s r h =
+-- a record that the station heeds is of another station
+pub heeds-other : (s : Station) (r : Record) → heeds s r ≡ true → r .station ≡ s .own → ⊥
+heeds-other s r h =
     eqb-false (r .station) (s .own)
     (not-true (eqb (r .station) (s .own))
     (and-left (not (eqb (r .station) (s .own)))
     (isNewer (heldOf s (r .station)) (recordLabel (recordOf s (r .station)) (r .station)) ((recordOf s (r .station)) .count)
-    (recordLabel r (r .station)) (r .count)) h))
+    (ownLabel r) (r .count)) h))
 
 takes-takeable : (s : Station) (r : Record) → bodyInside (r .body) ≡ true → takes s r ≡ true → takeable (r .body) ≡ true
 takes-takeable s r b h =
@@ -71,7 +71,7 @@ module _ (s : Station) (r : Record) (shape : Shaped s) (c : Inside s) (carry : C
       cond-or false b e = e
 
   heard-lane-inside :
-      (counts s r ≡ true) → (takes s r && leb 2 ((laneAt s (r .station)) .len)) ≡ false → laneInside 2 (laneAt s (r .station)) ≡ true →
+      (heeds s r ≡ true) → (takes s r && leb 2 ((laneAt s (r .station)) .len)) ≡ false → laneInside 2 (laneAt s (r .station)) ≡ true →
       laneInside 2 (cond (takes s r) (pushed (laneAt s (r .station)) (r .body)) (laneAt s (r .station))) ≡ true
   heard-lane-inside h full before = go (takes s r) refl
     where
@@ -82,11 +82,11 @@ module _ (s : Station) (r : Record) (shape : Shaped s) (c : Inside s) (carry : C
       go false e = before
 
   heard-place :
-      (counts s r ≡ true) → (takes s r && leb 2 ((laneAt s (r .station)) .len)) ≡ false → PlaceHolds (heardNewer s r) (r .station)
+      (heeds s r ≡ true) → (takes s r && leb 2 ((laneAt s (r .station)) .len)) ≡ false → PlaceHolds (heardNewer s r) (r .station)
   heard-place h full =
       let below : r .station < 16 = omega arith in
       let before = c .places (r .station) (carry .station) in
-      let most : _≡_ {A = ℕ} (cond (eqb (r .station) (s .own)) 1 2) 2 = rw (ne-eqb (r .station) (s .own) (counts-other s r h)) in
+      let most : _≡_ {A = ℕ} (cond (eqb (r .station) (s .own)) 1 2) 2 = rw (ne-eqb (r .station) (s .own) (heeds-other s r h)) in
       record {
         label =
             rw (label-here s r (rw (shape .labels) below))
@@ -110,9 +110,9 @@ module _ (s : Station) (r : Record) (shape : Shaped s) (c : Inside s) (carry : C
       }
 
   pub heard-holds :
-      (counts s r ≡ true) → (takes s r && leb 2 ((laneAt s (r .station)) .len)) ≡ false → Inside (heardNewer s r)
+      (heeds s r ≡ true) → (takes s r && leb 2 ((laneAt s (r .station)) .len)) ≡ false → Inside (heardNewer s r)
   heard-holds h full =
-      let ne : s .own ≡ r .station → ⊥ = λ e. counts-other s r h (sym e) in
+      let ne : s .own ≡ r .station → ⊥ = λ e. heeds-other s r h (sym e) in
       record {
         low = rw (heard-n s r) (c .low);
         high = rw (heard-n s r) (c .high);

@@ -15,13 +15,13 @@ use Rattle.places.proofs.Total.{total, total-ext, total-gap, total-raised}
 use Rattle.station_rules.specs.declared.Station.{Station}
 use Rattle.station_rules.specs.State.{laneAt}
 use Rattle.station_rules.specs.Limits.{stationInside}
-use Rattle.station_rules.specs.Hearing.{Hearing, silent, counts, takes, heardNewer, hearRecord, hearRecords}
-use Rattle.station_rules.proofs.HearRecord.{heardOne, hearRecord-counts, hearRecord-skips}
+use Rattle.station_rules.specs.Hearing.{Hearing, silent, heeds, takes, heardNewer, hearRecord, hearRecords}
+use Rattle.station_rules.proofs.HearRecord.{heardOne, hearRecord-heeds, hearRecord-skips}
 use Rattle.station_rules.proofs.Shape.{Shaped, heardNewer-shaped, hearRecord-shaped}
 use Rattle.station_rules.proofs.LimitsLane.{pushed-len, lane-most}
 use Rattle.station_rules.proofs.StationLimits.{Inside, inside-open, inside-make}
 use Rattle.station_rules.proofs.Cells.{heard-n, heard-own, heard-waiting, heard-body, lane-here, lane-other}
-use Rattle.station_rules.proofs.LimitsHear.{Carried, counts-other, heard-holds}
+use Rattle.station_rules.proofs.LimitsHear.{Carried, heeds-other, heard-holds}
 
 -- how many bodies stand in the lane of another station, and in all of those
 abbrev otherLen : Station → ℕ → ℕ
@@ -113,7 +113,7 @@ module _ (a : Hearing) (c : Inside (a .station)) where
     fits = rw (hs .shaped .lanes) below
 
     takings-most :
-        counts (h .station) r ≡ true → (h .overfull || (takes (h .station) r && leb 2 ((laneAt (h .station) (r .station)) .len))) ≡ false →
+        heeds (h .station) r ≡ true → (h .overfull || (takes (h .station) r && leb 2 ((laneAt (h .station) (r .station)) .len))) ≡ false →
         length (h .takings ++ cond (takes (h .station) r) (record { source = r .station; body = r .body } ∷ []) [])
         ≤ length (a .takings) + otherLens (heardNewer (h .station) r)
     takings-most e f = go (takes (h .station) r) refl
@@ -132,14 +132,14 @@ module _ (a : Hearing) (c : Inside (a .station)) where
             let room : (laneAt (h .station) (r .station)) .len < 2 =
             leb-false 2 ((laneAt (h .station) (r .station)) .len) (rw taken at (or-right (h .overfull) full f)) in
             let more : otherLens (heardNewer (h .station) r) ≡ suc (otherLens (h .station)) =
-            otherLens-raised (h .station) r (counts-other (h .station) r e) (here .station) fits taken room in
+            otherLens-raised (h .station) r (heeds-other (h .station) r e) (here .station) fits taken room in
             rw (length-append (h .takings) (record { source = r .station; body = r .body } ∷ [])) (omega (arith, so-far))
         go false passed =
             let same : otherLens (heardNewer (h .station) r) ≡ otherLens (h .station) =
-            otherLens-kept (h .station) r (counts-other (h .station) r e) fits passed in
+            otherLens-kept (h .station) r (heeds-other (h .station) r e) fits passed in
             rw (append-nil (h .takings)) (omega (arith, so-far))
 
-    hears-newer : counts (h .station) r ≡ true → Hears a (heardOne h r)
+    hears-newer : heeds (h .station) r ≡ true → Hears a (heardOne h r)
     unfolding heardOne
     hears-newer e =
         let full = takes (h .station) r && leb 2 ((laneAt (h .station) (r .station)) .len) in
@@ -149,7 +149,7 @@ module _ (a : Hearing) (c : Inside (a .station)) where
           waiting = heard-waiting (h .station) r ∙ hs .waiting;
           body = heard-body (h .station) r ∙ hs .body;
           lane =
-              lane-other (h .station) r (a .station .own) (λ z. counts-other (h .station) r e (sym z ∙ sym (hs .own))) ∙ hs .lane;
+              lane-other (h .station) r (a .station .own) (λ z. heeds-other (h .station) r e (sym z ∙ sym (hs .own))) ∙ hs .lane;
           shaped = heardNewer-shaped (h .station) r below (hs .shaped);
           inside =
               λ f. heard-holds (h .station) r (hs .shaped) (hs .inside (or-left (h .overfull) full f)) here e (or-right (h .overfull) full f);
@@ -157,10 +157,10 @@ module _ (a : Hearing) (c : Inside (a .station)) where
         }
 
     pub hears-record : Hears a (hearRecord h r)
-    hears-record = go (counts (h .station) r) refl
+    hears-record = go (heeds (h .station) r) refl
       where
-        go : (t : Bool) → counts (h .station) r ≡ t → Hears a (hearRecord h r)
-        go true e = rw (hearRecord-counts h r e) (hears-newer e)
+        go : (t : Bool) → heeds (h .station) r ≡ t → Hears a (hearRecord h r)
+        go true e = rw (hearRecord-heeds h r e) (hears-newer e)
         go false e = rw (hearRecord-skips h r e) hs
 
   pub hears-records : (h : Hearing) (rs : List Record) → Hears a h → AllCarried (a .station .n) rs → Hears a (hearRecords h rs)

@@ -12,6 +12,7 @@ use Rattle.frames.specs.Record.{countInside, framed}
 use Rattle.places.specs.Places.{gather}
 use Rattle.places.proofs.Laws.{fill-below}
 use Rattle.station_rules.specs.declared.Station.{Station}
+use Rattle.frames.specs.Calls.{tableRecords}
 use Rattle.station_rules.specs.State.{heldOf, recordOf, recordLabel, sentRecords}
 use Rattle.station_rules.specs.Calls.{ownCountInside}
 use Rattle.station_rules.proofs.StationLimits.{RecordHolds, Inside}
@@ -60,5 +61,5 @@ module _ (s : Station) (c : Inside s) (fits : ownCountInside s ≡ true) where
       last false e = tt
 
   pub sent-carried : AllCarried (s .n) (sentRecords s)
-  unfolding sentRecords
+  unfolding sentRecords tableRecords
   sent-carried = gathered (s .n) (omega arith)

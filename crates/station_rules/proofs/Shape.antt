@@ -18,11 +18,12 @@ use Rattle.lanes.specs.declared.Queue.{Queue}
 use Rattle.station_rules.specs.declared.Station.{Station}
 use Rattle.lanes.specs.Lane.{noLane, pushed, popped}
 use Rattle.lanes.specs.Queue.{queued, unqueued, noneWaiting}
-use Rattle.station_rules.specs.State.{noRecord, recordOf, recordLabel, labelOf, laneAt, freshStation, zeroRecord}
-use Rattle.station_rules.specs.Hearing.{Hearing, counts, replaced, heardNewer, hearRecord}
+use Rattle.frames.specs.Record.{noRecord, zeroRecord}
+use Rattle.station_rules.specs.State.{recordOf, recordLabel, labelOf, laneAt, freshStation}
+use Rattle.station_rules.specs.Hearing.{Hearing, heeds, replaced, heardNewer, hearRecord}
 use Rattle.station_rules.specs.Turn.{airs, ends, startsEdit, startedBody, lanesAfter, passed, ownRecord, rewritten, afterTurn}
 use Rattle.station_rules.specs.Calls.{posted}
-use Rattle.station_rules.proofs.HearRecord.{hearRecord-counts, hearRecord-skips, heardOne-station}
+use Rattle.station_rules.proofs.HearRecord.{hearRecord-heeds, hearRecord-skips, heardOne-station}
 
 pub record Shaped (s : Station) : Type 0 where
   pub acked : length (s .acked) ≡ 16
@@ -92,10 +93,10 @@ heardNewer-shaped s r b c =
     }
 
 pub hearRecord-shaped : (h : Hearing) (r : Record) → r .station < 16 → Shaped (h .station) → Shaped ((hearRecord h r) .station)
-hearRecord-shaped h r b c = go (counts (h .station) r) refl
+hearRecord-shaped h r b c = go (heeds (h .station) r) refl
   where
-    go : (t : Bool) → counts (h .station) r ≡ t → Shaped ((hearRecord h r) .station)
-    go true e = rw (hearRecord-counts h r e, heardOne-station h r) (heardNewer-shaped (h .station) r b c)
+    go : (t : Bool) → heeds (h .station) r ≡ t → Shaped ((hearRecord h r) .station)
+    go true e = rw (hearRecord-heeds h r e, heardOne-station h r) (heardNewer-shaped (h .station) r b c)
     go false e = rw (hearRecord-skips h r e) c
 
 pub lanesAfter-length : (s : Station) → length (lanesAfter s) ≡ length (s .lanes)

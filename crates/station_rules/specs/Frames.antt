@@ -19,11 +19,12 @@ unfoldable pub hearFrames : Hearing → List ℕ → List ℕ → ℕ → Hearin
 hearFrames h bytes starts zero = h
 hearFrames h bytes starts (suc f) = hearRecords (hearFrames h bytes starts f) (recordsOf (drop (getD starts f 0) bytes))
 
--- a frame whose records are inside their limits begins at a place, and ends before the bytes do
+-- a frame whose records are inside their limits begins at a place, and ends within the bytes
 pub record FrameAt (n : ℕ) (bytes : List ℕ) (start : ℕ) : Type 0 where
   pub room : start + 4 + 16 * getD (drop start bytes) 2 0 ≤ length bytes
   pub inside : allBelow (getD (drop start bytes) 2 0) (λ k. bytesInside n (part (drop start bytes) k)) ≡ true
 
+-- an entry that no taking uses
 abbrev pub noTaking : Taking
 noTaking = record { source = 0; body = Empty }
 

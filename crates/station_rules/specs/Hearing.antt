@@ -13,18 +13,18 @@ use Rattle.places.specs.Places.{fill}
 use Rattle.station_rules.specs.declared.Station.{Station}
 use Rattle.station_rules.specs.declared.Taking.{Taking}
 use Rattle.lanes.specs.Lane.{pushed}
-use Rattle.station_rules.specs.State.{labelOf, ackedOf, heldOf, recordOf, laneAt, recordLabel}
+use Rattle.station_rules.specs.State.{labelOf, ackedOf, heldOf, recordOf, laneAt, recordLabel, ownLabel}
 
--- the record is of another station, and newer than the one held of it (source document 001, Algorithm 2, lines 6 to 8)
-abbrev pub counts : Station → Record → Bool
-counts s r =
+-- the station heeds the record: it is of another station, and newer than the one held of it (source document 001, Algorithm 2, lines 6 to 8)
+abbrev pub heeds : Station → Record → Bool
+heeds s r =
     let k = r .station in
     not (eqb k (s .own))
-    && isNewer (heldOf s k) (recordLabel (recordOf s k) k) ((recordOf s k) .count) (recordLabel r k) (r .count)
+    && isNewer (heldOf s k) (recordLabel (recordOf s k) k) ((recordOf s k) .count) (ownLabel r) (r .count)
 
--- its own label is the successor of the hearer's label for that station (line 14)
+-- it shows the next broadcast of its station: its own label comes after the hearer's label for that station (line 14)
 abbrev pub advances : Station → Record → Bool
-advances s r = eqb (recordLabel r (r .station)) (successor (labelOf s (r .station)))
+advances s r = eqb (ownLabel r) (successor (labelOf s (r .station)))
 
 -- its body is taken (line 17; Algorithm 3, line 4)
 abbrev pub takes : Station → Record → Bool
@@ -70,7 +70,7 @@ silent s = record { station = s; takings = []; overfull = false }
 unfoldable pub hearRecord : Hearing → Record → Hearing
 hearRecord h r =
     let s = h .station in
-    cond (counts s r)
+    cond (heeds s r)
     (record {
       station = heardNewer s r;
       takings = h .takings ++ cond (takes s r) (record { source = r .station; body = r .body } ∷ []) [];

@@ -31,7 +31,7 @@ laneInside most l =
 unfoldable pub queueInside : Queue → Bool
 queueInside q = leb (q .len) 32 && allBelow (q .len) (λ i. isEdit ((getD (q .slots) i noSlot) .body))
 
--- a record of station k in the table of station `own` among n: the own record's count may reach 255
+-- a record of station k in the table of station `own` among n; the own record's count has no limit but its byte
 unfoldable pub recordInside : ℕ → ℕ → ℕ → Record → Bool
 recordInside n own k r =
     eqb (r .station) k

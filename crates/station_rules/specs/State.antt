@@ -6,16 +6,12 @@ use lib.ListN.{getD, set, replicate}
 use Rattle.kinds.specs.declared.Body.{Body}
 use Rattle.kinds.specs.declared.Body.the-variants.{Empty}
 use Rattle.frames.specs.declared.Record.{Record}
-use Rattle.frames.specs.Record.{framed}
-use Rattle.places.specs.Places.{gather}
+use Rattle.frames.specs.Record.{noRecord, zeroRecord}
+use Rattle.frames.specs.Calls.{tableRecords}
 use Rattle.lanes.specs.declared.Lane.{Lane}
 use Rattle.station_rules.specs.declared.Station.{Station}
 use Rattle.lanes.specs.Lane.{noLane}
 use Rattle.lanes.specs.Queue.{noneWaiting}
-
--- a record of no labels, which stands where nothing is held
-abbrev pub noRecord : Record
-noRecord = record { station = 0; count = 0; body = Empty; labels = [] }
 
 -- the label for station k
 abbrev pub labelOf : Station → ℕ → ℕ
@@ -41,19 +37,20 @@ laneAt s k = getD (s .lanes) k noLane
 abbrev pub recordLabel : Record → ℕ → ℕ
 recordLabel r k = getD (r .labels) k 0
 
+-- the own label of a record: the one for its station
+abbrev pub ownLabel : Record → ℕ
+ownLabel r = recordLabel r (r .station)
+
 -- the records of the table in station order, as the station's frame carries them (source document 001, Algorithm 2, line 4)
 unfoldable pub sentRecords : Station → List Record
-sentRecords s = gather (s .n) (heldOf s) (λ k. framed (s .n) (recordOf s k))
+sentRecords s = tableRecords (s .n) (s .held) (s .table)
 
--- the record of a fresh station
+-- the labels of a fresh station: 1 for itself, 0 for others
 abbrev pub freshLabels : ℕ → List ℕ
 freshLabels own = set (replicate 16 0) own 1
 
-abbrev pub zeroRecord : Record
-zeroRecord = record { station = 0; count = 0; body = Empty; labels = replicate 16 0 }
-
--- "Fresh": own label 1, others 0; count 0; body Empty; self acknowledged; the table holds the own record only (Algorithm 1, the
--- initial values)
+-- the term "fresh": label 1 for itself and 0 for others, nothing counted, Empty as its body, nobody but itself acknowledged, no record but its own, an Empty
+-- record standing in the other places of the table (Algorithm 1, the initial values)
 unfoldable pub freshStation : ℕ → ℕ → Station
 freshStation n own =
     record {

@@ -44,12 +44,12 @@ abbrev pub startsEdit : Station → Bool
 startsEdit s = ends s && (mayStart s && ltb 0 ((s .waiting) .len))
 
 -- what starts where the broadcast ends: the oldest waiting edit, Neutral where none waits (Algorithm 3, line 11), Empty where the own lane is not
--- empty (Algorithm 2, lines 20 to 24)
+-- empty (Algorithm 2, lines 21 to 24)
 unfoldable pub startedBody : Station → Body
 startedBody s =
     cond (ends s) (cond (mayStart s) (cond (ltb 0 ((s .waiting) .len)) (oldest (s .waiting)) Neutral) Empty) Empty
 
--- the station after the airing, the end and the start, before its own record is rewritten (line 19 for label, count and acknowledged)
+-- the station after the airing, the end and the start, before its own record is rewritten (lines 19 and 20 for acknowledged, count and label)
 unfoldable pub passed : Station → Station
 passed s =
     record {

@@ -26,7 +26,7 @@ pub struct Taking {
     pub body: Body,
 }
 
-// What a turn reports: the aired row and the ended broadcast, Empty where there is none.
+// What a turn reports: the aired row, the ended and the started body; Empty where there is none.
 pub struct TurnReport {
     pub aired: bool,
     pub row: [Slot; 16],

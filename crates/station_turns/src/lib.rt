@@ -24,7 +24,7 @@ use station_rules::TurnReport;
 use station_rules::Turned;
 
 // Has each of the first n lanes a body?
-pub fn all_full(n: usize, lanes: [Lane; 16]) -> bool
+fn all_full(n: usize, lanes: [Lane; 16]) -> bool
     requires { ⌜ n ≤ 16 ⌝ }
     ensures { λ r. ⌜ r ≡ allBelow n (λ k. ltb 0 ((getD lanes k noLane) .len)) ⌝ }
 {
@@ -40,7 +40,7 @@ pub fn all_full(n: usize, lanes: [Lane; 16]) -> bool
 }
 
 // The oldest body of each of the first n lanes.
-pub fn oldest_row(n: usize, lanes: [Lane; 16]) -> [Slot; 16]
+fn oldest_row(n: usize, lanes: [Lane; 16]) -> [Slot; 16]
     requires { ⌜ n ≤ 16 ⌝ }
     ensures { λ r. ⌜ r ≡ fill n (λ k. record { body = (getD lanes k noLane) .first }) (replicate 16 noSlot) ⌝ }
 {
@@ -57,7 +57,7 @@ pub fn oldest_row(n: usize, lanes: [Lane; 16]) -> [Slot; 16]
 }
 
 // The lanes without the oldest body of each of the first n.
-pub fn all_popped(n: usize, lanes: [Lane; 16]) -> [Lane; 16]
+fn all_popped(n: usize, lanes: [Lane; 16]) -> [Lane; 16]
     requires { ⌜ n ≤ 16 ⌝ }
     ensures { λ r. ⌜ r ≡ fill n (λ k. popped (getD lanes k noLane)) lanes ⌝ }
 {
@@ -71,7 +71,7 @@ pub fn all_popped(n: usize, lanes: [Lane; 16]) -> [Lane; 16]
 }
 
 // Are all n acknowledged?
-pub fn all_acked(n: usize, acked: [bool; 16]) -> bool
+fn all_acked(n: usize, acked: [bool; 16]) -> bool
     requires { ⌜ n ≤ 16 ⌝ }
     ensures { λ r. ⌜ r ≡ allBelow n (λ k. getD acked k false) ⌝ }
 {
@@ -86,7 +86,7 @@ pub fn all_acked(n: usize, acked: [bool; 16]) -> bool
 }
 
 // Of the first n only own.
-pub fn only_own(n: usize, own: usize, acked: [bool; 16]) -> [bool; 16]
+fn only_own(n: usize, own: usize, acked: [bool; 16]) -> [bool; 16]
     requires { ⌜ n ≤ 16 ⌝ }
     ensures { λ r. ⌜ r ≡ fill n (λ k. eqb k own) acked ⌝ }
 {
@@ -100,7 +100,7 @@ pub fn only_own(n: usize, own: usize, acked: [bool; 16]) -> [bool; 16]
 }
 
 // The lane with a body put last, unless the body is Empty.
-pub fn lane_with(lane: Lane, body: Body) -> Lane
+fn lane_with(lane: Lane, body: Body) -> Lane
     ensures { λ r. ⌜ r ≡ cond (eqb (kindOf body) 0) lane (pushed lane body) ⌝ }
 {
     if kinds::is_empty(body) {

@@ -1,7 +1,6 @@
 -- `columns::write_lead` writes blanks, and then the minus over the last of them.
 use mathlib.Core.Bool.{false}
 use Rattle.columns.proofs.Fields.{length-lead, lead-minus, lead-none}
--- `columns::write_lead` writes blanks, and then the minus over the last of them.
 use mathlib.Core.Path.{_≡_, sym, ap, _∙_}
 use native.Mathlib.Omega.{arith}
 use Prim.Native.Nat.{_≤_, _<_}

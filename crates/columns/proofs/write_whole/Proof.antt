@@ -1,3 +1,4 @@
+-- `columns::write_whole` hands the sign and the magnitude on.
 use Rattle.columns.specs.Writing.{columns}
 use mathlib.Core.Bool.{Bool}
 use Prim.Native.Nat.{ℕ}
@@ -5,9 +6,7 @@ use lib.IntN.{pos}
 use lib.Signed.{ltZ}
 use lib.ListN.{length}
 use Rattle.columns.proofs.Sign.{sign-is, magnitude-is}
--- `columns::write_whole` hands the sign and the magnitude on.
 use mathlib.Core.Path.{ap, _∙_}
--- `columns::write_whole` hands the sign and the magnitude on.
 use borrow.Author.Needs.{needs}
 use Rattle.columns.proofs.write_whole.Statement.{statement}
 use Rattle.columns.proofs.write_whole.Tie as tie

@@ -1,3 +1,4 @@
+-- `lanes::oldest` reads the first slot.
 use mathlib.Core.Path.{refl}
 use borrow.Author.Needs.{needs}
 use Rattle.lanes.proofs.oldest.Statement.{statement}
@@ -5,11 +6,9 @@ use Rattle.lanes.proofs.oldest.Tie as tie
 use Rattle.lanes.proofs.oldest.Reads as reads
 use Rattle.lanes.proofs.oldest.Lts as lts
 
--- src/queues.rt:29:16
 element-copy-out-slot : tie.Need-element-copy-out-slot
 element-copy-out-slot c = search needs
 
--- src/queues.rt:26:1
 returns : tie.Need-returns
 unfolding Rattle.lanes.specs.Queue.oldest
 returns c = refl

@@ -1,3 +1,4 @@
+-- `lanes::queued` writes one slot and one length.
 use mathlib.Core.Path.{refl}
 use borrow.Author.Needs.{needs}
 use Rattle.lanes.proofs.queued.Statement.{statement}
@@ -5,19 +6,15 @@ use Rattle.lanes.proofs.queued.Tie as tie
 use Rattle.lanes.proofs.queued.Reads as reads
 use Rattle.lanes.proofs.queued.Lts as lts
 
--- src/queues.rt:18:5
 mul-slots : tie.Need-mul-slots
 mul-slots c = search needs
 
--- src/queues.rt:18:5
 array-set-from-slots : tie.Need-array-set-from-slots
 array-set-from-slots c = search needs
 
--- src/queues.rt:20:14
 add-t6 : tie.Need-add-t6
 add-t6 c = search needs
 
--- src/queues.rt:12:1
 returns : tie.Need-returns
 unfolding Rattle.lanes.specs.Queue.queued
 returns c = refl

@@ -17,53 +17,41 @@ Inv-loop queue slots₀ i₀ slots i = (i ≤ 31) × (length slots₀ ≡ 32) ×
 abbrev μ-loop : tie.MeasureT-loop
 μ-loop queue slots₀ i₀ slots i = 31 - i
 
--- src/queues.rt:40:5
 loop-holds : tie.Need-loop-holds Inv-loop μ-loop
 loop-holds c = (omega arith, simp length-map at (c .before .good .0 .1 .1 .1 .0 .1 .0 .1), refl)
 
--- src/queues.rt:41:26
 add-slots : tie.Need-add-slots Inv-loop μ-loop
 add-slots c = search needs
 
--- src/queues.rt:41:20
 mul-slots : tie.Need-mul-slots Inv-loop μ-loop
 mul-slots c = search needs
 
--- src/queues.rt:41:20
 array-copy-out-slots : tie.Need-array-copy-out-slots Inv-loop μ-loop
 array-copy-out-slots c = search needs
 
--- src/queues.rt:41:9
 mul-slots-2 : tie.Need-mul-slots-2 Inv-loop μ-loop
 mul-slots-2 c = search needs
 
--- src/queues.rt:41:9
 array-set-from-slots : tie.Need-array-set-from-slots Inv-loop μ-loop
 array-set-from-slots c = search needs
 
--- src/queues.rt:42:9
 add-i : tie.Need-add-i Inv-loop μ-loop
 add-i c = search needs
 
--- src/queues.rt:40:5
 loop-less : tie.Need-loop-less Inv-loop μ-loop
 loop-less c = search needs
 
--- src/queues.rt:40:5
 loop-again : tie.Need-loop-again Inv-loop μ-loop
 loop-again c =
     let w = c .before .before .loop .inv in
     (omega arith, w .1, rw (w .2) (moved-step noSlot (c .before .before .before .before .args .queue .slots) (c .before .before .loop .i) (omega arith)))
 
--- src/queues.rt:44:5
 array-set-from-slots-2 : tie.Need-array-set-from-slots-2 Inv-loop μ-loop
 array-set-from-slots-2 c = search needs
 
--- src/queues.rt:46:14
 sub-t17 : tie.Need-sub-t17 Inv-loop μ-loop
 sub-t17 c = search needs
 
--- src/queues.rt:34:1
 returns : tie.Need-returns Inv-loop μ-loop
 unfolding unqueued
 returns c =

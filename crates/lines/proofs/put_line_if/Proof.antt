@@ -3,7 +3,6 @@ use Prim.Native.Nat.{_≤_}
 use native.Mathlib.Omega.{arith}
 use Rattle.lines.proofs.Placed.{put-none}
 use Rattle.lines.proofs.Columns.{length-line}
--- `lines::put_line_if` puts a line, or nothing.
 use borrow.Author.Needs.{needs}
 use Rattle.lines.proofs.put_line_if.Statement.{statement}
 use Rattle.lines.proofs.put_line_if.Tie as tie

@@ -5,7 +5,6 @@ use native.Mathlib.Omega.{arith}
 use lib.ListN.{length, take, drop}
 use Rattle.columns.specs.Writing.{natColumns}
 use Rattle.lines.proofs.Placed.{part-length, placed-part}
--- `lines::put_natural` lends the part to the writer of columns.
 use borrow.Author.Needs.{needs}
 use Rattle.lines.proofs.put_natural.Statement.{statement}
 use Rattle.lines.proofs.put_natural.Tie as tie

@@ -1,14 +1,13 @@
+-- `lines::put_whole` lends the part to the writer of columns.
 use lib.IntN.{ℤ}
 use mir.Syntax.{w32}
 use mir.ValLaws.{toZ-ofZ}
--- `lines::put_whole` lends the part to the writer of columns.
 use mathlib.Core.Path.{_≡_, ap, _∙_}
 use Prim.Native.Nat.{ℕ, _-_}
 use native.Mathlib.Omega.{arith}
 use lib.ListN.{length, take, drop}
 use Rattle.columns.specs.Writing.{intColumns}
 use Rattle.lines.proofs.Placed.{part-length, placed-part}
--- `lines::put_whole` lends the part to the writer of columns.
 use borrow.Author.Needs.{needs}
 use Rattle.lines.proofs.put_whole.Statement.{statement}
 use Rattle.lines.proofs.put_whole.Tie as tie

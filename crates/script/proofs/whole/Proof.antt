@@ -1,6 +1,6 @@
+-- `script::whole` goes by what was read.
 use mir.Syntax.{w32}
 use mir.ValLaws.{toZ-ofZ}
--- `script::whole` goes by what was read.
 use mathlib.Core.Path.{ap, sym, _∙_}
 use Rattle.script.specs.Line.{naturalOf, wholeOf}
 use borrow.Author.Needs.{needs}

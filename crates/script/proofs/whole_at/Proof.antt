@@ -1,6 +1,6 @@
+-- `script::whole_at` asks of field k, whose number has at most nine digits.
 use mir.Syntax.{w32}
 use mir.ValLaws.{toZ-ofZ}
--- `script::whole_at` asks of field k, whose number has at most nine digits.
 use mathlib.Core.Path.{ap, _∙_}
 use Rattle.script.specs.Line.{wholeOf}
 use Rattle.script.proofs.Values.{field-nine}

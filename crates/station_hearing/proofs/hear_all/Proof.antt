@@ -20,7 +20,7 @@ use Rattle.frames.specs.declared.Record.{Record}
 use Rattle.places.specs.Places.{tabulate}
 use Rattle.station_rules.specs.declared.Station.{Station}
 use Rattle.station_rules.specs.declared.Taking.{Taking}
-use Rattle.station_rules.specs.Hearing.{Hearing, silent, counts, advances, takes, replaced, raised, heardNewer, hearRecord, hearRecords}
+use Rattle.station_rules.specs.Hearing.{Hearing, silent, heeds, advances, takes, replaced, raised, heardNewer, hearRecord, hearRecords}
 use Rattle.station_rules.specs.Frames.{hearFrames, FrameAt, HearsAll, noTaking}
 use Rattle.station_rules.proofs.StationLimits.{Inside, inside-open}
 use Rattle.station_rules.proofs.LimitsHearing.{Hears, hears-none, hears-record, hears-records, takings-bounded}
@@ -150,8 +150,8 @@ module _ (c : tie.After-wide2 Inv-loop2 μ-loop2 Inv-loop μ-loop) where
   sixteen : c .wide2 .result < 16
   sixteen = rw station-is (numbers turn .0)
 
--- the own record does not count
-own-skipped : (c : tie.Then1 Inv-loop2 μ-loop2 Inv-loop μ-loop) → counts (now-station (turn (c .before))) (seen (turn (c .before))) ≡ false
+-- the own record is not heeded
+own-skipped : (c : tie.Then1 Inv-loop2 μ-loop2 Inv-loop μ-loop) → heeds (now-station (turn (c .before))) (seen (turn (c .before))) ≡ false
 own-skipped c =
     let w = c .before in
     rw (eq-eqb (seen (turn w) .station) (now-station (turn w) .own) (sym (station-is w) ∙ c .if1 .taken ∙ sym (own-is (turn w))))
@@ -162,11 +162,11 @@ label-is c =
     let o = frame-turn (turn w) in
     c .label-at .ensures ∙ label-at (bytes o) (start o) (r (turn w)) (w .wide2 .result) ∙ ap (recordLabel (seen (turn w))) (station-is w)
 
--- whether the record counts
-counts-is :
+-- whether the record is heeded
+heeds-is :
     (c : tie.After-is-newer Inv-loop2 μ-loop2 Inv-loop μ-loop) →
-    counts (now-station (turn (c .before .before .before .before .before .before))) (seen (turn (c .before .before .before .before .before .before))) ≡ c .is-newer .result
-counts-is c =
+    heeds (now-station (turn (c .before .before .before .before .before .before))) (seen (turn (c .before .before .before .before .before .before))) ≡ c .is-newer .result
+heeds-is c =
     let e = (c .before .before .before .before .before) in
     let w = e .before in
     let x = now-station (turn w) in
@@ -227,8 +227,8 @@ module _ (c : tie.After-lane-after Inv-loop2 μ-loop2 Inv-loop μ-loop) where
       let o = frame-turn newer-turn in
       (c .before .before .before .before .before .before) .label-at2 .ensures ∙ label-at (bytes o) (start o) (r newer-turn) (s o .own) ∙ ap (recordLabel (seen newer-turn)) (sym (own-is newer-turn))
 
-  counted : counts old-station (seen newer-turn) ≡ true
-  counted = counts-is (c .before .before .before .before .before .before .before .before .before .before .before .before .before .before .before .before) ∙ not-false _ ((c .before .before .before .before .before .before .before .before .before .before .before .before .before .before .before) .if2 .left)
+  heeded : heeds old-station (seen newer-turn) ≡ true
+  heeded = heeds-is (c .before .before .before .before .before .before .before .before .before .before .before .before .before .before .before .before) ∙ not-false _ ((c .before .before .before .before .before .before .before .before .before .before .before .before .before .before .before) .if2 .left)
 
   acked-is :
       (ackedOf old-station k || eqb ((c .before .before .before .before .before .before) .label-at2 .result) (labelOf old-station (s (frame-turn newer-turn) .own)))
@@ -281,9 +281,9 @@ module _ (c : tie.Else4 Inv-loop2 μ-loop2 Inv-loop μ-loop) where
       let h' = hearRecord (so-far v) (seen v) in
       omega (
         arith,
-        taken-len (so-far v) (seen v) _ _ _ (is-at v) (counted (c .before)) taken,
+        taken-len (so-far v) (seen v) _ _ _ (is-at v) (heeded (c .before)) taken,
         takings-bounded (s o) h' (hears-record (silent (s o)) (inside o) (so-far v) (seen v) (hears v) (carry v))
-            (taken-free (so-far v) (seen v) _ _ _ (is-at v) (counted (c .before)) taken two),
+            (taken-free (so-far v) (seen v) _ _ _ (is-at v) (heeded (c .before)) taken two),
       )
 
 loop-holds : tie.Need-loop-holds Inv-loop2 μ-loop2 Inv-loop μ-loop
@@ -369,7 +369,7 @@ loop2-less-2 c = omega (arith, (c .before .before .before .before .before .befor
 loop2-again-2 : tie.Need-loop2-again-2 Inv-loop2 μ-loop2 Inv-loop μ-loop
 loop2-again-2 c =
     let v = turn (c .before .before .before .before .before .before .before) in
-    (omega (arith, v .loop2-test .taken), next v _ _ _ (at-skip (so-far v) (seen v) _ _ _ (is-at v) (counts-is (c .before) ∙ not-true _ (c .if2 .taken))))
+    (omega (arith, v .loop2-test .taken), next v _ _ _ (at-skip (so-far v) (seen v) _ _ _ (is-at v) (heeds-is (c .before) ∙ not-true _ (c .if2 .taken))))
 
 add-read-record : tie.Need-add-read-record Inv-loop2 μ-loop2 Inv-loop μ-loop
 add-read-record c = record { fits = omega (arith, room (c .before .before .before .before .before .before .before .before .before)) }
@@ -409,7 +409,7 @@ returns c =
     let v = turn (c .before .before .before .before .before .before .before .before .before .before .before .before .before .before .before) in
     let o = frame-turn v in
     let full : (hearRecord (so-far v) (seen v)) .overfull ≡ true =
-    over (so-far v) (seen v) _ _ _ (is-at v) (counts-is (c .before .before .before .before .before .before .before .before .before) ∙ not-false _ ((c .before .before .before .before .before .before .before .before) .if2 .left)) (sym (over-is (c .before)) ∙ c .if3 .taken) in
+    over (so-far v) (seen v) _ _ _ (is-at v) (heeds-is (c .before .before .before .before .before .before .before .before .before) ∙ not-false _ ((c .before .before .before .before .before .before .before .before) .if2 .left)) (sym (over-is (c .before)) ∙ c .if3 .taken) in
     let l = below v in
     let e : (hearFrames (silent (s o)) (bytes o) (starts o) (o .before .before .before .args .count)) .overfull ≡ true =
     overfull-all (silent (s o)) (bytes o) (starts o) (o .before .loop .f) (r v + 1) (o .before .before .before .args .count) (o .loop-test .taken) (omega arith)
@@ -469,7 +469,7 @@ loop2-again-3 c =
     let w = c .before in
     let v = newer-turn w in
     let none : takes (old-station w) (seen v) ≡ false = sym (takes-is (c .before .before .before .before .before .before .before .before .before .before .before)) ∙ not-true _ (c .if4 .taken) in
-    (omega (arith, v .loop2-test .taken), next v _ _ _ (rw (newer-is (old-station w) (seen v) (k w) _ _ _ _ _ (station-is (c .before .before .before .before .before .before .before .before .before .before .before .before .before .before .before .before .before .before .before .before .before .before .before)) (acked-is w) (count-is w) (new-label w) (entry-is w) (lane-is w)) (at-kept (so-far v) (seen v) _ _ _ (is-at v) (counted w) none)))
+    (omega (arith, v .loop2-test .taken), next v _ _ _ (rw (newer-is (old-station w) (seen v) (k w) _ _ _ _ _ (station-is (c .before .before .before .before .before .before .before .before .before .before .before .before .before .before .before .before .before .before .before .before .before .before .before)) (acked-is w) (count-is w) (new-label w) (entry-is w) (lane-is w)) (at-kept (so-far v) (seen v) _ _ _ (is-at v) (heeded w) none)))
 
 mul-takings : tie.Need-mul-takings Inv-loop2 μ-loop2 Inv-loop μ-loop
 mul-takings c = record { fits = omega (arith, left c) }
@@ -493,7 +493,7 @@ loop2-again-4 c =
     λ i. record { source = q i; body = (x i) .body } in (
       omega (arith, v .loop2-test .taken),
       next v _ _ _
-          (rw (e, newer-is (old-station w) (seen v) (k w) _ _ _ _ _ (station-is (c .before .before .before .before .before .before .before .before .before .before .before .before .before .before .before .before .before .before .before .before .before .before .before)) (acked-is w) (count-is w) (new-label w) (entry-is w) (lane-is w)) (at-taken (so-far v) (seen v) _ _ _ (is-at v) (counted w) (taken c) (two c) (left c))),
+          (rw (e, newer-is (old-station w) (seen v) (k w) _ _ _ _ _ (station-is (c .before .before .before .before .before .before .before .before .before .before .before .before .before .before .before .before .before .before .before .before .before .before .before)) (acked-is w) (count-is w) (new-label w) (entry-is w) (lane-is w)) (at-taken (so-far v) (seen v) _ _ _ (is-at v) (heeded w) (taken c) (two c) (left c))),
     )
 
 add-f : tie.Need-add-f Inv-loop2 μ-loop2 Inv-loop μ-loop

@@ -20,33 +20,26 @@ Inv-loop n labels j₀ j = (j ≤ n) × (allBelow j (λ i. isLabel (getD labels 
 abbrev μ-loop : tie.MeasureT-loop
 μ-loop n labels j₀ j = n - j
 
--- src/limits.rt:98:5
 loop-holds : tie.Need-loop-holds Inv-loop μ-loop
 unfolding allBelow
 loop-holds c = search needs
 
--- src/limits.rt:99:16
 array-read-if1 : tie.Need-array-read-if1 Inv-loop μ-loop
 array-read-if1 c = search needs
 
--- src/limits.rt:100:13
 returns : tie.Need-returns Inv-loop μ-loop
 returns c = sym (allBelow-fails _ _ (c .before .before .loop .j) (omega arith) (lt-leb _ _ (c .if1 .taken)))
 
--- src/limits.rt:102:9
 add-j : tie.Need-add-j Inv-loop μ-loop
 add-j c = search needs
 
--- src/limits.rt:98:5
 loop-less : tie.Need-loop-less Inv-loop μ-loop
 loop-less c = search needs
 
--- src/limits.rt:98:5
 loop-again : tie.Need-loop-again Inv-loop μ-loop
 loop-again c =
     (omega arith, allBelow-more (c .before .before .loop .j) _ (c .before .before .loop .inv .1) (le-leb _ _ (c .if1 .left)))
 
--- src/limits.rt:93:1
 returns-2 : tie.Need-returns-2 Inv-loop μ-loop
 returns-2 c =
     let e : c .before .loop .j ≡ c .before .before .args .n = omega arith in

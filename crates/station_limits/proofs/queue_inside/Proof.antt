@@ -23,29 +23,23 @@ Inv-loop queue len i₀ i = (i ≤ len) × (len ≡ queue .len) × (len ≤ 32) 
 abbrev μ-loop : tie.MeasureT-loop
 μ-loop queue len i₀ i = len - i
 
--- src/limits.rt:78:9
 returns : tie.Need-returns Inv-loop μ-loop
 unfolding queueInside
 returns c = rw (lt-leb _ _ (c .if1 .taken))
 
--- src/limits.rt:81:5
 loop-holds : tie.Need-loop-holds Inv-loop μ-loop
 unfolding allBelow
 loop-holds c = search needs
 
--- src/limits.rt:82:20
 mul-slot : tie.Need-mul-slot Inv-loop μ-loop
 mul-slot c = search needs
 
--- src/limits.rt:82:20
 element-copy-out-slot : tie.Need-element-copy-out-slot Inv-loop μ-loop
 element-copy-out-slot c = search needs
 
--- src/limits.rt:84:13
 is-edit-requires : tie.Need-is-edit-requires Inv-loop μ-loop
 is-edit-requires c κs = search needs
 
--- src/limits.rt:85:13
 returns-2 : tie.Need-returns-2 Inv-loop μ-loop
 unfolding queueInside
 returns-2 c =
@@ -54,15 +48,12 @@ returns-2 c =
     let e : isEdit ((getD (q .slots) (a .before .loop .i) noSlot) .body) ≡ false = sym (c .before .is-edit .ensures) ∙ not-true _ (c .if2 .taken) in
     rw (le-leb _ _ (a .before .loop .inv .2)) (sym (allBelow-fails (q .len) _ (a .before .loop .i) (omega arith) e))
 
--- src/limits.rt:87:9
 add-i : tie.Need-add-i Inv-loop μ-loop
 add-i c = search needs
 
--- src/limits.rt:81:5
 loop-less : tie.Need-loop-less Inv-loop μ-loop
 loop-less c = search needs
 
--- src/limits.rt:81:5
 loop-again : tie.Need-loop-again Inv-loop μ-loop
 loop-again c =
     let a = c .before .before .before in
@@ -70,7 +61,6 @@ loop-again c =
     let e : isEdit ((getD (q .slots) (a .before .loop .i) noSlot) .body) ≡ true = sym (c .before .is-edit .ensures) ∙ not-false _ (c .if2 .left) in
     (omega arith, refl, a .before .loop .inv .2, allBelow-more (a .before .loop .i) _ (a .before .loop .inv .3) e)
 
--- src/limits.rt:73:1
 returns-3 : tie.Need-returns-3 Inv-loop μ-loop
 unfolding queueInside
 returns-3 c =
