@@ -1,4 +1,5 @@
 pub mod Words
+pub mod Distances
 pub mod Check
 pub mod Labels
 pub mod Records

@@ -1,4 +1,5 @@
 pub mod Words
+pub mod Spans
 pub mod Record
 pub mod Frame
 pub mod Calls

@@ -6,17 +6,22 @@ ghost use Prim.Native.Nat.{_+_, _*_, _≤_, _<_};
 ghost use lib.ListN.{length, getD, take};
 ghost use lib.Seq.{sets};
 ghost use Rattle.frames.specs.Words.{wordAt, wordBytes, signed, unsigned};
+ghost use Rattle.kinds.specs.Limits.{numbersInside};
+ghost use Rattle.frames.specs.Spans.{spanOf, spans};
 ghost use Rattle.frames.specs.Record.{recordOf, recordBytes, bytesInside};
 ghost use Rattle.frames.specs.Frame.{shapeWrong, addressWrong, recordsInside, frameRefusal, checkRefusal, frameBytes};
 ghost use Rattle.frames.specs.Calls.{reading, tableRecords, heldCount, written, bufferWith, Writable};
 ghost use Rattle.labels.specs.Packing.{unpacked, allLabels};
 use kinds::Body;
+use kinds::KINDS;
+use kinds::Limits;
 use kinds::refusals::BAD_ADDRESS;
 use kinds::refusals::BAD_NUMBER;
 use kinds::refusals::BAD_RECORD;
 use kinds::refusals::BAD_SHAPE;
 use kinds::refusals::DONE;
 use kinds::refusals::SHORT_BUFFER;
+use std::num::wrapping_sub_u32;
 
 // Byte 3 of a frame, and byte 3 of a record, are zero.
 const FRAME_MARK: u8 = 0;
@@ -99,6 +104,77 @@ pub fn unsigned(number: i32) -> u32
     }
 }
 
+// A row of the table of kinds in words: the least event and the least argument, and how far above them the most lie.
+struct Span {
+    event: u32,
+    events: u32,
+    argument: u32,
+    arguments: u32,
+}
+
+fn span_of(row: Limits) -> Span
+    requires { ⌜ row .«least_event» ≤ row .«most_event» ⌝ }
+    ensures { λ r. ⌜ r ≡ spanOf row ⌝ }
+{
+    let least = unsigned(row.least_argument);
+    let most = unsigned(row.most_argument);
+    Span {
+        event: row.least_event,
+        events: row.most_event - row.least_event,
+        argument: least,
+        arguments: wrapping_sub_u32(most, least),
+    }
+}
+
+// The rows of all kinds, four words each.
+fn spans() -> [u32; 20]
+    ensures { λ r. ⌜ r ≡ spans ⌝ }
+{
+    let a = span_of(KINDS[0]);
+    let b = span_of(KINDS[1]);
+    let c = span_of(KINDS[2]);
+    let d = span_of(KINDS[3]);
+    let e = span_of(KINDS[4]);
+    [
+        a.event,
+        a.events,
+        a.argument,
+        a.arguments,
+        b.event,
+        b.events,
+        b.argument,
+        b.arguments,
+        c.event,
+        c.events,
+        c.argument,
+        c.arguments,
+        d.event,
+        d.events,
+        d.argument,
+        d.arguments,
+        e.event,
+        e.events,
+        e.argument,
+        e.arguments,
+    ]
+}
+
+// Are these the numbers of a body inside its limits, the argument as a word? Of each number one test judges both limits.
+fn words_inside(table: &[u32], kind: u8, event: u32, argument: u32) -> bool
+    requires { ⌜ now table ≡ spans ⌝ }
+    ensures { λ r. ⌜ r ≡ numbersInside kind event (signed argument) ⌝ }
+{
+    let row = wide(kind);
+    if KINDS.len() <= row {
+        return false;
+    }
+    let at = 4 * row;
+    if table[at + 1] < wrapping_sub_u32(event, table[at]) {
+        return false;
+    }
+    wrapping_sub_u32(argument, table[at + 2]) <= table[at + 3]
+}
+
 // The label of station k in the word of labels that stands at a place.
 pub fn label_at(bytes: &[u8], at: usize, k: usize) -> u8
     requires { ⌜ (at + 4 ≤ length (now bytes)) × (k < 16) ⌝ }
@@ -141,8 +217,8 @@ pub fn write_record(part: &mut [u8], n: usize, r: Record)
 }
 
 // Are the sixteen bytes of a record inside its limits?
-pub fn record_inside(part: &[u8], n: usize) -> bool
-    requires { ⌜ (length (now part) ≡ 16) × (n ≤ 16) ⌝ }
+fn record_inside(table: &[u32], part: &[u8], n: usize) -> bool
+    requires { ⌜ (now table ≡ spans) × (length (now part) ≡ 16) × (n ≤ 16) ⌝ }
     ensures { λ r. ⌜ r ≡ bytesInside n (now (part .entry)) ⌝ }
 {
     if n <= wide(part[0]) {
@@ -152,8 +228,8 @@ pub fn record_inside(part: &[u8], n: usize) -> bool
         return false;
     }
     let event = word_at(part, 4);
-    let argument = signed(word_at(part, 8));
-    if !kinds::numbers_inside(part[2] as u32, event, argument) {
+    let argument = word_at(part, 8);
+    if !words_inside(table, part[2], event, argument) {
         return false;
     }
     if part[3] != RECORD_MARK {
@@ -205,12 +281,13 @@ fn records_inside(bytes: &[u8], n: usize) -> bool
 {
     let count = wide(bytes[2]);
     let sender = wide(bytes[1]);
+    let table = spans();
     let mut found = false;
     let mut least: usize = 0;
     let mut k: usize = 0;
     while k < count {
         let at = 4 + 16 * k;
-        if !record_inside(&bytes[at..at + 16], n) {
+        if !record_inside(&table, &bytes[at..at + 16], n) {
             return false;
         }
         let station = wide(bytes[at]);

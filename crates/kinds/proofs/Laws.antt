@@ -9,15 +9,11 @@ use lib.IntN.{ℤ, pos, negsuc}
 use lib.ListN.{length}
 use lib.Signed.{leZ}
 use borrow.Author.Tests.{leb-true, ltb-true, ne-eqb}
+use Rattle.places.proofs.Laws.{both}
 use Rattle.kinds.specs.declared.Body.{Body}
 use Rattle.kinds.specs.declared.Body.the-variants.{Empty, Neutral, Insert, Drop, Shift}
 use Rattle.kinds.specs.Body.{kindOf, eventOf, argumentOf, bodyOf, isEmpty}
 use Rattle.kinds.specs.Limits.{kinds, limitsOf, between, numbersInside, bodyInside, isEdit}
-
--- the two halves of a test
-both : (x y : Bool) → (x && y) ≡ true → (x ≡ true) × (y ≡ true)
-both true y h = (refl, h)
-both false y h = (h, cc)
 
 -- the body of a body's own numbers is that body
 pub body-back : (b : Body) → bodyOf (kindOf b) (eventOf b) (argumentOf b) ≡ b

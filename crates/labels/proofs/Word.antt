@@ -6,12 +6,13 @@ use native.Mathlib.Omega.{arith}
 use mathlib.Core.Bool.{Bool, true, false, _&&_}
 use mathlib.Core.Path.{_≡_, refl, sym, ap, ap₂, _∙_}
 use lib.Arith.{mod-mul}
-use lib.Bits.{bitAnd, and-step, and-zero-r}
+use lib.Bits.{bitAnd, bitOr, and-step, and-zero-r, and-le-l, and-le-r, or-add-and}
 use lib.Dec.{leb, eqb}
 use lib.ListN.{take, drop}
 use borrow.Author.Tests.{leb-true, eqb-true, le-leb, eq-eqb}
 use Rattle.labels.specs.Packing.{unpacked, allLabels, allZero, wordInside}
-use Rattle.labels.proofs.Laws.{both, same-test, all-split, zero-all, zero-word}
+use Rattle.places.proofs.Laws.{both, and-both}
+use Rattle.labels.proofs.Laws.{same-test, all-split, zero-all, zero-word}
 
 -- the even places of n labels
 abbrev pub evens : ℕ → ℕ
@@ -111,3 +112,23 @@ inside-is n word l h =
     _&&_
     (sym (all-split n u) ∙ all-threes 16 word)
     (high-zero n 16 word l h ∙ ap (λ (p : ℕ). eqb (word / p) 0) (sym (four n)))
+
+-- two numbers are both 0 where together they have no bit
+or-zero : (a b : ℕ) → eqb (bitOr a b) 0 ≡ (eqb a 0 && eqb b 0)
+or-zero a b =
+    same-test
+    (eqb (bitOr a b) 0)
+    (eqb a 0 && eqb b 0)
+    (λ t.
+    let z : bitOr a b ≡ 0 = eqb-true (bitOr a b) 0 t in
+    and-both
+    (eq-eqb a 0 (omega (arith, or-add-and a b, and-le-r a b)))
+    (eq-eqb b 0 (omega (arith, or-add-and a b, and-le-l a b))))
+    (λ t.
+    let p = both (eqb a 0) (eqb b 0) t in
+    eq-eqb (bitOr a b) 0 (omega (arith, or-add-and a b, eqb-true a 0 (p .0), eqb-true b 0 (p .1))))
+
+-- the two looks as one
+pub inside-one :
+    (n word : ℕ) → n ≤ 16 → word < 2 ^ 32 → eqb (bitOr (threes 16 word) (word / 2 ^ (2 * n))) 0 ≡ wordInside n word
+inside-one n word l h = or-zero (threes 16 word) (word / 2 ^ (2 * n)) ∙ sym (inside-is n word l h)

@@ -76,12 +76,10 @@ pub fn word_inside(word: u32, n: usize) -> bool
     requires { ⌜ n ≤ 16 ⌝ }
     ensures { λ r. ⌜ r ≡ wordInside n word ⌝ }
 {
-    let threes = (word & (word >> 1)) & 0x5555_5555;
-    if threes != 0 {
-        return false;
-    }
     let wide = word as usize;
-    (wide >> (2 * n)) == 0
+    let threes = (wide & (wide >> 1)) & 0x5555_5555;
+    let above = wide >> (2 * n);
+    (threes | above) == 0
 }
 
 // The first n labels over the old ones.

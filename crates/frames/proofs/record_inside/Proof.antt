@@ -2,10 +2,8 @@
 use mathlib.Core.Path.{sym, ap, _∙_}
 use borrow.Author.Tests.{not-true, not-false}
 use native.Mathlib.Omega.{arith}
-use lib.ListN.{getD}
-use Rattle.kinds.specs.Limits.{numbersInside}
 use Rattle.labels.specs.Packing.{wordInside}
-use Rattle.frames.proofs.Check.{judged, far, high, other-numbers, marked, by-labels}
+use Rattle.frames.proofs.Check.{in-words, far, high, other-numbers, marked, by-labels}
 use borrow.Author.Needs.{needs}
 use Rattle.frames.proofs.record_inside.Statement.{statement}
 use Rattle.frames.proofs.record_inside.Tie as tie
@@ -18,7 +16,7 @@ wide-requires c κs = search needs
 
 returns : tie.Need-returns
 returns c =
-    let s = c .before .before .before .before .args in
+    let s = c .before .before .before .before .before .args in
     far (s .n) (s .part .now) (omega arith)
 
 sub-if2 : tie.Need-sub-if2
@@ -35,7 +33,7 @@ wide-requires-2 c κs = search needs
 
 returns-2 : tie.Need-returns-2
 returns-2 c =
-    let s = c .before .before .before .before .before .before .before .args in
+    let s = c .before .before .before .before .before .before .before .before .args in
     high (s .n) (s .part .now) (omega arith) (omega arith)
 
 word-at-requires : tie.Need-word-at-requires
@@ -44,22 +42,16 @@ word-at-requires c κs = search needs
 word-at-requires-2 : tie.Need-word-at-requires-2
 word-at-requires-2 c κs = search needs
 
-signed-requires : tie.Need-signed-requires
-signed-requires c κs = search needs
+shared-slice-read-words-inside : tie.Need-shared-slice-read-words-inside
+shared-slice-read-words-inside c = search needs
 
-shared-slice-read-numbers-inside : tie.Need-shared-slice-read-numbers-inside
-shared-slice-read-numbers-inside c = search needs
-
-cast-numbers-inside : tie.Need-cast-numbers-inside
-cast-numbers-inside c = omega (arith, c .shared-slice-known4 .given 2)
-
-numbers-inside-requires : tie.Need-numbers-inside-requires
-numbers-inside-requires c κs = search needs
+words-inside-requires : tie.Need-words-inside-requires
+words-inside-requires c κs = search needs
 
 returns-3 : tie.Need-returns-3
 returns-3 c =
     let s = c .before .before .before .before .before .before .before .before .before .before .before .before .before .args in
-    let t = judged (numbersInside (getD (s .part .now) 2 0)) (s .part .now) (c .before .numbers-inside .result) (c .before .before .before .before .before .word-at .result) (c .before .before .before .before .word-at2 .result) (c .before .before .before .signed .result) (record { sfits = c .before .before .before .signed .ok }) (c .before .numbers-inside .ensures) (c .before .before .before .before .before .word-at .ensures) (c .before .before .before .before .word-at2 .ensures) (c .before .before .before .signed .ensures) in
+    let t = in-words (s .part .now) (c .before .words-inside .result) (c .before .before .before .before .word-at .result) (c .before .before .before .word-at2 .result) (c .before .words-inside .ensures) (c .before .before .before .before .word-at .ensures) (c .before .before .before .word-at2 .ensures) in
     other-numbers (s .n) (s .part .now) (omega arith) (omega arith) (sym t ∙ not-true _ (c .if3 .taken))
 
 shared-slice-read-if4 : tie.Need-shared-slice-read-if4
@@ -68,7 +60,7 @@ shared-slice-read-if4 c = search needs
 returns-4 : tie.Need-returns-4
 returns-4 c =
     let s = c .before .before .before .before .before .before .before .before .before .before .before .before .before .before .before .args in
-    let t = judged (numbersInside (getD (s .part .now) 2 0)) (s .part .now) (c .before .before .before .numbers-inside .result) (c .before .before .before .before .before .before .before .word-at .result) (c .before .before .before .before .before .before .word-at2 .result) (c .before .before .before .before .before .signed .result) (record { sfits = c .before .before .before .before .before .signed .ok }) (c .before .before .before .numbers-inside .ensures) (c .before .before .before .before .before .before .before .word-at .ensures) (c .before .before .before .before .before .before .word-at2 .ensures) (c .before .before .before .before .before .signed .ensures) in
+    let t = in-words (s .part .now) (c .before .before .before .words-inside .result) (c .before .before .before .before .before .before .word-at .result) (c .before .before .before .before .before .word-at2 .result) (c .before .before .before .words-inside .ensures) (c .before .before .before .before .before .before .word-at .ensures) (c .before .before .before .before .before .word-at2 .ensures) in
     marked (s .n) (s .part .now) (omega arith) (omega arith) (sym t ∙ not-false _ (c .before .before .if3 .left)) (c .if4 .taken)
 
 word-at-requires-3 : tie.Need-word-at-requires-3
@@ -80,7 +72,7 @@ word-inside-requires c κs = search needs
 returns-5 : tie.Need-returns-5
 returns-5 c =
     let s = c .before .before .before .before .before .before .before .before .before .before .before .before .before .before .before .before .before .args in
-    let t = judged (numbersInside (getD (s .part .now) 2 0)) (s .part .now) (c .before .before .before .before .before .numbers-inside .result) (c .before .before .before .before .before .before .before .before .before .word-at .result) (c .before .before .before .before .before .before .before .before .word-at2 .result) (c .before .before .before .before .before .before .before .signed .result) (record { sfits = c .before .before .before .before .before .before .before .signed .ok }) (c .before .before .before .before .before .numbers-inside .ensures) (c .before .before .before .before .before .before .before .before .before .word-at .ensures) (c .before .before .before .before .before .before .before .before .word-at2 .ensures) (c .before .before .before .before .before .before .before .signed .ensures) in
+    let t = in-words (s .part .now) (c .before .before .before .before .before .words-inside .result) (c .before .before .before .before .before .before .before .before .word-at .result) (c .before .before .before .before .before .before .before .word-at2 .result) (c .before .before .before .before .before .words-inside .ensures) (c .before .before .before .before .before .before .before .before .word-at .ensures) (c .before .before .before .before .before .before .before .word-at2 .ensures) in
     c .word-inside .ensures ∙ ap (wordInside (s .n)) (c .before .word-at3 .ensures) ∙ by-labels (s .n) (s .part .now) (omega arith) (omega arith) (sym t ∙ not-false _ (c .before .before .before .before .if3 .left)) (c .before .before .if4 .left)
 
 pub record-inside-spec : {M : Type 1} → statement M
@@ -97,10 +89,8 @@ record-inside-spec =
     returns-2
     word-at-requires
     word-at-requires-2
-    signed-requires
-    shared-slice-read-numbers-inside
-    cast-numbers-inside
-    numbers-inside-requires
+    shared-slice-read-words-inside
+    words-inside-requires
     returns-3
     shared-slice-read-if4
     returns-4
