@@ -14,6 +14,7 @@ import unittest
 
 from model import lines, listing, malformed, scripts
 from model.malformed import GOOD_POST, GOOD_ROUND, N2
+from program.damaged import damaged
 
 ROOT = pathlib.Path(__file__).resolve().parent.parent
 sys.path.append(str(ROOT / "tools"))
@@ -76,18 +77,6 @@ def model_stop(script):
             return number
         n = command.n if isinstance(command, lines.SizeLine) else n
     return None
-
-
-def damaged(rng, script):
-    """A script with one byte or line changed, lost, doubled or moved, or cut off."""
-    at, other = rng.randrange(len(script)), rng.randrange(len(script))
-    byte = bytes([rng.choice(b"0123456789 -\n\r\tNPRq\x00\xff")])
-    every = script.splitlines(keepends=True)
-    line = rng.randrange(len(every))
-    return rng.choice((
-        script[:at] + byte + script[at + 1:], script[:at] + byte + script[at:], script[:at] + script[at + 1:],
-        script[:at], script[:min(at, other)] + script[max(at, other):],
-        b"".join(every[:line] + every[line:line + 1] + every[line:]), b"".join(every[:line] + every[line + 1:])))
 
 
 class Faults(unittest.TestCase):

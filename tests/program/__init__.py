@@ -5,6 +5,7 @@
     named.py      scripts by name: examples, malformed lines, posts, queues, silences, seeds
     swept.py      every byte, every length and every count of numbers at their places in a line
     small.py      all scripts of small groups
+    damaged.py    a script damaged in one place
     parts.py      scripts given in parts, and scripts that end where a buffer may
     rounds.py     the script that goes past round 999,999, and what memory long scripts take
     wrong.py      programs that are wrong on purpose: the comparison must notice each

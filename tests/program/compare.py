@@ -14,8 +14,8 @@ SHOWN = 20  # differences that are told and kept; the others are only counted
 class Comparison:
     """The listings of one program beside the model's."""
 
-    def __init__(self, check, program, told=True):
-        self.check, self.program, self.told = check, program, told
+    def __init__(self, check, program, told=True, kept=True):
+        self.check, self.program, self.told, self.kept = check, program, told, kept
         self.passed = self.failed = self.differences = self.scripts = 0
         self.refusals, self.letters, self.sizes = set(), set(), set()  # what the scripts came to
 
@@ -49,19 +49,13 @@ class Comparison:
         self.differences += 1
         if self.told and self.differences <= SHOWN:
             self.say(f"{name}: {difference(expected, got)}")
-            self.say(f"    the script is kept: {self.check} {self.keep(name, script)}")
+            if self.kept:
+                self.say(f"    the script is kept: tests/check-listing {keep(name, '.script', script)}")
         return False
 
     def say(self, text):
         if self.told:
-            print(f"{self.check.split('/')[-1]}: {text}", flush=True)
-
-    def keep(self, name, script):
-        """Writes the script to a file, and gives its name from the repository's root."""
-        FAILURES.mkdir(exist_ok=True)
-        kept = FAILURES / (re.sub(r"[^a-z0-9]+", "-", name.lower()).strip("-")[:80] + ".script")
-        kept.write_bytes(script)
-        return kept.relative_to(command.ROOT)
+            print(f"{self.check}: {text}", flush=True)
 
     def reach(self, script, expected):
         """Notes which letters, refusals and sizes of group the scripts come to."""
@@ -71,6 +65,14 @@ class Comparison:
             self.letters.add(letter)
             if letter == b"X":
                 self.refusals.add(int(source))
+
+
+def keep(name, suffix, data):
+    """Writes what something differs on to a file, and gives the file's name from the repository's root."""
+    FAILURES.mkdir(exist_ok=True)
+    kept = FAILURES / (re.sub(r"[^a-z0-9]+", "-", name.lower()).strip("-")[:80] + suffix)
+    kept.write_bytes(data)
+    return kept.relative_to(command.ROOT)
 
 
 def difference(expected, got):
