@@ -45,14 +45,21 @@ def feed(script, pipe, reader, progress):
     """Gives the program the script, up to its end or to the line that stops the reading."""
     while part := os.read(script, PART):
         progress.show(part, reader.rounds)
-        try:
-            pipe.write(part)
-        except BrokenPipeError:
-            return reader.read(part)
+        taken = write_all(pipe, part)
         reader.read(part)
-        if reader.fault:
+        if reader.fault or not taken:
             return
     reader.close()
+
+
+def write_all(pipe, part):
+    """Whether the program took the whole part. A write can be cut short, as when the command is stopped and goes on."""
+    try:
+        while part:
+            part = part[os.write(pipe, part):]
+    except BrokenPipeError:
+        return False
+    return True
 
 
 def main():
@@ -65,7 +72,7 @@ def main():
         return 2
     reader, progress = ScriptReader(), Progress(os.fstat(script).st_size)
     with subprocess.Popen([program], stdin=subprocess.PIPE, bufsize=0) as running:
-        feed(script, running.stdin, reader, progress)
+        feed(script, running.stdin.fileno(), reader, progress)
         running.stdin.close()
     progress.clear()
     if reader.fault:

@@ -12,6 +12,7 @@ from .compare import difference
 LAST = 999_999
 MODELLED = 60                            # rounds that the model itself runs
 KIBIBYTES = 32_768                       # what the program may have of memory, its code among it
+SECONDS = 120                            # for one script
 LONG_LINE = 96_000_000                   # bytes
 
 POSTS = [(0, 3, event, 0) for event in range(1, 35)]
@@ -71,6 +72,8 @@ def streamed(comparison, name, script, expected):
     limited = ["sh", "-c", f'ulimit -v {KIBIBYTES} && exec "$0"', comparison.program]
     fault = ""
     with subprocess.Popen(limited, stdin=subprocess.PIPE, stdout=subprocess.PIPE) as running:
+        late = threading.Timer(SECONDS, running.kill)
+        late.start()
         writing = threading.Thread(target=write, args=(running.stdin, script))
         writing.start()
         for part in expected:
@@ -84,6 +87,7 @@ def streamed(comparison, name, script, expected):
                 fault = "the listing goes on after its end"
                 running.kill()
         writing.join()
+        late.cancel()
     fault = fault or ending(running.returncode)
     if fault:
         comparison.say(f"{name}, in {KIBIBYTES} KiB of memory: {fault}")

@@ -8,9 +8,9 @@ import tempfile
 from . import named, parts, swept
 from .compare import Comparison
 
-# Name: the scripts that must notice it, and what the program does, where RIGHT is the right one.
-FORMS, SIZES, BYTES, LENGTHS, GIVEN = "malformed forms", "scripts of each size", "every byte", "lengths", "in parts"
+FORMS, SIZES, BYTES, LENGTHS, GIVEN = named.malformed_forms, named.of_each_size, swept.every_byte, parts.lengths, parts.scripts
 
+# What is wrong: the scripts that must notice it, and the program, where RIGHT is the right one.
 WRONG = {
     "D and E exchanged": (SIZES, r"RIGHT | sed -E 's/^(.{7})D/\1e/; s/^(.{7})E/\1D/; s/^(.{7})e/\1E/'"),
     "a digit of an argument": (SIZES, r"RIGHT | sed -E '20s/.$/7/'"),
@@ -20,7 +20,7 @@ WRONG = {
     "nothing at all": (FORMS, r"RIGHT >/dev/null"),
     "X with the next round": (FORMS, r"RIGHT | sed 's/^     1 X/     2 X/'"),
     "X with another refusal": (SIZES, r"RIGHT | sed 's/X  0  4/X  0  1/'"),
-    "lines in another order": (SIZES, r"RIGHT | sort -s -k1,1n"),
+    "two lines exchanged": (SIZES, r"RIGHT | awk 'NR == 2 { one = $0; next } { print } NR == 3 { print one } END { if (NR == 2) print one }'"),
     "a failing status": (FORMS, r"RIGHT; exit 3"),
     "a crash after its output": (FORMS, r"RIGHT; kill -SEGV $$"),
     "leading zeros read": (FORMS, r"sed -E 's/ 0([1-9])/  \1/g' | RIGHT"),
@@ -47,28 +47,17 @@ WRONG = {
 NOT_WRONG = r"cat | RIGHT | cat"
 
 
-def compare(comparison, group):
-    """Runs a group of scripts until one differs."""
-    cases = {
-        FORMS: lambda: named.malformed_forms(),
-        SIZES: lambda: named.of_each_size(),
-        BYTES: lambda: swept.every_byte(),
-        LENGTHS: lambda: parts.lengths(),
-        GIVEN: lambda: parts.scripts(),
-    }[group]()
-    return all(comparison.same(*case) for case in cases)
-
-
-def noticed(program, command, group):
-    """Whether a group of scripts notices a program."""
+def noticed(program, command, scripts):
+    """Whether some of the scripts notice a program; the first that does is enough."""
     with tempfile.TemporaryDirectory() as folder:
         wrong = pathlib.Path(folder, "wrong")
         wrong.write_text("#!/bin/sh\n" + command.replace("RIGHT", shlex.quote(os.path.abspath(program))) + "\n")
         wrong.chmod(0o755)
-        return not compare(Comparison("", wrong, told=False), group)
+        comparison = Comparison("", wrong, told=False)
+        return not all(comparison.same(*case) for case in scripts())
 
 
 def test(comparison):
-    for name, (group, command) in WRONG.items():
-        comparison.holds(f"a wrong program ({name}) is noticed by the {group}", noticed(comparison.program, command, group))
+    for name, (scripts, command) in WRONG.items():
+        comparison.holds(f"a wrong program is noticed: {name}", noticed(comparison.program, command, scripts))
     comparison.holds("a right program behind filters is not taken for a wrong one", not noticed(comparison.program, NOT_WRONG, FORMS))
