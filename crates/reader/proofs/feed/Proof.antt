@@ -1,0 +1,171 @@
+-- `reader::feed` reads line after line: what is in the buffer and what is still to be listed make up the same.
+use Prim.Native.Nat.{_+_, _≤_, _<_, _-_}
+use mathlib.Core.Path.{_≡_, refl, sym}
+use native.Mathlib.Omega.{arith}
+use lib.ListN.{length, take, drop, length-map}
+use lib.Seq.{length-take-le}
+use Rattle.lines.proofs.Placed.{part-length, put-length}
+use Rattle.reader.specs.Remaining.{Listed}
+use Rattle.reader.proofs.Parts.{put-fits, put-tail, part-over, line-over, listed-none, listed-held, listed-stopped, listed-line, fed-by}
+use borrow.Author.Needs.{needs}
+use Rattle.reader.proofs.feed.Statement.{statement}
+use Rattle.reader.proofs.feed.Tie as tie
+
+abbrev Inv-loop : tie.InvT-loop
+Inv-loop part out₀ session₀ line₀ held₀ read₀ at₀ out session line held read at =
+    (held ≤ 146) × (146 ≡ length line) × (at ≤ length out) × (length out ≡ length out₀) × (0 < at → 0 < read)
+    × Listed session₀ (take held₀ line₀) part out₀ session (take held line) read at out
+
+abbrev μ-loop : tie.MeasureT-loop
+μ-loop part out₀ session₀ line₀ held₀ read₀ at₀ out session line held read at = length part - read
+
+loop-holds : tie.Need-loop-holds Inv-loop μ-loop
+loop-holds c =
+    let long : length (c .before .before .before .before .args .r .line) ≡ 146 = simp length-map at (c .before .before .before .before .good .0 .1 .1 .1 .1 .0 .1 .0 .1) in
+    (omega arith, omega arith, omega arith, search needs, λ h. absurd (omega arith), listed-none _ _ _ _)
+
+sub-loop : tie.Need-sub-loop Inv-loop μ-loop
+sub-loop c = search needs
+
+answer-requires : tie.Need-answer-requires Inv-loop μ-loop
+answer-requires c κs = search needs
+
+same-length : tie.Need-same-length Inv-loop μ-loop
+same-length c = search needs
+
+returns : tie.Need-returns Inv-loop μ-loop
+returns c =
+    let at-test = c .before .before .before .loop in
+    fed-by _ _ _ _ _ _ _ _ _ _ (c .answer .ensures) (listed-stopped _ _ _ _ _ _ _ _ _ (at-test .inv .5) (c .before .if1 .taken)) (at-test .inv .0) (λ h. h)
+
+slice-aggregate-take-line : tie.Need-slice-aggregate-take-line Inv-loop μ-loop
+slice-aggregate-take-line c = search needs
+
+take-line-requires : tie.Need-take-line-requires Inv-loop μ-loop
+take-line-requires c κs = search needs
+
+answer-requires-2 : tie.Need-answer-requires-2 Inv-loop μ-loop
+answer-requires-2 c κs = search needs
+
+same-length-2 : tie.Need-same-length-2 Inv-loop μ-loop
+same-length-2 c = search needs
+
+returns-2 : tie.Need-returns-2 Inv-loop μ-loop
+returns-2 c =
+    let at-test = c .before .before .before .before .before .before .before .before .loop in
+    let taken = c .before .before .before .before .take-line in
+    let over : taken .result .next ≡ length (c .before .before .before .before .before .before .before .before .before .before .before .before .before .args .part .now) = part-over (taken .result .ended) _ _ (c .before .if2 .taken) (taken .ensures .3) in
+    fed-by _ _ _ _ _ _ _ _ _ _ (c .answer2 .ensures)
+    (listed-held _ _ _ _ _ _ _ _ _ (at-test .inv .5) _ _ (taken .ensures .2) (omega arith) (taken .ensures .0)) (taken .ensures .1) (λ h. omega arith)
+
+array-share-prefix-line : tie.Need-array-share-prefix-line Inv-loop μ-loop
+array-share-prefix-line c = search needs
+
+slice-aggregate-apply : tie.Need-slice-aggregate-apply Inv-loop μ-loop
+slice-aggregate-apply c =
+    let taken = c .before .before .before .before .take-line in
+    sym (length-take-le (taken .result .len) (taken .last .0) (omega (arith, taken .ensures .1, taken .kept .0)))
+
+sub-apply : tie.Need-sub-apply Inv-loop μ-loop
+sub-apply c = search needs
+
+part-apply-start : tie.Need-part-apply-start Inv-loop μ-loop
+part-apply-start c = search needs
+
+part-apply-end : tie.Need-part-apply-end Inv-loop μ-loop
+part-apply-end c = search needs
+
+apply-requires : tie.Need-apply-requires Inv-loop μ-loop
+apply-requires c κs = search needs
+
+add-at : tie.Need-add-at Inv-loop μ-loop
+add-at c =
+    let at-test = c .before .before .before .before .before .before .before .before .before .before .before .before .before .before .loop in
+    let taken = c .before .before .before .before .before .before .before .before .before .before .take-line in
+    let applied = c .before .before .before .before .apply in
+    let start = c .before .before .before .before .before .before .before .before .before .before .before .before .before .before .before .before .before .before .before in
+    let ends = line-over (taken .result .ended) _ _ (c .before .before .before .before .before .before .before .if2 .left) (taken .ensures .3) in
+    let fits = put-fits _ _ _ _ (applied .ensures .put) (applied .kept .1 .1 .0) in
+    search needs
+
+add-read : tie.Need-add-read Inv-loop μ-loop
+add-read c =
+    let at-test = c .before .before .before .before .before .before .before .before .before .before .before .before .before .before .loop in
+    let taken = c .before .before .before .before .before .before .before .before .before .before .take-line in
+    let applied = c .before .before .before .before .apply in
+    let start = c .before .before .before .before .before .before .before .before .before .before .before .before .before .before .before .before .before .before .before in
+    let ends = line-over (taken .result .ended) _ _ (c .before .before .before .before .before .before .before .if2 .left) (taken .ensures .3) in
+    search needs
+
+loop-less : tie.Need-loop-less Inv-loop μ-loop
+loop-less c =
+    let at-test = c .before .before .before .before .before .before .before .before .before .before .before .before .before .before .loop in
+    let taken = c .before .before .before .before .before .before .before .before .before .before .take-line in
+    let applied = c .before .before .before .before .apply in
+    let start = c .before .before .before .before .before .before .before .before .before .before .before .before .before .before .before .before .before .before .before in
+    let ends = line-over (taken .result .ended) _ _ (c .before .before .before .before .before .before .before .if2 .left) (taken .ensures .3) in
+    omega (arith, taken .ensures .2, ends .0)
+
+loop-again : tie.Need-loop-again Inv-loop μ-loop
+loop-again c =
+    let at-test = c .before .before .before .before .before .before .before .before .before .before .before .before .before .before .loop in
+    let taken = c .before .before .before .before .before .before .before .before .before .before .take-line in
+    let applied = c .before .before .before .before .apply in
+    let out = at-test .out in
+    let at = at-test .at in
+    let k = length out - at in
+    let ends = line-over (taken .result .ended) _ _ (c .before .before .before .before .before .before .before .if2 .left) (taken .ensures .3) in
+    let fits = put-fits _ _ _ _ (applied .ensures .put) (applied .kept .1 .1 .0) in
+    let put = put-tail out (applied .last .1 .1 .0) _ at k (applied .result .len) refl (applied .ensures .put) in
+    let room : at + applied .result .len ≤ length out = omega (arith, part-length out at (length out) (omega arith)) in
+    let same = put-length out _ at (at + applied .result .len) _ put room in (
+      omega arith,
+      omega (arith, taken .kept .0),
+      omega (arith, same, room),
+      omega (arith, same),
+      λ h. omega arith,
+      listed-line _ _ _ _ _ _ _ _ _
+          (listed-held _ _ _ _ _ _ _ _ _ (at-test .inv .5) _ _ (taken .ensures .2) (omega (arith, ends .0)) (taken .ensures .0))
+          _ (applied .result) (c .before .before .before .before .before .before .before .before .before .before .before .before .if1 .left) (ends .0) (ends .1) (at-test .inv .2) (applied .ensures .session) put,
+    )
+
+answer-requires-3 : tie.Need-answer-requires-3 Inv-loop μ-loop
+answer-requires-3 c κs = search needs
+
+same-length-3 : tie.Need-same-length-3 Inv-loop μ-loop
+same-length-3 c = search needs
+
+returns-3 : tie.Need-returns-3 Inv-loop μ-loop
+returns-3 c =
+    let at-test = c .before .before .loop in
+    fed-by _ _ _ _ _ _ _ _ _ _ (c .answer3 .ensures) (at-test .inv .5) (at-test .inv .0) (λ h. at-test .inv .4 (omega arith))
+
+pub feed-spec : {M : Type 1} → statement M
+feed-spec =
+    tie.close
+    (tie.spec
+    Inv-loop
+    μ-loop
+    loop-holds
+    sub-loop
+    answer-requires
+    same-length
+    returns
+    slice-aggregate-take-line
+    take-line-requires
+    answer-requires-2
+    same-length-2
+    returns-2
+    array-share-prefix-line
+    slice-aggregate-apply
+    sub-apply
+    part-apply-start
+    part-apply-end
+    apply-requires
+    add-at
+    add-read
+    loop-less
+    loop-again
+    answer-requires-3
+    same-length-3
+    returns-3)
