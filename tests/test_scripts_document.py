@@ -21,7 +21,7 @@ COMMAND = shlex.split(os.environ.get("RELAY_LISTING", "./listing -"))
 
 
 def command_listing(script):
-    return subprocess.run(COMMAND, input=script, stdout=subprocess.PIPE, cwd=ROOT, check=False).stdout
+    return subprocess.run(COMMAND, input=script, capture_output=True, cwd=ROOT, check=False).stdout
 
 
 def blocks():

@@ -1,5 +1,6 @@
 """Counts what agrees, says what differs, and keeps the scripts on which program and model differ."""
 
+import functools
 import re
 from itertools import zip_longest
 
@@ -9,6 +10,9 @@ from . import command
 
 FAILURES = command.ROOT / "tests" / "failures"
 SHOWN = 20  # differences that are told and kept; the others are only counted
+
+
+model_listing = functools.lru_cache(maxsize=16)(listing.listing)
 
 
 class Comparison:
@@ -40,7 +44,7 @@ class Comparison:
         self.failed += not good
 
     def same(self, name, script, run=command.whole, expected=None):
-        expected = listing.listing(script) if expected is None else expected
+        expected = model_listing(script) if expected is None else expected
         self.scripts += 1
         self.reach(script, expected)
         got = run(self.program, script)

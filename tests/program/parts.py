@@ -32,27 +32,28 @@ def script_of_length(length):
 
 
 def given_in(sizes):
-    return functools.partial(run_in_parts, sizes=sizes)
+    return functools.partial(command.in_parts, sizes=sizes)
 
 
-def run_in_parts(program, script, sizes):
-    return command.in_parts(program, script, sizes())
+def given_by(size):
+    """How a script is given in parts of one size."""
+    return given_in(itertools.repeat(size))
 
 
 def scripts():
     """Name, script and how it is given."""
-    short = {name: script for name, script in named.examples()}
+    short = dict(named.examples())
     short["a script of 16 stations"] = seeded_script(15)[:3_000]
     short["a last line without its line end"] = N2 + GOOD_ROUND + GOOD_POST[:-1]
     short["a malformed line before others"] = N2 + GOOD_ROUND + b"R" * 200 + b"\n" + GOOD_ROUND * 20
     long = long_script()
     for size in SMALL_PARTS:
         for name, script in short.items():
-            yield f"{name} in parts of {size}", script, given_in(lambda size=size: itertools.repeat(size))
+            yield f"{name} in parts of {size}", script, given_by(size)
     for size in PARTS:
-        yield f"a long script in parts of {size}", long, given_in(lambda size=size: itertools.repeat(size))
+        yield f"a long script in parts of {size}", long, given_by(size)
     for seed in range(4):
-        yield f"a long script in parts drawn from seed {seed}", long, given_in(lambda seed=seed: drawn_sizes(seed))
+        yield f"a long script in parts drawn from seed {seed}", long, given_in(drawn_sizes(seed))
 
 
 def drawn_sizes(seed):
