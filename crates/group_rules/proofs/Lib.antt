@@ -26,4 +26,3 @@ pub mod HistoryLists
 pub mod FromRun
 pub mod DemandThree
 pub mod Marked
-pub mod RunExamples

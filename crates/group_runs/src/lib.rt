@@ -1,0 +1,1 @@
+// Runs of a group that are computed from the definitions, no code.
