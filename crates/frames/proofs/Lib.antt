@@ -1,4 +1,5 @@
 pub mod Words
+pub mod Examples
 pub mod Check
 pub mod Labels
 pub mod Records

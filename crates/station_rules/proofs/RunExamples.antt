@@ -1,0 +1,119 @@
+-- Two runs of a station that are computed, so that a definition which does nothing, or too much, is refused by what it gives. A station alone is M12. Station 0
+-- of two hears records of station 1: a new one, one that is not newer, one that acknowledges, and one that comes while its own lane is full.
+use mathlib.Core.Bool.{true, false, cond}
+use mathlib.Core.List.{List, [], _∷_}
+use mathlib.Core.Path.{_≡_, refl}
+use Prim.Native.Nat.{ℕ}
+use lib.IntN.{pos}
+use lib.ListN.{set, replicate}
+use Rattle.kinds.specs.declared.Body.{Body}
+use Rattle.kinds.specs.declared.Body.the-variants.{Empty, Neutral, Insert, Drop}
+use Rattle.kinds.specs.Limits.{isEdit, bodyInside, numbersInside}
+use Rattle.labels.specs.Newer.{isNewer}
+use Rattle.places.specs.Places.{allBelow, fill}
+use Rattle.frames.specs.declared.Record.{Record}
+use Rattle.lanes.specs.Lane.{bodies, laneOf}
+use Rattle.lanes.specs.Queue.{noSlot, noneWaiting, queued, oldest, unqueued, waitingBodies}
+use Rattle.station_rules.specs.declared.Station.{Station}
+use Rattle.station_rules.specs.declared.TurnReport.{TurnReport}
+use Rattle.station_rules.specs.State.{freshStation, labelOf, ackedOf, heldOf, laneAt}
+use Rattle.station_rules.specs.Limits.{stationInside, queueInside, placeInside, recordInside, laneInside}
+use Rattle.station_rules.specs.Hearing.{Hearing, silent, replaced, heardNewer, hearRecord}
+use Rattle.station_rules.specs.Turn.{airs, rowOf, lanesAfter, ends, startedBody, passed, ownRecord, rewritten, afterTurn, turnReport}
+use Rattle.station_rules.specs.Calls.{posted, postCall}
+
+abbrev edit : Body
+edit = Insert 7 (pos 100)
+
+abbrev other : Body
+other = Drop 8
+
+-- a station with an edit posted
+abbrev with-edit : Station → Body → Station
+with-edit s b = (postCall s b) .station
+
+-- what a turn reports that airs nothing and ends a broadcast
+abbrev ending : Body → Body → TurnReport
+ending over next = record { aired = false; row = replicate 16 noSlot; ended = true; «ended_body» = over; «started_body» = next }
+
+-- a station alone, with one edit posted: its first two turns
+abbrev alone : Station
+alone = with-edit (freshStation 1 0) edit
+
+pub record Alone : Type 0 where
+  pub starts : turnReport alone ≡ ending Empty edit
+  pub airs-it :
+      turnReport (afterTurn alone)
+      ≡ record { aired = true; row = set (replicate 16 noSlot) 0 (record { body = edit }); ended = true; «ended_body» = edit; «started_body» = Neutral }
+
+-- a record of station 1 with a count, a body, and its labels for station 0 and for itself
+abbrev of-one : ℕ → Body → ℕ → ℕ → Record
+of-one count b zero-label own-label = record { station = 1; count = count; body = b; labels = zero-label ∷ own-label ∷ replicate 14 0 }
+
+-- station 0 of two, with two edits posted, once it has heard the fresh station 1
+abbrev first : Hearing
+first = hearRecord (silent (with-edit (with-edit (freshStation 2 0) edit) other)) (of-one 0 Empty 0 1)
+
+-- then a record that shows more, and acknowledges
+abbrev second : Hearing
+second = hearRecord first (of-one 1 Empty 1 1)
+
+-- its turn, and once it has heard an acknowledgement of what it started
+abbrev third : Hearing
+third = hearRecord (silent (afterTurn (second .station))) (of-one 2 Empty 2 1)
+
+-- then a body of station 1, whose label is 2
+abbrev fourth : Hearing
+fourth = hearRecord third (of-one 0 Neutral 2 2)
+
+-- and, two turns later, the label after it, which is 0
+abbrev fifth : Hearing
+fifth = hearRecord (silent (afterTurn (afterTurn (fourth .station)))) (of-one 0 other 0 0)
+
+pub record Pair : Type 0 where
+  -- the first record advances, counts and is held; it does not acknowledge, and its Empty is not taken
+  pub heard : (heldOf (first .station) 1 ≡ true) × (labelOf (first .station) 1 ≡ 1) × (first .station .count ≡ 1) × (ackedOf (first .station) 1 ≡ false) × (first .takings ≡ [])
+  -- the same again, or one with no larger count that acknowledges, does nothing
+  pub again : hearRecord first (of-one 0 Empty 0 1) ≡ first
+  pub stale : hearRecord first (of-one 0 Empty 1 1) ≡ first
+  -- a larger count acknowledges, and counts nothing where the label stays
+  pub acknowledges : (ackedOf (second .station) 1 ≡ true) × (second .station .count ≡ 1) × (labelOf (second .station) 1 ≡ 1)
+  -- all are acknowledged: the turn starts the first edit, and the other waits
+  pub starts : turnReport (second .station) ≡ ending Empty edit
+  pub waits : waitingBodies (afterTurn (second .station) .waiting) ≡ other ∷ []
+  -- that one ends while it stands in the own lane: Empty starts
+  pub full : turnReport (third .station) ≡ ending edit Empty
+  -- a body of station 1 is taken and fills the row
+  pub takes : fourth .takings ≡ record { source = 1; body = Neutral } ∷ []
+  pub row :
+      turnReport (fourth .station)
+      ≡ record {
+        aired = true;
+        row = set (set (replicate 16 noSlot) 0 (record { body = edit })) 1 (record { body = Neutral });
+        ended = true;
+        «ended_body» = edit;
+        «started_body» = other;
+      }
+  -- M3: 0 comes after 2
+  pub wraps : fifth .takings ≡ record { source = 1; body = other } ∷ []
+
+-- by computation
+pub alone-runs : Alone
+unfolding postCall posted stationInside queueInside placeInside recordInside laneInside isEdit bodyInside numbersInside freshStation noneWaiting queued oldest unqueued allBelow fill bodies laneOf airs rowOf lanesAfter ends startedBody passed ownRecord rewritten afterTurn turnReport
+alone-runs = record { starts = refl; airs-it = refl }
+
+pub pair-runs : Pair
+unfolding postCall posted stationInside queueInside placeInside recordInside laneInside isEdit bodyInside numbersInside freshStation noneWaiting queued oldest unqueued waitingBodies allBelow fill bodies laneOf isNewer replaced heardNewer hearRecord airs rowOf lanesAfter ends startedBody passed ownRecord rewritten afterTurn turnReport
+pair-runs =
+    record {
+      heard = (refl, refl, refl, refl, refl);
+      again = refl;
+      stale = refl;
+      acknowledges = (refl, refl, refl);
+      starts = refl;
+      waits = refl;
+      full = refl;
+      takes = refl;
+      row = refl;
+      wraps = refl;
+    }
