@@ -1,5 +1,6 @@
 pub mod Words
 pub mod Distances
+pub mod Examples
 pub mod Check
 pub mod Labels
 pub mod Records

@@ -19,3 +19,4 @@ pub mod Lengths
 pub mod WriteSteps
 pub mod SentFrame
 pub mod Examples
+pub mod RunExamples

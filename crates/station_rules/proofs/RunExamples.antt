@@ -1,0 +1,156 @@
+-- Runs of a station that are computed, so that a definition which does nothing, or too much, is refused by what it gives. A station alone is M12, and with a full
+-- queue M11. Station 0 of two hears the frame of station 1, and records of it: a new one, one that is not newer, one that acknowledges, and one that comes
+-- while its own lane is full.
+use mathlib.Core.Bool.{true, false}
+use mathlib.Core.List.{[], _∷_}
+use mathlib.Core.Path.{_≡_, refl}
+use Prim.Native.Nat.{ℕ, zero, suc}
+use lib.IntN.{pos}
+use lib.ListN.{set, replicate}
+use Rattle.kinds.specs.declared.Body.{Body}
+use Rattle.kinds.specs.declared.Body.the-variants.{Empty, Neutral, Insert, Drop}
+use Rattle.kinds.specs.Limits.{isEdit, bodyInside, numbersInside}
+use Rattle.labels.specs.Newer.{isNewer}
+use Rattle.labels.specs.Packing.{packed, unpacked, allLabels, allZero, wordInside}
+use Rattle.kinds.specs.Body.{bodyOf}
+use Rattle.kinds.specs.Refusals.{done, queueFull}
+use Rattle.places.specs.Places.{allBelow, anyBelow, fill, gather, tabulate}
+use Rattle.frames.specs.declared.Record.{Record}
+use Rattle.frames.specs.Words.{wordAt, wordBytes, signed, unsigned}
+use Rattle.frames.specs.Record.{recordOf, recordBytes, bytesInside, framed}
+use Rattle.frames.specs.Frame.{shapeWrong, addressWrong, recordsInside, frameRefusal, recordsOf, recordsBytes, frameBytes}
+use Rattle.frames.specs.Calls.{tableRecords}
+use Rattle.lanes.specs.Lane.{bodies, laneOf}
+use Rattle.lanes.specs.Queue.{noSlot, noneWaiting, queued, oldest, unqueued, waitingBodies}
+use Rattle.station_rules.specs.declared.Station.{Station}
+use Rattle.station_rules.specs.declared.TurnReport.{TurnReport}
+use Rattle.station_rules.specs.State.{sentRecords, freshStation, labelOf, ackedOf, heldOf, laneAt}
+use Rattle.station_rules.specs.Limits.{stationInside, queueInside, placeInside, recordInside, laneInside}
+use Rattle.station_rules.specs.Hearing.{Hearing, silent, replaced, heardNewer, hearRecord, hearRecords}
+use Rattle.station_rules.specs.Turn.{airs, rowOf, lanesAfter, ends, startedBody, passed, ownRecord, rewritten, afterTurn, turnReport}
+use Rattle.station_rules.specs.Calls.{posted, postCall, frameOf, hearCall}
+
+abbrev edit : Body
+edit = Insert 7 (pos 100)
+
+abbrev other : Body
+other = Drop 8
+
+-- a station with an edit posted
+abbrev with-edit : Station → Body → Station
+with-edit s b = (postCall s b) .station
+
+-- what a turn reports that airs nothing and ends a broadcast
+abbrev ending : Body → Body → TurnReport
+ending over next = record { aired = false; row = replicate 16 noSlot; ended = true; «ended_body» = over; «started_body» = next }
+
+-- a station alone, with one edit posted: its first two turns
+abbrev alone : Station
+alone = with-edit (freshStation 1 0) edit
+
+pub record Alone : Type 0 where
+  pub starts : turnReport alone ≡ ending Empty edit
+  pub airs-it :
+      turnReport (afterTurn alone)
+      ≡ record { aired = true; row = set (replicate 16 noSlot) 0 (record { body = edit }); ended = true; «ended_body» = edit; «started_body» = Neutral }
+
+-- a station alone, with so many edits posted
+unfoldable pub posts : ℕ → Station
+posts zero = freshStation 1 0
+posts (suc k) = with-edit (posts k) edit
+
+pub record Posts : Type 0 where
+  pub thirty-second : (postCall (posts 31) edit) .refusal ≡ done
+  pub thirty-third : (postCall (posts 32) edit) .refusal ≡ queueFull
+
+-- a frame that comes is heard
+pub record Frame : Type 0 where
+  pub is-heard : (hearCall (freshStation 2 0) (frameOf (freshStation 2 1))) .refusal ≡ done
+  pub shows : heldOf ((hearCall (freshStation 2 0) (frameOf (freshStation 2 1))) .station) 1 ≡ true
+
+-- a record of station 1 with a count, a body, and its labels for station 0 and for itself
+abbrev of-one : ℕ → Body → ℕ → ℕ → Record
+of-one count b zero-label own-label = record { station = 1; count = count; body = b; labels = zero-label ∷ own-label ∷ replicate 14 0 }
+
+-- station 0 of two, with two edits posted, once it has heard the fresh station 1
+abbrev first : Hearing
+first = hearRecord (silent (with-edit (with-edit (freshStation 2 0) edit) other)) (of-one 0 Empty 0 1)
+
+-- then a record that shows more, and acknowledges
+abbrev second : Hearing
+second = hearRecord first (of-one 1 Empty 1 1)
+
+-- its turn, and once it has heard an acknowledgement of what it started
+abbrev third : Hearing
+third = hearRecord (silent (afterTurn (second .station))) (of-one 2 Empty 2 1)
+
+-- then a body of station 1, whose label is 2
+abbrev fourth : Hearing
+fourth = hearRecord third (of-one 0 Neutral 2 2)
+
+-- or two bodies of station 1, before the turn
+abbrev both : Hearing
+both = hearRecord fourth (of-one 0 other 2 0)
+
+-- after the fourth, two turns later, the label after it, which is 0
+abbrev fifth : Hearing
+fifth = hearRecord (silent (afterTurn (afterTurn (fourth .station)))) (of-one 0 other 0 0)
+
+pub record Pair : Type 0 where
+  -- the first record advances, counts and is held; it does not acknowledge, and its Empty is not taken
+  pub heard : (heldOf (first .station) 1 ≡ true) × (labelOf (first .station) 1 ≡ 1) × (first .station .count ≡ 1) × (ackedOf (first .station) 1 ≡ false) × (first .takings ≡ [])
+  -- the same again, or one with no larger count that acknowledges, does nothing
+  pub again : hearRecord first (of-one 0 Empty 0 1) ≡ first
+  pub stale : hearRecord first (of-one 0 Empty 1 1) ≡ first
+  -- a larger count acknowledges, and counts nothing where the label stays
+  pub acknowledges : (ackedOf (second .station) 1 ≡ true) × (second .station .count ≡ 1) × (labelOf (second .station) 1 ≡ 1)
+  -- all are acknowledged: the turn starts the first edit, and the other waits
+  pub starts : turnReport (second .station) ≡ ending Empty edit
+  pub waits : waitingBodies (afterTurn (second .station) .waiting) ≡ other ∷ []
+  -- that one ends while it stands in the own lane: Empty starts
+  pub full : turnReport (third .station) ≡ ending edit Empty
+  -- a body of station 1 is taken and fills the row
+  pub takes : fourth .takings ≡ record { source = 1; body = Neutral } ∷ []
+  pub row :
+      turnReport (fourth .station)
+      ≡ record {
+        aired = true;
+        row = set (set (replicate 16 noSlot) 0 (record { body = edit })) 1 (record { body = Neutral });
+        ended = true;
+        «ended_body» = edit;
+        «started_body» = other;
+      }
+  -- of two bodies in a lane the second stays
+  pub one-left : bodies (laneAt (afterTurn (both .station)) 1) ≡ other ∷ []
+  -- M3: 0 comes after 2
+  pub wraps : fifth .takings ≡ record { source = 1; body = other } ∷ []
+
+-- by computation
+pub alone-runs : Alone
+unfolding postCall posted stationInside queueInside placeInside recordInside laneInside isEdit bodyInside numbersInside freshStation noneWaiting queued oldest unqueued allBelow fill bodies laneOf airs rowOf lanesAfter ends startedBody passed ownRecord rewritten afterTurn turnReport
+alone-runs = record { starts = refl; airs-it = refl }
+
+pub posts-runs : Posts
+unfolding posts postCall posted stationInside queueInside placeInside recordInside laneInside isEdit bodyInside numbersInside freshStation noneWaiting queued allBelow bodies laneOf
+posts-runs = record { thirty-second = refl; thirty-third = refl }
+
+pub frame-runs : Frame
+unfolding hearCall frameOf sentRecords tableRecords frameBytes recordsBytes recordBytes recordOf recordsOf wordBytes wordAt signed unsigned packed unpacked allLabels allZero wordInside frameRefusal shapeWrong addressWrong recordsInside bytesInside bodyOf gather tabulate anyBelow framed stationInside queueInside placeInside recordInside laneInside bodyInside numbersInside freshStation noneWaiting allBelow fill isNewer replaced heardNewer hearRecord hearRecords
+frame-runs = record { is-heard = refl; shows = refl }
+
+pub pair-runs : Pair
+unfolding postCall posted stationInside queueInside placeInside recordInside laneInside isEdit bodyInside numbersInside freshStation noneWaiting queued oldest unqueued waitingBodies allBelow fill bodies laneOf isNewer replaced heardNewer hearRecord airs rowOf lanesAfter ends startedBody passed ownRecord rewritten afterTurn turnReport
+pair-runs =
+    record {
+      heard = (refl, refl, refl, refl, refl);
+      again = refl;
+      stale = refl;
+      acknowledges = (refl, refl, refl);
+      starts = refl;
+      waits = refl;
+      full = refl;
+      takes = refl;
+      row = refl;
+      one-left = refl;
+      wraps = refl;
+    }
