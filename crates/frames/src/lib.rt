@@ -318,24 +318,17 @@ pub fn frame_refusal(bytes: &[u8], n: usize, own: usize) -> u32
     BAD_RECORD
 }
 
-// Is n a number of stations, and own one of them?
-pub fn valid_number(n: usize, own: usize) -> bool
-    ensures { λ r. ⌜ r ≡ validNumber n own ⌝ }
-{
-    if n < 1 {
-        return false;
-    }
-    if 16 < n {
-        return false;
-    }
-    own < n
-}
-
 // The frame check: 1, then what hearing judges.
 pub fn check_frame(bytes: &[u8], n: usize, own: usize) -> u32
     ensures { λ r. ⌜ r ≡ checkRefusal (now (bytes .entry)) n own ⌝ }
 {
-    if !valid_number(n, own) {
+    if n < 1 {
+        return BAD_NUMBER;
+    }
+    if 16 < n {
+        return BAD_NUMBER;
+    }
+    if n <= own {
         return BAD_NUMBER;
     }
     frame_refusal(bytes, n, own)
@@ -435,6 +428,19 @@ pub fn write_table(
         refusal: DONE,
         len: len,
     }
+}
+
+// Is n a number of stations, and the sender one of them?
+fn valid_number(n: usize, sender: usize) -> bool
+    ensures { λ r. ⌜ r ≡ validNumber n sender ⌝ }
+{
+    if n < 1 {
+        return false;
+    }
+    if 16 < n {
+        return false;
+    }
+    sender < n
 }
 
 // Is this a record of station k that a frame among n stations may carry?
