@@ -130,11 +130,12 @@ fn span_of(row: Limits) -> Span
 fn spans() -> [u32; 20]
     ensures { λ r. ⌜ r ≡ spans ⌝ }
 {
-    let a = span_of(KINDS[0]);
-    let b = span_of(KINDS[1]);
-    let c = span_of(KINDS[2]);
-    let d = span_of(KINDS[3]);
-    let e = span_of(KINDS[4]);
+    let rows = KINDS;
+    let a = span_of(rows[0]);
+    let b = span_of(rows[1]);
+    let c = span_of(rows[2]);
+    let d = span_of(rows[3]);
+    let e = span_of(rows[4]);
     [
         a.event,
         a.events,
