@@ -1,6 +1,6 @@
 -- The frame check test by test: where one fails the definition's answer is known, and where all hold they say what the later tests rest on.
 use mathlib.Core.Path.{_≡_, refl, ap, _∙_}
-use mathlib.Core.Bool.{Bool, true, false, not, _||_}
+use mathlib.Core.Bool.{Bool, true, false, not, _&&_, _||_}
 use mathlib.Core.List.{List}
 use Prim.Native.Nat.{ℕ, _+_, _*_, _-_, _<_, _≤_}
 use native.Mathlib.Omega.{arith}
@@ -10,10 +10,10 @@ use lib.IntN.{ℤ}
 use mir.Syntax.{w32}
 use mir.Val.{SFits, toZ, ofZ}
 use mir.ValLaws.{toZ-ofZ}
-use borrow.Author.Tests.{ltb-true, ltb-false, eqb-true, eqb-false, not-false, lt-ltb, le-ltb, le-leb, lt-leb, eq-eqb, ne-eqb}
+use borrow.Author.Tests.{leb-true, ltb-true, ltb-false, eqb-true, eqb-false, not-false, lt-ltb, le-ltb, le-leb, lt-leb, eq-eqb, ne-eqb}
 use Rattle.kinds.specs.Refusals.{done, badNumber, badShape, badAddress, badRecord, refuse}
 use Rattle.kinds.specs.Limits.{numbersInside}
-use Rattle.places.proofs.Laws.{or-left, or-right}
+use Rattle.places.proofs.Laws.{and-left, and-right, or-left, or-right}
 use Rattle.labels.specs.Packing.{wordInside}
 use Rattle.frames.specs.Words.{wordAt, signed}
 use Rattle.frames.specs.Record.{bytesInside}
@@ -166,6 +166,14 @@ module _ (s : List ℕ) (n own : ℕ) where
       pub by-frame : own < n → frameRefusal s n own ≡ checkRefusal s n own
       unfolding checkRefusal
       by-frame c = simp (le-leb _ _ a, le-leb _ _ b, lt-ltb _ _ c)
+
+-- what a valid number says
+module _ (n own : ℕ) (v : validNumber n own ≡ true) where
+  pub valid-few : n ≤ 16
+  valid-few = leb-true n 16 (and-right (leb 1 n) (leb n 16) (and-left (leb 1 n && leb n 16) (ltb own n) v))
+
+  pub valid-own : own < n
+  valid-own = ltb-true own n (and-right (leb 1 n && leb n 16) (ltb own n) v)
 
 -- what an accepted frame has
 pub record Accepted (s : List ℕ) (n own : ℕ) : Type 0 where

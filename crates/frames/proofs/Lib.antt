@@ -12,3 +12,4 @@ pub mod Spelled
 pub mod RecordTrip
 pub mod FrameTrip
 pub mod TableTrip
+pub mod Fitting

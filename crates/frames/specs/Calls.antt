@@ -1,18 +1,18 @@
 -- Document 01, "Frame bytes" and "Turned down": reading a whole frame, and writing one into a lent buffer.
 use mathlib.Core.Path.{_≡_}
 use Prim.Native.Nat.{ℕ, zero, suc, _+_, _≤_, _<_}
-use mathlib.Core.Bool.{Bool, true, false, cond}
+use mathlib.Core.Bool.{Bool, true, false, cond, not, _&&_, _||_}
 use mathlib.Core.List.{List, _++_}
 use lib.ListN.{getD, take, drop, length, replicate}
 use lib.Dec.{ltb, eqb}
-use Rattle.kinds.specs.Refusals.{done, shortBuffer}
+use Rattle.kinds.specs.Refusals.{done, badNumber, badRecord, shortBuffer}
 use Rattle.labels.specs.Packing.{allLabels}
-use Rattle.places.specs.Places.{fill, gather}
+use Rattle.places.specs.Places.{allBelow, fill, gather}
 use Rattle.frames.specs.declared.Record.{Record}
 use Rattle.frames.specs.declared.Reading.{Reading}
 use Rattle.frames.specs.declared.Written.{Written}
-use Rattle.frames.specs.Record.{recordOf, framed, noRecord, zeroRecord}
-use Rattle.frames.specs.Frame.{part, checkRefusal}
+use Rattle.frames.specs.Record.{recordOf, framed, placeFits, noRecord, zeroRecord}
+use Rattle.frames.specs.Frame.{validNumber, part, checkRefusal, frameBytes}
 
 -- the records of a frame in sixteen entries; those that it does not use are zero
 unfoldable pub entries : List ℕ → List Record
@@ -42,6 +42,25 @@ written frame room =
 -- the buffer afterwards: as it was where it is shorter than the frame, else the frame and then what stood past it
 unfoldable pub bufferWith : List ℕ → List ℕ → List ℕ
 bufferWith frame buffer = cond (ltb (length buffer) (length frame)) buffer (frame ++ drop (length frame) buffer)
+
+-- the records at the held places may stand in a frame: each is of its place's station and inside the record limits, and the sender's is among them
+unfoldable pub tableFits : ℕ → ℕ → List Bool → List Record → Bool
+tableFits n sender held table =
+    allBelow n (λ k. not (getD held k false) || placeFits n k (getD table k noRecord)) && getD held sender false
+
+-- writing a frame judges N and the sender (1), then the records (7), then the buffer (9)
+unfoldable pub frameWritten : ℕ → ℕ → List Bool → List Record → ℕ → Written
+frameWritten n sender held table room =
+    cond (not (validNumber n sender)) (record { refusal = badNumber; len = 0 })
+    (cond (not (tableFits n sender held table)) (record { refusal = badRecord; len = 0 })
+    (written (frameBytes n sender (tableRecords n held table)) room))
+
+-- the buffer afterwards: what is refused leaves it as it was
+unfoldable pub frameBuffer : ℕ → ℕ → List Bool → List Record → List ℕ → List ℕ
+frameBuffer n sender held table buffer =
+    cond (validNumber n sender && tableFits n sender held table)
+    (bufferWith (frameBytes n sender (tableRecords n held table)) buffer)
+    buffer
 
 -- what the records at the held places must be for a frame of them to be bytes
 pub record Writable (n : ℕ) (sender : ℕ) (held : List Bool) (table : List Record) : Type 0 where

@@ -61,6 +61,10 @@ unfoldable pub recordFits : ℕ → Record → Bool
 recordFits n r =
     ltb (r .station) n && countInside n (r .count) && bodyInside (r .body) && allLabels (take n (r .labels))
 
+-- the record of station k, inside these limits
+unfoldable pub placeFits : ℕ → ℕ → Record → Bool
+placeFits n k r = eqb (r .station) k && recordFits n r
+
 -- the record as a frame carries it: its labels from n up are 0
 unfoldable pub framed : ℕ → Record → Record
 framed n r =

@@ -1,16 +1,16 @@
 // Frames: the records of a table as bytes.
 
 ghost use mathlib.Core.Path.{_≡_};
-ghost use mathlib.Core.Bool.{true, cond};
+ghost use mathlib.Core.Bool.{true, cond, not, _||_};
 ghost use Prim.Native.Nat.{_+_, _*_, _≤_, _<_};
 ghost use lib.ListN.{length, getD, take};
 ghost use lib.Seq.{sets};
 ghost use Rattle.frames.specs.Words.{wordAt, wordBytes, signed, unsigned};
 ghost use Rattle.kinds.specs.Limits.{numbersInside};
 ghost use Rattle.frames.specs.Spans.{spanOf, spans};
-ghost use Rattle.frames.specs.Record.{recordOf, recordBytes, bytesInside};
-ghost use Rattle.frames.specs.Frame.{shapeWrong, addressWrong, recordsInside, frameRefusal, checkRefusal, frameBytes};
-ghost use Rattle.frames.specs.Calls.{reading, tableRecords, heldCount, written, bufferWith, Writable};
+ghost use Rattle.frames.specs.Record.{recordOf, recordBytes, bytesInside, placeFits};
+ghost use Rattle.frames.specs.Frame.{validNumber, shapeWrong, addressWrong, recordsInside, frameRefusal, checkRefusal, frameBytes};
+ghost use Rattle.frames.specs.Calls.{reading, tableRecords, heldCount, written, bufferWith, Writable, tableFits, frameWritten, frameBuffer};
 ghost use Rattle.labels.specs.Packing.{unpacked, allLabels};
 use kinds::Body;
 use kinds::KINDS;
@@ -130,11 +130,12 @@ fn span_of(row: Limits) -> Span
 fn spans() -> [u32; 20]
     ensures { λ r. ⌜ r ≡ spans ⌝ }
 {
-    let a = span_of(KINDS[0]);
-    let b = span_of(KINDS[1]);
-    let c = span_of(KINDS[2]);
-    let d = span_of(KINDS[3]);
-    let e = span_of(KINDS[4]);
+    let rows = KINDS;
+    let a = span_of(rows[0]);
+    let b = span_of(rows[1]);
+    let c = span_of(rows[2]);
+    let d = span_of(rows[3]);
+    let e = span_of(rows[4]);
     [
         a.event,
         a.events,
@@ -428,4 +429,88 @@ pub fn write_table(
         refusal: DONE,
         len: len,
     }
+}
+
+// Is n a number of stations, and the sender one of them?
+fn valid_number(n: usize, sender: usize) -> bool
+    ensures { λ r. ⌜ r ≡ validNumber n sender ⌝ }
+{
+    if n < 1 {
+        return false;
+    }
+    if 16 < n {
+        return false;
+    }
+    sender < n
+}
+
+// Is this a record of station k that a frame among n stations may carry?
+fn place_fits(n: usize, k: usize, r: Record) -> bool
+    requires { ⌜ (k < n) × (n ≤ 16) ⌝ }
+    ensures { λ b. ⌜ b ≡ placeFits n k r ⌝ }
+{
+    if r.station != k {
+        return false;
+    }
+    if 2 * (n - 1) < wide(r.count) {
+        return false;
+    }
+    let body = r.body;
+    if !kinds::body_inside(body) {
+        return false;
+    }
+    let labels = r.labels;
+    labels::all_labels(labels, n)
+}
+
+fn held_fits(held: bool, n: usize, k: usize, r: Record) -> bool
+    requires { ⌜ (k < n) × (n ≤ 16) ⌝ }
+    ensures { λ b. ⌜ b ≡ (not held || placeFits n k r) ⌝ }
+{
+    if !held {
+        return true;
+    }
+    place_fits(n, k, r)
+}
+
+// May the records at the held places of a table stand in a frame of this sender?
+fn table_fits(held: [bool; 16], table: [Record; 16], n: usize, sender: usize) -> bool
+    requires { ⌜ (n ≤ 16) × (sender < n) ⌝ }
+    ensures { λ r. ⌜ r ≡ tableFits n sender held table ⌝ }
+{
+    let mut k: usize = 0;
+    while k < n {
+        if !held_fits(held[k], n, k, table[k]) {
+            return false;
+        }
+        k += 1;
+    }
+    held[sender]
+}
+
+// Writing a frame: 1, 7, 9, or the length of the frame that a sender among n stations makes of the records at the held places of a table.
+pub fn write_frame(
+    buffer: &mut [u8],
+    held: [bool; 16],
+    table: [Record; 16],
+    n: usize,
+    sender: usize,
+) -> Written
+    ensures { λ r.
+        ⌜ (r ≡ frameWritten n sender held table (length (now (buffer .entry))))
+        × (now (buffer .exit) ≡ frameBuffer n sender held table (now (buffer .entry))) ⌝ }
+{
+    if !valid_number(n, sender) {
+        return Written {
+            refusal: BAD_NUMBER,
+            len: 0,
+        };
+    }
+    if !table_fits(held, table, n, sender) {
+        return Written {
+            refusal: BAD_RECORD,
+            len: 0,
+        };
+    }
+    write_table(buffer, held, table, n, sender)
 }

@@ -2,13 +2,14 @@
 -- goes label by label.
 use Prim.Native.Nat.{ℕ, zero, suc, _+_, _-_, _*_, _/_, _%_, _^_, _≤_, _<_, zero-le, suc-le-suc}
 use native.Mathlib.Nat.{pow-le-pow-right, pow-succ', suc-add, zero-add}
+use native.Mathlib.Decide.{ℕ-discrete}
 use native.Mathlib.Omega.{arith}
 use mathlib.Core.Bool.{Bool, true, false, _&&_, and-assoc}
 use mathlib.Core.List.{List, [], _∷_, _++_, append-nil}
 use mathlib.Core.Path.{_≡_, refl, sym, ap, ap₂, _∙_}
 use lib.Dec.{leb, eqb}
 use lib.ListN.{length, getD, take, drop, replicate}
-use lib.Seq.{length-take-le, take-at, drop-at}
+use lib.Seq.{length-take-le, take-at, drop-at, getD-take}
 use borrow.Author.Tests.{leb-true, eqb-true, le-leb, eq-eqb}
 use Rattle.places.proofs.Laws.{both}
 use Rattle.labels.specs.Packing.{packed, unpacked, allLabels, allZero, wordInside}
@@ -46,6 +47,26 @@ at-all (label ∷ labels) f =
     rw (le-leb label 2 (f 0 (suc-le-suc zero-le))) (at-all labels (λ i h. f (suc i) (suc-le-suc h)))
 
 -- a list is labels where both its parts are
+-- the first n entries are labels where each is, and not where one isn't
+pub take-all : (n : ℕ) (labels : List ℕ) → ((i : ℕ) → i < n → getD labels i 0 ≤ 2) → allLabels (take n labels) ≡ true
+unfolding allLabels
+take-all zero labels h = refl
+take-all (suc n) [] h = refl
+take-all (suc n) (label ∷ labels) h =
+    rw (le-leb label 2 (h 0 (suc-le-suc zero-le))) (take-all n labels (λ i l. h (suc i) (suc-le-suc l)))
+
+-- one entry more, as a loop's counter has it
+pub more-labels :
+    (labels : List ℕ) (i : ℕ) → ((j : ℕ) → j < i → getD labels j 0 ≤ 2) → getD labels i 0 ≤ 2 → (j : ℕ) → j < i + 1 → getD labels j 0 ≤ 2
+more-labels labels i h l j b = elim (ℕ-discrete j i) [ yes e ↦ rw e l | no d ↦ h j (omega arith) ]
+
+pub take-fails : (n : ℕ) (labels : List ℕ) (i : ℕ) → i < n → 2 < getD labels i 0 → allLabels (take n labels) ≡ false
+take-fails n labels i l h = go (allLabels (take n labels)) refl
+  where
+    go : (t : Bool) → allLabels (take n labels) ≡ t → t ≡ false
+    go true e = absurd (omega (arith, all-at (take n labels) e i, getD-take n labels i 0 l))
+    go false e = refl
+
 pub all-split :
     (n : ℕ) (labels : List ℕ) →
     allLabels labels ≡ (allLabels (take n labels) && allLabels (drop n labels))

@@ -42,6 +42,21 @@ pub fn newer(held: bool, held_label: u8, held_count: u8, seen_label: u8, seen_co
     Age::NotNewer
 }
 
+// Is each of the first n entries a label?
+pub fn all_labels(labels: [u8; 16], n: usize) -> bool
+    requires { ⌜ n ≤ 16 ⌝ }
+    ensures { λ r. ⌜ r ≡ allLabels (take n labels) ⌝ }
+{
+    let mut i: usize = 0;
+    while i < n {
+        if 2 < labels[i] {
+            return false;
+        }
+        i += 1;
+    }
+    true
+}
+
 // The first n labels as one word, two bits each.
 pub fn pack(labels: [u8; 16], n: usize) -> u32
     requires { ⌜ (n ≤ 16) × (allLabels (take n labels) ≡ true) ⌝ }
