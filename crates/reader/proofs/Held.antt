@@ -1,12 +1,11 @@
 -- Bytes taken into the line that is held: one is kept, or lost where the line is too long already, and a run of them is taken one by one.
-use mathlib.Core.Path.{_≡_, refl, sym, ap, _∙_}
-use mathlib.Core.List.{List, [], _∷_, _++_, append-assoc}
+use mathlib.Core.Path.{_≡_, refl, ap, _∙_}
+use mathlib.Core.List.{List, [], _∷_, append-assoc}
 use Prim.Native.Nat.{ℕ, suc, _+_, _-_, _≤_, _<_}
 use native.Mathlib.Omega.{arith}
 use native.Mathlib.Numerals.{add-one}
 use lib.ListN.{length, take, drop, set, getD, length-drop}
 use lib.Seq.{length-take-le, take-suc, take-suc-set, getD-drop}
-use Rattle.listing.specs.declared.Session.{Session}
 use Rattle.reader.specs.Remaining.{remainingAt, Same}
 use Rattle.reader.proofs.Steps.{joins, drops}
 

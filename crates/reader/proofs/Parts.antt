@@ -11,7 +11,7 @@ use Rattle.lines.specs.Lines.{Put, placed}
 use Rattle.lines.proofs.Placed.{put-none, put-more}
 use Rattle.listing.specs.declared.Session.{Session}
 use Rattle.listing.specs.declared.Applied.{Applied}
-use Rattle.listing.specs.Listing.{Answer, after, printed}
+use Rattle.listing.specs.Listing.{after, printed}
 use Rattle.reader.specs.declared.Reader.{Reader}
 use Rattle.reader.specs.declared.Fed.{Fed}
 use Rattle.reader.specs.Remaining.{remainingAt, heldBy, Listed, Feeds, Same, EndsAt}

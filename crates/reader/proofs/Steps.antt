@@ -1,14 +1,12 @@
 -- What is still to be listed, byte by byte: a byte joins the line that is held, one too many changes nothing, a line end prints the line, and the end closes the script.
 use mathlib.Core.Path.{_≡_, refl, sym, ap, _∙_}
-use mathlib.Core.Bool.{Bool, true, false, cond, _&&_, and-false}
+use mathlib.Core.Bool.{Bool, true, false, cond, and-false}
 use mathlib.Core.List.{List, [], _∷_, _++_, append-assoc, append-nil}
-use Prim.Native.Nat.{ℕ, zero, suc, _+_, _≤_, _<_}
+use Prim.Native.Nat.{ℕ, _+_, _<_}
 use native.Mathlib.Omega.{arith}
-use lib.Dec.{ltb, eqb}
 use lib.ListN.{length, length-append}
 use borrow.Author.Tests.{ne-eqb}
 use Rattle.lines.specs.Lines.{endLine}
-use Rattle.script.specs.Line.{commandOf}
 use Rattle.script.proofs.Rounds.{overlong}
 use Rattle.listing.specs.declared.Session.{Session}
 use Rattle.listing.specs.Listing.{Lines, rest, line, before, begun, linesOf, listed, listingOf, after, printed, obeyed, answered, restText, closed, halted, malformedText}

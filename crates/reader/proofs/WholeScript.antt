@@ -1,12 +1,12 @@
 -- Fed in parts of any size, a script is listed whole: what was put into buffers, and what is still to be listed, is at every time the listing of what was read
 -- and whatever follows.
 use Prim.Native.Nat.{ℕ}
-use mathlib.Core.Path.{_≡_, refl, sym, ap, _∙_}
+use mathlib.Core.Path.{_≡_, sym, ap, _∙_}
 use mathlib.Core.List.{List, [], _++_, append-assoc, append-nil}
 use lib.ListN.{take}
 use Rattle.listing.specs.Listing.{listingOf}
 use Rattle.reader.specs.declared.Reader.{Reader}
-use Rattle.reader.specs.Remaining.{remaining, Feeds}
+use Rattle.reader.specs.Remaining.{remaining}
 use Rattle.reader.specs.Whole.{Reached, at-first, then-fed, ListsWhole}
 use Rattle.reader.proofs.Steps.{at-start}
 

@@ -2,8 +2,8 @@
 use Prim.Native.Nat.{ℕ, _+_, _≤_, _<_}
 use mathlib.Core.Bool.{Bool, true, false, cond}
 use mathlib.Core.Path.{_≡_}
-use mathlib.Core.List.{List, [], _∷_, _++_}
-use lib.ListN.{length, take, drop, getD, replicate}
+use mathlib.Core.List.{List, _++_}
+use lib.ListN.{length, take, getD, replicate}
 use Rattle.lines.specs.Lines.{endLine, Put}
 use Rattle.listing.specs.declared.Session.{Session}
 use Rattle.listing.specs.Listing.{Lines, rest, line, begun, linesOf, listed}

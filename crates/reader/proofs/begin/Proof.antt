@@ -1,5 +1,5 @@
 -- `reader::begin` holds no byte.
-use mathlib.Core.Path.{_≡_, refl, ap}
+use mathlib.Core.Path.{ap}
 use lib.ListN.{replicate}
 use Rattle.listing.specs.declared.Session.{Session}
 use Rattle.reader.specs.declared.Reader.{Reader}

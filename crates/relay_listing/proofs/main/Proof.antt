@@ -1,0 +1,53 @@
+-- `relay_listing::main` is safe: what the end puts into the buffer lies in it.
+use mathlib.Core.Path.{sym}
+use native.Mathlib.Omega.{arith}
+use lib.Seq.{length-take-le}
+use Rattle.reader.proofs.Parts.{put-fits}
+use borrow.Author.Needs.{needs}
+use Rattle.relay_listing.proofs.main.Statement.{statement}
+use Rattle.relay_listing.proofs.main.Tie as tie
+
+slice-aggregate-read-input : tie.Need-slice-aggregate-read-input
+slice-aggregate-read-input c = search needs
+
+read-input-requires : tie.Need-read-input-requires
+read-input-requires c κs = search needs
+
+slice-aggregate-finish : tie.Need-slice-aggregate-finish
+slice-aggregate-finish c = search needs
+
+finish-requires : tie.Need-finish-requires
+finish-requires c κs = search needs
+
+array-share-prefix-out : tie.Need-array-share-prefix-out
+array-share-prefix-out c =
+    let done = c .before .finish in
+    omega (arith, done .kept .1 .0, put-fits _ _ _ _ (done .ensures) (done .kept .1 .0))
+
+slice-aggregate-write-all : tie.Need-slice-aggregate-write-all
+slice-aggregate-write-all c =
+    let done = c .before .before .finish in
+    sym (length-take-le (done .result) (done .last .1 .0) (omega (arith, done .kept .1 .0, put-fits _ _ _ _ (done .ensures) (done .kept .1 .0))))
+
+write-all-requires : tie.Need-write-all-requires
+write-all-requires c κs = search needs
+
+returns : tie.Need-returns
+returns c = search needs
+
+returns-2 : tie.Need-returns-2
+returns-2 c = search needs
+
+pub main-spec : {M : Type 1} → statement M
+main-spec =
+    tie.close
+    (tie.spec
+    slice-aggregate-read-input
+    read-input-requires
+    slice-aggregate-finish
+    finish-requires
+    array-share-prefix-out
+    slice-aggregate-write-all
+    write-all-requires
+    returns
+    returns-2)

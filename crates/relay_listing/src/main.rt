@@ -1,0 +1,91 @@
+// The relay listing: a script on standard input, its listing on standard output.
+
+ghost use Prim.Native.Nat.{_≤_};
+ghost use lib.ListN.{length};
+use libc::STDERR_FILENO;
+use libc::STDIN_FILENO;
+use libc::STDOUT_FILENO;
+use reader::Reader;
+
+// A reader, and whether everything that it put into the buffer was written.
+struct Passed {
+    written: bool,
+    reader: Reader,
+}
+
+// Feeds a whole part to the reader, and writes what comes of it.
+fn pass(r: Reader, part: &[u8], out: &mut [u8]) -> Passed
+    requires { ⌜ (r .len ≤ 146) × (26_880 ≤ length (now out)) ⌝ }
+    ensures { λ p. ⌜ p .reader .len ≤ 146 ⌝ }
+{
+    let mut reader = r;
+    let mut from = 0;
+    while from < part.len() {
+        let fed = reader::feed(reader, &part[from..], out);
+        let len = fed.len;
+        reader = fed.reader;
+        from += fed.read;
+        if !io::write_all(STDOUT_FILENO, &out[..len]) {
+            io::write_all(STDERR_FILENO, b"relay_listing: cannot write\n");
+            return Passed {
+                written: false,
+                reader,
+            };
+        }
+    }
+    Passed {
+        written: true,
+        reader,
+    }
+}
+
+// Reads standard input until it ends or the reading stops. A proved loop has to end, and nothing says that the input does: the loop counts its
+// turns down from a number that no run uses up.
+fn read_input(out: &mut [u8]) -> Passed
+    requires { ⌜ 26_880 ≤ length (now out) ⌝ }
+    ensures { λ p. ⌜ p .reader .len ≤ 146 ⌝ }
+{
+    let mut reader = reader::begin();
+    let mut part = io::large_buffer();
+    let mut turns = u64::MAX;
+    while turns > 0 {
+        let got = libc::read(STDIN_FILENO, &mut part);
+        if got < 0 {
+            io::write_all(STDERR_FILENO, b"relay_listing: cannot read\n");
+            return Passed {
+                written: false,
+                reader,
+            };
+        }
+        let n = io::count(got, &part);
+        if n == 0 {
+            return Passed {
+                written: true,
+                reader,
+            };
+        }
+        let passed = pass(reader, &part[..n], out);
+        if !passed.written {
+            return passed;
+        }
+        reader = passed.reader;
+        let session = reader.session;
+        if session.stopped {
+            return passed;
+        }
+        turns -= 1;
+    }
+    Passed {
+        written: true,
+        reader,
+    }
+}
+
+fn main() {
+    let mut out = [0u8; 131072];
+    let passed = read_input(&mut out);
+    if passed.written {
+        let len = reader::finish(passed.reader, &mut out);
+        io::write_all(STDOUT_FILENO, &out[..len]);
+    }
+}
