@@ -143,11 +143,17 @@ pub fn numbers_inside(kind: u32, event: u32, argument: i32) -> bool
     false
 }
 
-// Is the body inside the limits of its kind?
+// Is the body inside the limits of its kind? Each arm names its kind, so its row is known where the program is built.
 pub fn body_inside(body: Body) -> bool
     ensures { λ r. ⌜ r ≡ bodyInside body ⌝ }
 {
-    numbers_inside(kind_of(body), event_of(body), argument_of(body))
+    match body {
+        Body::Empty => numbers_inside(0, 0, 0),
+        Body::Neutral => numbers_inside(1, 0, 0),
+        Body::Insert { event, start } => numbers_inside(2, event, start),
+        Body::Drop { event } => numbers_inside(3, event, 0),
+        Body::Shift { event, frames } => numbers_inside(4, event, frames),
+    }
 }
 
 // Is the body an edit inside the limits of its kind?

@@ -1,4 +1,5 @@
 pub mod Laws
+pub mod PackSteps
 pub mod Word
 pub mod Examples
 pub mod NewerLaws

@@ -57,11 +57,28 @@ pub fn all_labels(labels: [u8; 16], n: usize) -> bool
     true
 }
 
+// All sixteen labels as one word: a loop of a fixed length is unrolled.
+fn pack_all(all: [u8; 16]) -> u32
+    requires { ⌜ allLabels (take 16 all) ≡ true ⌝ }
+    ensures { λ r. ⌜ r ≡ packed (take 16 all) ⌝ }
+{
+    let mut word: u32 = 0;
+    let mut i: usize = 16;
+    while 0 < i {
+        i -= 1;
+        word = word * 4 + (all[i] as u32);
+    }
+    word
+}
+
 // The first n labels as one word, two bits each.
 pub fn pack(labels: [u8; 16], n: usize) -> u32
     requires { ⌜ (n ≤ 16) × (allLabels (take n labels) ≡ true) ⌝ }
     ensures { λ r. ⌜ r ≡ packed (take n labels) ⌝ }
 {
+    if n == 16 {
+        return pack_all(labels);
+    }
     let mut word: u32 = 0;
     let mut i = n;
     while 0 < i {

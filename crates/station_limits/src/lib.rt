@@ -89,11 +89,27 @@ fn queue_inside(queue: Queue) -> bool
     true
 }
 
+// Are all sixteen labels? A loop of a fixed length without an early end is unrolled.
+fn all_labels(labels: [u8; 16]) -> bool
+    ensures { λ r. ⌜ r ≡ allBelow 16 (λ j. isLabel (getD labels j 0)) ⌝ }
+{
+    let mut inside = true;
+    let mut j: usize = 0;
+    while j < 16 {
+        inside = inside & (labels[j] <= 2);
+        j += 1;
+    }
+    inside
+}
+
 // Are the first n labels labels?
 fn labels_inside(labels: [u8; 16], n: usize) -> bool
     requires { ⌜ n ≤ 16 ⌝ }
     ensures { λ r. ⌜ r ≡ allBelow n (λ j. isLabel (getD labels j 0)) ⌝ }
 {
+    if n == 16 {
+        return all_labels(labels);
+    }
     let mut j: usize = 0;
     while j < n {
         if 2 < labels[j] {

@@ -1,7 +1,7 @@
--- `station_limits::labels_inside` meets its contract: what was passed are labels.
+-- `station_limits::labels_inside` meets its contract: sixteen are judged by `all_labels`, and of fewer what was passed are labels.
 use Prim.Native.Nat.{ℕ, _≤_, _-_}
 use native.Mathlib.Omega.{arith}
-use mathlib.Core.Path.{_≡_, refl, sym}
+use mathlib.Core.Path.{_≡_, refl, sym, ap, _∙_}
 use mathlib.Core.Bool.{true, false}
 use borrow.Author.Needs.{needs}
 use lib.ListN.{getD}
@@ -20,15 +20,23 @@ Inv-loop n labels j₀ j = (j ≤ n) × (allBelow j (λ i. isLabel (getD labels 
 abbrev μ-loop : tie.MeasureT-loop
 μ-loop n labels j₀ j = n - j
 
+all-labels-requires : tie.Need-all-labels-requires Inv-loop μ-loop
+all-labels-requires c κs = search needs
+
+returns : tie.Need-returns Inv-loop μ-loop
+returns c =
+    let a = c .before .before .args in
+    c .all-labels .ensures ∙ ap (λ (k : ℕ). allBelow k (λ j. isLabel (getD (a .t1) j 0))) (sym (c .before .if1 .taken))
+
 loop-holds : tie.Need-loop-holds Inv-loop μ-loop
 unfolding allBelow
 loop-holds c = search needs
 
-array-read-if1 : tie.Need-array-read-if1 Inv-loop μ-loop
-array-read-if1 c = search needs
+array-read-if2 : tie.Need-array-read-if2 Inv-loop μ-loop
+array-read-if2 c = search needs
 
-returns : tie.Need-returns Inv-loop μ-loop
-returns c = sym (allBelow-fails _ _ (c .before .before .loop .j) (omega arith) (lt-leb _ _ (c .if1 .taken)))
+returns-2 : tie.Need-returns-2 Inv-loop μ-loop
+returns-2 c = sym (allBelow-fails _ _ (c .before .before .loop .j) (omega arith) (lt-leb _ _ (c .if2 .taken)))
 
 add-j : tie.Need-add-j Inv-loop μ-loop
 add-j c = search needs
@@ -38,11 +46,11 @@ loop-less c = search needs
 
 loop-again : tie.Need-loop-again Inv-loop μ-loop
 loop-again c =
-    (omega arith, allBelow-more (c .before .before .loop .j) _ (c .before .before .loop .inv .1) (le-leb _ _ (c .if1 .left)))
+    (omega arith, allBelow-more (c .before .before .loop .j) _ (c .before .before .loop .inv .1) (le-leb _ _ (c .if2 .left)))
 
-returns-2 : tie.Need-returns-2 Inv-loop μ-loop
-returns-2 c =
-    let e : c .before .loop .j ≡ c .before .before .args .n = omega arith in
+returns-3 : tie.Need-returns-3 Inv-loop μ-loop
+returns-3 c =
+    let e : c .before .loop .j ≡ c .before .before .before .args .n = omega arith in
     sym (rw e at (c .before .loop .inv .1))
 
 pub labels-inside-spec : {M : Type 1} → statement M
@@ -51,10 +59,12 @@ labels-inside-spec =
     (tie.spec
     Inv-loop
     μ-loop
-    loop-holds
-    array-read-if1
+    all-labels-requires
     returns
+    loop-holds
+    array-read-if2
+    returns-2
     add-j
     loop-less
     loop-again
-    returns-2)
+    returns-3)
