@@ -20,7 +20,7 @@ use Rattle.group_rules.proofs.MembersRound.{Runs, after-members}
 use Rattle.group_rules.proofs.Lanes.{never-overfull}
 use Rattle.group_rules.proofs.CallRun.{runOf, callsAfter, groupAfter, group-first, group-step, posts-keep}
 use Rattle.group_rules.proofs.HistoryRun.{Unrefused, history-group}
-use Rattle.group_rules.proofs.PostsAccounted.{posts-accounted}
+use Rattle.group_rules.proofs.PostsAccounted.{posts-accounted, posts-counted}
 use Rattle.group_rules.proofs.HistoryInside.{lanes-bounded}
 use Rattle.group_rules.proofs.FromRun as from-run
 
@@ -84,6 +84,7 @@ module _ (n : ℕ) (low : 1 ≤ n) (high : n ≤ 16) (calls : List Call) where
         held-count-bounded = held-count;
         lanes-bounded = lanes-bounded n low high calls;
         posts-accounted = posts-accounted n low high calls;
+        posts-counted = posts-counted n low high calls;
         ends-exactly = from-run.ends-exactly n low high calls free;
       }
 

@@ -2,8 +2,8 @@
 -- put in the place of the held one. b says each time whether the record advances the cell.
 use Prim.Native.Nat.{ℕ, suc, _+_, _%_, _≤_, _<_}
 use mathlib.Core.Bool.{Bool, true, false, cond, not, _&&_, _||_, or-true}
-use mathlib.Core.List.{List, [], _∷_, _++_, append-nil, append-assoc}
-use mathlib.Core.Path.{_≡_, refl, sym, ap, _∙_, subst}
+use mathlib.Core.List.{List, [], _∷_, _++_, append-nil}
+use mathlib.Core.Path.{_≡_, sym, ap, _∙_, subst}
 use native.Mathlib.Decide.{ℕ-discrete}
 use native.Mathlib.Omega.{arith}
 use borrow.Author.Tests.{lt-ltb, le-ltb, eq-eqb, ne-eqb}
@@ -18,12 +18,10 @@ use Rattle.frames.specs.declared.Record.{Record}
 use Rattle.lanes.specs.declared.Lane.{Lane}
 use Rattle.places.proofs.Laws.{cond-not}
 use Rattle.station_rules.specs.declared.Station.{Station}
-use Rattle.station_rules.specs.declared.Taking.{Taking}
 use Rattle.lanes.specs.Lane.{pushed}
 use Rattle.station_rules.specs.State.{recordOf}
 use Rattle.station_rules.specs.Hearing.{raised, replaced, heardNewer}
 use Rattle.station_rules.proofs.Cells
-use Rattle.group_rules.specs.History.{takingsOf}
 use Rattle.group_rules.proofs.Run.{Run, linksOf}
 use Rattle.group_rules.proofs.Version.{Stands, Cell, Caught, shown, caught-same}
 use Rattle.group_rules.proofs.Standing.{Formed}
@@ -43,23 +41,6 @@ label-step false l a a′ e f = e ∙ ap (λ (i : ℕ). i % 3) (sym f)
 pub raised-step : (b : Bool) (c t : ℕ) → c < 255 → t ≡ cond b (suc c) c → cond b (raised c) c ≡ t
 raised-step true c t l e = rw (lt-ltb c 255 l) (omega arith)
 raised-step false c t l e = sym e
-
-pub takingsOf-append : (q : ℕ) (xs ys : List Taking) → takingsOf q (xs ++ ys) ≡ takingsOf q xs ++ takingsOf q ys
-unfolding takingsOf
-takingsOf-append q [] ys = refl
-takingsOf-append q (t ∷ xs) ys =
-    ap (λ (z : List Body). cond (eqb (t .source) q) (t .body ∷ []) [] ++ z) (takingsOf-append q xs ys)
-    ∙ sym (append-assoc (cond (eqb (t .source) q) (t .body ∷ []) []) (takingsOf q xs) (takingsOf q ys))
-
-pub taking-other : (q k : ℕ) (b : Bool) (body : Body) → (k ≡ q → ⊥) → takingsOf q (cond b (record { source = k; body = body } ∷ []) []) ≡ []
-unfolding takingsOf
-taking-other q k true body d = rw (ne-eqb k q d)
-taking-other q k false body d = refl
-
-pub taking-here : (k : ℕ) (b : Bool) (body : Body) → takingsOf k (cond b (record { source = k; body = body } ∷ []) []) ≡ cond b (body ∷ []) []
-unfolding takingsOf
-taking-here k true body = rw (eq-eqb k k refl)
-taking-here k false body = refl
 
 module _ (R : Run) where
   abbrev L : Links

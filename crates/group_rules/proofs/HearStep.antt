@@ -36,7 +36,8 @@ use Rattle.group_rules.proofs.Run.{Run, linksOf}
 use Rattle.group_rules.proofs.Version.{Stands, CellAt, Caught, Alike, gains, shown-same}
 use Rattle.group_rules.proofs.Outcome.{Outcome, skipped, renewed, advanced, outcome}
 use Rattle.group_rules.proofs.Standing.{Standing, standing-alike, standing-count}
-use Rattle.group_rules.proofs.HearParts.{acked-mod, label-step, raised-step, takingsOf-append, taking-other, taking-here, cell-move, caught-move, not-risen, risen, lane-before, caught-step, stands-replaced, formed-heard}
+use Rattle.group_rules.proofs.HearParts.{acked-mod, label-step, raised-step, cell-move, caught-move, not-risen, risen, lane-before, caught-step, stands-replaced, formed-heard}
+use Rattle.group_rules.proofs.Takings.{takingsOf-append, taking-other, taking-here}
 
 module _ (R : Run) where
   abbrev L : Links

@@ -3,6 +3,7 @@ pub mod MembersPost
 pub mod MembersRound
 pub mod Run
 pub mod HistoryInside
+pub mod Takings
 pub mod TurnAccount
 pub mod PostsAccounted
 pub mod Version

@@ -48,7 +48,7 @@ module _ (b : Body) (e : isEdit b ≡ true) where
   before = set (freshGroup 1) 0 (posted (freshStation 1 0) b)
 
   abbrev ready : History
-  ready = record { group = before; rounds = []; log = []; accepted = 0 ∷ [] }
+  ready = record { group = before; rounds = []; log = []; accepted = record { source = 0; body = b } ∷ [] }
 
   post-done : next (begun 1) (post 0 b) ≡ ready
   unfolding before next begun groupPost groupPostRefusal freshGroup freshStation noneWaiting posted queued groupInside stationInside queueInside placeInside recordInside laneInside allBelow anyBelow numbersInside bodyInside fill

@@ -1,14 +1,14 @@
--- Accepted posts are all accounted for, after every list of calls: each waits, stands in the own lane, or was aired. One invariant is carried from call to
--- call: the group is inside its limits, and the count comes out. A post adds one waiting edit; a turn moves edits on; a refused call changes nothing.
-use Prim.Native.Nat.{ℕ, suc, _+_, _≤_, _<_}
+-- Accepted posts are all accounted for, in their order, after every list of calls: the first were aired, then comes what stands in the own lane, and the last
+-- wait. One invariant is carried from call to call: the group is inside its limits, and the lists agree. A post adds one waiting edit; a turn moves edits on;
+-- a refused call changes nothing.
+use Prim.Native.Nat.{ℕ, _+_, _≤_, _<_}
 use mathlib.Core.Bool.{Bool, true, false, cond}
 use mathlib.Core.List.{List, [], _∷_, _++_, append-nil, append-assoc}
 use mathlib.Core.Path.{_≡_, refl, sym, ap, subst, _∙_}
 use native.Mathlib.Decide.{ℕ-discrete}
 use native.Mathlib.Omega.{arith}
 use lib.Dec.{eqb}
-use lib.ListN.{getD, set, replicate, getD-replicate}
-use borrow.Author.Tests.{ne-eqb, eq-eqb}
+use lib.ListN.{getD, set, length, length-append, replicate, getD-replicate}
 use Rattle.kinds.specs.declared.Body.{Body}
 use Rattle.kinds.specs.Refusals.{done}
 use Rattle.places.specs.Places.{fill}
@@ -19,20 +19,22 @@ use Rattle.lanes.specs.Lane.{bodies, noLane}
 use Rattle.station_rules.specs.State.{laneAt, freshStation}
 use Rattle.station_rules.specs.Hearing.{silent}
 use Rattle.station_rules.specs.Turn.{airs, rowOf, turnReport, afterTurn}
-use Rattle.lanes.specs.Queue.{noSlot, noneWaiting}
+use Rattle.lanes.specs.Queue.{noSlot, waitingBodies}
+use Rattle.lanes.proofs.QueueLaws.{waiting-none, waiting-length, waiting-queued}
 use Rattle.station_rules.specs.Calls.{posted, noTurn}
-use Rattle.station_rules.proofs.LimitsQueue.{queued-len}
+use Rattle.station_rules.proofs.LimitsQueue.{queue-most}
 use Rattle.station_rules.proofs.LimitsHearing.{Hears}
 use Rattle.group_rules.specs.declared.Report.{Report}
 use Rattle.group_rules.specs.declared.RoundDone.{RoundDone}
 use Rattle.group_rules.specs.State.{stationAt, sizeOf}
 use Rattle.group_rules.specs.Calls.{postCall, heard, noReport, reportOf, roundRefusal, roundCall}
-use Rattle.group_rules.specs.History.{History, Call, Call.post, Call.round, next, begun, continued, historyOf, reportIn, collect, editsOf, airedList, occurrences, editsIn, airedOwn}
+use Rattle.group_rules.specs.History.{History, Call, Call.post, Call.round, next, begun, continued, historyOf, reportIn, collect, takingsOf, editsOf, airedList, onlyEdits}
 use Rattle.group_rules.proofs.Members.{Members, fresh-at}
 use Rattle.group_rules.proofs.MembersPost.{accepted, post-accepted, post-refused, post-refusal, posted-at, posted-other}
 use Rattle.group_rules.proofs.MembersRound.{Runs, runs, run-hears, run-room, after-at, round-done, round-refused}
 use Rattle.group_rules.proofs.HistoryInside.{members-next, members-begun}
-use Rattle.group_rules.proofs.TurnAccount.{oneFor, ownEdits, turn-account, airedOwn-append, row-account}
+use Rattle.group_rules.proofs.TurnAccount.{ifEdit, kept, turn-account, row-account}
+use Rattle.group_rules.proofs.Takings.{takingsOf-append, taking-other, taking-here}
 
 module _ {A : Type 0} where
   pub collect-last : (f : RoundDone → List A) (rs : List RoundDone) (r : RoundDone) → collect f (rs ++ (r ∷ [])) ≡ collect f rs ++ f r
@@ -40,59 +42,59 @@ module _ {A : Type 0} where
   collect-last f [] r = append-nil (f r)
   collect-last f (x ∷ rs) r = ap (λ (l : List A). f x ++ l) (collect-last f rs r) ∙ sym (append-assoc (f x) (collect f rs) (f r))
 
-pub occurrences-append : (p : ℕ) (xs ys : List ℕ) → occurrences p (xs ++ ys) ≡ occurrences p xs + occurrences p ys
-unfolding occurrences
-occurrences-append p [] ys = omega arith
-occurrences-append p (x ∷ xs) ys = omega (arith, occurrences-append p xs ys)
-
--- the waiting edits of a station and those in its own lane
-abbrev kept : Station → ℕ → ℕ
-kept s p = s .waiting .len + ownEdits s p
-
 -- what a round's report adds to the aired list
 abbrev airedOf : ℕ → Report → List Taking
 airedOf n r = cond (r .turn .aired) (editsOf n (r .turn .row)) []
 
 abbrev Accounted : ℕ → History → ℕ → Type 0
-Accounted n H p = occurrences p (H .accepted) ≡ kept (stationAt (H .group) p) p + airedOwn p (airedList n H p)
+Accounted n H p = takingsOf p (H .accepted) ≡ takingsOf p (airedList n H p) ++ kept (stationAt (H .group) p) p
 
 -- a post
 
-posted-kept : (s : Station) (b : Body) (p : ℕ) → kept (posted s b) p ≡ suc (kept s p)
+posted-kept : (s : Station) (b : Body) (p : ℕ) → s .waiting .len < length (s .waiting .slots) → kept (posted s b) p ≡ kept s p ++ (b ∷ [])
 unfolding posted
-posted-kept s b p = omega (arith, queued-len (s .waiting) b)
+posted-kept s b p l =
+    let lane : List Body = onlyEdits (bodies (laneAt s p)) in
+    ap (λ (w : List Body). lane ++ w) (waiting-queued (s .waiting) b l)
+    ∙ sym (append-assoc lane (waitingBodies (s .waiting)) (b ∷ []))
 
 module _ (n : ℕ) (g : List Station) (c : Members n g) (k : ℕ) (b : Body) where
   -- one more at the station of an accepted post
   post-kept :
       (p : ℕ) →
       kept (stationAt ((postCall g k b) .group) p) p
-      ≡ kept (stationAt g p) p + occurrences p (cond (eqb ((postCall g k b) .refusal) done) (k ∷ []) [])
-  unfolding occurrences
+      ≡ kept (stationAt g p) p
+      ++ takingsOf p (cond (eqb ((postCall g k b) .refusal) done) (record { source = k; body = b } ∷ []) [])
+  unfolding takingsOf
   post-kept p = go (eqb ((postCall g k b) .refusal) done) refl
     where
       go :
           (t : Bool) → eqb ((postCall g k b) .refusal) done ≡ t →
-          kept (stationAt ((postCall g k b) .group) p) p ≡ kept (stationAt g p) p + occurrences p (cond t (k ∷ []) [])
+          kept (stationAt ((postCall g k b) .group) p) p
+          ≡ kept (stationAt g p) p ++ takingsOf p (cond t (record { source = k; body = b } ∷ []) [])
       go true e =
-          let below : k < n =
-          omega (arith, c .size, accepted g k b (rw (post-refusal g k b) at e) .below) in
+          let made = accepted g k b (rw (post-refusal g k b) at e) in
+          let below : k < n = omega (arith, c .size, made .below) in
+          let room : stationAt g k .waiting .len < length (stationAt g k .waiting .slots) =
+          omega (arith, made .room, c .shape .stations k (omega (arith, c .high)) .slots) in
           elim (ℕ-discrete p k) [
             | yes same ↦
                 ap (λ (h : List Station). kept (stationAt h p) p) (post-accepted g k b e)
                 ∙ subst
                 (λ (j : ℕ).
-                kept (stationAt (set g k (posted (stationAt g k) b)) j) j ≡ kept (stationAt g j) j + occurrences j (k ∷ []))
+                kept (stationAt (set g k (posted (stationAt g k) b)) j) j
+                ≡ kept (stationAt g j) j ++ takingsOf j (record { source = k; body = b } ∷ []))
                 (sym same)
                 (ap (λ (s : Station). kept s k) (posted-at n g c k b below)
-                ∙ posted-kept (stationAt g k) b k
-                ∙ rw (eq-eqb k k refl) (omega arith))
+                ∙ posted-kept (stationAt g k) b k room
+                ∙ ap (λ (l : List Body). kept (stationAt g k) k ++ l) (sym (taking-here k true b)))
             | no ne ↦
                 ap (λ (h : List Station). kept (stationAt h p) p) (post-accepted g k b e)
                 ∙ ap (λ (s : Station). kept s p) (posted-other n g c k b below p ne)
-                ∙ rw (ne-eqb k p (λ z. ne (sym z))) (omega arith)
+                ∙ sym (append-nil (kept (stationAt g p) p))
+                ∙ ap (λ (l : List Body). kept (stationAt g p) p ++ l) (sym (taking-other p k true b (λ z. ne (sym z))))
           ]
-      go false e = ap (λ (h : List Station). kept (stationAt h p) p) (post-refused g k b e) ∙ omega arith
+      go false e = ap (λ (h : List Station). kept (stationAt h p) p) (post-refused g k b e) ∙ sym (append-nil (kept (stationAt g p) p))
 
 -- a round
 
@@ -114,9 +116,9 @@ module _ (n : ℕ) (g : List Station) (c : Members n g) (masks : List ℕ) (p : 
   -- what is aired of a station's own in a round that is not refused
   report-aired :
       (run : Runs g masks) →
-      airedOwn p (airedOf n (reportOf g masks p))
-      ≡ cond (airs ((heard g masks p) .station)) (oneFor ((laneAt ((heard g masks p) .station) p) .first)) 0
-  unfolding reportOf turnReport airedOwn
+      takingsOf p (airedOf n (reportOf g masks p))
+      ≡ cond (airs ((heard g masks p) .station)) (ifEdit ((laneAt ((heard g masks p) .station) p) .first)) []
+  unfolding reportOf turnReport takingsOf
   report-aired run = go (airs ((heard g masks p) .station))
     where
       s : Station
@@ -127,7 +129,7 @@ module _ (n : ℕ) (g : List Station) (c : Members n g) (masks : List ℕ) (p : 
 
       go :
           (t : Bool) →
-          airedOwn p (cond t (editsOf n (cond t (rowOf s) (replicate 16 noSlot))) []) ≡ cond t (oneFor ((laneAt s p) .first)) 0
+          takingsOf p (cond t (editsOf n (cond t (rowOf s) (replicate 16 noSlot))) []) ≡ cond t (ifEdit ((laneAt s p) .first)) []
       go true = row-account n s p (c .high) size below
       go false = refl
 
@@ -148,8 +150,8 @@ module _ (n : ℕ) (g : List Station) (c : Members n g) (masks : List ℕ) (p : 
 
   -- what leaves is aired
   round-kept :
-      kept (stationAt ((roundCall g masks) .group) p) p + airedOwn p (airedOf n (reportIn (roundCall g masks) p)) ≡ kept (stationAt g p) p
-  unfolding airedOwn
+      kept (stationAt g p) p ≡ takingsOf p (airedOf n (reportIn (roundCall g masks) p)) ++ kept (stationAt ((roundCall g masks) .group) p) p
+  unfolding takingsOf
   round-kept = go (eqb (roundRefusal g masks) done) refl
     where
       s : Station
@@ -157,7 +159,7 @@ module _ (n : ℕ) (g : List Station) (c : Members n g) (masks : List ℕ) (p : 
 
       go :
           (t : Bool) → eqb (roundRefusal g masks) done ≡ t →
-          kept (stationAt ((roundCall g masks) .group) p) p + airedOwn p (airedOf n (reportIn (roundCall g masks) p)) ≡ kept (stationAt g p) p
+          kept (stationAt g p) p ≡ takingsOf p (airedOf n (reportIn (roundCall g masks) p)) ++ kept (stationAt ((roundCall g masks) .group) p) p
       go true e =
           let run : Runs g masks = runs g masks e in
           let hs : Hears (silent (stationAt g p)) (heard g masks p) = run-hears n g c masks run p below in
@@ -169,14 +171,14 @@ module _ (n : ℕ) (g : List Station) (c : Members n g) (masks : List ℕ) (p : 
           let group : kept (stationAt ((roundCall g masks) .group) p) p ≡ kept (afterTurn s) p =
           ap (λ (h : List Station). kept (stationAt h p) p) (round-done g masks e)
           ∙ ap (λ (x : Station). kept x p) (after-at n g c masks run p below) in
-          let aired : airedOwn p (airedOf n (reportIn (roundCall g masks) p)) ≡ cond (airs s) (oneFor ((laneAt s p) .first)) 0 =
-          ap (airedOwn p) (done-aired e) ∙ report-aired run in
-          omega arith
+          let aired : takingsOf p (airedOf n (reportIn (roundCall g masks) p)) ≡ cond (airs s) (ifEdit ((laneAt s p) .first)) [] =
+          ap (takingsOf p) (done-aired e) ∙ report-aired run in
+          sym same ∙ moved ∙ (λ i. sym aired i ++ sym group i)
       go false e =
           let group : kept (stationAt ((roundCall g masks) .group) p) p ≡ kept (stationAt g p) p =
           ap (λ (h : List Station). kept (stationAt h p) p) (round-refused g masks e) in
-          let aired : airedOwn p (airedOf n (reportIn (roundCall g masks) p)) ≡ 0 = ap (airedOwn p) (refused-aired e) in
-          omega arith
+          let aired : takingsOf p (airedOf n (reportIn (roundCall g masks) p)) ≡ [] = ap (takingsOf p) (refused-aired e) in
+          (λ i. sym aired i ++ sym group i)
 
 -- call after call
 
@@ -186,12 +188,12 @@ pub record Kept (n : ℕ) (H : History) : Type 0 where
 
 airedList-round :
     (n : ℕ) (H : History) (masks : List ℕ) (p : ℕ) →
-    airedOwn p (airedList n (next H (round masks)) p)
-    ≡ airedOwn p (airedList n H p) + airedOwn p (airedOf n (reportIn (roundCall (H .group) masks) p))
+    takingsOf p (airedList n (next H (round masks)) p)
+    ≡ takingsOf p (airedList n H p) ++ takingsOf p (airedOf n (reportIn (roundCall (H .group) masks) p))
 unfolding airedList next
 airedList-round n H masks p =
-    ap (airedOwn p) (collect-last (λ r. airedOf n (reportIn r p)) (H .rounds) (roundCall (H .group) masks))
-    ∙ airedOwn-append p (collect (λ r. airedOf n (reportIn r p)) (H .rounds)) (airedOf n (reportIn (roundCall (H .group) masks) p))
+    ap (takingsOf p) (collect-last (λ r. airedOf n (reportIn r p)) (H .rounds) (roundCall (H .group) masks))
+    ∙ takingsOf-append p (collect (λ r. airedOf n (reportIn r p)) (H .rounds)) (airedOf n (reportIn (roundCall (H .group) masks) p))
 
 pub kept-next : (n : ℕ) (H : History) (call : Call) → Kept n H → Kept n (next H call)
 unfolding next
@@ -200,14 +202,24 @@ kept-next n H (post k b) c =
       members = members-next n H (post k b) (c .members);
       accounted =
           λ p l. unfold airedList in
-          (occurrences-append p (H .accepted) (cond (eqb ((postCall (H .group) k b) .refusal) done) (k ∷ []) [])
-          ∙ omega (arith, c .accounted p l, post-kept n (H .group) (c .members) k b p));
+          let more : List Taking = cond (eqb ((postCall (H .group) k b) .refusal) done) (record { source = k; body = b } ∷ []) [] in
+          (takingsOf-append p (H .accepted) more
+          ∙ ap (λ (x : List Body). x ++ takingsOf p more) (c .accounted p l)
+          ∙ append-assoc (takingsOf p (airedList n H p)) (kept (stationAt (H .group) p) p) (takingsOf p more)
+          ∙ ap (λ (x : List Body). takingsOf p (airedList n H p) ++ x) (sym (post-kept n (H .group) (c .members) k b p)));
     }
 kept-next n H (round masks) c =
     record {
       members = members-next n H (round masks) (c .members);
       accounted =
-          λ p l. omega (arith, c .accounted p l, airedList-round n H masks p, round-kept n (H .group) (c .members) masks p l);
+          λ p l.
+          let made = roundCall (H .group) masks in
+          let row : List Body = takingsOf p (airedOf n (reportIn made p)) in
+          let left : List Body = kept (stationAt (made .group) p) p in
+          c .accounted p l
+          ∙ ap (λ (x : List Body). takingsOf p (airedList n H p) ++ x) (round-kept n (H .group) (c .members) masks p l)
+          ∙ sym (append-assoc (takingsOf p (airedList n H p)) row left)
+          ∙ ap (λ (x : List Body). x ++ left) (sym (airedList-round n H masks p));
     }
 
 pub kept-continued : (n : ℕ) (H : History) (calls : List Call) → Kept n H → Kept n (continued H calls)
@@ -215,9 +227,9 @@ unfolding continued
 kept-continued n H [] c = c
 kept-continued n H (call ∷ calls) c = kept-continued n (next H call) calls (kept-next n H call c)
 
-fresh-kept : (n p : ℕ) → p < 16 → kept (freshStation n p) p ≡ 0
-unfolding freshStation noneWaiting bodies editsIn
-fresh-kept n p l = rw (getD-replicate 16 p noLane noLane l)
+fresh-kept : (n p : ℕ) → p < 16 → kept (freshStation n p) p ≡ []
+unfolding freshStation bodies onlyEdits
+fresh-kept n p l = rw (getD-replicate 16 p noLane noLane l) waiting-none
 
 pub kept-begun : (n : ℕ) → 1 ≤ n → n ≤ 16 → Kept n (begun n)
 unfolding begun
@@ -225,8 +237,8 @@ kept-begun n low high =
     record {
       members = members-begun n low high;
       accounted =
-          λ p l. unfold airedList collect occurrences airedOwn in
-          (sym (fresh-kept n p (omega arith)) ∙ ap (λ (s : Station). kept s p) (sym (fresh-at n high p l)) ∙ omega arith);
+          λ p l. unfold airedList collect takingsOf in
+          (sym (fresh-kept n p (omega arith)) ∙ ap (λ (s : Station). kept s p) (sym (fresh-at n high p l)));
     }
 
 pub kept-history : (n : ℕ) → 1 ≤ n → n ≤ 16 → (calls : List Call) → Kept n (historyOf n calls)
@@ -234,8 +246,34 @@ kept-history n low high calls = kept-continued n (begun n) calls (kept-begun n l
 
 pub posts-accounted :
     (n : ℕ) → 1 ≤ n → n ≤ 16 → (calls : List Call) → (p : ℕ) → p < n →
-    occurrences p ((historyOf n calls) .accepted)
+    takingsOf p ((historyOf n calls) .accepted)
+    ≡ takingsOf p (airedList n (historyOf n calls) p)
+    ++ onlyEdits (bodies (laneAt (stationAt ((historyOf n calls) .group) p) p))
+    ++ waitingBodies ((stationAt ((historyOf n calls) .group) p) .waiting)
+posts-accounted n low high calls p l =
+    let H = historyOf n calls in
+    let s : Station = stationAt (H .group) p in
+    kept-history n low high calls .accounted p l
+    ∙ sym (append-assoc (takingsOf p (airedList n H p)) (onlyEdits (bodies (laneAt s p))) (waitingBodies (s .waiting)))
+
+pub posts-counted :
+    (n : ℕ) → 1 ≤ n → n ≤ 16 → (calls : List Call) → (p : ℕ) → p < n →
+    length (takingsOf p ((historyOf n calls) .accepted))
     ≡ (stationAt ((historyOf n calls) .group) p) .waiting .len
-    + editsIn (bodies (laneAt (stationAt ((historyOf n calls) .group) p) p))
-    + airedOwn p (airedList n (historyOf n calls) p)
-posts-accounted n low high calls p l = kept-history n low high calls .accounted p l
+    + length (onlyEdits (bodies (laneAt (stationAt ((historyOf n calls) .group) p) p)))
+    + length (takingsOf p (airedList n (historyOf n calls) p))
+posts-counted n low high calls p l =
+    let H = historyOf n calls in
+    let s : Station = stationAt (H .group) p in
+    let members = kept-history n low high calls .members in
+    let aired : List Body = takingsOf p (airedList n H p) in
+    let lane : List Body = onlyEdits (bodies (laneAt s p)) in
+    let short : s .waiting .len ≤ length (s .waiting .slots) =
+    omega (arith, queue-most (s .waiting) (members .member p l .inside .waiting), members .shape .stations p (omega arith) .slots) in
+    omega (
+      arith,
+      ap length (posts-accounted n low high calls p l),
+      length-append (aired ++ lane) (waitingBodies (s .waiting)),
+      length-append aired lane,
+      waiting-length (s .waiting) short,
+    )

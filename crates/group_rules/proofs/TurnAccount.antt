@@ -1,14 +1,14 @@
--- Posts in a turn: an edit that starts leaves the waiting ones for the own lane, and one that is aired leaves the own lane for the row. So waiting edits,
--- edits in the own lane and own edits in the row together stay as many.
-use Prim.Native.Nat.{ℕ, zero, suc, _+_, _≤_, _<_}
+-- Posts in a turn: an edit that starts leaves the waiting ones for the own lane, and one that is aired leaves the own lane for the row. So the own
+-- edit of the row, then the edits in the own lane, then the waiting ones stay the same list.
+use Prim.Native.Nat.{ℕ, zero, suc, _≤_, _<_}
 use mathlib.Core.Bool.{Bool, true, false, cond}
-use mathlib.Core.List.{List, [], _∷_, _++_}
+use mathlib.Core.List.{List, [], _∷_, _++_, append-nil, append-assoc}
 use mathlib.Core.Path.{_≡_, refl, sym, ap, subst, _∙_}
 use native.Mathlib.Decide.{ℕ-discrete}
 use native.Mathlib.Omega.{arith}
 use lib.Dec.{eqb, ltb}
 use lib.ListN.{getD, replicate, length}
-use borrow.Author.Tests.{ltb-true, ne-eqb, eq-eqb}
+use borrow.Author.Tests.{ltb-true, eq-eqb}
 use Rattle.kinds.specs.declared.Body.{Body}
 use Rattle.kinds.specs.declared.Body.the-variants.{Neutral}
 use Rattle.kinds.specs.Body.{kindOf}
@@ -20,49 +20,51 @@ use Rattle.lanes.specs.declared.Slot.{Slot}
 use Rattle.station_rules.specs.declared.Station.{Station}
 use Rattle.station_rules.specs.declared.Taking.{Taking}
 use Rattle.lanes.specs.Lane.{bodies, laneOf, pushed, popped}
-use Rattle.lanes.specs.Queue.{noSlot, oldest, unqueued}
+use Rattle.lanes.specs.Queue.{noSlot, waitingBodies, oldest, unqueued}
+use Rattle.lanes.proofs.QueueLaws.{waiting-unqueued}
 use Rattle.station_rules.specs.State.{laneAt}
 use Rattle.station_rules.specs.Turn.{airs, rowOf, startsEdit, startedBody, passed, rewritten, afterTurn}
 use Rattle.kinds.proofs.Laws.{edit-not-empty}
 use Rattle.station_rules.proofs.BodyLaws.{neutral-no-edit}
 use Rattle.station_rules.proofs.Shape.{Shaped, lanesAfter-length}
 use Rattle.station_rules.proofs.LimitsLane.{lane-most}
-use Rattle.station_rules.proofs.LimitsQueue.{unqueued-len, oldest-edit}
+use Rattle.station_rules.proofs.LimitsQueue.{queue-most, oldest-edit}
 use Rattle.station_rules.proofs.StationLimits.{Inside}
 use Rattle.station_rules.proofs.TurnParts.{airs-each}
 use Rattle.station_rules.proofs.TurnLaws.{laneAfter, after-aired, after-kept, Start, Start.anEdit, Start.aNeutral, Start.nothing, start, passed-waiting, passed-own-lane}
-use Rattle.group_rules.specs.History.{editsOf, editsIn, airedOwn}
+use Rattle.group_rules.specs.History.{takingsOf, editsOf, onlyEdits}
+use Rattle.group_rules.proofs.Takings.{takingsOf-append, taking-other, taking-here}
 
--- one for an edit
-abbrev pub oneFor : Body → ℕ
-oneFor b = cond (isEdit b) 1 0
+-- a body, where it is an edit
+abbrev pub ifEdit : Body → List Body
+ifEdit b = cond (isEdit b) (b ∷ []) []
 
 abbrev lane : ℕ → Body → Body → Lane
 lane k a b = record { len = k; first = a; second = b }
 
-none-edits : (l : Lane) → l .len ≡ 0 → editsIn (bodies l) ≡ 0
-unfolding bodies editsIn
+none-edits : (l : Lane) → l .len ≡ 0 → onlyEdits (bodies l) ≡ []
+unfolding bodies onlyEdits
 none-edits l e = rw e
 
 -- the oldest removed
-popped-edits : (l : Lane) → 0 < l .len → l .len ≤ 2 → editsIn (bodies (popped l)) + oneFor (l .first) ≡ editsIn (bodies l)
-unfolding bodies laneOf editsIn
+popped-edits : (l : Lane) → 0 < l .len → l .len ≤ 2 → ifEdit (l .first) ++ onlyEdits (bodies (popped l)) ≡ onlyEdits (bodies l)
+unfolding bodies laneOf onlyEdits
 popped-edits l low high = go (l .len) (l .first) (l .second) low high
   where
-    go : (k : ℕ) (a b : Body) → 0 < k → k ≤ 2 → editsIn (bodies (popped (lane k a b))) + oneFor a ≡ editsIn (bodies (lane k a b))
+    go : (k : ℕ) (a b : Body) → 0 < k → k ≤ 2 → ifEdit a ++ onlyEdits (bodies (popped (lane k a b))) ≡ onlyEdits (bodies (lane k a b))
     go zero a b low high = absurd (omega arith)
-    go (suc zero) a b low high = omega arith
-    go (suc (suc zero)) a b low high = omega arith
+    go (suc zero) a b low high = refl
+    go (suc (suc zero)) a b low high = refl
     go (suc (suc (suc k))) a b low high = absurd (omega arith)
 
 -- a body put into an empty lane
-pushed-edits : (l : Lane) (b : Body) → l .len ≡ 0 → editsIn (bodies (pushed l b)) ≡ oneFor b
-unfolding bodies laneOf editsIn
-pushed-edits l b e = rw e (omega arith)
+pushed-edits : (l : Lane) (b : Body) → l .len ≡ 0 → onlyEdits (bodies (pushed l b)) ≡ ifEdit b
+unfolding bodies laneOf onlyEdits
+pushed-edits l b e = rw e (append-nil (ifEdit b))
 
--- the edits in the own lane
-abbrev pub ownEdits : Station → ℕ → ℕ
-ownEdits s p = editsIn (bodies (laneAt s p))
+-- the edits in the own lane, and then those that wait
+abbrev pub kept : Station → ℕ → List Body
+kept s p = onlyEdits (bodies (laneAt s p)) ++ waitingBodies (s .waiting)
 
 module _ (s : Station) (shape : Shaped s) (c : Inside s) where
   fits : s .own < length (s .lanes)
@@ -81,18 +83,19 @@ module _ (s : Station) (shape : Shaped s) (c : Inside s) where
 
   -- the airing step
   aired-account :
-      editsIn (bodies (laneAfter s (s .own))) + cond (airs s) (oneFor ((laneAt s (s .own)) .first)) 0 ≡ ownEdits s (s .own)
+      cond (airs s) (ifEdit ((laneAt s (s .own)) .first)) [] ++ onlyEdits (bodies (laneAfter s (s .own)))
+      ≡ onlyEdits (bodies (laneAt s (s .own)))
   aired-account = go (airs s) refl
     where
       go :
           (t : Bool) → airs s ≡ t →
-          editsIn (bodies (laneAfter s (s .own))) + cond t (oneFor ((laneAt s (s .own)) .first)) 0 ≡ ownEdits s (s .own)
+          cond t (ifEdit ((laneAt s (s .own)) .first)) [] ++ onlyEdits (bodies (laneAfter s (s .own)))
+          ≡ onlyEdits (bodies (laneAt s (s .own)))
       go true e = rw (after-aired s (s .own) (c .own) fits e) (popped-edits (laneAt s (s .own)) (airs-own e) own-most)
-      go false e = rw (after-kept s (s .own) e) (omega arith)
+      go false e = rw (after-kept s (s .own) e)
 
   -- the start
-  started-account :
-      (passed s) .waiting .len + ownEdits (passed s) (s .own) ≡ s .waiting .len + editsIn (bodies (laneAfter s (s .own)))
+  started-account : kept (passed s) (s .own) ≡ onlyEdits (bodies (laneAfter s (s .own))) ++ waitingBodies (s .waiting)
   started-account =
       rw (passed-waiting s, passed-own-lane s (rw (lanesAfter-length s) fits)) (go (start s))
     where
@@ -101,83 +104,73 @@ module _ (s : Station) (shape : Shaped s) (c : Inside s) where
 
       go :
           Start s →
-          (cond (startsEdit s) (unqueued (s .waiting)) (s .waiting)) .len
-          + editsIn (bodies (cond (eqb (kindOf (startedBody s)) 0) after (pushed after (startedBody s))))
-          ≡ s .waiting .len + editsIn (bodies after)
+          onlyEdits (bodies (cond (eqb (kindOf (startedBody s)) 0) after (pushed after (startedBody s))))
+          ++ waitingBodies (cond (startsEdit s) (unqueued (s .waiting)) (s .waiting))
+          ≡ onlyEdits (bodies after) ++ waitingBodies (s .waiting)
       go (anEdit e room w b) =
           let edit : isEdit (oldest (s .waiting)) ≡ true = oldest-edit (s .waiting) (c .waiting) w in
           rw (e, b, edit-not-empty (oldest (s .waiting)) edit, pushed-edits after (oldest (s .waiting)) room, edit, none-edits after room)
-          (omega (arith, unqueued-len (s .waiting)))
+          (sym (waiting-unqueued (s .waiting) w (omega (arith, queue-most (s .waiting) (c .waiting), shape .slots))))
       go (aNeutral e room b) = rw (e, b, pushed-edits after Neutral room, neutral-no-edit, none-edits after room)
       go (nothing e b) = rw (e, b)
 
-  rewritten-same : (afterTurn s) .waiting .len + ownEdits (afterTurn s) (s .own) ≡ (passed s) .waiting .len + ownEdits (passed s) (s .own)
+  rewritten-same : kept (afterTurn s) (s .own) ≡ kept (passed s) (s .own)
   unfolding afterTurn rewritten
   rewritten-same = refl
 
-  own-account :
-      (afterTurn s) .waiting .len + ownEdits (afterTurn s) (s .own) + cond (airs s) (oneFor ((laneAt s (s .own)) .first)) 0
-      ≡ s .waiting .len + ownEdits s (s .own)
-  own-account = omega (arith, rewritten-same, started-account, aired-account)
+  own-account : kept s (s .own) ≡ cond (airs s) (ifEdit ((laneAt s (s .own)) .first)) [] ++ kept (afterTurn s) (s .own)
+  own-account =
+      let row : List Body = cond (airs s) (ifEdit ((laneAt s (s .own)) .first)) [] in
+      let after : List Body = onlyEdits (bodies (laneAfter s (s .own))) in
+      ap (λ (l : List Body). l ++ waitingBodies (s .waiting)) (sym aired-account)
+      ∙ append-assoc row after (waitingBodies (s .waiting))
+      ∙ ap (λ (l : List Body). row ++ l) (sym (rewritten-same ∙ started-account))
 
-  pub turn-account :
-      (p : ℕ) → s .own ≡ p →
-      (afterTurn s) .waiting .len + ownEdits (afterTurn s) p + cond (airs s) (oneFor ((laneAt s p) .first)) 0
-      ≡ s .waiting .len + ownEdits s p
+  pub turn-account : (p : ℕ) → s .own ≡ p → kept s p ≡ cond (airs s) (ifEdit ((laneAt s p) .first)) [] ++ kept (afterTurn s) p
   turn-account p e =
-      subst
-      (λ (q : ℕ).
-      (afterTurn s) .waiting .len + ownEdits (afterTurn s) q + cond (airs s) (oneFor ((laneAt s q) .first)) 0 ≡ s .waiting .len + ownEdits s q)
-      e own-account
+      subst (λ (q : ℕ). kept s q ≡ cond (airs s) (ifEdit ((laneAt s q) .first)) [] ++ kept (afterTurn s) q) e own-account
 
-pub airedOwn-append : (p : ℕ) (xs ys : List Taking) → airedOwn p (xs ++ ys) ≡ airedOwn p xs + airedOwn p ys
-unfolding airedOwn
-airedOwn-append p [] ys = omega arith
-airedOwn-append p (t ∷ xs) ys = omega (arith, airedOwn-append p xs ys)
-
--- what is gathered with its place as source, counted at one place
+-- what is gathered with its place as source: the bodies of one place
 module _ (test : ℕ → Bool) (body : ℕ → Body) (p : ℕ) where
   abbrev takings : ℕ → List Taking
   takings m = gather m test (λ k. record { source = k; body = body k })
 
-  last-other : (m : ℕ) → (m ≡ p → ⊥) → airedOwn p (cond (test m) (record { source = m; body = body m } ∷ []) []) ≡ 0
-  unfolding airedOwn
-  last-other m ne = go (test m)
-    where
-      go : (t : Bool) → airedOwn p (cond t (record { source = m; body = body m } ∷ []) []) ≡ 0
-      go true = rw (ne-eqb m p ne)
-      go false = refl
+  abbrev last : ℕ → List Taking
+  last m = cond (test m) (record { source = m; body = body m } ∷ []) []
 
-  last-own : (m : ℕ) → m ≡ p → airedOwn p (cond (test m) (record { source = m; body = body m } ∷ []) []) ≡ cond (test m) 1 0
-  unfolding airedOwn
-  last-own m e = go (test m)
-    where
-      go : (t : Bool) → airedOwn p (cond t (record { source = m; body = body m } ∷ []) []) ≡ cond t 1 0
-      go true = rw (eq-eqb m p e)
-      go false = refl
+  last-other : (m : ℕ) → (m ≡ p → ⊥) → takingsOf p (last m) ≡ []
+  last-other m ne = taking-other p m (test m) (body m) ne
 
-  before-own : (m : ℕ) → m ≤ p → airedOwn p (takings m) ≡ 0
-  unfolding gather airedOwn
+  last-own : (m : ℕ) → m ≡ p → takingsOf p (last m) ≡ cond (test p) (body p ∷ []) []
+  last-own m e =
+      subst (λ (k : ℕ). takingsOf p (last k) ≡ cond (test p) (body p ∷ []) []) (sym e) (taking-here p (test p) (body p))
+
+  before-own : (m : ℕ) → m ≤ p → takingsOf p (takings m) ≡ []
+  unfolding gather takingsOf
   before-own zero l = refl
   before-own (suc m) l =
-      airedOwn-append p (takings m) (cond (test m) (record { source = m; body = body m } ∷ []) [])
-      ∙ omega (arith, before-own m (omega arith), last-other m (λ e. absurd (omega arith)))
+      takingsOf-append p (takings m) (last m)
+      ∙ ap (λ (x : List Body). x ++ takingsOf p (last m)) (before-own m (omega arith))
+      ∙ last-other m (λ e. absurd (omega arith))
 
-  gathered-own : (m : ℕ) → p < m → airedOwn p (takings m) ≡ cond (test p) 1 0
-  unfolding gather airedOwn
+  gathered-own : (m : ℕ) → p < m → takingsOf p (takings m) ≡ cond (test p) (body p ∷ []) []
+  unfolding gather
   gathered-own zero l = absurd (omega arith)
   gathered-own (suc m) l =
-      airedOwn-append p (takings m) (cond (test m) (record { source = m; body = body m } ∷ []) [])
+      takingsOf-append p (takings m) (last m)
       ∙ elim (ℕ-discrete m p) [
-        | yes e ↦ omega (arith, before-own m (omega arith), last-own m e, ap {B = ℕ} (λ (k : ℕ). cond (test k) 1 0) e)
-        | no d ↦ omega (arith, gathered-own m (omega arith), last-other m d)
+        | yes e ↦ ap (λ (x : List Body). x ++ takingsOf p (last m)) (before-own m (omega arith)) ∙ last-own m e
+        | no d ↦
+            ap (λ (x : List Body). x ++ takingsOf p (last m)) (gathered-own m (omega arith))
+            ∙ ap (λ (x : List Body). cond (test p) (body p ∷ []) [] ++ x) (last-other m d)
+            ∙ append-nil (cond (test p) (body p ∷ []) [])
       ]
 
 -- the own edit of a row
 pub row-account :
-    (n : ℕ) (s : Station) (p : ℕ) → n ≤ 16 → s .n ≡ n → p < n → airedOwn p (editsOf n (rowOf s)) ≡ oneFor ((laneAt s p) .first)
+    (n : ℕ) (s : Station) (p : ℕ) → n ≤ 16 → s .n ≡ n → p < n → takingsOf p (editsOf n (rowOf s)) ≡ ifEdit ((laneAt s p) .first)
 unfolding editsOf rowOf
 row-account n s p high size l =
     gathered-own (λ k. isEdit ((getD (rowOf s) k noSlot) .body)) (λ k. (getD (rowOf s) k noSlot) .body) p n l
-    ∙ ap (λ (x : Slot). oneFor (x .body))
+    ∙ ap (λ (x : Slot). ifEdit (x .body))
     (fill-below (s .n) (λ k. record { body = (laneAt s k) .first }) (replicate 16 noSlot) p noSlot (omega arith) (omega arith))

@@ -1,8 +1,8 @@
 -- Document 01, "A group and its rounds" and "Turned down": group fresh, group post and round, each with its refusals in their order.
 use Prim.Native.Nat.{ℕ, zero, suc, _-_}
-use mathlib.Core.Bool.{Bool, true, false, cond, not, _&&_}
-use mathlib.Core.List.{List, [], _∷_, _++_}
-use lib.ListN.{getD, set, replicate, length}
+use mathlib.Core.Bool.{Bool, false, cond, not, _&&_}
+use mathlib.Core.List.{List, _++_}
+use lib.ListN.{set, replicate, length}
 use lib.Dec.{leb, ltb, eqb}
 use Rattle.kinds.specs.declared.Body.{Body}
 use Rattle.kinds.specs.declared.Body.the-variants.{Empty}
@@ -10,7 +10,6 @@ use Rattle.kinds.specs.Refusals.{done, badNumber, outsideLimits, laneFull, coun
 use Rattle.links.specs.Log.{hearsIn}
 use Rattle.places.specs.Places.{anyBelow, fill}
 use Rattle.station_rules.specs.declared.Station.{Station}
-use Rattle.station_rules.specs.declared.Taking.{Taking}
 use Rattle.station_rules.specs.State.{sentRecords}
 use Rattle.station_rules.specs.Hearing.{Hearing, silent, hearRecords}
 pub use Rattle.station_rules.specs.Frames.{noTaking}

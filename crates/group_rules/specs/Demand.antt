@@ -1,6 +1,6 @@
 -- Demand 3 of document 01, as one claim about one list of calls. Each field is a sentence of the demand, or half of one.
 use Prim.Native.Nat.{ℕ, suc, _+_, _*_, _-_, _≤_, _<_}
-use mathlib.Core.Bool.{Bool, true}
+use mathlib.Core.Bool.{true}
 use mathlib.Core.List.{List, _++_}
 use mathlib.Core.Logic.{_⊎_, _↔_}
 use mathlib.Core.Path.{_≡_}
@@ -9,9 +9,10 @@ use Rattle.kinds.specs.Refusals.{done}
 use Rattle.links.specs.Relay.{ofLog}
 use Rattle.links.specs.EndRule.{EndsIn}
 use Rattle.lanes.specs.Lane.{bodies}
+use Rattle.lanes.specs.Queue.{waitingBodies}
 use Rattle.station_rules.specs.State.{heldOf, recordOf, laneAt}
 use Rattle.group_rules.specs.State.{stationAt}
-use Rattle.group_rules.specs.History.{History, Call, noRound, historyOf, started, takenFrom, airedList, airedOwn, occurrences, editsIn, endsAt, startedIn}
+use Rattle.group_rules.specs.History.{History, Call, noRound, historyOf, started, takingsOf, takenFrom, airedList, onlyEdits, endsAt, startedIn}
 
 module _ {A : Type 0} where
   -- the term "beginning": so many first entries of a list
@@ -34,11 +35,20 @@ pub record Demand (n : ℕ) (H : History) : Type 0 where
       (p s : ℕ) → p < n → s < n → heldOf (stationAt (H .group) p) s ≡ true → (recordOf (stationAt (H .group) p) s) .count ≤ 2 * (n - 1)
   -- no lane above two
   pub lanes-bounded : (p s : ℕ) → p < n → s < n → (laneAt (stationAt (H .group) p) s) .len ≤ 2
-  -- accepted posts = waiting + edits in the own lane + own edits aired
+  -- accepted posts in their order: the own edits that were aired, then those in the own lane, then those that wait
   pub posts-accounted :
       (p : ℕ) → p < n →
-      occurrences p (H .accepted)
-      ≡ (stationAt (H .group) p) .waiting .len + editsIn (bodies (laneAt (stationAt (H .group) p) p)) + airedOwn p (airedList n H p)
+      takingsOf p (H .accepted)
+      ≡ takingsOf p (airedList n H p)
+      ++ onlyEdits (bodies (laneAt (stationAt (H .group) p) p))
+      ++ waitingBodies ((stationAt (H .group) p) .waiting)
+  -- and so in number: accepted posts = waiting + edits in the own lane + own edits aired
+  pub posts-counted :
+      (p : ℕ) → p < n →
+      length (takingsOf p (H .accepted))
+      ≡ (stationAt (H .group) p) .waiting .len
+      + length (onlyEdits (bodies (laneAt (stationAt (H .group) p) p)))
+      + length (takingsOf p (airedList n H p))
   -- a broadcast ends in round u + 1 exactly when that is the first after its start by which every other station had a relay from the sender and then
   -- one back
   pub ends-exactly :

@@ -1,12 +1,10 @@
 -- Document 01, "A group and its rounds", demand 3: one list of calls from a fresh group, and what the demand's words mean of it.
-use Prim.Native.Nat.{ℕ, zero, suc, _+_}
-use mathlib.Core.Bool.{Bool, true, false, cond, not, _&&_}
+use Prim.Native.Nat.{ℕ, zero, suc}
+use mathlib.Core.Bool.{Bool, false, cond}
 use mathlib.Core.List.{List, [], _∷_, _++_}
-use mathlib.Core.Path.{_≡_}
-use lib.ListN.{getD, take, length}
+use lib.ListN.{getD, take}
 use lib.Dec.{eqb}
 use Rattle.kinds.specs.declared.Body.{Body}
-use Rattle.kinds.specs.declared.Body.the-variants.{Empty}
 use Rattle.kinds.specs.Body.{kindOf}
 use Rattle.kinds.specs.Limits.{isEdit}
 use Rattle.kinds.specs.Refusals.{done}
@@ -17,7 +15,6 @@ use Rattle.station_rules.specs.declared.Taking.{Taking}
 use Rattle.lanes.specs.Queue.{noSlot}
 use Rattle.group_rules.specs.declared.Report.{Report}
 use Rattle.group_rules.specs.declared.RoundDone.{RoundDone}
-use Rattle.group_rules.specs.declared.KeptGroup.{KeptGroup}
 use Rattle.group_rules.specs.State.{freshGroup}
 use Rattle.group_rules.specs.Calls.{postCall, roundCall, noReport}
 
@@ -26,12 +23,12 @@ pub data Call : Type 0 where
   post : ℕ → Body → Call
   round : List ℕ → Call
 
--- what a list of calls leaves: the group, what its rounds returned, the masks they were given, and where its accepted posts were
+-- what a list of calls leaves: the group, what its rounds returned, the masks they were given, and its accepted posts, each with the station it was made at
 pub record History : Type 0 where
   pub group : List Station
   pub rounds : List RoundDone
   pub log : List (List ℕ)
-  pub accepted : List ℕ
+  pub accepted : List Taking
 
 -- one call more
 unfoldable pub next : History → Call → History
@@ -41,7 +38,7 @@ next H (post k b) =
       group = made .group;
       rounds = H .rounds;
       log = H .log;
-      accepted = H .accepted ++ cond (eqb (made .refusal) done) (k ∷ []) [];
+      accepted = H .accepted ++ cond (eqb (made .refusal) done) (record { source = k; body = b } ∷ []) [];
     }
 next H (round masks) =
     let made = roundCall (H .group) masks in
@@ -81,7 +78,7 @@ module _ {A : Type 0} where
   collect f [] = []
   collect f (r ∷ rs) = f r ++ collect f rs
 
--- the bodies of those takings that are of station s
+-- the bodies of those entries that are of station s
 unfoldable pub takingsOf : ℕ → List Taking → List Body
 takingsOf s [] = []
 takingsOf s (t ∷ ts) = cond (eqb (t .source) s) (t .body ∷ []) [] ++ takingsOf s ts
@@ -107,20 +104,10 @@ unfoldable pub airedList : ℕ → History → ℕ → List Taking
 airedList n H p =
     collect (λ r. cond ((reportIn r p) .turn .aired) (editsOf n ((reportIn r p) .turn .row)) []) (H .rounds)
 
--- how many posts at station p returned 0
-unfoldable pub occurrences : ℕ → List ℕ → ℕ
-occurrences p [] = 0
-occurrences p (k ∷ ks) = cond (eqb k p) 1 0 + occurrences p ks
-
--- how many bodies of a list are edits
-unfoldable pub editsIn : List Body → ℕ
-editsIn [] = 0
-editsIn (b ∷ bs) = cond (isEdit b) 1 0 + editsIn bs
-
--- how many entries of an aired list are of station p
-unfoldable pub airedOwn : ℕ → List Taking → ℕ
-airedOwn p [] = 0
-airedOwn p (t ∷ ts) = cond (eqb (t .source) p) 1 0 + airedOwn p ts
+-- the edits of a list of bodies
+unfoldable pub onlyEdits : List Body → List Body
+onlyEdits [] = []
+onlyEdits (b ∷ bs) = cond (isEdit b) (b ∷ []) [] ++ onlyEdits bs
 
 -- station s reports an end in round u; rounds are numbered from 1
 unfoldable pub endsAt : History → ℕ → ℕ → Bool

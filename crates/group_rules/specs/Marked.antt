@@ -1,9 +1,9 @@
 -- Document 01, "Marked examples of the trade": M1 to M12 as one list of statements about the definitions.
 use Prim.Native.Nat.{ℕ, _+_, _≤_, _<_}
-use mathlib.Core.Bool.{Bool, true, false}
+use mathlib.Core.Bool.{true, false}
 use mathlib.Core.List.{List, [], _∷_}
 use mathlib.Core.Path.{_≡_}
-use lib.IntN.{ℤ, pos, negsuc}
+use lib.IntN.{pos, negsuc}
 use lib.ListN.{getD, length, replicate}
 use Rattle.kinds.specs.declared.Body.{Body}
 use Rattle.kinds.specs.declared.Body.the-variants.{Empty, Neutral, Insert, Shift}
@@ -18,7 +18,7 @@ use Rattle.station_rules.specs.declared.TurnReport.{TurnReport}
 use Rattle.lanes.specs.Queue.{noSlot}
 use Rattle.station_rules.specs.Limits.{stationInside}
 use Rattle.station_rules.specs.Calls.{postCall}
-use Rattle.group_rules.specs.History.{History, Call, post, round, noRound, historyOf, reportIn}
+use Rattle.group_rules.specs.History.{History, post, round, noRound, historyOf, reportIn}
 
 -- a group of one, one edit posted and two rounds with any masks
 abbrev pub oneStation : Body → List ℕ → List ℕ → History

@@ -1,3 +1,4 @@
 pub mod LaneLaws
 pub mod LaneSteps
 pub mod QueueSteps
+pub mod QueueLaws

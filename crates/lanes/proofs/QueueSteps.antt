@@ -1,11 +1,11 @@
 -- A list moved down by one place: after i steps its first i places hold those after them, and the others are as they were.
-use Prim.Native.Nat.{ℕ, zero, suc, _+_, _<_, _≤_}
+use Prim.Native.Nat.{ℕ, suc, _+_, _<_}
 use native.Mathlib.Omega.{arith}
 use native.Mathlib.Numerals.{add-one}
-use mathlib.Core.Path.{_≡_, refl, sym, ap, _∙_}
+use mathlib.Core.Path.{_≡_, ap, _∙_}
 use mathlib.Core.List.{List, [], _∷_, _++_, append-assoc}
-use lib.ListN.{take, drop, set, getD, length, length-append, length-take, length-drop, length-set, drop-of-length-le}
-use lib.Seq.{drop-cons, take-suc, set-at, getD-append-add, getD-drop, take-all, length-take-le}
+use lib.ListN.{take, drop, set, getD, length, length-take, length-drop, drop-of-length-le}
+use lib.Seq.{drop-cons, take-suc, set-at, getD-append-add, getD-drop, take-all}
 
 module _ {A : Type 0} where
   abbrev pub moved : List A → ℕ → List A

@@ -1,9 +1,6 @@
 -- Document 01, "A station and its calls": a lane, at most two bodies, oldest first. What stands past its length is no part of it.
-use Prim.Native.Nat.{ℕ}
-use mathlib.Core.Bool.{Bool}
 use mathlib.Core.List.{List, [], _∷_, _++_}
-use lib.ListN.{take, drop, length}
-use lib.Dec.{ltb}
+use lib.ListN.{take, drop}
 use Rattle.kinds.specs.declared.Body.{Body}
 use Rattle.kinds.specs.declared.Body.the-variants.{Empty}
 use Rattle.lanes.specs.declared.Lane.{Lane}

@@ -1,6 +1,6 @@
 -- The answers of the open calls, each with the tests on its way decided.
 use Prim.Native.Nat.{ℕ, _-_, _≤_, _<_}
-use mathlib.Core.Path.{_≡_, refl, sym, ap, _∙_}
+use mathlib.Core.Path.{_≡_, refl, sym, _∙_}
 use mathlib.Core.Bool.{Bool, true, false, _&&_}
 use native.Mathlib.Omega.{arith}
 use mathlib.Core.List.{List, _++_}
@@ -15,9 +15,7 @@ use Rattle.frames.specs.Frame.{validNumber, part, recordsInside, frameRefusal, 
 use Rattle.frames.proofs.Check.{accepted-frame, shape}
 use Rattle.places.proofs.Laws.{and-left, and-right, allBelow-at, allBelow-make}
 use Rattle.station_rules.specs.declared.Station.{Station}
-use Rattle.station_rules.specs.declared.Kept.{Kept}
 use Rattle.station_rules.specs.declared.Taking.{Taking}
-use Rattle.station_rules.specs.declared.Heard.{Heard}
 use Rattle.station_rules.specs.Hearing.{Hearing, silent, hearRecords}
 use Rattle.station_rules.specs.Frames.{hearFrames, FrameAt, noTaking}
 use Rattle.station_rules.specs.State.{freshStation}

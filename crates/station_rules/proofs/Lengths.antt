@@ -2,8 +2,8 @@
 -- array says it of each record's labels.
 use Prim.Native.Nat.{ℕ, zero, suc, _<_}
 use native.Mathlib.Omega.{arith}
-use mathlib.Core.Path.{_≡_, refl, sym, ap, subst, _∙_}
-use mathlib.Core.List.{List, [], _∷_, map}
+use mathlib.Core.Path.{_≡_, subst}
+use mathlib.Core.List.{List, [], _∷_}
 use lib.ListN.{getD, length, length-map, List·getD-map}
 use mir.Val.{Val}
 use base.Fml.{Fml}

@@ -1,25 +1,22 @@
 -- Hearing a written frame is hearing the writer's table: a station's frame reads back as the records that it sent, and every other station among as many
 -- accepts it. So a round may hand over records in the place of bytes.
-use Prim.Native.Nat.{ℕ, _<_, _≤_}
-use native.Mathlib.Omega.{arith}
+use Prim.Native.Nat.{ℕ, _<_}
 use mathlib.Core.Bool.{Bool, true, false, _||_}
-use mathlib.Core.Path.{_≡_, refl, sym, ap, subst, _∙_}
-use lib.ListN.{getD, take}
+use mathlib.Core.Path.{_≡_, refl, sym, ap, subst}
 use lib.Dec.{eqb}
 use borrow.Author.Tests.{lt-ltb, eqb-true}
-use Rattle.kinds.specs.Limits.{bodyInside}
 use Rattle.kinds.specs.Refusals.{done}
 use Rattle.frames.specs.Record.{countInside, recordFits}
-use Rattle.frames.specs.Frame.{frameBytes, recordsOf, frameRefusal}
+use Rattle.frames.specs.Frame.{recordsOf, frameRefusal}
 use Rattle.frames.specs.Calls.{tableRecords}
 use Rattle.frames.proofs.TableTrip.{table-read, table-accepted}
 use Rattle.places.proofs.Laws.{and-both}
 use Rattle.station_rules.specs.declared.Station.{Station}
 use Rattle.station_rules.specs.State.{heldOf, recordOf, sentRecords}
-use Rattle.station_rules.specs.Hearing.{Hearing, silent, hearRecords}
+use Rattle.station_rules.specs.Hearing.{Hearing, hearRecords}
 use Rattle.station_rules.specs.Calls.{ownCountInside, frameOf}
-use Rattle.station_rules.proofs.StationLimits.{Inside, RecordHolds}
-use Rattle.station_rules.proofs.WriteSteps.{writable, frame-is}
+use Rattle.station_rules.proofs.StationLimits.{Inside}
+use Rattle.station_rules.proofs.WriteSteps.{writable}
 
 either : (a b : Bool) → (a || b) ≡ true → (a ≡ true → b ≡ true) → b ≡ true
 either true b h f = f refl

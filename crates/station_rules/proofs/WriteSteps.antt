@@ -1,20 +1,19 @@
 -- Writing the frame of a station: a table inside its limits can be written, and the answers of the definition with the tests on their way decided.
 use Prim.Native.Nat.{ℕ, _<_, _≤_}
 use native.Mathlib.Omega.{arith}
-use mathlib.Core.Path.{_≡_, refl, sym, ap, _∙_}
-use mathlib.Core.Bool.{Bool, true, false, cond, not}
-use mathlib.Core.List.{List, _++_}
-use lib.ListN.{getD, take, drop, length, length-take}
+use mathlib.Core.Path.{_≡_, refl}
+use mathlib.Core.Bool.{Bool, true, false}
+use mathlib.Core.List.{List}
+use lib.ListN.{getD, take, length, length-take}
 use lib.Seq.{getD-take}
-use lib.Dec.{ltb, eqb}
+use lib.Dec.{ltb}
 use borrow.Author.Tests.{leb-true}
 use Rattle.labels.specs.Packing.{allLabels}
 use Rattle.labels.proofs.Laws.{at-all}
 use Rattle.frames.specs.Frame.{frameBytes}
 use Rattle.frames.specs.Calls.{tableRecords, written, bufferWith, Writable}
 use Rattle.station_rules.specs.declared.Station.{Station}
-use Rattle.station_rules.specs.declared.Written.{Written}
-use Rattle.station_rules.specs.State.{heldOf, recordOf, recordLabel, sentRecords}
+use Rattle.station_rules.specs.State.{recordOf, recordLabel, sentRecords}
 use Rattle.station_rules.specs.Limits.{stationInside}
 use Rattle.station_rules.specs.Calls.{ownCountInside, frameOf, writeRefusal, writeCall, bufferAfter}
 use Rattle.station_rules.proofs.StationLimits.{Inside}

@@ -1,8 +1,8 @@
 -- Document 01, "A station and its calls" and "Turned down": the open calls, each with its refusals in their order.
-use Prim.Native.Nat.{ℕ, _+_, _*_}
-use mathlib.Core.Bool.{Bool, true, false, cond, not, _&&_}
+use Prim.Native.Nat.{ℕ, _+_}
+use mathlib.Core.Bool.{Bool, true, false, cond, not}
 use mathlib.Core.List.{List, [], _∷_, _++_}
-use lib.ListN.{getD, set, replicate, length, drop}
+use lib.ListN.{set, replicate, length, drop}
 use lib.Dec.{leb, ltb, eqb}
 use Rattle.kinds.specs.declared.Body.{Body}
 use Rattle.kinds.specs.declared.Body.the-variants.{Empty}
@@ -10,7 +10,6 @@ use Rattle.kinds.specs.Limits.{isEdit}
 use Rattle.kinds.specs.Refusals.{done, badNumber, outsideLimits, queueFull, notAnEdit, laneFull, shortBuffer, countTooHigh, refuse}
 use Rattle.frames.specs.Record.{countInside}
 use Rattle.frames.specs.Frame.{validNumber, frameRefusal, recordsOf, frameBytes}
-use Rattle.places.specs.Places.{fill}
 use Rattle.station_rules.specs.declared.Station.{Station}
 use Rattle.station_rules.specs.declared.Taking.{Taking}
 use Rattle.station_rules.specs.declared.TurnReport.{TurnReport}
@@ -21,7 +20,7 @@ use Rattle.station_rules.specs.declared.Turned.{Turned}
 use Rattle.lanes.specs.Queue.{noSlot, queued}
 use Rattle.station_rules.specs.State.{recordOf, sentRecords, freshStation}
 use Rattle.station_rules.specs.Limits.{stationInside}
-use Rattle.station_rules.specs.Hearing.{Hearing, silent, hearRecords}
+use Rattle.station_rules.specs.Hearing.{silent, hearRecords}
 use Rattle.station_rules.specs.Turn.{afterTurn, turnReport}
 
 -- "Fresh": 1; a refused call returns the fresh station of N = 1

@@ -2,7 +2,7 @@
 -- bytes; frame f begins at place f of a list of starts.
 use Prim.Native.Nat.{ℕ, zero, suc, _+_, _-_, _*_, _≤_}
 use mathlib.Core.Path.{_≡_}
-use mathlib.Core.Bool.{Bool, true, false}
+use mathlib.Core.Bool.{true, false}
 use mathlib.Core.List.{List, _++_}
 use lib.ListN.{getD, drop, length, replicate}
 use Rattle.kinds.specs.declared.Body.the-variants.{Empty}

@@ -1,9 +1,8 @@
 -- Document 01, "A station and its calls": what a station has of station k, place by place, and the fresh station.
 use Prim.Native.Nat.{ℕ}
 use mathlib.Core.Bool.{Bool, true, false}
-use mathlib.Core.List.{List, []}
+use mathlib.Core.List.{List}
 use lib.ListN.{getD, set, replicate}
-use Rattle.kinds.specs.declared.Body.{Body}
 use Rattle.kinds.specs.declared.Body.the-variants.{Empty}
 use Rattle.frames.specs.declared.Record.{Record}
 use Rattle.frames.specs.Record.{noRecord, zeroRecord}

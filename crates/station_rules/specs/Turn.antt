@@ -1,9 +1,8 @@
 -- Document 01, "A station and its calls", Turn: airing, the end of the broadcast and the next start, the own record rewritten.
-use Prim.Native.Nat.{ℕ}
-use mathlib.Core.Bool.{Bool, true, false, cond, not, _&&_}
+use mathlib.Core.Bool.{Bool, cond, _&&_}
 use mathlib.Core.List.{List}
 use lib.ListN.{getD, set, replicate}
-use lib.Dec.{leb, ltb, eqb}
+use lib.Dec.{ltb, eqb}
 use Rattle.kinds.specs.declared.Body.{Body}
 use Rattle.kinds.specs.declared.Body.the-variants.{Empty, Neutral}
 use Rattle.kinds.specs.Body.{kindOf}
@@ -11,7 +10,6 @@ use Rattle.labels.specs.Label.{successor}
 use Rattle.frames.specs.declared.Record.{Record}
 use Rattle.places.specs.Places.{allBelow, fill}
 use Rattle.lanes.specs.declared.Lane.{Lane}
-use Rattle.lanes.specs.declared.Queue.{Queue}
 use Rattle.lanes.specs.declared.Slot.{Slot}
 use Rattle.station_rules.specs.declared.Station.{Station}
 use Rattle.station_rules.specs.declared.TurnReport.{TurnReport}

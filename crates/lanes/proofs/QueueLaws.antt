@@ -1,0 +1,40 @@
+-- Queues as lists: to put a body last or to remove the oldest is the same on a queue as on the list of its waiting bodies, as long as its slots reach that far.
+use Prim.Native.Nat.{ℕ, zero, suc, _-_, _≤_, _<_}
+use mathlib.Core.Path.{_≡_, refl, sym, ap, _∙_}
+use mathlib.Core.List.{List, [], _∷_, _++_, map, map-append}
+use native.Mathlib.Omega.{arith}
+use native.Mathlib.Numerals.{add-one}
+use lib.ListN.{take, length, length-map}
+use lib.Seq.{take-suc-set, take-append-le, length-take-le}
+use Rattle.kinds.specs.declared.Body.{Body}
+use Rattle.lanes.specs.declared.Slot.{Slot}
+use Rattle.lanes.specs.declared.Queue.{Queue}
+use Rattle.lanes.specs.Queue.{noSlot, waitingBodies, noneWaiting, queued, oldest, unqueued}
+
+pub waiting-none : waitingBodies noneWaiting ≡ []
+unfolding waitingBodies noneWaiting
+waiting-none = refl
+
+pub waiting-length : (q : Queue) → q .len ≤ length (q .slots) → length (waitingBodies q) ≡ q .len
+unfolding waitingBodies
+waiting-length q l = length-map (take (q .len) (q .slots)) (λ slot. slot .body) ∙ length-take-le (q .len) (q .slots) l
+
+pub waiting-queued : (q : Queue) (b : Body) → q .len < length (q .slots) → waitingBodies (queued q b) ≡ waitingBodies q ++ (b ∷ [])
+unfolding waitingBodies queued
+waiting-queued q b l =
+    rw (add-one, take-suc-set (q .slots) (q .len) (record { body = b }) l)
+    (map-append (λ slot. slot .body) (take (q .len) (q .slots)) (record { body = b } ∷ []))
+
+pub waiting-unqueued : (q : Queue) → 0 < q .len → q .len ≤ length (q .slots) → waitingBodies q ≡ oldest q ∷ waitingBodies (unqueued q)
+unfolding waitingBodies oldest unqueued
+waiting-unqueued q low high = go (q .len) (q .slots) low high
+  where
+    go :
+        (k : ℕ) (slots : List Slot) → 0 < k → k ≤ length slots →
+        waitingBodies (record { len = k; slots = slots }) ≡ oldest (record { len = k; slots = slots }) ∷ waitingBodies (unqueued (record { len = k; slots = slots }))
+    go zero slots low high = absurd (omega arith)
+    go (suc k) [] low high = absurd (omega arith)
+    go (suc k) (x ∷ slots) low high =
+        let one : k ≡ suc k - 1 = omega arith in
+        ap (λ (l : List Slot). x .body ∷ map (λ slot. slot .body) l) (sym (take-append-le k slots (noSlot ∷ []) (omega arith)))
+        ∙ ap (λ (j : ℕ). x .body ∷ map (λ slot. slot .body) (take j (slots ++ (noSlot ∷ [])))) one
