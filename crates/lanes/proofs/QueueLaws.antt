@@ -4,8 +4,8 @@ use mathlib.Core.Path.{_≡_, refl, sym, ap, _∙_}
 use mathlib.Core.List.{List, [], _∷_, _++_, map, map-append}
 use native.Mathlib.Omega.{arith}
 use native.Mathlib.Numerals.{add-one}
-use lib.ListN.{take, length, length-map}
-use lib.Seq.{take-suc-set, take-append-le, length-take-le}
+use lib.ListN.{take, drop, getD, length, length-map, length-take, length-drop, length-append, List·getD-append}
+use lib.Seq.{take-suc-set, take-at, length-take-le, getD-take, getD-drop}
 use Rattle.kinds.specs.declared.Body.{Body}
 use Rattle.lanes.specs.declared.Slot.{Slot}
 use Rattle.lanes.specs.declared.Queue.{Queue}
@@ -36,5 +36,29 @@ waiting-unqueued q low high = go (q .len) (q .slots) low high
     go (suc k) [] low high = absurd (omega arith)
     go (suc k) (x ∷ slots) low high =
         let one : k ≡ suc k - 1 = omega arith in
-        ap (λ (l : List Slot). x .body ∷ map (λ slot. slot .body) l) (sym (take-append-le k slots (noSlot ∷ []) (omega arith)))
-        ∙ ap (λ (j : ℕ). x .body ∷ map (λ slot. slot .body) (take j (slots ++ (noSlot ∷ [])))) one
+        let past : List Slot = noSlot ∷ drop k slots in
+        ap (λ (l : List Slot). x .body ∷ map (λ slot. slot .body) l) (sym (take-at (take k slots) past k (length-take-le k slots (omega arith))))
+        ∙ ap (λ (j : ℕ). x .body ∷ map (λ slot. slot .body) (take j (take j slots ++ past))) one
+
+-- the slots when the oldest is removed: as many, and below the new length each is the next one
+pub unqueued-slots : (q : Queue) → 0 < q .len → 0 < length (q .slots) → length ((unqueued q) .slots) ≡ length (q .slots)
+unfolding unqueued
+unqueued-slots q low some =
+    omega (
+      arith,
+      length-append (take (q .len - 1) (drop 1 (q .slots))) (noSlot ∷ drop (q .len) (q .slots)),
+      length-take (q .len - 1) (drop 1 (q .slots)),
+      length-drop 1 (q .slots),
+      length-drop (q .len) (q .slots),
+    )
+
+pub unqueued-at :
+    (q : Queue) (i : ℕ) → q .len ≤ length (q .slots) → i < q .len - 1 → getD ((unqueued q) .slots) i noSlot ≡ getD (q .slots) (suc i) noSlot
+unfolding unqueued
+unqueued-at q i high l =
+    let rest = take (q .len - 1) (drop 1 (q .slots)) in
+    List·getD-append rest (noSlot ∷ drop (q .len) (q .slots)) noSlot i
+    (omega (arith, length-take (q .len - 1) (drop 1 (q .slots)), length-drop 1 (q .slots)))
+    ∙ getD-take (q .len - 1) (drop 1 (q .slots)) i noSlot l
+    ∙ getD-drop 1 (q .slots) i noSlot
+    ∙ ap (λ (k : ℕ). getD (q .slots) k noSlot) (omega arith)

@@ -1,11 +1,11 @@
--- A list moved down by one place: after i steps its first i places hold those after them, and the others are as they were.
+-- A list moved up by one place: after i steps its first i places hold those after them, and the others are as they were.
 use Prim.Native.Nat.{ℕ, suc, _+_, _<_}
 use native.Mathlib.Omega.{arith}
 use native.Mathlib.Numerals.{add-one}
 use mathlib.Core.Path.{_≡_, ap, _∙_}
 use mathlib.Core.List.{List, [], _∷_, _++_, append-assoc}
-use lib.ListN.{take, drop, set, getD, length, length-take, length-drop, drop-of-length-le}
-use lib.Seq.{drop-cons, take-suc, set-at, getD-append-add, getD-drop, take-all}
+use lib.ListN.{take, drop, set, getD, length, length-take, length-drop}
+use lib.Seq.{drop-cons, take-suc, set-at, getD-append-add, getD-drop}
 
 module _ {A : Type 0} where
   abbrev pub moved : List A → ℕ → List A
@@ -28,8 +28,6 @@ module _ {A : Type 0} where
       rw (next d l i h, drop-cons l i d (omega arith))
       (set-at (take i (drop 1 l)) (getD l i d) (drop (suc i) l) (getD l (i + 1) d) i (front l i (omega arith)) ∙ rw (add-one, take-suc (drop 1 l) i d b, f, append-assoc, add-one))
 
-  pub moved-all : (d : A) (l : List A) (n : ℕ) → length l ≡ n + 1 → (x : A) → set (moved l n) n x ≡ drop 1 l ++ (x ∷ [])
-  moved-all d l n h x =
-      let e : drop n l ≡ getD l n d ∷ [] = drop-cons l n d (omega arith) ∙ ap (λ (r : List A). getD l n d ∷ r) (drop-of-length-le l {i = suc n} (omega arith)) in
-      rw (e, take-all n (drop 1 l) (rw length-drop (omega arith)))
-      (set-at (drop 1 l) (getD l n d) [] x n (rw length-drop (omega arith)))
+  -- the last of n places moved, x in the place that became free
+  pub moved-all : (d : A) (l : List A) (n : ℕ) → n < length l → (x : A) → set (moved l n) n x ≡ take n (drop 1 l) ++ (x ∷ drop (n + 1) l)
+  moved-all d l n h x = rw (drop-cons l n d h, add-one) (set-at (take n (drop 1 l)) (getD l n d) (drop (suc n) l) x n (front l n h))

@@ -1,7 +1,7 @@
 // A lane of at most two bodies and a queue of up to 32 edits, both oldest first.
 
 ghost use mathlib.Core.Path.{_≡_};
-ghost use Prim.Native.Nat.{_<_};
+ghost use Prim.Native.Nat.{_≤_, _<_};
 ghost use Rattle.lanes.specs.Lane as laneSpec;
 ghost use Rattle.lanes.specs.Queue as queueSpec;
 use kinds::Body;
@@ -95,16 +95,17 @@ pub fn oldest(queue: Queue) -> Body
 
 // The queue without its oldest body.
 pub fn unqueued(queue: Queue) -> Queue
-    requires { ⌜ 0 < queue .len ⌝ }
+    requires { ⌜ (0 < queue .len) × (queue .len ≤ 32) ⌝ }
     ensures { λ r. ⌜ r ≡ queueSpec.unqueued queue ⌝ }
 {
     let mut slots = queue.slots;
-    let mut i = 0;
-    while i < 31 {
+    let last = queue.len - 1;
+    let mut i: usize = 0;
+    while i < last {
         slots[i] = slots[i + 1];
         i += 1;
     }
-    slots[31] = Slot { body: Body::Empty };
+    slots[last] = Slot { body: Body::Empty };
     Queue {
         len: queue.len - 1,
         slots: slots,

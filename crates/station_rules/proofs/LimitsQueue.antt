@@ -1,13 +1,12 @@
 -- A queue inside its limits stays so when an edit is put last where there is a place, and when the oldest is removed; what is oldest is an edit.
 use Prim.Native.Nat.{ℕ, suc, _-_, _≤_, _<_}
 use mathlib.Core.Bool.{true}
-use mathlib.Core.List.{[], _∷_}
 use mathlib.Core.Path.{_≡_, refl, ap, _∙_}
 use native.Mathlib.Decide.{ℕ-discrete}
 use native.Mathlib.Omega.{arith}
 use lib.Dec.{leb}
-use lib.ListN.{getD, drop, length, length-drop, List·getD-append}
-use lib.Seq.{getD-set-same, getD-set-other, getD-drop}
+use lib.ListN.{getD, length}
+use lib.Seq.{getD-set-same, getD-set-other}
 use borrow.Author.Tests.{leb-true, le-leb}
 use Rattle.kinds.specs.declared.Body.{Body}
 use Rattle.kinds.specs.Limits.{isEdit}
@@ -16,6 +15,7 @@ use Rattle.places.proofs.Laws.{and-both, and-left, and-right, allBelow-at, allB
 use Rattle.lanes.specs.declared.Slot.{Slot}
 use Rattle.lanes.specs.declared.Queue.{Queue}
 use Rattle.lanes.specs.Queue.{noSlot, queued, oldest, unqueued}
+use Rattle.lanes.proofs.QueueLaws.{unqueued-at}
 use Rattle.station_rules.specs.Limits.{queueInside}
 
 -- the body at a place of a queue
@@ -64,20 +64,12 @@ queued-inside q b shape h l e = queue-make (queued q b) (omega (arith, queued-le
           | no ne ↦ rw (queued-before q b i (omega (arith, queued-len q b))) (queue-edit q h i (omega (arith, queued-len q b)))
         ]
 
-unqueued-slot : (q : Queue) (i : ℕ) → suc i < length (q .slots) → slotBody (unqueued q) i ≡ slotBody q (suc i)
-unfolding unqueued
-unqueued-slot q i l =
-    ap (λ (x : Slot). x .body)
-    (List·getD-append (drop 1 (q .slots)) (noSlot ∷ []) noSlot i (rw length-drop (omega arith))
-    ∙ getD-drop 1 (q .slots) i noSlot
-    ∙ ap (λ (k : ℕ). getD (q .slots) k noSlot) (omega arith))
-
 pub unqueued-inside : (q : Queue) → length (q .slots) ≡ 32 → queueInside q ≡ true → queueInside (unqueued q) ≡ true
 unqueued-inside q shape h =
     let most : q .len ≤ 32 = queue-most q h in
     let len : (unqueued q) .len ≡ q .len - 1 = unqueued-len q in
     queue-make (unqueued q) (omega arith)
-    (λ i m. rw (unqueued-slot q i (omega arith)) (queue-edit q h (suc i) (omega arith)))
+    (λ i m. ap (λ (x : Slot). isEdit (x .body)) (unqueued-at q i (omega arith) (omega arith)) ∙ queue-edit q h (suc i) (omega arith))
 
 pub oldest-edit : (q : Queue) → queueInside q ≡ true → 0 < q .len → isEdit (oldest q) ≡ true
 unfolding oldest

@@ -1,27 +1,30 @@
 -- The lengths that a station's arrays have by their types: sixteen places, thirty-two slots, sixteen labels in each record of the table. Every step of
 -- a station keeps them, for it only changes entries.
 use Prim.Native.Nat.{ℕ, _<_}
-use mathlib.Core.Bool.{Bool, true, false}
+use mathlib.Core.Bool.{Bool, true, false, cond, _&&_}
 use mathlib.Core.List.{List}
 use mathlib.Core.Path.{_≡_, refl, _∙_}
-use lib.ListN.{getD, set, length, length-set, length-append, length-drop, replicate, getD-replicate}
-use lib.Dec.{eqb}
+use lib.ListN.{getD, set, length, length-set, replicate, getD-replicate}
+use native.Mathlib.Omega.{arith}
+use lib.Dec.{eqb, ltb}
+use borrow.Author.Tests.{ltb-true}
 use Rattle.kinds.specs.declared.Body.{Body}
 use Rattle.kinds.specs.Body.{kindOf}
 use Rattle.labels.specs.Label.{successor}
 use Rattle.frames.specs.declared.Record.{Record}
 use Rattle.places.specs.Places.{fill}
-use Rattle.places.proofs.Laws.{length-fill}
+use Rattle.places.proofs.Laws.{and-right, length-fill}
 use Rattle.places.proofs.Keeps.{set-keeps, cond-keeps}
 use Rattle.lanes.specs.declared.Lane.{Lane}
 use Rattle.lanes.specs.declared.Queue.{Queue}
 use Rattle.station_rules.specs.declared.Station.{Station}
 use Rattle.lanes.specs.Lane.{noLane, pushed, popped}
 use Rattle.lanes.specs.Queue.{queued, unqueued, noneWaiting}
+use Rattle.lanes.proofs.QueueLaws.{unqueued-slots}
 use Rattle.frames.specs.Record.{noRecord, zeroRecord}
 use Rattle.station_rules.specs.State.{recordOf, recordLabel, labelOf, laneAt, freshStation}
 use Rattle.station_rules.specs.Hearing.{Hearing, heeds, replaced, heardNewer, hearRecord}
-use Rattle.station_rules.specs.Turn.{airs, ends, startsEdit, startedBody, lanesAfter, passed, ownRecord, rewritten, afterTurn}
+use Rattle.station_rules.specs.Turn.{airs, ends, mayStart, startsEdit, startedBody, lanesAfter, passed, ownRecord, rewritten, afterTurn}
 use Rattle.station_rules.specs.Calls.{posted}
 use Rattle.station_rules.proofs.HearRecord.{hearRecord-heeds, hearRecord-skips, heardOne-station}
 
@@ -56,9 +59,16 @@ pub queued-slots : (q : Queue) (b : Body) → length ((queued q b) .slots) ≡ l
 unfolding queued
 queued-slots q b = length-set (q .slots) (q .len) (record { body = b })
 
-pub unqueued-slots : (q : Queue) → length (q .slots) ≡ 32 → length ((unqueued q) .slots) ≡ 32
-unfolding unqueued
-unqueued-slots q e = simp (length-append, length-drop, e)
+-- the waiting edits after a turn
+waiting-slots : (s : Station) → length (s .waiting .slots) ≡ 32 → length ((cond (startsEdit s) (unqueued (s .waiting)) (s .waiting)) .slots) ≡ 32
+waiting-slots s e = go (startsEdit s) refl
+  where
+    go : (t : Bool) → startsEdit s ≡ t → length ((cond t (unqueued (s .waiting)) (s .waiting)) .slots) ≡ 32
+    go true h =
+        let waits = ltb 0 (s .waiting .len) in
+        let some : 0 < s .waiting .len = ltb-true 0 (s .waiting .len) (and-right (mayStart s) waits (and-right (ends s) (mayStart s && waits) h)) in
+        unqueued-slots (s .waiting) some (omega arith) ∙ e
+    go false h = e
 
 pub posted-shaped : (s : Station) (b : Body) → Shaped s → Shaped (posted s b)
 unfolding posted
@@ -124,9 +134,7 @@ passed-shaped s c =
           cond-keeps (λ (l : List Lane). length l ≡ 16) (eqb (kindOf (startedBody s)) 0) (lanesAfter s) pushedLanes
           (lanesAfter-length s ∙ c .lanes)
           (length-set (lanesAfter s) (s .own) (pushed (getD (lanesAfter s) (s .own) noLane) (startedBody s)) ∙ lanesAfter-length s ∙ c .lanes);
-      slots =
-          cond-keeps (λ (q : Queue). length (q .slots) ≡ 32) (startsEdit s) (unqueued (s .waiting)) (s .waiting)
-          (unqueued-slots (s .waiting) (c .slots)) (c .slots);
+      slots = waiting-slots s (c .slots);
       record-labels = c .record-labels;
     }
 

@@ -147,6 +147,7 @@ fn started_body(own_len: usize, waiting: Queue) -> Body
 
 // The edits that wait after the end of a broadcast.
 fn waiting_after(own_len: usize, waiting: Queue) -> Queue
+    requires { ⌜ waiting .len ≤ 32 ⌝ }
     ensures { λ r. ⌜ r ≡ cond (eqb «own_len» 0 && ltb 0 (waiting .len)) (unqueued waiting) waiting ⌝ }
 {
     if own_len != 0 {
@@ -195,7 +196,7 @@ fn turn_on(s: Station, aired: bool, row: [Slot; 16], lanes: [Lane; 16]) -> Turne
 
 // The turn of a station whose broadcast ends.
 fn turn_end(s: Station, aired: bool, row: [Slot; 16], lanes: [Lane; 16]) -> Turned
-    requires { ⌜ (s .n ≤ 16) × (s .own < 16) × (ends s ≡ true) ⌝ ∗
+    requires { ⌜ (s .n ≤ 16) × (s .own < 16) × (ends s ≡ true) × (s .waiting .len ≤ 32) ⌝ ∗
         ⌜ (aired ≡ airs s) × (row ≡ cond (airs s) (rowOf s) (replicate 16 noSlot)) × (lanes ≡ lanesAfter s) ⌝ }
     ensures { λ r. ⌜ r ≡ turnDone s ⌝ }
 {

@@ -10,6 +10,7 @@ use Rattle.lanes.specs.Lane.{popped}
 use Rattle.lanes.specs.Queue.{noSlot}
 use Rattle.station_rules.specs.State.{laneAt}
 use Rattle.station_rules.specs.Turn.{airs, rowOf, lanesAfter, ends}
+use Rattle.station_rules.proofs.LimitsQueue.{queue-most}
 use Rattle.station_rules.proofs.StationLimits.{inside-open}
 use Rattle.station_turns.proofs.TurnSteps.{rowAired}
 use borrow.Author.Needs.{needs}
@@ -45,15 +46,15 @@ module _ (c : tie.After-aired-lanes) where
   unfolding lanesAfter
   left = c .aired-lanes .ensures ∙ ap (λ (b : Bool). cond b (fill (s .n) (λ k. popped (laneAt s k)) (s .lanes)) (s .lanes)) full
 
-  numbers : (s .n ≤ 16) × (s .own < 16)
-  numbers = let i = inside-open s (c .before .before .before .before .before .pre) in (i .high, omega arith)
+  numbers : (s .n ≤ 16) × (s .own < 16) × (s .waiting .len ≤ 32)
+  numbers = let i = inside-open s (c .before .before .before .before .before .pre) in (i .high, omega arith, queue-most (s .waiting) (i .waiting))
 
 turn-end-requires : tie.Need-turn-end-requires
 unfolding ends
 turn-end-requires c κs =
     let d = c .before .before in
     let m = numbers d in
-    ((m .0, m .1, sym (c .before .all-acked .ensures) ∙ c .if1 .taken), (full d, row d, left d))
+    ((m .0, m .1, sym (c .before .all-acked .ensures) ∙ c .if1 .taken, m .2), (full d, row d, left d))
 
 returns : tie.Need-returns
 returns c = search needs
