@@ -125,11 +125,11 @@ pub fn finish(r: Reader, out: &mut [u8]) -> usize
     requires { ⌜ (r .len ≤ 146) × (39 ≤ length (now out)) ⌝ }
     ensures { λ k. ⌜ Put (now (out .entry)) (now (out .exit)) 0 k (remaining r []) ⌝ }
 {
-    let session = r.session;
-    if session.stopped {
+    let last = r.session;
+    if last.stopped {
         return lines::put_end(out, 0);
     }
     let line = r.line;
     let len = r.len;
-    listing::close(session, &line[..len], out)
+    listing::close(last, &line[..len], out)
 }
