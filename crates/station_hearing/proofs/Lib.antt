@@ -1,3 +1,4 @@
+pub mod BarLaws
 pub mod HearBytes
 pub mod HearSteps
 pub mod SourceSteps

@@ -8,29 +8,54 @@ ghost use lib.ListN.{getD, length, set, take};
 ghost use lib.Dec.{leb, eqb};
 ghost use Rattle.kinds.specs.Body.{kindOf};
 ghost use Rattle.labels.specs.Label.{successor};
-ghost use Rattle.labels.specs.Newer.{isNewer};
+ghost use Rattle.frames.specs.Record.{noRecord};
 ghost use Rattle.lanes.specs.Lane.{pushed};
 ghost use Rattle.station_rules.specs.Hearing as spec;
 ghost use Rattle.station_rules.specs.Limits.{stationInside};
 ghost use Rattle.station_rules.specs.Frames.{FrameAt, HearsAll};
 ghost use Rattle.station_rules.specs.Calls.{sourcesOf};
+ghost use Rattle.station_rules.specs.State.{recordLabel};
+ghost use Rattle.station_hearing.specs.Bars.{Bars};
 use frames::Record;
 use kinds::Body;
-use labels::Age;
 use lanes::Lane;
 use station_rules::HeardAll;
 use station_rules::Station;
 use station_rules::Taking;
 
-// Is a seen record with this own label and count newer than the old one of station k, if that is held?
-fn is_newer(held: bool, old: Record, k: usize, seen_label: u8, seen_count: u8) -> bool
-    requires { ⌜ k < 16 ⌝ }
-    ensures { λ r. ⌜ r ≡ isNewer held (getD (old .labels) k 0) (old .count) «seen_label» «seen_count» ⌝ }
+// The bar that only a higher count passes.
+fn above(count: u8) -> u16
+    ensures { λ r. ⌜ r ≡ count + 1 ⌝ }
 {
-    match labels::newer(held, old.labels[k], old.count, seen_label, seen_count) {
-        Age::Newer => true,
-        Age::NotNewer => false,
+    (count as u16) + 1
+}
+
+// For each of n stations and each label, at place 4 × station + label, the least count with which a seen record is heeded.
+fn bars_of(n: usize, own: usize, held: [bool; 16], table: [Record; 16]) -> [u16; 64]
+    requires { ⌜ (n ≤ 16) × (own < 16) ⌝ ∗
+        ⌜ ((k : ℕ) → k < n → getD held k false ≡ true → recordLabel (getD table k noRecord) k ≤ 2) ⌝ }
+    ensures { λ r. ⌜ Bars n own held table r ⌝ }
+{
+    let mut bars = [0u16; 64];
+    let mut k: usize = 0;
+    while k < n {
+        let i = k;
+        k += 1;
+        if !held[i] {
+            continue;
+        }
+        let old = table[i];
+        let label = old.labels[i];
+        let next = labels::successor(label);
+        let past = labels::successor(next);
+        bars[4 * i + (label as usize)] = above(old.count);
+        bars[4 * i + (next as usize)] = 0;
+        bars[4 * i + (past as usize)] = 256;
     }
+    bars[4 * own] = 256;
+    bars[4 * own + 1] = 256;
+    bars[4 * own + 2] = 256;
+    bars
 }
 
 // The seen record in the place of the old one, whose labels from n up stay.
@@ -103,13 +128,6 @@ fn overfills(takes: bool, lane: Lane) -> bool
     2 <= lane.len
 }
 
-// A byte as a number.
-fn wide(byte: u8) -> usize
-    ensures { λ r. ⌜ r ≡ byte ⌝ }
-{
-    byte as usize
-}
-
 // The station hears the frames that begin at the first `count` of the starts, each record in order.
 pub fn hear_all(s: Station, bytes: &[u8], starts: [usize; 16], count: usize) -> HeardAll
     requires { ⌜ (count ≤ 16) × (stationInside s ≡ true) ⌝ ∗
@@ -118,6 +136,9 @@ pub fn hear_all(s: Station, bytes: &[u8], starts: [usize; 16], count: usize) -> 
 {
     let n = s.n;
     let own = s.own;
+    let held = s.held;
+    let table = s.table;
+    let mut bars = bars_of(n, own, held, table);
     let mut station = s;
     let none = Taking {
         source: 0,
@@ -128,20 +149,22 @@ pub fn hear_all(s: Station, bytes: &[u8], starts: [usize; 16], count: usize) -> 
     let mut f: usize = 0;
     while f < count {
         let start = starts[f];
-        let records = wide(bytes[start + 2]);
+        let records = bytes[start + 2] as usize;
         let mut r: usize = 0;
         while r < records {
             let at = start + 4 + 16 * r;
             r += 1;
-            let k = wide(bytes[at]);
-            if k == own {
-                continue;
-            }
+            let k = bytes[at] as usize;
             let seen_label = frames::label_at(bytes, at + 12, k);
-            let old = station.table[k];
-            if !is_newer(station.held[k], old, k, seen_label, bytes[at + 1]) {
+            let seen_count = bytes[at + 1];
+            if (seen_count as u16) < bars[4 * k + (seen_label as usize)] {
                 continue;
             }
+            let next = labels::successor(seen_label);
+            let past = labels::successor(next);
+            bars[4 * k + (seen_label as usize)] = above(seen_count);
+            bars[4 * k + (next as usize)] = 0;
+            bars[4 * k + (past as usize)] = 256;
             let seen = frames::read_record(&bytes[at..at + 16]);
             let label = station.labels[k];
             let advances = seen_label == labels::successor(label);
@@ -161,6 +184,7 @@ pub fn hear_all(s: Station, bytes: &[u8], starts: [usize; 16], count: usize) -> 
             station.count = count_after(advances, station.count);
             station.labels[k] = label_after(advances, label);
             station.held[k] = true;
+            let old = station.table[k];
             station.table[k] = replaced(n, old, seen);
             station.lanes[k] = lane_after(takes, lane, body);
             if !takes {
