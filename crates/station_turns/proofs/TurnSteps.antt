@@ -1,107 +1,136 @@
--- What a turn makes of a station, once for a broadcast that goes on and once for one that ends: the answer of the definition with the end decided.
-use Prim.Native.Nat.{ℕ}
-use mathlib.Core.Path.{_≡_, refl, sym, ap, _∙_}
+-- What a turn makes of a station: the answer built from the parts of the turn is the definition's.
+use Prim.Native.Nat.{ℕ, _≤_, _<_}
+use native.Mathlib.Omega.{arith}
+use mathlib.Core.Path.{_≡_, refl, sym, _∙_}
 use mathlib.Core.Bool.{Bool, true, false, cond, _&&_}
 use mathlib.Core.List.{List}
 use lib.ListN.{getD, set, replicate}
 use lib.Seq.{set-getD}
 use lib.Dec.{ltb, eqb}
+use borrow.Author.Tests.{ltb-true}
 use Rattle.kinds.specs.declared.Body.{Body}
 use Rattle.kinds.specs.declared.Body.the-variants.{Empty, Neutral}
 use Rattle.kinds.specs.Body.{kindOf}
 use Rattle.labels.specs.Label.{successor}
-use Rattle.frames.specs.declared.Record.{Record}
 use Rattle.places.specs.Places.{fill}
+use Rattle.places.proofs.Laws.{and-right}
 use Rattle.lanes.specs.declared.Lane.{Lane}
 use Rattle.lanes.specs.declared.Queue.{Queue}
 use Rattle.lanes.specs.declared.Slot.{Slot}
 use Rattle.station_rules.specs.declared.Station.{Station}
-use Rattle.station_rules.specs.declared.TurnReport.{TurnReport}
 use Rattle.station_rules.specs.declared.Turned.{Turned}
-use Rattle.lanes.specs.Lane.{noLane, pushed}
+use Rattle.lanes.specs.Lane.{noLane, pushed, popped}
 use Rattle.lanes.specs.Queue.{noSlot, oldest, unqueued}
-use Rattle.station_rules.specs.State.{labelOf, recordOf}
+use Rattle.station_rules.specs.State.{labelOf, recordOf, laneAt}
 use Rattle.station_rules.specs.Turn.{airs, rowOf, lanesAfter, ends, startedBody, passed, ownRecord, rewritten, afterTurn, turnReport}
 use Rattle.station_rules.specs.Calls.{turnDone}
 
--- the row of the report
-abbrev pub rowAired : Station → List Slot
-rowAired s = cond (airs s) (rowOf s) (replicate 16 noSlot)
+-- a number or none
+pub most-if : (t : Bool) (n m : ℕ) → n ≤ m → cond t n 0 ≤ m
+most-if true n m h = h
+most-if false n m h = omega arith
 
--- the answer of a turn in which the broadcast goes on
-abbrev onAnswer : Station → Bool → List Slot → List Lane → List ℕ → Turned
-onAnswer s aired row lanes over =
-    record {
-      refusal = 0;
-      station =
-          record {
-            n = s .n;
-            own = s .own;
-            waiting = s .waiting;
-            acked = s .acked;
-            body = s .body;
-            count = s .count;
-            labels = s .labels;
-            held = s .held;
-            table = set (s .table) (s .own) (record { station = s .own; count = s .count; body = s .body; labels = over });
-            lanes = lanes;
-          };
-      report = record { aired = aired; row = row; ended = false; «ended_body» = Empty; «started_body» = Empty };
-    }
+module _ {A : Type 0} where
+  -- so many places changed, or none
+  pub fill-if : (t : Bool) (n : ℕ) (f : ℕ → A) (l : List A) → fill (cond t n 0) f l ≡ cond t (fill n f l) l
+  unfolding fill
+  fill-if true n f l = refl
+  fill-if false n f l = refl
 
-pub on-turn :
-    (s : Station) (aired : Bool) (row : List Slot) (lanes : List Lane) (over : List ℕ) →
-    ends s ≡ false → aired ≡ airs s → row ≡ rowAired s → lanes ≡ lanesAfter s →
-    over ≡ fill (s .n) (labelOf s) ((recordOf s (s .own)) .labels) →
-    onAnswer s aired row lanes over ≡ turnDone s
-unfolding afterTurn rewritten passed ownRecord turnReport startedBody
-on-turn s aired row lanes over e a r l o = rw (e, a, r, l, o)
+  -- one place changed, or set to what it held
+  set-if : (t : Bool) (l : List A) (k : ℕ) (x d : A) → set l k (cond t x (getD l k d)) ≡ cond t (set l k x) l
+  set-if true l k x d = refl
+  set-if false l k x d = set-getD l k d
 
--- the answer of a turn in which the broadcast ends
-abbrev endAnswer : Station → Bool → List Slot → List Lane → Body → Queue → List Bool → ℕ → List ℕ → Lane → Turned
-endAnswer s aired row lanes body waiting acked next over lane =
-    record {
-      refusal = 0;
-      station =
-          record {
-            n = s .n;
-            own = s .own;
-            waiting = waiting;
-            acked = acked;
-            body = body;
-            count = 0;
-            labels = set (s .labels) (s .own) next;
-            held = s .held;
-            table = set (s .table) (s .own) (record { station = s .own; count = 0; body = body; labels = over });
-            lanes = set lanes (s .own) lane;
-          };
-      report = record { aired = aired; row = row; ended = true; «ended_body» = s .body; «started_body» = body };
-    }
+  set-unless : (t : Bool) (l : List A) (k : ℕ) (x d : A) → set l k (cond t (getD l k d) x) ≡ cond t l (set l k x)
+  set-unless true l k x d = set-getD l k d
+  set-unless false l k x d = refl
 
--- a place that is set to what it held, or to something else
-set-chosen : (t : Bool) (l : List Lane) (k : ℕ) (x : Lane) → set l k (cond t (getD l k noLane) x) ≡ cond t l (set l k x)
-set-chosen true l k x = set-getD l k noLane
-set-chosen false l k x = refl
+-- the oldest body of each of the first m lanes, and what is left of these lanes
+abbrev pub rowBelow : ℕ → List Lane → List Slot
+rowBelow m l = fill m (λ k. record { body = (getD l k noLane) .first }) (replicate 16 noSlot)
 
-starts :
-    (s : Station) → ends s ≡ true →
-    startedBody s ≡ cond (eqb ((getD (lanesAfter s) (s .own) noLane) .len) 0) (cond (ltb 0 ((s .waiting) .len)) (oldest (s .waiting)) Neutral) Empty
+abbrev pub leftBelow : ℕ → List Lane → List Lane
+leftBelow m l = fill m (λ k. popped (getD l k noLane)) l
+
+pub aired-row : (s : Station) → rowBelow (cond (airs s) (s .n) 0) (s .lanes) ≡ cond (airs s) (rowOf s) (replicate 16 noSlot)
+unfolding rowOf
+aired-row s = fill-if (airs s) (s .n) (λ k. record { body = (laneAt s k) .first }) (replicate 16 noSlot)
+
+pub aired-lanes : (s : Station) → leftBelow (cond (airs s) (s .n) 0) (s .lanes) ≡ lanesAfter s
+unfolding lanesAfter
+aired-lanes s = fill-if (airs s) (s .n) (λ k. popped (laneAt s k)) (s .lanes)
+
+starts-of :
+    (s : Station) →
+    startedBody s
+    ≡ cond (ends s) (cond (eqb ((getD (lanesAfter s) (s .own) noLane) .len) 0) (cond (ltb 0 (s .waiting .len)) (oldest (s .waiting)) Neutral) Empty) Empty
 unfolding startedBody
-starts s e = rw e
+starts-of s = refl
 
+-- an edit that starts waits
+pub waits : (ended may starts : Bool) (n : ℕ) → starts ≡ (ended && (may && ltb 0 n)) → starts ≡ true → 0 < n
+waits ended may starts n e h = ltb-true 0 n (and-right may (ltb 0 n) (and-right ended (may && ltb 0 n) (sym e ∙ h)))
+
+-- the answer of a turn, by its parts
 module _
-    (s : Station) (aired : Bool) (row : List Slot) (lanes : List Lane) (body : Body) (waiting : Queue) (acked : List Bool) (next : ℕ) (over : List ℕ)
-    (lane : Lane) where
-  pub end-turn :
-      ends s ≡ true → aired ≡ airs s → row ≡ rowAired s → lanes ≡ lanesAfter s →
-      body ≡ cond (eqb ((getD lanes (s .own) noLane) .len) 0) (cond (ltb 0 ((s .waiting) .len)) (oldest (s .waiting)) Neutral) Empty →
-      waiting ≡ cond (eqb ((getD lanes (s .own) noLane) .len) 0 && ltb 0 ((s .waiting) .len)) (unqueued (s .waiting)) (s .waiting) →
-      acked ≡ fill (s .n) (λ k. eqb k (s .own)) (s .acked) →
-      next ≡ successor (labelOf s (s .own)) →
+    (s : Station) (aired ended starts : Bool) (row : List Slot) (left : List Lane) (old started body gone : Body) (waiting : Queue) (acked : List Bool)
+    (count next : ℕ) (over : List ℕ) (lane : Lane) where
+  abbrev answer : Turned
+  answer =
+      record {
+        refusal = 0;
+        station =
+            record {
+              n = s .n;
+              own = s .own;
+              waiting = waiting;
+              acked = acked;
+              body = body;
+              count = count;
+              labels = set (s .labels) (s .own) next;
+              held = s .held;
+              table = set (s .table) (s .own) (record { station = s .own; count = count; body = body; labels = over });
+              lanes = set left (s .own) lane;
+            };
+        report = record { aired = aired; row = row; ended = ended; «ended_body» = gone; «started_body» = started };
+      }
+
+  abbrev may : Bool
+  may = eqb ((getD left (s .own) noLane) .len) 0
+
+  pub turn-made :
+      aired ≡ airs s → ended ≡ ends s → row ≡ cond (airs s) (rowOf s) (replicate 16 noSlot) → left ≡ lanesAfter s →
+      old ≡ oldest (s .waiting) →
+      started ≡ cond ended (cond may (cond (ltb 0 (s .waiting .len)) old Neutral) Empty) Empty →
+      starts ≡ (ended && (may && ltb 0 (s .waiting .len))) →
+      waiting ≡ cond starts (unqueued (s .waiting)) (s .waiting) →
+      acked ≡ cond ended (fill (s .n) (λ k. eqb k (s .own)) (s .acked)) (s .acked) →
+      body ≡ cond ended started (s .body) →
+      gone ≡ cond ended (s .body) Empty →
+      count ≡ cond ended 0 (s .count) →
+      next ≡ cond ended (successor (labelOf s (s .own))) (labelOf s (s .own)) →
       over ≡ fill (s .n) (λ k. getD (set (s .labels) (s .own) next) k 0) ((recordOf s (s .own)) .labels) →
-      lane ≡ cond (eqb (kindOf body) 0) (getD lanes (s .own) noLane) (pushed (getD lanes (s .own) noLane) body) →
-      endAnswer s aired row lanes body waiting acked next over lane ≡ turnDone s
+      lane ≡ cond (eqb (kindOf started) 0) (getD left (s .own) noLane) (pushed (getD left (s .own) noLane) started) →
+      answer ≡ turnDone s
   unfolding afterTurn rewritten passed ownRecord turnReport
-  end-turn e a r l b w k m o p =
-      let f : body ≡ startedBody s = b ∙ rw l (sym (starts s e)) in
-      rw (e, p, o, w, a, r, k, m, f, l, set-chosen)
+  turn-made a e r l o b t w k y g m x v p =
+      let f : started ≡ startedBody s = b ∙ rw (e, l, o) (sym (starts-of s)) in
+      rw (
+        p,
+        v,
+        w,
+        t,
+        k,
+        y,
+        g,
+        m,
+        x,
+        f,
+        e,
+        a,
+        r,
+        l,
+        set-if (ends s) (s .labels) (s .own) (successor (labelOf s (s .own))) 0,
+        set-unless (eqb (kindOf (startedBody s)) 0) (lanesAfter s) (s .own) (pushed (getD (lanesAfter s) (s .own) noLane) (startedBody s)) noLane,
+      )

@@ -2,17 +2,16 @@
 
 ghost use mathlib.Core.Path.{_≡_};
 ghost use mathlib.Core.Bool.{true, false, cond, _&&_};
-ghost use mathlib.Core.List.{List};
-ghost use Prim.Native.Nat.{ℕ, _≤_, _<_};
-ghost use lib.ListN.{getD, replicate};
+ghost use Prim.Native.Nat.{_≤_, _<_};
+ghost use lib.ListN.{getD};
 ghost use lib.Dec.{ltb, eqb};
 ghost use Rattle.kinds.specs.Body.{kindOf};
 ghost use Rattle.kinds.specs.declared.Body.the-variants.{Empty, Neutral};
+ghost use Rattle.labels.specs.Label.{successor};
 ghost use Rattle.places.specs.Places.{allBelow, fill};
-ghost use Rattle.lanes.specs.Lane.{noLane, popped, pushed};
-ghost use Rattle.lanes.specs.Queue.{noSlot, oldest, unqueued};
+ghost use Rattle.lanes.specs.Lane.{noLane, pushed};
+ghost use Rattle.lanes.specs.Queue.{unqueued};
 ghost use Rattle.station_rules.specs.Limits.{stationInside};
-ghost use Rattle.station_rules.specs.Turn.{airs, rowOf, lanesAfter, ends, mayStart, startsEdit, startedBody};
 ghost use Rattle.station_rules.specs.Calls.{turnDone};
 use frames::Record;
 use kinds::Body;
@@ -37,37 +36,6 @@ fn all_full(n: usize, lanes: [Lane; 16]) -> bool
         k += 1;
     }
     true
-}
-
-// The oldest body of each of the first n lanes.
-fn oldest_row(n: usize, lanes: [Lane; 16]) -> [Slot; 16]
-    requires { ⌜ n ≤ 16 ⌝ }
-    ensures { λ r. ⌜ r ≡ fill n (λ k. record { body = (getD lanes k noLane) .first }) (replicate 16 noSlot) ⌝ }
-{
-    let slot = Slot { body: Body::Empty };
-    let mut row = [slot; 16];
-    let mut k: usize = 0;
-    while k < n {
-        let lane = lanes[k];
-        let body = lane.first;
-        row[k] = Slot { body: body };
-        k += 1;
-    }
-    row
-}
-
-// The lanes without the oldest body of each of the first n.
-fn all_popped(n: usize, lanes: [Lane; 16]) -> [Lane; 16]
-    requires { ⌜ n ≤ 16 ⌝ }
-    ensures { λ r. ⌜ r ≡ fill n (λ k. popped (getD lanes k noLane)) lanes ⌝ }
-{
-    let mut left = lanes;
-    let mut k: usize = 0;
-    while k < n {
-        left[k] = lanes::popped(left[k]);
-        k += 1;
-    }
-    left
 }
 
 // Are all n acknowledged?
@@ -109,146 +77,84 @@ fn lane_with(lane: Lane, body: Body) -> Lane
     lanes::pushed(lane, body)
 }
 
-// The row that is aired, all Empty where none is.
-fn aired_row(airs: bool, n: usize, lanes: [Lane; 16]) -> [Slot; 16]
-    requires { ⌜ n ≤ 16 ⌝ }
-    ensures { λ r. ⌜ r ≡ cond airs (fill n (λ k. record { body = (getD lanes k noLane) .first }) (replicate 16 noSlot)) (replicate 16 noSlot) ⌝ }
+// How many of n places are changed.
+fn count_if(changes: bool, n: usize) -> usize
+    ensures { λ r. ⌜ r ≡ cond changes n 0 ⌝ }
 {
-    if !airs {
-        let slot = Slot { body: Body::Empty };
-        return [slot; 16];
+    if changes {
+        return n;
     }
-    oldest_row(n, lanes)
+    0
 }
 
-// The lanes after the airing step.
-fn aired_lanes(airs: bool, n: usize, lanes: [Lane; 16]) -> [Lane; 16]
-    requires { ⌜ n ≤ 16 ⌝ }
-    ensures { λ r. ⌜ r ≡ cond airs (fill n (λ k. popped (getD lanes k noLane)) lanes) lanes ⌝ }
+// What starts, by the bodies in the own lane, the number of waiting edits and the oldest of them.
+fn started_body(ended: bool, own_len: usize, waiting_len: usize, oldest: Body) -> Body
+    ensures { λ r. ⌜ r ≡ cond ended (cond (eqb «own_len» 0) (cond (ltb 0 «waiting_len») oldest Neutral) Empty) Empty ⌝ }
 {
-    if !airs {
-        return lanes;
+    if !ended {
+        return Body::Empty;
     }
-    all_popped(n, lanes)
-}
-
-// What starts at the end of a broadcast, by the bodies in the own lane and the waiting edits.
-fn started_body(own_len: usize, waiting: Queue) -> Body
-    ensures { λ r. ⌜ r ≡ cond (eqb «own_len» 0) (cond (ltb 0 (waiting .len)) (oldest waiting) Neutral) Empty ⌝ }
-{
     if own_len != 0 {
         return Body::Empty;
     }
-    if waiting.len == 0 {
+    if waiting_len == 0 {
         return Body::Neutral;
     }
-    lanes::oldest(waiting)
+    oldest
 }
 
-// The edits that wait after the end of a broadcast.
-fn waiting_after(own_len: usize, waiting: Queue) -> Queue
-    requires { ⌜ waiting .len ≤ 32 ⌝ }
-    ensures { λ r. ⌜ r ≡ cond (eqb «own_len» 0 && ltb 0 (waiting .len)) (unqueued waiting) waiting ⌝ }
+// Does the oldest waiting edit start?
+fn starts_edit(ended: bool, own_len: usize, waiting_len: usize) -> bool
+    ensures { λ r. ⌜ r ≡ (ended && (eqb «own_len» 0 && ltb 0 «waiting_len»)) ⌝ }
 {
-    if own_len != 0 {
-        return waiting;
+    if !ended {
+        return false;
     }
-    if waiting.len == 0 {
+    if own_len != 0 {
+        return false;
+    }
+    0 < waiting_len
+}
+
+// The edits that wait after the start.
+fn waiting_after(starts: bool, waiting: Queue) -> Queue
+    requires { ⌜ (starts ≡ true → 0 < waiting .len) × (waiting .len ≤ 32) ⌝ }
+    ensures { λ r. ⌜ r ≡ cond starts (unqueued waiting) waiting ⌝ }
+{
+    if !starts {
         return waiting;
     }
     lanes::unqueued(waiting)
 }
 
-// The turn of a station whose broadcast goes on.
-fn turn_on(s: Station, aired: bool, row: [Slot; 16], lanes: [Lane; 16]) -> Turned
-    requires { ⌜ (s .n ≤ 16) × (s .own < 16) × (ends s ≡ false) ⌝ ∗
-        ⌜ (aired ≡ airs s) × (row ≡ cond (airs s) (rowOf s) (replicate 16 noSlot)) × (lanes ≡ lanesAfter s) ⌝ }
-    ensures { λ r. ⌜ r ≡ turnDone s ⌝ }
+// The first body where the test holds, else the second.
+fn body_of(test: bool, one: Body, other: Body) -> Body
+    ensures { λ r. ⌜ r ≡ cond test one other ⌝ }
 {
-    let n = s.n;
-    let own = s.own;
-    let body = s.body;
-    let labels = s.labels;
-    let held = s.table[own];
-    let old = held.labels;
-    let over = labels::over(n, labels, old);
-    let mut station = s;
-    station.lanes = lanes;
-    station.table[own] = Record {
-        station: own,
-        count: s.count,
-        body: body,
-        labels: over,
-    };
-    let report = TurnReport {
-        aired: aired,
-        row: row,
-        ended: false,
-        ended_body: Body::Empty,
-        started_body: Body::Empty,
-    };
-    Turned {
-        refusal: kinds::refusals::DONE,
-        station: station,
-        report: report,
+    if test {
+        return one;
     }
+    other
 }
 
-// The turn of a station whose broadcast ends.
-fn turn_end(s: Station, aired: bool, row: [Slot; 16], lanes: [Lane; 16]) -> Turned
-    requires { ⌜ (s .n ≤ 16) × (s .own < 16) × (ends s ≡ true) × (s .waiting .len ≤ 32) ⌝ ∗
-        ⌜ (aired ≡ airs s) × (row ≡ cond (airs s) (rowOf s) (replicate 16 noSlot)) × (lanes ≡ lanesAfter s) ⌝ }
-    ensures { λ r. ⌜ r ≡ turnDone s ⌝ }
+// The count after the end of a broadcast, or where it goes on.
+fn count_after(ended: bool, count: u8) -> u8
+    ensures { λ r. ⌜ r ≡ cond ended 0 count ⌝ }
 {
-    let n = s.n;
-    let own = s.own;
-    let ended_body = s.body;
-    let own_lane = lanes[own];
-    let own_len = own_lane.len;
-    let queue = s.waiting;
-    let body = started_body(own_len, queue);
-    let waiting = waiting_after(own_len, queue);
-    let before = s.acked;
-    let acked = only_own(n, own, before);
-    let mut marks = s.labels;
-    marks[own] = labels::successor(marks[own]);
-    let mut table = s.table;
-    let last = table[own];
-    let old = last.labels;
-    let over = labels::over(n, marks, old);
-    table[own] = Record {
-        station: own,
-        count: 0,
-        body: body,
-        labels: over,
-    };
-    let mut left = lanes;
-    left[own] = lane_with(own_lane, body);
-    let held = s.held;
-    let station = Station {
-        n: n,
-        own: own,
-        waiting: waiting,
-        acked: acked,
-        body: body,
-        count: 0,
-        labels: marks,
-        held: held,
-        table: table,
-        lanes: left,
-    };
-    let report = TurnReport {
-        aired: aired,
-        row: row,
-        ended: true,
-        ended_body: ended_body,
-        started_body: body,
-    };
-    Turned {
-        refusal: kinds::refusals::DONE,
-        station: station,
-        report: report,
+    if ended {
+        return 0;
     }
+    count
+}
+
+// The own label after the end of a broadcast, or where it goes on.
+fn label_after(ended: bool, label: u8) -> u8
+    ensures { λ r. ⌜ r ≡ cond ended (successor label) label ⌝ }
+{
+    if ended {
+        return labels::successor(label);
+    }
+    label
 }
 
 // The turn of a station that is known to be inside its limits.
@@ -257,13 +163,71 @@ pub fn take_turn(s: Station) -> Turned
     ensures { λ r. ⌜ r ≡ turnDone s ⌝ }
 {
     let n = s.n;
+    let own = s.own;
+    let queue = s.waiting;
+    let had = s.acked;
+    let sent = s.body;
+    let held = s.held;
     let lanes = s.lanes;
-    let acked = s.acked;
     let aired = all_full(n, lanes);
-    let row = aired_row(aired, n, lanes);
-    let left = aired_lanes(aired, n, lanes);
-    if all_acked(n, acked) {
-        return turn_end(s, aired, row, left);
+    let most = count_if(aired, n);
+    let slot = Slot { body: Body::Empty };
+    let mut row = [slot; 16];
+    let mut left = lanes;
+    let mut k: usize = 0;
+    while k < most {
+        let lane = left[k];
+        let body = lane.first;
+        row[k] = Slot { body: body };
+        left[k] = lanes::popped(lane);
+        k += 1;
     }
-    turn_on(s, aired, row, left)
+    let ended = all_acked(n, had);
+    let own_lane = left[own];
+    let own_len = own_lane.len;
+    let oldest = lanes::oldest(queue);
+    let started = started_body(ended, own_len, queue.len, oldest);
+    let starts = starts_edit(ended, own_len, queue.len);
+    let waiting = waiting_after(starts, queue);
+    let acked = only_own(count_if(ended, n), own, had);
+    let body = body_of(ended, started, sent);
+    let ended_body = body_of(ended, sent, Body::Empty);
+    let count = count_after(ended, s.count);
+    let mut marks = s.labels;
+    marks[own] = label_after(ended, marks[own]);
+    let mut table = s.table;
+    let last = table[own];
+    let old = last.labels;
+    let over = labels::over(n, marks, old);
+    table[own] = Record {
+        station: own,
+        count: count,
+        body: body,
+        labels: over,
+    };
+    left[own] = lane_with(own_lane, started);
+    let station = Station {
+        n: n,
+        own: own,
+        waiting: waiting,
+        acked: acked,
+        body: body,
+        count: count,
+        labels: marks,
+        held: held,
+        table: table,
+        lanes: left,
+    };
+    let report = TurnReport {
+        aired: aired,
+        row: row,
+        ended: ended,
+        ended_body: ended_body,
+        started_body: started,
+    };
+    Turned {
+        refusal: kinds::refusals::DONE,
+        station: station,
+        report: report,
+    }
 }

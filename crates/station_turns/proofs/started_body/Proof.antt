@@ -1,21 +1,24 @@
 -- `station_turns::started_body` meets its contract.
 use native.Mathlib.Omega.{arith}
-use borrow.Author.Tests.{eq-eqb, ne-eqb, lt-ltb, le-ltb}
-use borrow.Author.Needs.{needs}
+use borrow.Author.Tests.{eq-eqb, ne-eqb, lt-ltb, le-ltb, not-true, not-false}
 use Rattle.station_turns.proofs.started_body.Statement.{statement}
 use Rattle.station_turns.proofs.started_body.Tie as tie
 
 returns : tie.Need-returns
-returns c = rw (ne-eqb _ _ (c .if1 .taken))
+returns c = rw (not-true (c .before .args .ended) (c .if1 .taken))
 
 returns-2 : tie.Need-returns-2
-returns-2 c = rw (eq-eqb _ _ (c .before .before .if1 .left), le-ltb 0 (c .before .before .before .args .waiting .len) (omega arith))
-
-oldest-requires : tie.Need-oldest-requires
-oldest-requires c κs = search needs
+returns-2 c = rw (not-false (c .before .before .args .ended) (c .before .if1 .left), ne-eqb _ _ (c .if2 .taken))
 
 returns-3 : tie.Need-returns-3
-returns-3 c = rw (eq-eqb _ _ (c .before .before .before .if1 .left), lt-ltb 0 (c .before .before .before .before .args .waiting .len) (omega arith)) (c .oldest .ensures)
+returns-3 c =
+    let z = c .before .before .before in
+    rw (not-false (z .args .ended) (c .before .before .if1 .left), eq-eqb _ _ (c .before .if2 .left), le-ltb 0 (z .args .waiting-len) (omega arith))
+
+returns-4 : tie.Need-returns-4
+returns-4 c =
+    let z = c .before .before .before in
+    rw (not-false (z .args .ended) (c .before .before .if1 .left), eq-eqb _ _ (c .before .if2 .left), lt-ltb 0 (z .args .waiting-len) (omega arith))
 
 pub started-body-spec : {M : Type 1} → statement M
-started-body-spec = tie.close (tie.spec returns returns-2 oldest-requires returns-3)
+started-body-spec = tie.close (tie.spec returns returns-2 returns-3 returns-4)

@@ -1,0 +1,17 @@
+-- `station_turns::label_after` meets its contract.
+use mathlib.Core.Path.{_≡_}
+use borrow.Author.Needs.{needs}
+use Rattle.station_turns.proofs.label_after.Statement.{statement}
+use Rattle.station_turns.proofs.label_after.Tie as tie
+
+successor-requires : tie.Need-successor-requires
+successor-requires c κs = search needs
+
+returns : tie.Need-returns
+returns c = rw (c .before .if1 .taken) (c .successor .ensures)
+
+returns-2 : tie.Need-returns-2
+returns-2 c = search needs
+
+pub label-after-spec : {M : Type 1} → statement M
+label-after-spec = tie.close (tie.spec successor-requires returns returns-2)
