@@ -13,18 +13,18 @@ use Rattle.station_rules.specs.Limits.{stationInside}
 use Rattle.station_rules.specs.Hearing.{Hearing, silent}
 use Rattle.station_rules.specs.Frames.{hearFrames, FrameAt, HearsAll}
 use Rattle.station_rules.specs.Turn.{afterTurn, turnReport}
-use Rattle.station_rules.specs.Calls.{ownCountInside, turnDone}
+use Rattle.station_rules.specs.Calls.{turnDone}
 use Rattle.station_rules.proofs.StationLimits.{inside-make}
 use Rattle.group_rules.specs.declared.Report.{Report}
-use Rattle.group_rules.specs.State.{stationAt, sizeOf, groupInside}
+use Rattle.group_rules.specs.State.{stationAt, sizeOf}
 use Rattle.group_rules.specs.Calls.{heard, noTaking, reportOf}
-use Rattle.group.specs.Frames.{FramesBelow, heardCount, heardStarts}
+use Rattle.group.specs.Frames.{heardCount, heardStarts}
 use Rattle.group_rules.proofs.Members.{GroupShaped, group-high, member-at, members-open}
 use Rattle.group_rules.proofs.MembersRound.{hears-all}
+use Rattle.group.proofs.WrittenFrames.{AllSent}
 use Rattle.group.proofs.RoundFrames.{count-below, starts-at, heard-below}
 
-module _ (g : List Station) (inside : groupInside g ≡ true) (counts : (k : ℕ) → k < sizeOf g → ownCountInside (stationAt g k) ≡ true)
-    (masks bytes : List ℕ) (frames : FramesBelow g (sizeOf g) bytes) (i : ℕ) (below : i < sizeOf g)
+module _ (g : List Station) (masks bytes : List ℕ) (sent : AllSent g bytes) (i : ℕ) (below : i < sizeOf g)
     (count : ℕ) (count-is : count ≡ heardCount (sizeOf g) masks i (sizeOf g))
     (starts : List ℕ) (starts-is : starts ≡ heardStarts (sizeOf g) masks i (sizeOf g)) where
   abbrev s : Station
@@ -33,20 +33,28 @@ module _ (g : List Station) (inside : groupInside g ≡ true) (counts : (k : ℕ
   frames-heard : hearFrames (silent s) bytes starts count ≡ heard g masks i
   frames-heard =
       (λ t. hearFrames (silent s) bytes (starts-is t) (count-is t))
-      ∙ heard-below g inside counts masks bytes frames i (sizeOf g) (omega arith) (group-high g inside)
+      ∙ heard-below g (sent .inside) (sent .counts) masks bytes (sent .frames) i (sizeOf g) (omega arith) (group-high g (sent .inside))
 
   -- what hearing asks for
-  pub may-hear : ((count ≤ 16) × (stationInside s ≡ true)) × ((f : ℕ) → f < count → FrameAt (s .n) bytes (getD starts f 0))
-  may-hear =
-      let m = member-at g inside i below in (
-        (omega (arith, count-is, count-below (sizeOf g) masks i (sizeOf g), group-high g inside), inside-make s (m .inside)),
+  abbrev MayHear : Station → Type 0
+  MayHear x = ((count ≤ 16) × (stationInside x ≡ true)) × ((f : ℕ) → f < count → FrameAt (x .n) bytes (getD starts f 0))
+
+  pub may-hear : (x : Station) → x ≡ s → MayHear x
+  may-hear x e =
+      let high = group-high g (sent .inside) in
+      let m = member-at g (sent .inside) i below in
+      subst MayHear (sym e) (
+        (omega (arith, count-is, count-below (sizeOf g) masks i (sizeOf g), high), inside-make s (m .inside)),
         λ f l.
             subst (λ (n : ℕ). FrameAt n bytes (getD starts f 0)) (sym (m .size))
             (subst (λ (a : List ℕ). FrameAt (sizeOf g) bytes (getD a f 0)) (sym starts-is)
-            (starts-at g inside counts masks bytes frames i (sizeOf g) (omega arith) (group-high g inside) f (omega (arith, count-is)))),
+            (starts-at g (sent .inside) (sent .counts) masks bytes (sent .frames) i (sizeOf g) (omega arith) high f (omega (arith, count-is)))),
       )
 
-  module _ (r : HeardAll) (h : HearsAll s bytes starts count r) where
+  module _ (x : Station) (same : x ≡ s) (r : HeardAll) (hears : HearsAll x bytes starts count r) where
+    h : HearsAll s bytes starts count r
+    h = subst (λ (y : Station). HearsAll y bytes starts count r) same hears
+
     pub full-is : r .overfull ≡ (heard g masks i) .overfull
     full-is = h .overfull ∙ ap (λ (x : Hearing). x .overfull) frames-heard
 
@@ -56,7 +64,7 @@ module _ (g : List Station) (inside : groupInside g ≡ true) (counts : (k : ℕ
 
       pub may-turn : stationInside (r .station) ≡ true
       may-turn =
-          let hs = hears-all (sizeOf g) g (members-open g shape inside) masks counts i below in
+          let hs = hears-all (sizeOf g) g (members-open g shape (sent .inside)) masks (sent .counts) i below in
           rw station-is (inside-make ((heard g masks i) .station) (hs .inside (sym full-is ∙ room)))
 
       module _ (t : Turned) (turned : t ≡ turnDone (r .station)) where

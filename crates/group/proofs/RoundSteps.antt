@@ -1,5 +1,6 @@
 -- The answers of a round, each with the tests on its way decided.
-use Prim.Native.Nat.{ℕ, _+_, _<_}
+use Prim.Native.Nat.{ℕ, _+_, _≤_, _<_}
+use native.Mathlib.Omega.{arith}
 use native.Mathlib.Numerals.{add-one}
 use mathlib.Core.Bool.{Bool, true, false, not}
 use mathlib.Core.List.{List}
@@ -10,8 +11,11 @@ use Rattle.places.proofs.Laws.{allBelow-not, anyBelow-none, anyBelow-hit}
 use Rattle.station_rules.specs.declared.Station.{Station}
 use Rattle.station_rules.specs.Calls.{ownCountInside}
 use Rattle.group_rules.specs.declared.RoundDone.{RoundDone}
-use Rattle.group_rules.specs.State.{stationAt, sizeOf, groupInside}
+use Rattle.group_rules.specs.State.{stationAt, sizeOf, memberInside, groupInside}
 use Rattle.group_rules.specs.Calls.{heard, noReport, reportOf, roundRefusal, afterRound, roundCall}
+use Rattle.group.specs.Frames.{judgedBelow}
+use Rattle.group_rules.proofs.Members.{group-low, group-high}
+use Rattle.group.proofs.SendSteps.{group-judged, judged-is}
 
 pub anyBelow-more : (n : ℕ) (test : ℕ → Bool) → anyBelow n test ≡ false → test n ≡ false → anyBelow (n + 1) test ≡ false
 unfolding anyBelow
@@ -24,6 +28,21 @@ module _ (g : List Station) (masks : List ℕ) where
   pub round-outside : groupInside g ≡ false → refused 2 ≡ roundCall g masks
   unfolding roundCall roundRefusal
   round-outside i = rw i
+
+  -- a group whose N there is not
+  pub round-none : sizeOf g < 1 → refused 2 ≡ roundCall g masks
+  round-none l = go (groupInside g) refl
+    where
+      go : (t : Bool) → groupInside g ≡ t → refused 2 ≡ roundCall g masks
+      go true e = absurd (omega (arith, group-low g e))
+      go false e = round-outside e
+
+  pub round-many : 16 < sizeOf g → refused 2 ≡ roundCall g masks
+  round-many l = go (groupInside g) refl
+    where
+      go : (t : Bool) → groupInside g ≡ t → refused 2 ≡ roundCall g masks
+      go true e = absurd (omega (arith, group-high g e))
+      go false e = round-outside e
 
   module _ (i : groupInside g ≡ true) where
     abbrev tooHigh : ℕ → Bool
@@ -52,3 +71,22 @@ module _ (g : List Station) (masks : List ℕ) where
           ≡ roundCall g masks
       unfolding roundCall roundRefusal
       round-done e = rw (i, none-high, e)
+
+  -- a group of which a station is refused
+  pub round-judged :
+      (k r : ℕ) → k ≡ sizeOf g → 1 ≤ sizeOf g → r ≡ judgedBelow g k → (r ≡ 0 → ⊥) → refused r ≡ roundCall g masks
+  round-judged k r e low is d =
+      go (allBelow (sizeOf g) (memberInside g)) refl (allBelow (sizeOf g) (λ j. ownCountInside (stationAt g j))) refl
+    where
+      at : r ≡ judgedBelow g (sizeOf g)
+      at = is ∙ ap (judgedBelow g) e
+
+      go :
+          (a : Bool) → allBelow (sizeOf g) (memberInside g) ≡ a →
+          (b : Bool) → allBelow (sizeOf g) (λ j. ownCountInside (stationAt g j)) ≡ b →
+          refused r ≡ roundCall g masks
+      go true p true q = absurd (d (at ∙ judged-is g (sizeOf g) true p true q))
+      go true p false q =
+          ap refused (at ∙ judged-is g (sizeOf g) true p false q) ∙ round-count (group-judged g low ∙ p) q
+      go false p b q =
+          ap refused (at ∙ judged-is g (sizeOf g) false p b q) ∙ round-outside (group-judged g low ∙ p)

@@ -1,5 +1,5 @@
--- The frame of a member may be written, and one more written into its part of the bytes leaves the frames before it, for their parts end where its part
--- begins.
+-- A round's frames as they are sent, station after station: one more written into its part of the bytes leaves the frames before it, for their parts end
+-- where its part begins. Where no station is refused, all frames stand.
 use Prim.Native.Nat.{ℕ, _+_, _*_, _-_, _≤_, _<_}
 use mathlib.Core.Bool.{true}
 use mathlib.Core.List.{List, _++_, append-assoc}
@@ -9,34 +9,16 @@ use native.Mathlib.Omega.{arith}
 use lib.ListN.{take, drop, length, length-take, length-drop, length-append, take-append-drop}
 use lib.Seq.{length-take-le, take-append-le, drop-append-le, take-at, drop-at}
 use borrow.Author.Tests.{le-ltb}
-use Rattle.frames.specs.Frame.{frameBytes}
-use Rattle.frames.specs.Calls.{tableRecords, bufferWith, Writable}
+use Rattle.frames.specs.Calls.{bufferWith}
+use Rattle.places.specs.Places.{allBelow}
+use Rattle.places.proofs.Laws.{allBelow-at}
 use Rattle.station_rules.specs.declared.Station.{Station}
 use Rattle.station_rules.specs.Calls.{frameOf, ownCountInside}
-use Rattle.group_rules.specs.State.{stationAt, sizeOf, groupInside}
-use Rattle.group.specs.Frames.{frameStart, FramesBelow}
-use Rattle.group_rules.proofs.Members.{member-at}
-use Rattle.group.proofs.SentFrame.{writable, frame-is, frame-fits}
-
-module _ (g : List Station) (inside : groupInside g ≡ true) (k : ℕ) (below : k < sizeOf g) where
-  abbrev s : Station
-  s = stationAt g k
-
-  pub member-writable : Writable (sizeOf g) k (s .held) (s .table)
-  member-writable =
-      let m = member-at g inside k below in
-      subst (λ (j : ℕ). Writable (sizeOf g) j (s .held) (s .table)) (m .own)
-      (subst (λ (n : ℕ). Writable n (s .own) (s .held) (s .table)) (m .size) (writable s (m .inside)))
-
-  pub member-frame : frameBytes (sizeOf g) k (tableRecords (sizeOf g) (s .held) (s .table)) ≡ frameOf s
-  member-frame =
-      let m = member-at g inside k below in
-      let size = sym (m .size) in
-      let own = sym (m .own) in
-      (λ i. frameBytes (size i) (own i) (tableRecords (size i) (s .held) (s .table))) ∙ sym (frame-is s (m .inside))
-
-  pub member-fits : ownCountInside s ≡ true → length (frameOf s) ≤ 260
-  member-fits count = frame-fits s (member-at g inside k below .inside) count
+use Rattle.group_rules.specs.State.{stationAt, sizeOf, memberInside, groupInside}
+use Rattle.group.specs.Frames.{frameStart, FramesBelow, sendRefusal, partAfter, worse, judgedBelow}
+use Rattle.group_rules.proofs.Members.{member-open}
+use Rattle.group.proofs.SentFrame.{frame-fits}
+use Rattle.group.proofs.SendSteps.{part-frame, length-after, worse-done, judged-none, judged-more, judged-right, group-judged}
 
 -- bytes that end by place a stay where what follows from a on is replaced
 before-part :
@@ -115,3 +97,71 @@ module _ (g : List Station) where
                     ∙ old .frame i (omega arith)
               ];
         }
+
+-- the stations below k are judged, and where none of them is refused their frames stand
+pub record SentBelow (g : List Station) (k refusal : ℕ) (bytes : List ℕ) : Type 0 where
+  pub long : length bytes ≡ 4160
+  pub judged : refusal ≡ judgedBelow g k
+  pub frames : refusal ≡ 0 → FramesBelow g k bytes
+
+module _ (g : List Station) where
+  pub sent-none : (bytes : List ℕ) → length bytes ≡ 4160 → SentBelow g 0 0 bytes
+  sent-none bytes long = record { long = long; judged = judged-none g; frames = λ e. frames-none g bytes long }
+
+  fits-below : (m : ℕ) → judgedBelow g m ≡ 0 → (i : ℕ) → i < m → length (frameOf (stationAt g i)) ≤ 260
+  fits-below m e i l =
+      let r = judged-right g m e in
+      frame-fits (stationAt g i) (member-open g i (allBelow-at m (memberInside g) (r .0) i l) .inside)
+      (allBelow-at m (λ k. ownCountInside (stationAt g k)) (r .1) i l)
+
+  module _ (k : ℕ) (below : k < 16) (refusal : ℕ) (bytes : List ℕ) (old : SentBelow g k refusal bytes)
+      (judged : ℕ) (judged-is : judged ≡ sendRefusal (sizeOf g) k (stationAt g k)) (made : List ℕ)
+      (made-is : made ≡ partAfter (sizeOf g) k (stationAt g k) (take (260 * k + 260 - 260 * k) (drop (260 * k) bytes)))
+      (all : ℕ) (all-is : all ≡ worse refusal judged) where
+    abbrev after : List ℕ
+    after = take (260 * k) bytes ++ (made ++ drop (260 * k + 260 - 260 * k) (drop (260 * k) bytes))
+
+    after-length : length after ≡ 4160
+    after-length =
+        omega (
+          arith,
+          length-append (take (260 * k) bytes) (made ++ drop (260 * k + 260 - 260 * k) (drop (260 * k) bytes)),
+          length-append made (drop (260 * k + 260 - 260 * k) (drop (260 * k) bytes)),
+          ap length made-is,
+          length-after (sizeOf g) k (stationAt g k) (take (260 * k + 260 - 260 * k) (drop (260 * k) bytes)),
+          length-take (260 * k + 260 - 260 * k) (drop (260 * k) bytes),
+          length-take-le (260 * k) bytes (omega (arith, old .long)),
+          length-drop (260 * k + 260 - 260 * k) (drop (260 * k) bytes),
+          length-drop (260 * k) bytes,
+          old .long,
+        )
+
+    all-judged : all ≡ judgedBelow g (k + 1)
+    all-judged = all-is ∙ (λ i. worse (old .judged i) (judged-is i)) ∙ judged-more g k
+
+    all-frames : all ≡ 0 → FramesBelow g (k + 1) after
+    all-frames e =
+        let r = worse-done refusal judged (sym all-is ∙ e) in
+        frames-more g k below bytes (old .frames (r .0))
+        (λ i l. fits-below (k + 1) (sym all-judged ∙ e) i (omega arith))
+        made (made-is ∙ part-frame (sizeOf g) k (stationAt g k) _ (sym judged-is ∙ r .1))
+
+    pub sent-more : SentBelow g (k + 1) all after
+    sent-more = record { long = after-length; judged = all-judged; frames = all-frames }
+
+-- no station is refused, and all frames stand
+pub record AllSent (g : List Station) (bytes : List ℕ) : Type 0 where
+  pub inside : groupInside g ≡ true
+  pub counts : (k : ℕ) → k < sizeOf g → ownCountInside (stationAt g k) ≡ true
+  pub frames : FramesBelow g (sizeOf g) bytes
+
+pub all-sent :
+    (g : List Station) (k refusal : ℕ) (bytes : List ℕ) → SentBelow g k refusal bytes → k ≡ sizeOf g → 1 ≤ sizeOf g → refusal ≡ 0 →
+    AllSent g bytes
+all-sent g k refusal bytes sent e low done =
+    let right = judged-right g (sizeOf g) (ap (judgedBelow g) (sym e) ∙ sym (sent .judged) ∙ done) in
+    record {
+      inside = group-judged g low ∙ right .0;
+      counts = allBelow-at (sizeOf g) (λ j. ownCountInside (stationAt g j)) (right .1);
+      frames = subst (λ (m : ℕ). FramesBelow g m bytes) e (sent .frames done);
+    }

@@ -2,17 +2,42 @@
 -- Each station hears those of its mask by ascending sender.
 use Prim.Native.Nat.{ℕ, zero, suc, _+_, _*_, _<_}
 use mathlib.Core.Path.{_≡_}
-use mathlib.Core.Bool.{cond}
+use mathlib.Core.Bool.{cond, not, _&&_}
 use mathlib.Core.List.{List}
 use lib.ListN.{set, take, drop, length, replicate}
+use lib.Dec.{eqb}
+use Rattle.kinds.specs.Refusals.{done, outsideLimits, countTooHigh, refuse}
 use Rattle.links.specs.Log.{hearsIn}
+use Rattle.frames.specs.Calls.{bufferWith}
+use Rattle.places.specs.Places.{allBelow}
 use Rattle.station_rules.specs.declared.Station.{Station}
-use Rattle.station_rules.specs.Calls.{frameOf}
-use Rattle.group_rules.specs.State.{stationAt, sizeOf}
+use Rattle.station_rules.specs.Limits.{stationInside}
+use Rattle.station_rules.specs.Calls.{frameOf, ownCountInside}
+use Rattle.group_rules.specs.State.{stationAt, memberInside}
 
 -- where the frame of station k begins; 260 bytes hold sixteen records
 abbrev pub frameStart : ℕ → ℕ
 frameStart k = 260 * k
+
+-- what a round judges of station k of a group of n before its frame is written: 2, 10
+unfoldable pub sendRefusal : ℕ → ℕ → Station → ℕ
+sendRefusal n k s =
+    refuse (not (stationInside s && (eqb (s .n) n && eqb (s .own) k))) outsideLimits
+    (refuse (not (ownCountInside s)) countTooHigh done)
+
+-- its part of the bytes afterwards: its frame and then what stood past it, or as it was
+unfoldable pub partAfter : ℕ → ℕ → Station → List ℕ → List ℕ
+partAfter n k s part = cond (eqb (sendRefusal n k s) done) (bufferWith (frameOf s) part) part
+
+-- of the refusals of two stations the one that the round answers: 2 before 10, and 10 before none
+unfoldable pub worse : ℕ → ℕ → ℕ
+worse a b = cond (eqb a outsideLimits) a (cond (eqb b done) a b)
+
+-- what the round judges of the stations below m: 2, 10
+unfoldable pub judgedBelow : List Station → ℕ → ℕ
+judgedBelow g m =
+    refuse (not (allBelow m (memberInside g))) outsideLimits
+    (refuse (not (allBelow m (λ k. ownCountInside (stationAt g k)))) countTooHigh done)
 
 -- the frames of the stations below m stand in these bytes
 pub record FramesBelow (g : List Station) (m : ℕ) (bytes : List ℕ) : Type 0 where

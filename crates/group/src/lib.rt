@@ -1,22 +1,26 @@
 // A group of stations and its rounds.
 
 ghost use mathlib.Core.Path.{_≡_};
-ghost use Rattle.group_rules.specs.Calls.{freshCall, postCall, roundCall};
+ghost use Rattle.group_rules.specs.Calls.{freshCall, postCall, noReport, roundCall};
 use group_rules::KeptGroup;
+use group_rules::Report;
 use group_rules::RoundDone;
 use kinds::Body;
 use kinds::refusals::BAD_NUMBER;
-use kinds::refusals::COUNT_TOO_HIGH;
 use kinds::refusals::DONE;
+use kinds::refusals::LANE_FULL;
 use kinds::refusals::NOT_AN_EDIT;
 use kinds::refusals::OUTSIDE_LIMITS;
 use kinds::refusals::QUEUE_FULL;
 use station_rules::Station;
+use station_rules::Taking;
 
 pub mod checks;
-pub mod hears;
 pub mod sends;
 pub mod starts;
+
+// The room of a frame of sixteen records.
+const FRAME_ROOM: usize = 260;
 
 // Group fresh: the group of n, as it begins.
 pub fn fresh(n: usize) -> KeptGroup
@@ -84,17 +88,80 @@ pub fn post(g: [Station; 16], k: usize, body: Body) -> KeptGroup
     }
 }
 
+// What a round reports of a station that is not in it.
+fn no_report() -> Report
+    ensures { λ r. ⌜ r ≡ noReport ⌝ }
+{
+    let taking = Taking {
+        source: 0,
+        body: Body::Empty,
+    };
+    let takings = [taking; 30];
+    let turn = station::no_turn();
+    Report {
+        takings_len: 0,
+        takings: takings,
+        turn: turn,
+    }
+}
+
 // Round: every frame is written, then each station hears those of its mask and takes its turn.
 pub fn round(g: [Station; 16], masks: [u16; 16]) -> RoundDone
     ensures { λ r. ⌜ r ≡ roundCall g masks ⌝ }
 {
-    if !checks::group_inside(g) {
-        return hears::turned_down(OUTSIDE_LIMITS, g);
-    }
-    if !checks::counts_inside(g) {
-        return hears::turned_down(COUNT_TOO_HIGH, g);
-    }
+    let none = no_report();
+    let reports = [none; 16];
     let mut bytes = [0u8; 4160];
-    sends::write_frames(&mut bytes, g);
-    hears::hear_and_turn(g, masks, &bytes)
+    let mut z = RoundDone {
+        refusal: DONE,
+        group: g,
+        reports: reports,
+    };
+    let first = z.group[0];
+    let n = first.n;
+    if n < 1 {
+        z.refusal = OUTSIDE_LIMITS;
+        return z;
+    }
+    if 16 < n {
+        z.refusal = OUTSIDE_LIMITS;
+        return z;
+    }
+    let mut refusal = DONE;
+    let mut k: usize = 0;
+    while k < n {
+        let at = FRAME_ROOM * k;
+        let judged = sends::send(&mut bytes[at..at + FRAME_ROOM], z.group[k], n, k);
+        refusal = sends::worse(refusal, judged);
+        k += 1;
+    }
+    if refusal != DONE {
+        z.refusal = refusal;
+        return z;
+    }
+    let mut i: usize = 0;
+    while i < n {
+        let senders = sends::heard_by(masks, n, i);
+        let starts = senders.starts;
+        let heard = station_hearing::hear_all(z.group[i], &bytes, starts, senders.len);
+        if heard.overfull {
+            z.refusal = LANE_FULL;
+            z.group = g;
+            z.reports = [none; 16];
+            return z;
+        }
+        let station = heard.station;
+        let takings = heard.takings;
+        let turned = station_turns::take_turn(station);
+        let after = turned.station;
+        let turn = turned.report;
+        z.group[i] = after;
+        z.reports[i] = Report {
+            takings_len: heard.takings_len,
+            takings: takings,
+            turn: turn,
+        };
+        i += 1;
+    }
+    z
 }

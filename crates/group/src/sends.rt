@@ -4,9 +4,11 @@ ghost use mathlib.Core.Path.{_≡_};
 ghost use mathlib.Core.Bool.{true};
 ghost use Prim.Native.Nat.{ℕ, _≤_, _<_};
 ghost use lib.ListN.{length};
-ghost use Rattle.station_rules.specs.Calls.{ownCountInside};
-ghost use Rattle.group_rules.specs.State.{stationAt, sizeOf, groupInside};
-ghost use Rattle.group.specs.Frames.{FramesBelow, heardCount, heardStarts};
+ghost use Rattle.group.specs.Frames as spec;
+ghost use Rattle.group.specs.Frames.{sendRefusal, partAfter, heardCount, heardStarts};
+use kinds::refusals::COUNT_TOO_HIGH;
+use kinds::refusals::DONE;
+use kinds::refusals::OUTSIDE_LIMITS;
 use station_rules::Station;
 
 // The room of a frame of sixteen records.
@@ -18,23 +20,42 @@ pub struct Senders {
     pub starts: [usize; 16],
 }
 
-// Writes the frame of every station of the group, each into its own part.
-pub fn write_frames(bytes: &mut [u8], g: [Station; 16])
-    requires { ⌜ (length (now bytes) ≡ 4160) × (groupInside g ≡ true) ⌝ ∗
-        ⌜ ((k : ℕ) → k < sizeOf g → ownCountInside (stationAt g k) ≡ true) ⌝ }
-    ensures { λ _. ⌜ FramesBelow g (sizeOf g) (now (bytes .exit)) ⌝ }
+// Writes the frame of station k of a group of n into its part, and answers the refusal of a round in which it may not be written.
+pub fn send(part: &mut [u8], s: Station, n: usize, k: usize) -> u32
+    ensures { λ r. ⌜ (r ≡ sendRefusal n k s) × (now (part .exit) ≡ partAfter n k s (now (part .entry))) ⌝ }
 {
-    let first = g[0];
-    let n = first.n;
-    let mut k: usize = 0;
-    while k < n {
-        let at = FRAME_ROOM * k;
-        let s = g[k];
-        let held = s.held;
-        let table = s.table;
-        frames::write_table(&mut bytes[at..at + FRAME_ROOM], held, table, n, k);
-        k += 1;
+    if s.n != n {
+        return OUTSIDE_LIMITS;
     }
+    if s.own != k {
+        return OUTSIDE_LIMITS;
+    }
+    if !station_limits::station_inside(s) {
+        return OUTSIDE_LIMITS;
+    }
+    let size = s.n;
+    let own = s.own;
+    let record = s.table[own];
+    if !station_limits::count_fits(size, record.count) {
+        return COUNT_TOO_HIGH;
+    }
+    let held = s.held;
+    let table = s.table;
+    frames::write_table(part, held, table, size, own);
+    DONE
+}
+
+// Of the refusals of two stations, the one that the round answers.
+pub fn worse(a: u32, b: u32) -> u32
+    ensures { λ r. ⌜ r ≡ spec.worse a b ⌝ }
+{
+    if a == OUTSIDE_LIMITS {
+        return a;
+    }
+    if b == DONE {
+        return a;
+    }
+    b
 }
 
 // The frames that station i of n hears in a round with these masks.

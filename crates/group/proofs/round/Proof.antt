@@ -1,79 +1,306 @@
--- `group::round` meets its contract, refusal by refusal: the frames are written, then heard.
-use Prim.Native.Nat.{ℕ, _<_}
-use mathlib.Core.Path.{_≡_, refl, sym, ap, _∙_}
-use mathlib.Core.Bool.{true}
-use lib.ListN.{length, length-replicate}
+-- `group::round` meets its contract: the frames of the stations passed are sent, then the stations passed have heard and taken their turn, and no lane was
+-- overfull.
+use Prim.Native.Nat.{ℕ, _+_, _*_, _-_, _≤_, _<_}
+use native.Mathlib.Omega.{arith}
+use mathlib.Core.Path.{_≡_, refl, sym, ap, subst, _∙_}
+use mathlib.Core.Bool.{Bool, true, false}
+use mathlib.Core.List.{List}
+use lib.ListN.{set, replicate, length}
 use borrow.Author.Needs.{needs}
-use borrow.Author.Tests.{not-true, not-false}
-use Rattle.places.proofs.Laws.{allBelow-at}
-use Rattle.station_rules.specs.Calls.{ownCountInside}
-use Rattle.group_rules.specs.State.{stationAt, sizeOf, groupInside}
-use Rattle.group.proofs.RoundSteps.{round-outside, round-count}
+use Rattle.places.specs.Places.{anyBelow, fill}
+use Rattle.places.proofs.Laws.{fill-more, fill-above}
+use Rattle.station_rules.specs.declared.Station.{Station}
+use Rattle.station_rules.specs.Turn.{afterTurn}
+use Rattle.group_rules.specs.declared.Report.{Report}
+use Rattle.group_rules.specs.declared.RoundDone.{RoundDone}
+use Rattle.group_rules.specs.State.{noStation, stationAt, sizeOf, groupInside}
+use Rattle.group_rules.specs.Calls.{heard, noReport, reportOf, afterRound}
+use Rattle.group_rules.proofs.Members.{GroupShaped}
+use Rattle.group.proofs.GroupLengths.{group-lengths}
+use Rattle.group.proofs.WrittenFrames.{SentBelow, AllSent, sent-none, sent-more, all-sent}
+use Rattle.group.proofs.HeardTurn.{may-hear, full-is, may-turn, after-is, report-is}
+use Rattle.group.proofs.RoundSteps.{anyBelow-more, round-none, round-many, round-judged, round-full, round-done}
 use Rattle.group.proofs.round.Statement.{statement}
 use Rattle.group.proofs.round.Tie as tie
 
--- what each passed test says
-inside : (c : tie.Else1) → groupInside (c .before .before .args .g) ≡ true
-inside c = sym (c .before .group-inside .ensures) ∙ not-false _ (c .if1 .left)
+-- the stations below i have heard and taken their turn
+abbrev turned : List Station → List ℕ → ℕ → RoundDone
+turned g masks i =
+    record {
+      refusal = 0;
+      group = fill i (λ k. afterTurn ((heard g masks k) .station)) g;
+      reports = fill i (reportOf g masks) (replicate 16 noReport);
+    }
 
-counts : (c : tie.Else2) (k : ℕ) → k < sizeOf (c .before .before .before .before .args .g) → ownCountInside (stationAt (c .before .before .before .before .args .g) k) ≡ true
-counts c =
-    let g = c .before .before .before .before .args .g in
-    allBelow-at (sizeOf g) (λ k. ownCountInside (stationAt g k)) (sym (c .before .counts-inside .ensures) ∙ not-false _ (c .if2 .left))
+-- no station has a report
+abbrev unreported : ℕ → List Station → Report → RoundDone
+unreported refusal g none = record { refusal = refusal; group = g; reports = replicate 16 none }
 
-group-inside-requires : tie.Need-group-inside-requires
-group-inside-requires c κs = search needs
+abbrev Inv-loop : tie.InvT-loop
+Inv-loop g masks none bytes₀ z n refusal₀ k₀ bytes refusal k =
+    (n ≡ sizeOf g) × (1 ≤ n) × (k ≤ n) × (n ≤ 16) × SentBelow g k refusal bytes
 
-turned-down-requires : tie.Need-turned-down-requires
-turned-down-requires c κs = search needs
+abbrev μ-loop : tie.MeasureT-loop
+μ-loop g masks none bytes₀ z n refusal₀ k₀ bytes refusal k = n - k
 
-returns : tie.Need-returns
+abbrev Inv-loop2 : tie.InvT-loop2
+Inv-loop2 g masks none bytes z₀ n refusal k i₀ z i =
+    (n ≡ sizeOf g) × (i ≤ n) × (n ≤ 16) × AllSent g bytes × (anyBelow i (λ j. (heard g masks j) .overfull) ≡ false) × (z ≡ turned g masks i)
+
+abbrev μ-loop2 : tie.MeasureT-loop2
+μ-loop2 g masks none bytes z₀ n refusal k i₀ z i = n - i
+
+-- the station that hears is as it was before the round
+unheard :
+    (h : tie.After-heard-by Inv-loop μ-loop Inv-loop2 μ-loop2) →
+    stationAt (h .before .before .loop2 .z .group) (h .before .before .loop2 .i) ≡ stationAt (h .before .before .before .before .before .before .before .before .before .before .args .g) (h .before .before .loop2 .i)
+unheard h =
+    let l = h .before .before .loop2 in
+    ap (λ (z : RoundDone). stationAt (z .group) (l .i)) (l .inv .5) ∙ fill-above (l .i) _ _ (l .i) noStation (omega arith)
+
+no-report-requires : tie.Need-no-report-requires Inv-loop μ-loop Inv-loop2 μ-loop2
+no-report-requires c κs = search needs
+
+element-copy-out-first : tie.Need-element-copy-out-first Inv-loop μ-loop Inv-loop2 μ-loop2
+element-copy-out-first c = search needs
+
+returns : tie.Need-returns Inv-loop μ-loop Inv-loop2 μ-loop2
 returns c =
-    c .turned-down .ensures ∙ round-outside _ _ (sym (c .before .before .group-inside .ensures) ∙ not-true _ (c .before .if1 .taken))
+    let a = c .before .before .before .args in
+    ap (unreported 2 (a .g)) (c .before .before .no-report .ensures) ∙ round-none (a .g) (a .masks) (c .if1 .taken)
 
-counts-inside-requires : tie.Need-counts-inside-requires
-counts-inside-requires c κs = inside c
-
-turned-down-requires-2 : tie.Need-turned-down-requires-2
-turned-down-requires-2 c κs = search needs
-
-returns-2 : tie.Need-returns-2
+returns-2 : tie.Need-returns-2 Inv-loop μ-loop Inv-loop2 μ-loop2
 returns-2 c =
-    let d = c .before .before .before in
-    c .turned-down2 .ensures
-    ∙ round-count _ _ (inside d) (sym (c .before .before .counts-inside .ensures) ∙ not-true _ (c .before .if2 .taken))
+    let a = c .before .before .before .before .args in
+    ap (unreported 2 (a .g)) (c .before .before .before .no-report .ensures) ∙ round-many (a .g) (a .masks) (c .if2 .taken)
 
-slice-aggregate-write-frames : tie.Need-slice-aggregate-write-frames
-slice-aggregate-write-frames c = search needs
+loop-holds : tie.Need-loop-holds Inv-loop μ-loop Inv-loop2 μ-loop2
+loop-holds c =
+    (refl, c .before .if1 .left, omega arith, c .if2 .left, sent-none (c .before .before .before .before .args .g) _ refl)
 
-write-frames-requires : tie.Need-write-frames-requires
-write-frames-requires c κs =
-    let d = c .before in
-    ((refl, inside (d .before .before)), counts d)
+mul-at : tie.Need-mul-at Inv-loop μ-loop Inv-loop2 μ-loop2
+mul-at c = search needs
 
-slice-aggregate-hear-and-turn : tie.Need-slice-aggregate-hear-and-turn
-slice-aggregate-hear-and-turn c = search needs
+add-send : tie.Need-add-send Inv-loop μ-loop Inv-loop2 μ-loop2
+add-send c = search needs
 
-hear-and-turn-requires : tie.Need-hear-and-turn-requires
-hear-and-turn-requires c κs =
-    let d = c .before .before .before .before in
-    (inside (d .before .before), (counts d, c .before .before .write-frames .ensures))
+sub-send : tie.Need-sub-send Inv-loop μ-loop Inv-loop2 μ-loop2
+sub-send c = search needs
 
-returns-3 : tie.Need-returns-3
-returns-3 c = search needs
+part-bytes-start : tie.Need-part-bytes-start Inv-loop μ-loop Inv-loop2 μ-loop2
+part-bytes-start c = search needs
+
+part-bytes-end : tie.Need-part-bytes-end Inv-loop μ-loop Inv-loop2 μ-loop2
+part-bytes-end c = search needs
+
+mul-send : tie.Need-mul-send Inv-loop μ-loop Inv-loop2 μ-loop2
+mul-send c = search needs
+
+element-copy-out-send : tie.Need-element-copy-out-send Inv-loop μ-loop Inv-loop2 μ-loop2
+element-copy-out-send c = search needs
+
+send-requires : tie.Need-send-requires Inv-loop μ-loop Inv-loop2 μ-loop2
+send-requires c κs = search needs
+
+worse-requires : tie.Need-worse-requires Inv-loop μ-loop Inv-loop2 μ-loop2
+worse-requires c κs = search needs
+
+add-k : tie.Need-add-k Inv-loop μ-loop Inv-loop2 μ-loop2
+add-k c = search needs
+
+loop-less : tie.Need-loop-less Inv-loop μ-loop Inv-loop2 μ-loop2
+loop-less c = search needs
+
+loop-again : tie.Need-loop-again Inv-loop μ-loop Inv-loop2 μ-loop2
+loop-again c =
+    let a = c .before .before .before .before .before .before .before .before .before .before .before .args in
+    let l = c .before .before .before .before .before .before .loop in
+    let sent = c .before .before .send in (
+      refl,
+      l .inv .1,
+      omega arith,
+      l .inv .3,
+      sent-more (a .g) (l .k) (omega arith) (l .refusal) (l .bytes) (l .inv .4) (sent .result) (sent .ensures .0) (sent .last .0)
+          (sent .ensures .1) (c .worse .result) (c .worse .ensures),
+    )
+
+returns-3 : tie.Need-returns-3 Inv-loop μ-loop Inv-loop2 μ-loop2
+returns-3 c =
+    let a = c .before .before .before .before .before .before .before .args in
+    let l = c .before .before .loop in
+    ap (unreported (l .refusal) (a .g)) (c .before .before .before .before .before .before .no-report .ensures)
+    ∙ round-judged (a .g) (a .masks) (l .k) (l .refusal) (omega arith) (l .inv .1) (l .inv .4 .judged) (c .if3 .taken)
+
+loop2-holds : tie.Need-loop2-holds Inv-loop μ-loop Inv-loop2 μ-loop2
+unfolding anyBelow fill
+loop2-holds c =
+    let a = c .before .before .before .before .before .before .before .args in
+    let l = c .before .before .loop in (
+      refl,
+      omega arith,
+      l .inv .3,
+      all-sent (a .g) (l .k) (l .refusal) (l .bytes) (l .inv .4) (omega arith) (l .inv .1) (c .if3 .left),
+      refl,
+      ap (unreported 0 (a .g)) (c .before .before .before .before .before .before .no-report .ensures),
+    )
+
+heard-by-requires : tie.Need-heard-by-requires Inv-loop μ-loop Inv-loop2 μ-loop2
+heard-by-requires c κs = search needs
+
+mul-hear-all : tie.Need-mul-hear-all Inv-loop μ-loop Inv-loop2 μ-loop2
+mul-hear-all c = search needs
+
+element-copy-out-hear-all : tie.Need-element-copy-out-hear-all Inv-loop μ-loop Inv-loop2 μ-loop2
+element-copy-out-hear-all c = search needs
+
+slice-aggregate-hear-all : tie.Need-slice-aggregate-hear-all Inv-loop μ-loop Inv-loop2 μ-loop2
+slice-aggregate-hear-all c = search needs
+
+hear-all-requires : tie.Need-hear-all-requires Inv-loop μ-loop Inv-loop2 μ-loop2
+hear-all-requires c κs =
+    let h = c .before .before .before in
+    let r = h .heard-by in
+    let a = h .before .before .before .before .before .before .before .before .before .before .args in
+    let l = h .before .before .loop2 in
+    may-hear (a .g) (a .masks) (h .before .before .before .before .before .loop .bytes) (l .inv .3) (l .i) (omega arith) (r .result .len) (r .ensures .0) (r .result .starts)
+    (r .ensures .1) _ (unheard h)
+
+returns-4 : tie.Need-returns-4 Inv-loop μ-loop Inv-loop2 μ-loop2
+returns-4 c =
+    let h = c .before .before .before .before .before .before in
+    let r = h .heard-by in
+    let a = h .before .before .before .before .before .before .before .before .before .before .args in
+    let l = h .before .before .loop2 in
+    let sent = l .inv .3 in
+    let all = c .before .before .hear-all in
+    ap (unreported 8 (a .g)) (h .before .before .before .before .before .before .before .before .before .no-report .ensures)
+    ∙ round-full (a .g) (a .masks) (sent .inside) (sent .counts) (l .i) (omega arith)
+    (sym
+    (full-is (a .g) (a .masks) (h .before .before .before .before .before .loop .bytes) sent (l .i) (omega arith) (r .result .len) (r .ensures .0) (r .result .starts)
+    (r .ensures .1) _ (unheard h) (all .result) (all .ensures))
+    ∙ c .before .if4 .taken)
+
+take-turn-requires : tie.Need-take-turn-requires Inv-loop μ-loop Inv-loop2 μ-loop2
+take-turn-requires c κs =
+    let h = c .before .before .before .before .before .before .before in
+    let r = h .heard-by in
+    let a = h .before .before .before .before .before .before .before .before .before .before in
+    let l = h .before .before .loop2 in
+    let all = c .before .before .before .hear-all in
+    may-turn (a .args .g) (a .args .masks) (h .before .before .before .before .before .loop .bytes) (l .inv .3) (l .i) (omega arith) (r .result .len) (r .ensures .0)
+    (r .result .starts) (r .ensures .1) _ (unheard h) (all .result) (all .ensures)
+    (group-lengths (a .args .g) _ (a .good .0)) (c .before .before .if4 .left)
+
+mul-after : tie.Need-mul-after Inv-loop μ-loop Inv-loop2 μ-loop2
+mul-after c = search needs
+
+element-set-from-after : tie.Need-element-set-from-after Inv-loop μ-loop Inv-loop2 μ-loop2
+element-set-from-after c = search needs
+
+mul-t38 : tie.Need-mul-t38 Inv-loop μ-loop Inv-loop2 μ-loop2
+mul-t38 c = search needs
+
+element-set-from-z : tie.Need-element-set-from-z Inv-loop μ-loop Inv-loop2 μ-loop2
+element-set-from-z c = search needs
+
+add-i : tie.Need-add-i Inv-loop μ-loop Inv-loop2 μ-loop2
+add-i c = search needs
+
+loop2-less : tie.Need-loop2-less Inv-loop μ-loop Inv-loop2 μ-loop2
+loop2-less c = search needs
+
+loop2-again : tie.Need-loop2-again Inv-loop μ-loop Inv-loop2 μ-loop2
+loop2-again c =
+    let h = c .before .before .before .before .before .before .before .before .before .before in
+    let r = h .heard-by in
+    let a = h .before .before .before .before .before .before .before .before .before .before in
+    let l = h .before .before .loop2 in
+    let g = a .args .g in
+    let masks = a .args .masks in
+    let bytes = h .before .before .before .before .before .loop .bytes in
+    let all = c .before .before .before .before .before .before .hear-all in
+    let t = c .before .before .take-turn in
+    let room = c .before .before .before .before .before .if4 .left in
+    let shape = group-lengths g _ (a .good .0) in
+    let full =
+    full-is g masks bytes (l .inv .3) (l .i) (omega arith) (r .result .len) (r .ensures .0) (r .result .starts) (r .ensures .1)
+    _ (unheard h) (all .result) (all .ensures) in
+    let after : t .result .station ≡ afterTurn ((heard g masks (l .i)) .station) =
+    after-is g masks bytes (l .inv .3) (l .i) (omega arith) (r .result .len) (r .ensures .0) (r .result .starts) (r .ensures .1)
+    _ (unheard h) (all .result) (all .ensures) shape room (t .result) (t .ensures) in
+    let report =
+    report-is g masks bytes (l .inv .3) (l .i) (omega arith) (r .result .len) (r .ensures .0) (r .result .starts) (r .ensures .1)
+    _ (unheard h) (all .result) (all .ensures) shape room (t .result) (t .ensures) in
+    let before = l .inv .5 in (
+      refl,
+      omega arith,
+      l .inv .2,
+      l .inv .3,
+      anyBelow-more (l .i) (λ k. (heard g masks k) .overfull) (l .inv .4) (sym full ∙ room),
+      (λ j.
+          record {
+            refusal = (before j) .refusal;
+            group = set ((before j) .group) (l .i) (after j);
+            reports = set ((before j) .reports) (l .i) (report j);
+          })
+          ∙ (λ j.
+          record {
+            refusal = 0;
+            group = fill-more (l .i) (λ k. afterTurn ((heard g masks k) .station)) g j;
+            reports = fill-more (l .i) (reportOf g masks) (replicate 16 noReport) j;
+          }),
+    )
+
+returns-5 : tie.Need-returns-5 Inv-loop μ-loop Inv-loop2 μ-loop2
+unfolding afterRound
+returns-5 c =
+    let a = c .before .before .before .before .before .before .before .before .before .args in
+    let l = c .before .loop2 in
+    let e : l .i ≡ sizeOf (a .g) = omega arith in
+    l .inv .5
+    ∙ ap (turned (a .g) (a .masks)) e
+    ∙ round-done (a .g) (a .masks) (l .inv .3 .inside) (l .inv .3 .counts)
+    (ap (λ (m : ℕ). anyBelow m (λ k. (heard (a .g) (a .masks) k) .overfull)) (sym e) ∙ l .inv .4)
 
 pub round-spec : {M : Type 1} → statement M
 round-spec =
     tie.close
     (tie.spec
-    group-inside-requires
-    turned-down-requires
+    Inv-loop
+    μ-loop
+    Inv-loop2
+    μ-loop2
+    no-report-requires
+    element-copy-out-first
     returns
-    counts-inside-requires
-    turned-down-requires-2
     returns-2
-    slice-aggregate-write-frames
-    write-frames-requires
-    slice-aggregate-hear-and-turn
-    hear-and-turn-requires
-    returns-3)
+    loop-holds
+    mul-at
+    add-send
+    sub-send
+    part-bytes-start
+    part-bytes-end
+    mul-send
+    element-copy-out-send
+    send-requires
+    worse-requires
+    add-k
+    loop-less
+    loop-again
+    returns-3
+    loop2-holds
+    heard-by-requires
+    mul-hear-all
+    element-copy-out-hear-all
+    slice-aggregate-hear-all
+    hear-all-requires
+    returns-4
+    take-turn-requires
+    mul-after
+    element-set-from-after
+    mul-t38
+    element-set-from-z
+    add-i
+    loop2-less
+    loop2-again
+    returns-5)

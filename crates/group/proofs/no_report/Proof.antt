@@ -1,9 +1,9 @@
--- `group::hears::no_report` meets its contract.
+-- `group::no_report` meets its contract.
 use mathlib.Core.Path.{_≡_, sym, ap, _∙_}
 use borrow.Author.Needs.{needs}
 use Rattle.group_rules.specs.Calls.{noReport}
-use Rattle.group.proofs.hears.no_report.Statement.{statement}
-use Rattle.group.proofs.hears.no_report.Tie as tie
+use Rattle.group.proofs.no_report.Statement.{statement}
+use Rattle.group.proofs.no_report.Tie as tie
 
 no-turn-requires : tie.Need-no-turn-requires
 no-turn-requires c κs = search needs
