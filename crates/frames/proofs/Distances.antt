@@ -10,7 +10,7 @@ use lib.IntN.{ℤ, pos, negsuc}
 use lib.ListN.{getD, length}
 use lib.Signed.{leZ, mag}
 use borrow.Author.Tests.{le-ltb, lt-ltb, le-leb, lt-leb, leb-true, leb-false, ltb-true, ltb-false}
-use Rattle.kinds.specs.Limits.{kinds, limitsOf, numbersInside}
+use Rattle.kinds.specs.Limits.{limitsOf, numbersInside}
 use Rattle.frames.specs.declared.Span.{Span}
 use Rattle.frames.specs.Words.{signed, unsigned}
 use Rattle.frames.specs.Spans.{above, spanOf, spansOf, spans}

@@ -2,10 +2,10 @@
 use mathlib.Core.Path.{_≡_, sym, ap, _∙_}
 use mathlib.Core.Bool.{Bool, true, false, not, _&&_, _||_}
 use mathlib.Core.List.{List}
-use Prim.Native.Nat.{ℕ, _+_, _*_, _-_, _<_, _≤_}
+use Prim.Native.Nat.{ℕ, _*_, _-_, _<_, _≤_}
 use native.Mathlib.Omega.{arith}
 use lib.Dec.{ltb, eqb}
-use lib.ListN.{getD, length, take}
+use lib.ListN.{getD, take}
 use borrow.Author.Tests.{lt-ltb, le-leb, lt-leb, eq-eqb, ne-eqb, eqb-true}
 use Rattle.kinds.specs.Limits.{bodyInside}
 use Rattle.kinds.specs.Refusals.{done, badNumber, badRecord}
@@ -13,7 +13,6 @@ use Rattle.labels.specs.Packing.{allLabels}
 use Rattle.places.specs.Places.{allBelow}
 use Rattle.places.proofs.Laws.{and-left, and-right, allBelow-at, allBelow-fails}
 use Rattle.frames.specs.declared.Record.{Record}
-use Rattle.frames.specs.declared.Written.{Written}
 use Rattle.frames.specs.Record.{countInside, noRecord, recordFits, placeFits}
 use Rattle.frames.specs.Frame.{validNumber, frameRefusal, frameBytes}
 use Rattle.frames.specs.Calls.{tableRecords, written, bufferWith, Writable, tableFits, frameWritten, frameBuffer}

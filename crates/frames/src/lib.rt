@@ -463,6 +463,7 @@ fn place_fits(n: usize, k: usize, r: Record) -> bool
     labels::all_labels(labels, n)
 }
 
+// The same, if one is held at all.
 fn held_fits(held: bool, n: usize, k: usize, r: Record) -> bool
     requires { ⌜ (k < n) × (n ≤ 16) ⌝ }
     ensures { λ b. ⌜ b ≡ (not held || placeFits n k r) ⌝ }

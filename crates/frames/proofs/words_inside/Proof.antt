@@ -1,5 +1,5 @@
 -- `frames::words_inside` meets its contract: the table holds each row's least and spans, and `Distances` says why one test of a distance is enough.
-use mathlib.Core.Path.{_≡_, ap, _∙_}
+use mathlib.Core.Path.{ap, _∙_}
 use Prim.Native.Nat.{ℕ}
 use native.Mathlib.Omega.{arith}
 use lib.ListN.{length}
