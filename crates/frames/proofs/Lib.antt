@@ -1,15 +1,2 @@
-pub mod Words
 pub mod Distances
-pub mod Examples
-pub mod Check
-pub mod Labels
 pub mod Records
-pub mod Entries
-pub mod Writing
-pub mod Bytes
-pub mod Table
-pub mod Spelled
-pub mod RecordTrip
-pub mod FrameTrip
-pub mod TableTrip
-pub mod Fitting

@@ -14,9 +14,9 @@ use borrow.Author.Tests.{lt-ltb, le-ltb, ne-eqb}
 use Rattle.labels.specs.Packing.{unpacked}
 use Rattle.places.specs.Places.{allBelow, anyBelow}
 use Rattle.places.proofs.Laws.{and-both, allBelow-fails}
-use Rattle.frames.specs.Words.{wordAt}
-use Rattle.frames.specs.Record.{recordOf, bytesInside}
-use Rattle.frames.specs.Frame.{part, stationAt, recordsInside}
+use Rattle.frame_rules.specs.Words.{wordAt}
+use Rattle.frame_rules.specs.Record.{recordOf, bytesInside}
+use Rattle.frame_rules.specs.Frame.{part, stationAt, recordsInside}
 
 -- a record's part as the code takes it
 pub part-is : (bytes : List ℕ) (k : ℕ) → take (4 + 16 * k + 16 - (4 + 16 * k)) (drop (4 + 16 * k) bytes) ≡ part bytes k

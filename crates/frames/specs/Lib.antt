@@ -1,5 +1,1 @@
-pub mod Words
 pub mod Spans
-pub mod Record
-pub mod Frame
-pub mod Calls

@@ -5,7 +5,7 @@ use mathlib.Core.List.{List, [], _∷_}
 use Rattle.kinds.specs.declared.Limits.{Limits}
 use Rattle.kinds.specs.Limits.{kinds}
 use Rattle.frames.specs.declared.Span.{Span}
-use Rattle.frames.specs.Words.{unsigned}
+use Rattle.frame_rules.specs.Words.{unsigned}
 
 -- how far word a lies above word b
 abbrev pub above : ℕ → ℕ → ℕ

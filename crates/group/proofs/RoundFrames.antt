@@ -11,7 +11,7 @@ use native.Mathlib.Omega.{arith}
 use lib.ListN.{getD, set, drop, length, length-set, length-replicate, replicate}
 use lib.Seq.{getD-set-same, getD-set-other}
 use Rattle.links.specs.Log.{hearsIn}
-use Rattle.frames.specs.Frame.{recordsOf}
+use Rattle.frame_rules.specs.Frame.{recordsOf}
 use Rattle.station_rules.specs.declared.Station.{Station}
 use Rattle.station_rules.specs.State.{sentRecords}
 use Rattle.station_rules.specs.Calls.{ownCountInside}

@@ -13,14 +13,14 @@ use Rattle.labels.specs.Packing.{allLabels}
 use Rattle.labels.proofs.Laws.{at-all}
 use Rattle.places.specs.Places.{allBelow}
 use Rattle.places.proofs.Laws.{and-both, and-left, allBelow-at, allBelow-make, tabulate-ext}
-use Rattle.frames.specs.declared.Record.{Record}
-use Rattle.frames.specs.Record.{recordOf, bytesInside, recordFits}
-use Rattle.frames.specs.Frame.{part, recordsInside, recordsOf, frameBytes}
-use Rattle.frames.specs.Calls.{tableRecords, Writable}
-use Rattle.frames.proofs.Bytes.{length-frame}
-use Rattle.frames.proofs.Check.{accepted-frame}
-use Rattle.frames.proofs.FrameTrip.{at-most}
-use Rattle.frames.proofs.TableTrip.{table-fits, table-read, table-accepted}
+use Rattle.frame_rules.specs.declared.Record.{Record}
+use Rattle.frame_rules.specs.Record.{recordOf, bytesInside, recordFits}
+use Rattle.frame_rules.specs.Frame.{part, recordsInside, recordsOf, frameBytes}
+use Rattle.frame_rules.specs.Calls.{tableRecords, Writable}
+use Rattle.frame_rules.proofs.Bytes.{length-frame}
+use Rattle.frame_rules.proofs.Check.{accepted-frame}
+use Rattle.frame_rules.proofs.FrameTrip.{at-most}
+use Rattle.frame_rules.proofs.TableTrip.{table-fits, table-read, table-accepted}
 use Rattle.station_rules.specs.declared.Station.{Station}
 use Rattle.station_rules.specs.State.{heldOf, sentRecords}
 use Rattle.station_rules.specs.Calls.{ownCountInside, frameOf}

@@ -8,7 +8,7 @@ use lib.ListN.{set, take, drop, length, replicate}
 use lib.Dec.{eqb}
 use Rattle.kinds.specs.Refusals.{done, outsideLimits, countTooHigh, refuse}
 use Rattle.links.specs.Log.{hearsIn}
-use Rattle.frames.specs.Calls.{bufferWith}
+use Rattle.frame_rules.specs.Calls.{bufferWith}
 use Rattle.places.specs.Places.{allBelow}
 use Rattle.station_rules.specs.declared.Station.{Station}
 use Rattle.station_rules.specs.Limits.{stationInside}

@@ -41,7 +41,7 @@ pub fn send(part: &mut [u8], s: Station, n: usize, k: usize) -> u32
     }
     let held = s.held;
     let table = s.table;
-    frames::write_table(part, held, table, size, own);
+    frame_writer::write_table(part, held, table, size, own);
     DONE
 }
 

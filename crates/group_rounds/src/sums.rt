@@ -1,6 +1,6 @@
 // A sum over every number of the reports of a round, and one over every number of a group.
 
-use frames::Record;
+use frame_rules::Record;
 use group_rules::Report;
 use kinds::Body;
 use lanes::Lane;
@@ -27,7 +27,7 @@ fn one_if(flag: bool) -> u32 {
 fn mix_body(sum: u64, body: Body) -> u64 {
     let kind = mix(sum, kinds::kind_of(body));
     let event = mix(kind, kinds::event_of(body));
-    mix(event, frames::unsigned(kinds::argument_of(body)))
+    mix(event, records::unsigned(kinds::argument_of(body)))
 }
 
 fn mix_row(sum: u64, row: [Slot; 16]) -> u64 {

@@ -6,8 +6,8 @@ use mathlib.Core.List.{List}
 use mathlib.Core.Path.{_≡_, ap, _∙_}
 use native.Mathlib.Omega.{arith}
 use lib.ListN.{getD, length}
-use Rattle.frames.specs.declared.Record.{Record}
-use Rattle.frames.specs.Record.{noRecord}
+use Rattle.frame_rules.specs.declared.Record.{Record}
+use Rattle.frame_rules.specs.Record.{noRecord}
 use Rattle.station_rules.specs.State.{heldOf, recordOf}
 use Rattle.group_rules.specs.State.{stationAt}
 use Rattle.group_rules.specs.History.{History, Call, historyOf}

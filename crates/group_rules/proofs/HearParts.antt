@@ -14,7 +14,7 @@ use Rattle.kinds.specs.Body.{kindOf}
 use Rattle.labels.specs.Label.{successor}
 use Rattle.links.specs.Relay.{Links}
 use Rattle.links.specs.Number.{numOf, got}
-use Rattle.frames.specs.declared.Record.{Record}
+use Rattle.frame_rules.specs.declared.Record.{Record}
 use Rattle.lanes.specs.declared.Lane.{Lane}
 use Rattle.places.proofs.Laws.{cond-not}
 use Rattle.station_rules.specs.declared.Station.{Station}

@@ -21,7 +21,7 @@ use Rattle.links.proofs.Got.{got-numOf, numOf-some, numOf-mono, got-mono, num-l
 use Rattle.links.proofs.Bounds.{gotOf-some}
 use Rattle.links.proofs.Version.{gotOf-mono, gotOf-limit, gotOf-close, numOf-limit}
 use Rattle.links.proofs.Tally.{tally-same, tally-rises}
-use Rattle.frames.specs.declared.Record.{Record}
+use Rattle.frame_rules.specs.declared.Record.{Record}
 use Rattle.places.specs.Places.{anyBelow}
 use Rattle.places.proofs.Laws.{anyBelow-ext, anyBelow-add}
 use Rattle.station_rules.specs.declared.Station.{Station}

@@ -15,7 +15,7 @@ use Rattle.kinds.specs.Limits.{isEdit, bodyInside, numbersInside}
 use Rattle.kinds.specs.Refusals.{done}
 use Rattle.kinds.proofs.Laws.{edit-inside, edit-kind, edit-not-empty}
 use Rattle.labels.proofs.Examples as labels
-use Rattle.frames.proofs.FrameTrip as frames
+use Rattle.frame_rules.proofs.FrameTrip as frames
 use Rattle.station_rules.proofs.Examples as station
 use Rattle.station_rules.specs.declared.Station.{Station}
 use Rattle.station_rules.specs.Calls.{posted}

@@ -18,7 +18,7 @@ use Rattle.links.proofs.Number.{num-positive, num-mono}
 use Rattle.links.proofs.Got.{numOf-none, numOf-some, got-own}
 use Rattle.links.proofs.Version.{numOf-close, fresh-mono}
 use Rattle.links.proofs.Clock.{news-limit}
-use Rattle.frames.specs.declared.Record.{Record}
+use Rattle.frame_rules.specs.declared.Record.{Record}
 use Rattle.station_rules.specs.declared.Station.{Station}
 use Rattle.station_rules.specs.State.{labelOf, heldOf, recordOf, recordLabel}
 use Rattle.station_rules.specs.Hearing.{heeds, advances}

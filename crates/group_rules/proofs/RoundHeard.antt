@@ -16,12 +16,12 @@ use Rattle.links.specs.Clock.{latest, news}
 use Rattle.links.specs.Number.{numOf, got, fresh}
 use Rattle.links.proofs.Clock.{news-own, news-limit, news-step}
 use Rattle.links.proofs.Got.{got-numOf, version}
-use Rattle.frames.specs.declared.Record.{Record}
-use Rattle.frames.specs.Record.{framed}
+use Rattle.frame_rules.specs.declared.Record.{Record}
+use Rattle.frame_rules.specs.Record.{framed}
 use Rattle.places.specs.Places.{gather}
 use Rattle.places.proofs.Laws.{anyBelow-none}
 use Rattle.station_rules.specs.declared.Station.{Station}
-use Rattle.frames.specs.Calls.{tableRecords}
+use Rattle.frame_rules.specs.Calls.{tableRecords}
 use Rattle.station_rules.specs.State.{heldOf, recordOf, laneAt, sentRecords}
 use Rattle.station_rules.specs.Hearing.{Hearing, silent, hearRecord, hearRecords}
 use Rattle.station_rules.proofs.HearRecord.{hearRecord-skips}

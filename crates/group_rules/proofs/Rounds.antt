@@ -16,9 +16,9 @@ use Rattle.links.specs.Number.{num, numOf, got, gotOf}
 use Rattle.links.proofs.Clock.{news-own, news-start}
 use Rattle.links.proofs.Number.{num-zero, start-zero}
 use Rattle.links.proofs.Got.{got-none, got-own}
-use Rattle.frames.specs.declared.Record.{Record}
+use Rattle.frame_rules.specs.declared.Record.{Record}
 use Rattle.station_rules.specs.declared.Station.{Station}
-use Rattle.frames.specs.Record.{noRecord, zeroRecord}
+use Rattle.frame_rules.specs.Record.{noRecord, zeroRecord}
 use Rattle.station_rules.specs.State.{recordOf, freshStation}
 use Rattle.station_rules.specs.Turn.{afterTurn}
 use Rattle.group_rules.specs.State.{stationAt, sizeOf}

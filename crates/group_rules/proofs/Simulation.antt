@@ -17,7 +17,7 @@ use Rattle.links.specs.Number.{num, numOf, got, gotOf, fresh}
 use Rattle.links.proofs.Clock.{news-own}
 use Rattle.links.proofs.Got.{got-numOf, got-own, numOf-some}
 use Rattle.links.proofs.Bounds.{fresh-limit}
-use Rattle.frames.specs.declared.Record.{Record}
+use Rattle.frame_rules.specs.declared.Record.{Record}
 use Rattle.places.proofs.Laws.{anyBelow-ext}
 use Rattle.lanes.specs.Lane.{pushed}
 use Rattle.station_rules.specs.State.{labelOf, ackedOf, heldOf, recordOf, recordLabel, laneAt}

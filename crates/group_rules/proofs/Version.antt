@@ -18,7 +18,7 @@ use Rattle.links.proofs.Number.{num-positive, same-start}
 use Rattle.links.proofs.Got.{numOf-none, numOf-some, got-own}
 use Rattle.links.proofs.Bounds.{gotOf-some}
 use Rattle.links.proofs.Version.{fresh-pins}
-use Rattle.frames.specs.declared.Record.{Record}
+use Rattle.frame_rules.specs.declared.Record.{Record}
 use Rattle.lanes.specs.declared.Lane.{Lane}
 use Rattle.station_rules.specs.declared.Station.{Station}
 use Rattle.lanes.specs.Lane.{pushed}

@@ -11,8 +11,8 @@ use Rattle.kinds.specs.Limits.{isEdit}
 use Rattle.kinds.specs.Refusals.{done, queueFull, notAnEdit}
 use Rattle.labels.specs.Packing.{packed}
 use Rattle.labels.specs.Newer.{isNewer}
-use Rattle.frames.specs.declared.Record.{Record}
-use Rattle.frames.specs.Frame.{frameBytes}
+use Rattle.frame_rules.specs.declared.Record.{Record}
+use Rattle.frame_rules.specs.Frame.{frameBytes}
 use Rattle.station_rules.specs.declared.Station.{Station}
 use Rattle.station_rules.specs.declared.TurnReport.{TurnReport}
 use Rattle.lanes.specs.Queue.{noSlot}

@@ -10,8 +10,8 @@ use Rattle.kinds.specs.declared.Body.the-variants.{Empty, Neutral, Insert, Drop
 use Rattle.kinds.specs.Limits.{isEdit, bodyInside, numbersInside}
 use Rattle.links.specs.Log.{bit, hearsIn}
 use Rattle.places.specs.Places.{allBelow, anyBelow, fill, gather, tabulate}
-use Rattle.frames.specs.Record.{framed}
-use Rattle.frames.specs.Calls.{tableRecords}
+use Rattle.frame_rules.specs.Record.{framed}
+use Rattle.frame_rules.specs.Calls.{tableRecords}
 use Rattle.labels.specs.Newer.{isNewer}
 use Rattle.station_rules.specs.declared.Taking.{Taking}
 use Rattle.lanes.specs.Lane.{laneOf, bodies}

@@ -11,8 +11,8 @@ use Rattle.kinds.specs.Body.{bodyOf}
 use Rattle.kinds.specs.Limits.{numbersInside, bodyInside, isEdit}
 use Rattle.labels.specs.Newer.{isNewer}
 use Rattle.links.specs.Log.{bit, hearsIn}
-use Rattle.frames.specs.Record.{framed}
-use Rattle.frames.specs.Calls.{tableRecords}
+use Rattle.frame_rules.specs.Record.{framed}
+use Rattle.frame_rules.specs.Calls.{tableRecords}
 use Rattle.lanes.specs.Lane.{bodies, laneOf}
 use Rattle.lanes.specs.Queue.{noneWaiting, queued, oldest, unqueued}
 use Rattle.station_rules.specs.State.{sentRecords, freshStation}

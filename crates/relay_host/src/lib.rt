@@ -1,7 +1,7 @@
 // What the host that moves frames, a C program, calls. The declarations for C are in include/relay_host.h.
 
 ghost use mathlib.Core.Path.{_≡_};
-ghost use Rattle.frames.specs.Frame.{checkRefusal};
+ghost use Rattle.frame_rules.specs.Frame.{checkRefusal};
 
 // The frame check: 0, or the refusal, for any bytes and any two numbers.
 #[no_mangle]

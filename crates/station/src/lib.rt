@@ -3,7 +3,7 @@
 ghost use mathlib.Core.Path.{_≡_};
 ghost use lib.ListN.{length};
 ghost use Rattle.station_rules.specs.Calls.{freshCall, postCall, writeCall, bufferAfter, hearCall, noTurn, turnCall};
-use frames::Record;
+use frame_rules::Record;
 use kinds::Body;
 use kinds::refusals::BAD_NUMBER;
 use kinds::refusals::COUNT_TOO_HIGH;
@@ -93,7 +93,7 @@ pub fn write(s: Station, buffer: &mut [u8]) -> Written
     }
     let held = s.held;
     let table = s.table;
-    let written = frames::write_table(buffer, held, table, n, own);
+    let written = frame_writer::write_table(buffer, held, table, n, own);
     Written {
         refusal: written.refusal,
         len: written.len,

@@ -3,7 +3,7 @@
 ghost use mathlib.Core.Path.{_≡_};
 ghost use Prim.Native.Nat.{_<_};
 ghost use Rattle.station_rules.specs.State.{freshStation};
-use frames::Record;
+use frame_rules::Record;
 use kinds::Body;
 use lanes::Lane;
 use lanes::Queue;

@@ -1,6 +1,6 @@
 // Digests of what a call returns: one number that hangs on every entry.
 
-use frames::Record;
+use frame_rules::Record;
 use kinds::Body;
 use lanes::Lane;
 use lanes::Queue;
@@ -19,7 +19,7 @@ fn of_flag(digest: u64, flag: bool) -> u64 {
 fn of_body(digest: u64, body: Body) -> u64 {
     let kind = mix(digest, kinds::kind_of(body) as u64);
     let event = mix(kind, kinds::event_of(body) as u64);
-    mix(event, frames::unsigned(kinds::argument_of(body)) as u64)
+    mix(event, records::unsigned(kinds::argument_of(body)) as u64)
 }
 
 pub fn of_flags(digest: u64, flags: [bool; 16]) -> u64 {

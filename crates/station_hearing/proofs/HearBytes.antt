@@ -13,10 +13,10 @@ use Rattle.kinds.specs.Limits.{numbersInside}
 use Rattle.kinds.proofs.Laws.{inside-back}
 use Rattle.labels.specs.Packing.{unpacked, allLabels, allZero, wordInside}
 use Rattle.labels.proofs.Laws.{all-at}
-use Rattle.frames.specs.declared.Record.{Record}
-use Rattle.frames.specs.Words.{wordAt, signed}
-use Rattle.frames.specs.Record.{recordOf, recordMark, countInside, bytesInside}
-use Rattle.frames.specs.Frame.{part}
+use Rattle.frame_rules.specs.declared.Record.{Record}
+use Rattle.frame_rules.specs.Words.{wordAt, signed}
+use Rattle.frame_rules.specs.Record.{recordOf, recordMark, countInside, bytesInside}
+use Rattle.frame_rules.specs.Frame.{part}
 use Rattle.places.specs.Places.{allBelow, tabulate}
 use Rattle.places.proofs.Laws.{and-left, and-right, allBelow-at}
 use Rattle.station_rules.specs.State.{recordLabel}

@@ -10,8 +10,8 @@ use lib.Dec.{leb, eqb}
 use native.Mathlib.Decide.{ℕ-discrete}
 use lib.ListN.{getD, set, take, drop, length, replicate, length-append}
 use lib.Seq.{set-at, take-at, append-snoc}
-use Rattle.frames.specs.declared.Record.{Record}
-use Rattle.frames.specs.Frame.{recordsOf}
+use Rattle.frame_rules.specs.declared.Record.{Record}
+use Rattle.frame_rules.specs.Frame.{recordsOf}
 use Rattle.places.specs.Places.{tabulate}
 use Rattle.station_rules.specs.declared.Station.{Station}
 use Rattle.station_rules.specs.declared.Taking.{Taking}

@@ -7,8 +7,8 @@ use mathlib.Core.List.{List}
 use lib.ListN.{getD, length}
 use lib.Dec.{eqb}
 use Rattle.labels.specs.Label.{successor}
-use Rattle.frames.specs.declared.Record.{Record}
-use Rattle.frames.specs.Record.{noRecord}
+use Rattle.frame_rules.specs.declared.Record.{Record}
+use Rattle.frame_rules.specs.Record.{noRecord}
 use Rattle.station_rules.specs.State.{recordLabel}
 
 -- the least count with which a record of this label is newer than the held one: 0 where any is, 256 where none is, for a count is a byte

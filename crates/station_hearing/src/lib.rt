@@ -8,7 +8,7 @@ ghost use lib.ListN.{getD, length, set, take};
 ghost use lib.Dec.{leb, eqb};
 ghost use Rattle.kinds.specs.Body.{kindOf};
 ghost use Rattle.labels.specs.Label.{successor};
-ghost use Rattle.frames.specs.Record.{noRecord};
+ghost use Rattle.frame_rules.specs.Record.{noRecord};
 ghost use Rattle.lanes.specs.Lane.{pushed};
 ghost use Rattle.station_rules.specs.Hearing as spec;
 ghost use Rattle.station_rules.specs.Limits.{stationInside};
@@ -16,7 +16,7 @@ ghost use Rattle.station_rules.specs.Frames.{FrameAt, HearsAll};
 ghost use Rattle.station_rules.specs.Calls.{sourcesOf};
 ghost use Rattle.station_rules.specs.State.{recordLabel};
 ghost use Rattle.station_hearing.specs.Bars.{Bars};
-use frames::Record;
+use frame_rules::Record;
 use kinds::Body;
 use lanes::Lane;
 use station_rules::HeardAll;
@@ -155,7 +155,7 @@ pub fn hear_all(s: Station, bytes: &[u8], starts: [usize; 16], count: usize) -> 
             let at = start + 4 + 16 * r;
             r += 1;
             let k = bytes[at] as usize;
-            let seen_label = frames::label_at(bytes, at + 12, k);
+            let seen_label = records::label_at(bytes, at + 12, k);
             let seen_count = bytes[at + 1];
             if (seen_count as u16) < bars[4 * k + (seen_label as usize)] {
                 continue;
@@ -165,7 +165,7 @@ pub fn hear_all(s: Station, bytes: &[u8], starts: [usize; 16], count: usize) -> 
             bars[4 * k + (seen_label as usize)] = above(seen_count);
             bars[4 * k + (next as usize)] = 0;
             bars[4 * k + (past as usize)] = 256;
-            let seen = frames::read_record(&bytes[at..at + 16]);
+            let seen = records::read_record(&bytes[at..at + 16]);
             let label = station.labels[k];
             let advances = seen_label == labels::successor(label);
             let body = seen.body;
@@ -179,7 +179,7 @@ pub fn hear_all(s: Station, bytes: &[u8], starts: [usize; 16], count: usize) -> 
                     takings: takings,
                 };
             }
-            let answer = frames::label_at(bytes, at + 12, own);
+            let answer = records::label_at(bytes, at + 12, own);
             station.acked[k] = station.acked[k] | (answer == station.labels[own]);
             station.count = count_after(advances, station.count);
             station.labels[k] = label_after(advances, label);

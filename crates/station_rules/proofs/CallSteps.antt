@@ -10,9 +10,9 @@ use lib.Dec.{leb, ltb, eqb}
 use borrow.Author.Tests.{leb-true, ltb-true, le-leb, lt-leb, ne-eqb}
 use Rattle.kinds.specs.declared.Body.{Body}
 use Rattle.kinds.specs.Limits.{isEdit}
-use Rattle.frames.specs.Record.{bytesInside}
-use Rattle.frames.specs.Frame.{validNumber, part, recordsInside, frameRefusal, recordsOf}
-use Rattle.frames.proofs.Check.{accepted-frame, shape}
+use Rattle.frame_rules.specs.Record.{bytesInside}
+use Rattle.frame_rules.specs.Frame.{validNumber, part, recordsInside, frameRefusal, recordsOf}
+use Rattle.frame_rules.proofs.Check.{accepted-frame, shape}
 use Rattle.places.proofs.Laws.{and-left, and-right, allBelow-at, allBelow-make}
 use Rattle.station_rules.specs.declared.Station.{Station}
 use Rattle.station_rules.specs.declared.Taking.{Taking}

@@ -11,8 +11,8 @@ use lib.Dec.{eqb}
 use borrow.Author.Tests.{eq-eqb, ne-eqb}
 use Rattle.labels.specs.Label.{successor}
 use Rattle.labels.specs.Newer.{isNewer}
-use Rattle.frames.specs.declared.Record.{Record}
-use Rattle.frames.specs.Record.{framed, noRecord}
+use Rattle.frame_rules.specs.declared.Record.{Record}
+use Rattle.frame_rules.specs.Record.{framed, noRecord}
 use Rattle.places.proofs.Laws.{fill-below, fill-above, length-fill}
 use Rattle.station_rules.specs.declared.Station.{Station}
 use Rattle.lanes.specs.Lane.{noLane, pushed}

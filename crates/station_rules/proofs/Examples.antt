@@ -11,7 +11,7 @@ use Rattle.kinds.specs.Limits.{isEdit}
 use Rattle.kinds.proofs.Examples as kinds
 use Rattle.labels.specs.Newer.{isNewer}
 use Rattle.labels.proofs.Examples as labels
-use Rattle.frames.specs.declared.Record.{Record}
+use Rattle.frame_rules.specs.declared.Record.{Record}
 use Rattle.station_rules.specs.declared.Station.{Station}
 use Rattle.station_rules.specs.declared.Kept.{Kept}
 use Rattle.station_rules.specs.State.{heldOf, recordOf, recordLabel, ownLabel}

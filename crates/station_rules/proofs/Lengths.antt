@@ -12,10 +12,10 @@ use denote.Array.{each}
 use denote.Struct as Struct
 use denote.Struct.Laws as Laws
 use Rattle.station_rules.specs.declared.Station.{Station}
-use Rattle.frames.specs.Record.{noRecord}
+use Rattle.frame_rules.specs.Record.{noRecord}
 use Rattle.station_rules.specs.State.{recordOf}
 use Rattle.station_rules.proofs.Shape.{Shaped}
-use Rattle.frames.proofs.Record as Carried
+use Rattle.frame_rules.proofs.Record as Carried
 use Rattle.station_rules.proofs.Station as Declared
 use Rattle.station_rules.proofs.Station.Laws as DeclaredLaws
 

@@ -14,9 +14,9 @@ use Rattle.kinds.specs.Refusals.{done, laneFull}
 use Rattle.kinds.proofs.Laws.{inside-back}
 use Rattle.labels.specs.Packing.{unpacked, wordInside}
 use Rattle.labels.proofs.Laws.{inside-all, all-at}
-use Rattle.frames.specs.Words.{wordAt, signed}
-use Rattle.frames.specs.Record as frames
-use Rattle.frames.specs.Frame.{validNumber, part, stationAt, shapeWrong, addressWrong, recordsInside, frameRefusal, recordsOf}
+use Rattle.frame_rules.specs.Words.{wordAt, signed}
+use Rattle.frame_rules.specs.Record as frames
+use Rattle.frame_rules.specs.Frame.{validNumber, part, stationAt, shapeWrong, addressWrong, recordsInside, frameRefusal, recordsOf}
 use Rattle.places.specs.Places.{allBelow, anyBelow, tabulate}
 use Rattle.places.proofs.Laws.{and-left, and-right, allBelow-at}
 use Rattle.station_rules.specs.declared.Station.{Station}

@@ -12,13 +12,13 @@ use Rattle.kinds.specs.declared.Body.{Body}
 use Rattle.kinds.specs.declared.Body.the-variants.{Empty}
 use Rattle.kinds.specs.Limits.{isEdit}
 use Rattle.labels.specs.Label.{isLabel}
-use Rattle.frames.specs.Frame.{validNumber}
+use Rattle.frame_rules.specs.Frame.{validNumber}
 use Rattle.places.proofs.Laws.{and-left, and-right}
 use Rattle.places.proofs.Keeps.{set-keeps}
 use Rattle.station_rules.specs.declared.Station.{Station}
 use Rattle.lanes.specs.Lane.{noLane}
 use Rattle.lanes.specs.Queue.{noneWaiting}
-use Rattle.frames.specs.Record.{noRecord, zeroRecord}
+use Rattle.frame_rules.specs.Record.{noRecord, zeroRecord}
 use Rattle.station_rules.specs.State.{heldOf, recordOf, freshLabels, freshStation}
 use Rattle.station_rules.specs.Limits.{queueInside, stationInside}
 use Rattle.station_rules.specs.Calls.{posted}

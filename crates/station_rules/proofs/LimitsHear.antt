@@ -11,8 +11,8 @@ use Rattle.kinds.specs.Body.{kindOf}
 use Rattle.kinds.specs.Limits.{bodyInside}
 use Rattle.labels.specs.Label.{isLabel, successor}
 use Rattle.labels.specs.Newer.{isNewer}
-use Rattle.frames.specs.declared.Record.{Record}
-use Rattle.frames.specs.Record.{countInside}
+use Rattle.frame_rules.specs.declared.Record.{Record}
+use Rattle.frame_rules.specs.Record.{countInside}
 use Rattle.places.proofs.Laws.{and-both, and-left, and-right, fill-below}
 use Rattle.places.proofs.Keeps.{cond-keeps}
 use Rattle.station_rules.specs.declared.Station.{Station}

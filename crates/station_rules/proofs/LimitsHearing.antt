@@ -9,7 +9,7 @@ use native.Mathlib.Omega.{arith}
 use lib.Dec.{leb, eqb}
 use lib.ListN.{length, length-append}
 use borrow.Author.Tests.{leb-false, eq-eqb, ne-eqb}
-use Rattle.frames.specs.declared.Record.{Record}
+use Rattle.frame_rules.specs.declared.Record.{Record}
 use Rattle.places.proofs.Laws.{or-left, or-right}
 use Rattle.places.proofs.Total.{total, total-ext, total-gap, total-raised}
 use Rattle.station_rules.specs.declared.Station.{Station}

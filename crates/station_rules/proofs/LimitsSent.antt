@@ -7,12 +7,12 @@ use native.Mathlib.Omega.{arith}
 use lib.Dec.{eqb}
 use lib.ListN.{replicate}
 use borrow.Author.Tests.{eqb-true}
-use Rattle.frames.specs.declared.Record.{Record}
-use Rattle.frames.specs.Record.{countInside, framed}
+use Rattle.frame_rules.specs.declared.Record.{Record}
+use Rattle.frame_rules.specs.Record.{countInside, framed}
 use Rattle.places.specs.Places.{gather}
 use Rattle.places.proofs.Laws.{fill-below}
 use Rattle.station_rules.specs.declared.Station.{Station}
-use Rattle.frames.specs.Calls.{tableRecords}
+use Rattle.frame_rules.specs.Calls.{tableRecords}
 use Rattle.station_rules.specs.State.{heldOf, recordOf, recordLabel, sentRecords}
 use Rattle.station_rules.specs.Calls.{ownCountInside}
 use Rattle.station_rules.proofs.StationLimits.{RecordHolds, Inside}

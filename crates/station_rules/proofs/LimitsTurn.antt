@@ -23,7 +23,7 @@ use Rattle.lanes.specs.declared.Queue.{Queue}
 use Rattle.station_rules.specs.declared.Station.{Station}
 use Rattle.lanes.specs.Lane.{pushed}
 use Rattle.lanes.specs.Queue.{oldest, unqueued}
-use Rattle.frames.specs.Record.{noRecord}
+use Rattle.frame_rules.specs.Record.{noRecord}
 use Rattle.station_rules.specs.State.{labelOf, heldOf, recordOf, laneAt}
 use Rattle.station_rules.specs.Limits.{laneInside, takeable, queueInside, stationInside}
 use Rattle.station_rules.specs.Turn.{airs, ends, startsEdit, startedBody, passed, ownRecord, rewritten, afterTurn}

@@ -15,11 +15,11 @@ use Rattle.labels.specs.Packing.{packed, unpacked, allLabels, allZero, wordInsi
 use Rattle.kinds.specs.Body.{bodyOf}
 use Rattle.kinds.specs.Refusals.{done, queueFull}
 use Rattle.places.specs.Places.{allBelow, anyBelow, fill, gather, tabulate}
-use Rattle.frames.specs.declared.Record.{Record}
-use Rattle.frames.specs.Words.{wordAt, wordBytes, signed, unsigned}
-use Rattle.frames.specs.Record.{recordOf, recordBytes, bytesInside, framed}
-use Rattle.frames.specs.Frame.{shapeWrong, addressWrong, recordsInside, frameRefusal, recordsOf, recordsBytes, frameBytes}
-use Rattle.frames.specs.Calls.{tableRecords}
+use Rattle.frame_rules.specs.declared.Record.{Record}
+use Rattle.frame_rules.specs.Words.{wordAt, wordBytes, signed, unsigned}
+use Rattle.frame_rules.specs.Record.{recordOf, recordBytes, bytesInside, framed}
+use Rattle.frame_rules.specs.Frame.{shapeWrong, addressWrong, recordsInside, frameRefusal, recordsOf, recordsBytes, frameBytes}
+use Rattle.frame_rules.specs.Calls.{tableRecords}
 use Rattle.lanes.specs.Lane.{bodies, laneOf}
 use Rattle.lanes.specs.Queue.{noSlot, noneWaiting, queued, oldest, unqueued, waitingBodies}
 use Rattle.station_rules.specs.declared.Station.{Station}

@@ -6,10 +6,10 @@ use mathlib.Core.Path.{_≡_, refl, sym, ap, subst}
 use lib.Dec.{eqb}
 use borrow.Author.Tests.{lt-ltb, eqb-true}
 use Rattle.kinds.specs.Refusals.{done}
-use Rattle.frames.specs.Record.{countInside, recordFits}
-use Rattle.frames.specs.Frame.{recordsOf, frameRefusal}
-use Rattle.frames.specs.Calls.{tableRecords}
-use Rattle.frames.proofs.TableTrip.{table-read, table-accepted}
+use Rattle.frame_rules.specs.Record.{countInside, recordFits}
+use Rattle.frame_rules.specs.Frame.{recordsOf, frameRefusal}
+use Rattle.frame_rules.specs.Calls.{tableRecords}
+use Rattle.frame_rules.proofs.TableTrip.{table-read, table-accepted}
 use Rattle.places.proofs.Laws.{and-both}
 use Rattle.station_rules.specs.declared.Station.{Station}
 use Rattle.station_rules.specs.State.{heldOf, recordOf, sentRecords}

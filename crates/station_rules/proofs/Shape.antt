@@ -11,7 +11,7 @@ use borrow.Author.Tests.{ltb-true}
 use Rattle.kinds.specs.declared.Body.{Body}
 use Rattle.kinds.specs.Body.{kindOf}
 use Rattle.labels.specs.Label.{successor}
-use Rattle.frames.specs.declared.Record.{Record}
+use Rattle.frame_rules.specs.declared.Record.{Record}
 use Rattle.places.specs.Places.{fill}
 use Rattle.places.proofs.Laws.{and-right, length-fill}
 use Rattle.places.proofs.Keeps.{set-keeps, cond-keeps}
@@ -21,7 +21,7 @@ use Rattle.station_rules.specs.declared.Station.{Station}
 use Rattle.lanes.specs.Lane.{noLane, pushed, popped}
 use Rattle.lanes.specs.Queue.{queued, unqueued, noneWaiting}
 use Rattle.lanes.proofs.QueueLaws.{unqueued-slots}
-use Rattle.frames.specs.Record.{noRecord, zeroRecord}
+use Rattle.frame_rules.specs.Record.{noRecord, zeroRecord}
 use Rattle.station_rules.specs.State.{recordOf, recordLabel, labelOf, laneAt, freshStation}
 use Rattle.station_rules.specs.Hearing.{Hearing, heeds, replaced, heardNewer, hearRecord}
 use Rattle.station_rules.specs.Turn.{airs, ends, mayStart, startsEdit, startedBody, lanesAfter, passed, ownRecord, rewritten, afterTurn}

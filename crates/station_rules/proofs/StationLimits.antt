@@ -7,9 +7,9 @@ use lib.Dec.{leb, ltb, eqb}
 use borrow.Author.Tests.{leb-true, ltb-true, le-leb, lt-ltb, eqb-true, eq-eqb}
 use Rattle.kinds.specs.Limits.{bodyInside}
 use Rattle.labels.specs.Label.{isLabel}
-use Rattle.frames.specs.declared.Record.{Record}
-use Rattle.frames.specs.Record.{countInside}
-use Rattle.frames.specs.Frame.{validNumber}
+use Rattle.frame_rules.specs.declared.Record.{Record}
+use Rattle.frame_rules.specs.Record.{countInside}
+use Rattle.frame_rules.specs.Frame.{validNumber}
 use Rattle.places.specs.Places.{allBelow}
 use Rattle.places.proofs.Laws.{and-both, and-left, and-right, allBelow-at, allBelow-make}
 use Rattle.station_rules.specs.declared.Station.{Station}

@@ -15,7 +15,7 @@ use Rattle.places.proofs.Keeps.{cond-keeps}
 use Rattle.lanes.specs.declared.Lane.{Lane}
 use Rattle.station_rules.specs.declared.Station.{Station}
 use Rattle.lanes.specs.Lane.{noLane, pushed}
-use Rattle.frames.specs.Record.{noRecord}
+use Rattle.frame_rules.specs.Record.{noRecord}
 use Rattle.station_rules.specs.State.{labelOf, ackedOf, heldOf, recordOf, recordLabel}
 use Rattle.station_rules.specs.Turn.{lanesAfter, ends, startedBody, passed, ownRecord, rewritten, afterTurn}
 use Rattle.station_rules.proofs.Shape.{lanesAfter-length}

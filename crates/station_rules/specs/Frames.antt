@@ -6,8 +6,8 @@ use mathlib.Core.Bool.{true, false}
 use mathlib.Core.List.{List, _++_}
 use lib.ListN.{getD, drop, length, replicate}
 use Rattle.kinds.specs.declared.Body.the-variants.{Empty}
-use Rattle.frames.specs.Record.{bytesInside}
-use Rattle.frames.specs.Frame.{part, recordsOf}
+use Rattle.frame_rules.specs.Record.{bytesInside}
+use Rattle.frame_rules.specs.Frame.{part, recordsOf}
 use Rattle.places.specs.Places.{allBelow}
 use Rattle.station_rules.specs.declared.Station.{Station}
 use Rattle.station_rules.specs.declared.Taking.{Taking}

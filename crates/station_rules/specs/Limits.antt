@@ -8,9 +8,9 @@ use Rattle.kinds.specs.declared.Body.{Body}
 use Rattle.kinds.specs.Body.{kindOf}
 use Rattle.kinds.specs.Limits.{bodyInside, isEdit}
 use Rattle.labels.specs.Label.{isLabel}
-use Rattle.frames.specs.declared.Record.{Record}
-use Rattle.frames.specs.Record.{countInside}
-use Rattle.frames.specs.Frame.{validNumber}
+use Rattle.frame_rules.specs.declared.Record.{Record}
+use Rattle.frame_rules.specs.Record.{countInside}
+use Rattle.frame_rules.specs.Frame.{validNumber}
 use Rattle.places.specs.Places.{allBelow}
 use Rattle.lanes.specs.declared.Lane.{Lane}
 use Rattle.lanes.specs.declared.Queue.{Queue}

@@ -4,9 +4,9 @@ use mathlib.Core.Bool.{Bool, true, false}
 use mathlib.Core.List.{List}
 use lib.ListN.{getD, set, replicate}
 use Rattle.kinds.specs.declared.Body.the-variants.{Empty}
-use Rattle.frames.specs.declared.Record.{Record}
-use Rattle.frames.specs.Record.{noRecord, zeroRecord}
-use Rattle.frames.specs.Calls.{tableRecords}
+use Rattle.frame_rules.specs.declared.Record.{Record}
+use Rattle.frame_rules.specs.Record.{noRecord, zeroRecord}
+use Rattle.frame_rules.specs.Calls.{tableRecords}
 use Rattle.lanes.specs.declared.Lane.{Lane}
 use Rattle.station_rules.specs.declared.Station.{Station}
 use Rattle.lanes.specs.Lane.{noLane}

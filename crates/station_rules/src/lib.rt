@@ -1,6 +1,6 @@
 // What a station is, and the answers of its calls. The definitions of the calls and their laws stand beside; there is no code.
 
-use frames::Record;
+use frame_rules::Record;
 use kinds::Body;
 use lanes::Lane;
 use lanes::Queue;

@@ -13,7 +13,7 @@ ghost use Rattle.lanes.specs.Lane.{noLane, pushed};
 ghost use Rattle.lanes.specs.Queue.{unqueued};
 ghost use Rattle.station_rules.specs.Limits.{stationInside};
 ghost use Rattle.station_rules.specs.Calls.{turnDone};
-use frames::Record;
+use frame_rules::Record;
 use kinds::Body;
 use lanes::Lane;
 use lanes::Queue;

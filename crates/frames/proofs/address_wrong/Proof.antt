@@ -3,7 +3,7 @@ use mathlib.Core.Path.{ap, _∙_}
 use Prim.Native.Nat.{ℕ}
 use native.Mathlib.Omega.{arith}
 use lib.Dec.{leb}
-use Rattle.frames.proofs.Check.{other-number, own-frame, by-sender}
+use Rattle.frame_rules.proofs.Check.{other-number, own-frame, by-sender}
 use borrow.Author.Needs.{needs}
 use Rattle.frames.proofs.address_wrong.Statement.{statement}
 use Rattle.frames.proofs.address_wrong.Tie as tie

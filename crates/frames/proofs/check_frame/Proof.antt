@@ -1,7 +1,7 @@
 -- `frames::check_frame` meets its contract: N and the own number first, then what `frame_refusal` says.
 use mathlib.Core.Path.{_∙_}
 use native.Mathlib.Omega.{arith}
-use Rattle.frames.proofs.Check.{refused-none, refused-many, refused-own, by-frame}
+use Rattle.frame_rules.proofs.Check.{refused-none, refused-many, refused-own, by-frame}
 use borrow.Author.Needs.{needs}
 use Rattle.frames.proofs.check_frame.Statement.{statement}
 use Rattle.frames.proofs.check_frame.Tie as tie

@@ -1,7 +1,7 @@
 -- `frames::frame_refusal` meets its contract: the three tests in their order, each as the definition has it.
 use mathlib.Core.Path.{sym, _∙_}
 use native.Mathlib.Omega.{arith}
-use Rattle.frames.proofs.Check.{shape, refused-shape, refused-address, accepted, refused-records}
+use Rattle.frame_rules.proofs.Check.{shape, refused-shape, refused-address, accepted, refused-records}
 use borrow.Author.Needs.{needs}
 use Rattle.frames.proofs.frame_refusal.Statement.{statement}
 use Rattle.frames.proofs.frame_refusal.Tie as tie

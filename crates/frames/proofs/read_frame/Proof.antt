@@ -4,10 +4,10 @@ use Prim.Native.Nat.{_≤_, _-_}
 use native.Mathlib.Omega.{arith}
 use borrow.Author.Needs.{needs}
 use lib.ListN.{length-take, length-drop}
-use Rattle.frames.specs.Record.{recordOf}
-use Rattle.frames.proofs.Check.{Shape, frame-shape, long-enough}
+use Rattle.frame_rules.specs.Record.{recordOf}
+use Rattle.frame_rules.proofs.Check.{Shape, frame-shape, long-enough}
 use Rattle.frames.proofs.Records.{part-is}
-use Rattle.frames.proofs.Entries.{entriesBelow, entries-none, entries-more, reading-refused, reading-done}
+use Rattle.frame_rules.proofs.Entries.{entriesBelow, entries-none, entries-more, reading-refused, reading-done}
 use Rattle.frames.proofs.read_frame.Statement.{statement}
 use Rattle.frames.proofs.read_frame.Tie as tie
 

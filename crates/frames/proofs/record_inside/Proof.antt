@@ -3,7 +3,7 @@ use mathlib.Core.Path.{sym, ap, _∙_}
 use borrow.Author.Tests.{not-true, not-false}
 use native.Mathlib.Omega.{arith}
 use Rattle.labels.specs.Packing.{wordInside}
-use Rattle.frames.proofs.Check.{in-words, far, high, other-numbers, marked, by-labels}
+use Rattle.frame_rules.proofs.Check.{in-words, far, high, other-numbers, marked, by-labels}
 use borrow.Author.Needs.{needs}
 use Rattle.frames.proofs.record_inside.Statement.{statement}
 use Rattle.frames.proofs.record_inside.Tie as tie

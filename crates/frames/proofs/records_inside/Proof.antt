@@ -5,7 +5,7 @@ use native.Mathlib.Omega.{arith}
 use borrow.Author.Needs.{needs}
 use borrow.Author.Tests.{not-true, not-false}
 use lib.ListN.{length-take, length-drop}
-use Rattle.frames.specs.Record.{bytesInside}
+use Rattle.frame_rules.specs.Record.{bytesInside}
 use Rattle.frames.proofs.Records.{Checked, checked-none, checked-more, checked-order, checked-bytes, checked-all, part-is, station-is}
 use Rattle.frames.proofs.records_inside.Statement.{statement}
 use Rattle.frames.proofs.records_inside.Tie as tie

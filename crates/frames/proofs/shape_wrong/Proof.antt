@@ -5,7 +5,7 @@ use Prim.Native.Nat.{ℕ, _+_, _*_}
 use native.Mathlib.Omega.{arith}
 use lib.Dec.{eqb}
 use lib.ListN.{length}
-use Rattle.frames.proofs.Check.{short, none, many, frame-marked, by-length}
+use Rattle.frame_rules.proofs.Check.{short, none, many, frame-marked, by-length}
 use borrow.Author.Needs.{needs}
 use Rattle.frames.proofs.shape_wrong.Statement.{statement}
 use Rattle.frames.proofs.shape_wrong.Tie as tie

@@ -5,7 +5,7 @@ use native.Mathlib.Omega.{arith}
 use mir.Syntax.{w32}
 use mir.ValLaws.{toZ-ofZ}
 use borrow.Author.Needs.{needs}
-use Rattle.frames.specs.Words.{unsigned}
+use Rattle.frame_rules.specs.Words.{unsigned}
 use Rattle.frames.specs.Spans.{above}
 use Rattle.frames.proofs.Distances.{above-is}
 use Rattle.frames.proofs.span_of.Statement.{statement}

@@ -5,7 +5,7 @@ use native.Mathlib.Omega.{arith}
 use lib.ListN.{length}
 use borrow.Author.Needs.{needs}
 use Rattle.kinds.specs.Limits.{numbersInside}
-use Rattle.frames.specs.Words.{signed}
+use Rattle.frame_rules.specs.Words.{signed}
 use Rattle.frames.proofs.Distances.{spans-length, no-kind, refused-event, judged-argument}
 use Rattle.frames.proofs.words_inside.Statement.{statement}
 use Rattle.frames.proofs.words_inside.Tie as tie

@@ -11,7 +11,7 @@ use Rattle.station_rules.specs.Limits.{stationInside}
 use Rattle.station_rules.specs.Hearing.{Hearing, hearRecords}
 use Rattle.station_rules.specs.Frames.{hearFrames, FrameAt}
 use Rattle.station_rules.specs.Calls.{sourcesOf}
-use Rattle.frames.specs.Frame.{frameRefusal}
+use Rattle.frame_rules.specs.Frame.{frameRefusal}
 use Rattle.station_rules.proofs.StationLimits.{inside-open}
 use Rattle.station_rules.proofs.CallSteps.{heardFrame, hear-outside, hear-refused, hear-full, hear-done, one-frame, frame-at, takings-are}
 use borrow.Author.Needs.{needs}

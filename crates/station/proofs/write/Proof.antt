@@ -6,7 +6,7 @@ use Prim.Native.Nat.{ℕ}
 use native.Mathlib.Omega.{arith}
 use lib.ListN.{length}
 use borrow.Author.Tests.{not-true, not-false}
-use Rattle.frames.specs.Calls.{written, bufferWith}
+use Rattle.frame_rules.specs.Calls.{written, bufferWith}
 use Rattle.station_rules.specs.Limits.{stationInside}
 use Rattle.station_rules.proofs.StationLimits.{Inside, inside-open}
 use Rattle.station_rules.proofs.WriteSteps.{writable, frame-is, write-outside, kept-outside, write-count, kept-count, write-frame, buffer-frame}

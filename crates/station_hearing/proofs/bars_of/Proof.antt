@@ -7,8 +7,8 @@ use lib.ListN.{getD, set}
 use borrow.Author.Needs.{needs}
 use borrow.Author.Tests.{not-true, not-false}
 use Rattle.labels.specs.Label.{successor}
-use Rattle.frames.specs.declared.Record.{Record}
-use Rattle.frames.specs.Record.{noRecord}
+use Rattle.frame_rules.specs.declared.Record.{Record}
+use Rattle.frame_rules.specs.Record.{noRecord}
 use Rattle.station_rules.specs.State.{recordLabel}
 use Rattle.station_hearing.proofs.BarLaws.{BarsBelow, below-none, below-skip, below-held, bars-made, barred}
 use Rattle.station_hearing.proofs.bars_of.Statement.{statement}

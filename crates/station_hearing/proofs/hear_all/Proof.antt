@@ -9,13 +9,13 @@ use borrow.Author.Tests.{leb-true, not-true, not-false}
 use Rattle.kinds.specs.declared.Body.{Body}
 use Rattle.kinds.specs.Body.{kindOf}
 use Rattle.labels.specs.Label.{successor}
-use Rattle.frames.specs.Record as Wire
+use Rattle.frame_rules.specs.Record as Wire
 use Rattle.lanes.specs.Lane.{pushed}
 use Rattle.station_rules.specs.State.{ackedOf, labelOf, recordOf, laneAt, recordLabel, ownLabel}
 use lib.ListN.{getD, set, length, drop, replicate, length-take, length-drop}
 use mathlib.Core.List.{List}
 use lib.Seq.{getD-drop}
-use Rattle.frames.specs.declared.Record.{Record}
+use Rattle.frame_rules.specs.declared.Record.{Record}
 use Rattle.places.specs.Places.{tabulate}
 use Rattle.station_rules.specs.declared.Station.{Station}
 use Rattle.station_rules.specs.declared.Taking.{Taking}

@@ -4,7 +4,7 @@ use mathlib.Core.Bool.{true, false, _||_}
 use lib.Dec.{eqb}
 use borrow.Author.Tests.{eq-eqb, ne-eqb, not-true, not-false}
 use Rattle.kinds.specs.Limits.{bodyInside}
-use Rattle.frames.specs.Record.{countInside}
+use Rattle.frame_rules.specs.Record.{countInside}
 use Rattle.station_rules.specs.Limits.{recordInside}
 use borrow.Author.Needs.{needs}
 use Rattle.station_limits.proofs.record_inside.Statement.{statement}

@@ -7,7 +7,7 @@ use lib.Dec.{leb, ltb}
 use borrow.Author.Needs.{needs}
 use borrow.Author.Tests.{le-leb, lt-leb, leb-true, ltb-true, not-true, not-false}
 use Rattle.kinds.specs.Limits.{bodyInside}
-use Rattle.frames.specs.Frame.{validNumber}
+use Rattle.frame_rules.specs.Frame.{validNumber}
 use Rattle.places.specs.Places.{allBelow}
 use Rattle.places.proofs.Laws.{and-left, and-right, allBelow-more, allBelow-fails}
 use Rattle.station_rules.specs.declared.Station.{Station}

@@ -6,7 +6,7 @@ use mathlib.Core.Bool.{true}
 use mathlib.Core.List.{List}
 use borrow.Author.Needs.{needs}
 use borrow.Author.Tests.{not-true, not-false}
-use Rattle.frames.specs.Calls.{bufferWith}
+use Rattle.frame_rules.specs.Calls.{bufferWith}
 use Rattle.station_rules.specs.Limits.{stationInside}
 use Rattle.station_rules.proofs.StationLimits.{Inside, inside-open}
 use Rattle.station_rules.proofs.WriteSteps.{writable, frame-is}

@@ -1,0 +1,51 @@
+-- Reading: a record field by field, and the entries of a frame one after the other.
+use mathlib.Core.Path.{_≡_, refl}
+use mathlib.Core.List.{List}
+use Prim.Native.Nat.{ℕ, _+_}
+use native.Mathlib.Numerals.{add-one}
+use lib.ListN.{getD, set, replicate}
+use borrow.Author.Tests.{eq-eqb, ne-eqb}
+use Rattle.kinds.specs.declared.Body.{Body}
+use Rattle.kinds.specs.Body.{bodyOf}
+use Rattle.kinds.specs.Refusals.{done}
+use Rattle.labels.specs.Packing.{unpacked}
+use Rattle.places.specs.Places.{fill}
+use Rattle.frame_rules.specs.declared.Record.{Record}
+use Rattle.frame_rules.specs.declared.Reading.{Reading}
+use Rattle.frame_rules.specs.Words.{wordAt, signed}
+use Rattle.frame_rules.specs.Record.{recordOf, zeroRecord}
+use Rattle.frame_rules.specs.Frame.{part, checkRefusal}
+use Rattle.frame_rules.specs.Calls.{entries, reading}
+
+pub record-is :
+    (p : List ℕ) {b : Body} {l : List ℕ} → b ≡ bodyOf (getD p 2 0) (wordAt p 4) (signed (wordAt p 8)) → l ≡ unpacked 16 (wordAt p 12) →
+    _≡_ {A = Record} (record { station = getD p 0 0; count = getD p 1 0; body = b; labels = l }) (recordOf p)
+unfolding recordOf
+record-is p h e = rw (h, e)
+
+module _ (bytes : List ℕ) where
+  -- the entries once k of the records are read
+  abbrev pub entriesBelow : ℕ → List Record
+  entriesBelow k = fill k (λ j. recordOf (part bytes j)) (replicate 16 zeroRecord)
+
+  pub entries-none : replicate 16 zeroRecord ≡ entriesBelow 0
+  unfolding fill
+  entries-none = refl
+
+  pub entries-more :
+      (k : ℕ) (l : List Record) (r : Record) → l ≡ entriesBelow k → r ≡ recordOf (part bytes k) → set l k r ≡ entriesBelow (k + 1)
+  unfolding fill
+  entries-more k l r h e = rw (add-one k, h, e)
+
+  module _ (n own : ℕ) where
+    pub reading-refused :
+        (r : ℕ) → r ≡ checkRefusal bytes n own → (r ≡ done → ⊥) →
+        _≡_ {A = Reading} (record { refusal = r; count = 0; records = replicate 16 zeroRecord }) (reading bytes n own)
+    unfolding reading
+    reading-refused r e h = rw (← e, ne-eqb r 0 h)
+
+    pub reading-done :
+        (k : ℕ) (l : List Record) → checkRefusal bytes n own ≡ done → k ≡ getD bytes 2 0 → l ≡ entriesBelow k →
+        _≡_ {A = Reading} (record { refusal = done; count = k; records = l }) (reading bytes n own)
+    unfolding reading entries
+    reading-done k l h e r = rw (eq-eqb (checkRefusal bytes n own) 0 h, r, e)

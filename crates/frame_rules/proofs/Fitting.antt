@@ -1,0 +1,134 @@
+-- The records of a table that a frame may carry, test by test, and what follows: such a table can be written, and every other station accepts its frame.
+use mathlib.Core.Path.{_≡_, sym, ap, _∙_}
+use mathlib.Core.Bool.{Bool, true, false, not, _&&_, _||_}
+use mathlib.Core.List.{List}
+use Prim.Native.Nat.{ℕ, _*_, _-_, _<_, _≤_}
+use native.Mathlib.Omega.{arith}
+use lib.Dec.{ltb, eqb}
+use lib.ListN.{getD, take}
+use borrow.Author.Tests.{lt-ltb, le-leb, lt-leb, eq-eqb, ne-eqb, eqb-true}
+use Rattle.kinds.specs.Limits.{bodyInside}
+use Rattle.kinds.specs.Refusals.{done, badNumber, badRecord}
+use Rattle.labels.specs.Packing.{allLabels}
+use Rattle.places.specs.Places.{allBelow}
+use Rattle.places.proofs.Laws.{and-left, and-right, allBelow-at, allBelow-fails}
+use Rattle.frame_rules.specs.declared.Record.{Record}
+use Rattle.frame_rules.specs.Record.{countInside, noRecord, recordFits, placeFits}
+use Rattle.frame_rules.specs.Frame.{validNumber, frameRefusal, frameBytes}
+use Rattle.frame_rules.specs.Calls.{tableRecords, written, bufferWith, Writable, tableFits, frameWritten, frameBuffer}
+use Rattle.frame_rules.proofs.Check.{valid-few, valid-own}
+use Rattle.frame_rules.proofs.TableTrip.{table-accepted}
+
+-- one record
+module _ (n k : ℕ) (r : Record) where
+  pub other-station : (r .station ≡ k → ⊥) → false ≡ placeFits n k r
+  unfolding placeFits
+  other-station d = rw (ne-eqb (r .station) k d)
+
+  module _ (e : r .station ≡ k) (b : k < n) where
+    below : r .station < n
+    below = omega (arith, e)
+
+    pub high-count : 2 * (n - 1) < r .count → false ≡ placeFits n k r
+    unfolding placeFits recordFits
+    high-count h = rw (eq-eqb (r .station) k e, lt-ltb (r .station) n below, lt-leb (r .count) (2 * (n - 1)) h)
+
+    module _ (c : r .count ≤ 2 * (n - 1)) where
+      pub other-body : bodyInside (r .body) ≡ false → false ≡ placeFits n k r
+      unfolding placeFits recordFits
+      other-body h = rw (eq-eqb (r .station) k e, lt-ltb (r .station) n below, le-leb (r .count) (2 * (n - 1)) c, h)
+
+      pub by-all-labels : bodyInside (r .body) ≡ true → allLabels (take n (r .labels)) ≡ placeFits n k r
+      unfolding placeFits recordFits
+      by-all-labels h = rw (eq-eqb (r .station) k e, lt-ltb (r .station) n below, le-leb (r .count) (2 * (n - 1)) c, h)
+
+-- the table
+module _ (n sender : ℕ) (held : List Bool) (table : List Record) where
+  abbrev pub fitsAt : ℕ → Bool
+  fitsAt k = not (getD held k false) || placeFits n k (getD table k noRecord)
+
+  pub one-fails : (k : ℕ) → k < n → fitsAt k ≡ false → false ≡ tableFits n sender held table
+  unfolding tableFits
+  one-fails k l h = rw (allBelow-fails n fitsAt k l h)
+
+  pub by-sender's : (k : ℕ) → k ≡ n → allBelow k fitsAt ≡ true → getD held sender false ≡ tableFits n sender held table
+  unfolding tableFits
+  by-sender's k e h =
+      let all : allBelow n fitsAt ≡ true = ap (λ (i : ℕ). allBelow i fitsAt) (sym e) ∙ h in
+      rw all
+
+  -- what a table that fits says
+  module _ (f : tableFits n sender held table ≡ true) where
+    own-held : getD held sender false ≡ true
+    unfolding tableFits
+    own-held = and-right (allBelow n fitsAt) (getD held sender false) f
+
+    held-fits : (k : ℕ) → k < n → getD held k false ≡ true → placeFits n k (getD table k noRecord) ≡ true
+    unfolding tableFits
+    held-fits k l h =
+        let t : fitsAt k ≡ true = allBelow-at n fitsAt (and-left (allBelow n fitsAt) (getD held sender false) f) k l in
+        rw h at t
+
+    place : (k : ℕ) → k < n → getD held k false ≡ true → (getD table k noRecord) .station ≡ k
+    unfolding placeFits
+    place k l h =
+        let r = getD table k noRecord in
+        eqb-true (r .station) k (and-left (eqb (r .station) k) (recordFits n r) (held-fits k l h))
+
+    fits : (k : ℕ) → k < n → getD held k false ≡ true → recordFits n (getD table k noRecord) ≡ true
+    unfolding placeFits
+    fits k l h =
+        let r = getD table k noRecord in
+        and-right (eqb (r .station) k) (recordFits n r) (held-fits k l h)
+
+    labels-right : (k : ℕ) → k < n → getD held k false ≡ true → allLabels (take n ((getD table k noRecord) .labels)) ≡ true
+    unfolding recordFits
+    labels-right k l h =
+        let r = getD table k noRecord in
+        and-right (ltb (r .station) n && countInside n (r .count) && bodyInside (r .body)) (allLabels (take n (r .labels))) (fits k l h)
+
+    module _ (v : validNumber n sender ≡ true) where
+      pub writable : Writable n sender held table
+      writable =
+          record {
+            few = valid-few n sender v;
+            below = omega (arith, valid-few n sender v, valid-own n sender v);
+            station = λ k l h. omega (arith, valid-few n sender v, place k l h);
+            labels = labels-right;
+          }
+
+      -- every other station accepts the frame
+      pub fitting-accepted :
+          (own : ℕ) → (sender ≡ own → ⊥) → frameRefusal (frameBytes n sender (tableRecords n held table)) n own ≡ done
+      fitting-accepted own other = table-accepted n sender held table (valid-few n sender v) place fits own-held (valid-own n sender v) own other
+
+  -- the answers of the writer
+  module _ (v : validNumber n sender ≡ false) where
+    pub number-answer : (room : ℕ) → record { refusal = badNumber; len = 0 } ≡ frameWritten n sender held table room
+    unfolding frameWritten
+    number-answer room = rw v
+
+    pub number-buffer : (buffer : List ℕ) → buffer ≡ frameBuffer n sender held table buffer
+    unfolding frameBuffer
+    number-buffer buffer = rw v
+
+  module _ (v : validNumber n sender ≡ true) where
+    module _ (f : tableFits n sender held table ≡ false) where
+      pub record-answer : (room : ℕ) → record { refusal = badRecord; len = 0 } ≡ frameWritten n sender held table room
+      unfolding frameWritten
+      record-answer room = rw (v, f)
+
+      pub record-buffer : (buffer : List ℕ) → buffer ≡ frameBuffer n sender held table buffer
+      unfolding frameBuffer
+      record-buffer buffer = rw (v, f)
+
+    module _ (f : tableFits n sender held table ≡ true) where
+      pub frame-answer :
+          (room : ℕ) → written (frameBytes n sender (tableRecords n held table)) room ≡ frameWritten n sender held table room
+      unfolding frameWritten
+      frame-answer room = rw (v, f)
+
+      pub frame-buffer :
+          (buffer : List ℕ) → bufferWith (frameBytes n sender (tableRecords n held table)) buffer ≡ frameBuffer n sender held table buffer
+      unfolding frameBuffer
+      frame-buffer buffer = rw (v, f)

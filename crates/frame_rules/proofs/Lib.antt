@@ -1,0 +1,9 @@
+pub mod Examples
+pub mod Check
+pub mod Entries
+pub mod Bytes
+pub mod Spelled
+pub mod RecordTrip
+pub mod FrameTrip
+pub mod TableTrip
+pub mod Fitting

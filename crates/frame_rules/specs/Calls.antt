@@ -1,0 +1,70 @@
+-- Document 01, "Frame bytes" and "Turned down": reading a whole frame, and writing one into a lent buffer.
+use mathlib.Core.Path.{_≡_}
+use Prim.Native.Nat.{ℕ, zero, suc, _+_, _≤_, _<_}
+use mathlib.Core.Bool.{Bool, true, false, cond, not, _&&_, _||_}
+use mathlib.Core.List.{List, _++_}
+use lib.ListN.{getD, take, drop, length, replicate}
+use lib.Dec.{ltb, eqb}
+use Rattle.kinds.specs.Refusals.{done, badNumber, badRecord, shortBuffer}
+use Rattle.labels.specs.Packing.{allLabels}
+use Rattle.places.specs.Places.{allBelow, fill, gather}
+use Rattle.frame_rules.specs.declared.Record.{Record}
+use Rattle.frame_rules.specs.declared.Reading.{Reading}
+use Rattle.frame_rules.specs.declared.Written.{Written}
+use Rattle.frame_rules.specs.Record.{recordOf, framed, placeFits, noRecord, zeroRecord}
+use Rattle.frame_rules.specs.Frame.{validNumber, part, checkRefusal, frameBytes}
+
+-- the records of a frame in sixteen entries; those that it does not use are zero
+unfoldable pub entries : List ℕ → List Record
+entries bytes = fill (getD bytes 2 0) (λ k. recordOf (part bytes k)) (replicate 16 zeroRecord)
+
+-- the answer to reading a frame: its records, or the refusal of the frame check and no record
+unfoldable pub reading : List ℕ → ℕ → ℕ → Reading
+reading bytes n own =
+    cond (eqb (checkRefusal bytes n own) done)
+    (record { refusal = done; count = getD bytes 2 0; records = entries bytes })
+    (record { refusal = checkRefusal bytes n own; count = 0; records = replicate 16 zeroRecord })
+
+-- the records that a table holds of the first n stations, in their order, as a frame carries them
+unfoldable pub tableRecords : ℕ → List Bool → List Record → List Record
+tableRecords n held table = gather n (λ k. getD held k false) (λ k. framed n (getD table k noRecord))
+
+-- how many records those are
+unfoldable pub heldCount : ℕ → List Bool → ℕ
+heldCount zero held = 0
+heldCount (suc k) held = heldCount k held + cond (getD held k false) 1 0
+
+-- the answer to writing a frame into room for some bytes: 9 where it is longer, else its length
+unfoldable pub written : List ℕ → ℕ → Written
+written frame room =
+    cond (ltb room (length frame)) (record { refusal = shortBuffer; len = 0 }) (record { refusal = done; len = length frame })
+
+-- the buffer afterwards: as it was where it is shorter than the frame, else the frame and then what stood past it
+unfoldable pub bufferWith : List ℕ → List ℕ → List ℕ
+bufferWith frame buffer = cond (ltb (length buffer) (length frame)) buffer (frame ++ drop (length frame) buffer)
+
+-- the records at the held places may stand in a frame: each is of its place's station and inside the record limits, and the sender's is among them
+unfoldable pub tableFits : ℕ → ℕ → List Bool → List Record → Bool
+tableFits n sender held table =
+    allBelow n (λ k. not (getD held k false) || placeFits n k (getD table k noRecord)) && getD held sender false
+
+-- writing a frame judges N and the sender (1), then the records (7), then the buffer (9)
+unfoldable pub frameWritten : ℕ → ℕ → List Bool → List Record → ℕ → Written
+frameWritten n sender held table room =
+    cond (not (validNumber n sender)) (record { refusal = badNumber; len = 0 })
+    (cond (not (tableFits n sender held table)) (record { refusal = badRecord; len = 0 })
+    (written (frameBytes n sender (tableRecords n held table)) room))
+
+-- the buffer afterwards: what is refused leaves it as it was
+unfoldable pub frameBuffer : ℕ → ℕ → List Bool → List Record → List ℕ → List ℕ
+frameBuffer n sender held table buffer =
+    cond (validNumber n sender && tableFits n sender held table)
+    (bufferWith (frameBytes n sender (tableRecords n held table)) buffer)
+    buffer
+
+-- what the records at the held places must be for a frame of them to be bytes
+pub record Writable (n : ℕ) (sender : ℕ) (held : List Bool) (table : List Record) : Type 0 where
+  pub few : n ≤ 16
+  pub below : sender < 256
+  pub station : (k : ℕ) → k < n → getD held k false ≡ true → (getD table k noRecord) .station < 256
+  pub labels : (k : ℕ) → k < n → getD held k false ≡ true → allLabels (take n ((getD table k noRecord) .labels)) ≡ true

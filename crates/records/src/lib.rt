@@ -1,0 +1,112 @@
+// Records in their own sixteen bytes.
+
+ghost use mathlib.Core.Path.{_≡_};
+ghost use mathlib.Core.Bool.{true};
+ghost use Prim.Native.Nat.{_+_, _*_, _≤_, _<_};
+ghost use lib.ListN.{length, getD, take};
+ghost use lib.Seq.{sets};
+ghost use Rattle.frame_rules.specs.Words.{wordAt, wordBytes, signed, unsigned};
+ghost use Rattle.frame_rules.specs.Record.{recordOf, recordBytes};
+ghost use Rattle.labels.specs.Packing.{unpacked, allLabels};
+use frame_rules::Record;
+
+// Byte 3 of a frame, and byte 3 of a record, are zero.
+pub const FRAME_MARK: u8 = 0;
+
+pub const RECORD_MARK: u8 = 0;
+
+// A byte as a number.
+pub fn wide(byte: u8) -> usize
+    ensures { λ r. ⌜ r ≡ byte ⌝ }
+{
+    byte as usize
+}
+
+// The number of four bytes, the lowest first.
+fn joined(a: u8, b: u8, c: u8, d: u8) -> u32
+    ensures { λ r. ⌜ r ≡ a + 256 * b + 65_536 * c + 16_777_216 * d ⌝ }
+{
+    (a as u32) + 256 * (b as u32) + 65_536 * (c as u32) + 16_777_216 * (d as u32)
+}
+
+// The number in the four bytes from a place on.
+pub fn word_at(bytes: &[u8], at: usize) -> u32
+    requires { ⌜ at + 4 ≤ length (now bytes) ⌝ }
+    ensures { λ r. ⌜ r ≡ wordAt (now (bytes .entry)) at ⌝ }
+{
+    joined(bytes[at], bytes[at + 1], bytes[at + 2], bytes[at + 3])
+}
+
+// The four bytes of a number, put at a place.
+fn put_word(bytes: &mut [u8], at: usize, word: u32)
+    requires { ⌜ at + 4 ≤ length (now bytes) ⌝ }
+    ensures { λ _. ⌜ now (bytes .exit) ≡ sets (now (bytes .entry)) at (wordBytes word) ⌝ }
+{
+    bytes[at] = (word % 256) as u8;
+    bytes[at + 1] = (word / 256 % 256) as u8;
+    bytes[at + 2] = (word / 65_536 % 256) as u8;
+    bytes[at + 3] = (word / 16_777_216 % 256) as u8;
+}
+
+// A word as a signed number in two's complement.
+pub fn signed(word: u32) -> i32
+    ensures { λ r. ⌜ r ≡ signed word ⌝ }
+{
+    if word < 2_147_483_648 {
+        word as i32
+    } else {
+        -1 - ((4_294_967_295 - word) as i32)
+    }
+}
+
+// A signed number as a word in two's complement.
+pub fn unsigned(number: i32) -> u32
+    ensures { λ r. ⌜ r ≡ unsigned number ⌝ }
+{
+    if number < 0 {
+        4_294_967_295 - ((-1 - number) as u32)
+    } else {
+        number as u32
+    }
+}
+
+// The label of station k in the word of labels that stands at a place.
+pub fn label_at(bytes: &[u8], at: usize, k: usize) -> u8
+    requires { ⌜ (at + 4 ≤ length (now bytes)) × (k < 16) ⌝ }
+    ensures { λ r. ⌜ r ≡ getD (unpacked 16 (wordAt (now (bytes .entry)) at)) k 0 ⌝ }
+{
+    (bytes[at + k / 4] >> (2 * (k % 4))) % 4
+}
+
+// The record that sixteen bytes hold.
+pub fn read_record(part: &[u8]) -> Record
+    requires { ⌜ length (now part) ≡ 16 ⌝ }
+    ensures { λ r. ⌜ r ≡ recordOf (now (part .entry)) ⌝ }
+{
+    let event = word_at(part, 4);
+    let argument = signed(word_at(part, 8));
+    let body = kinds::body_of(part[2] as u32, event, argument);
+    let labels = labels::unpack(word_at(part, 12));
+    Record {
+        station: part[0] as usize,
+        count: part[1],
+        body: body,
+        labels: labels,
+    }
+}
+
+// A record as sixteen bytes; its labels from n up are written 0.
+pub fn write_record(part: &mut [u8], n: usize, r: Record)
+    requires { ⌜ (length (now part) ≡ 16) × (n ≤ 16) × (r .station < 256) × (allLabels (take n (r .labels)) ≡ true) ⌝ }
+    ensures { λ _. ⌜ now (part .exit) ≡ recordBytes n r ⌝ }
+{
+    let body = r.body;
+    let labels = r.labels;
+    part[0] = r.station as u8;
+    part[1] = r.count;
+    part[2] = kinds::kind_of(body) as u8;
+    part[3] = RECORD_MARK;
+    put_word(part, 4, kinds::event_of(body));
+    put_word(part, 8, unsigned(kinds::argument_of(body)));
+    put_word(part, 12, labels::pack(labels, n));
+}
