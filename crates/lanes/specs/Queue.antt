@@ -1,6 +1,6 @@
 -- Document 01, "A station and its calls": the waiting edits, at most 32, in the order posted. What stands past the length is no part of the queue.
 use Prim.Native.Nat.{_+_, _-_}
-use mathlib.Core.List.{List, [], _∷_, _++_, map}
+use mathlib.Core.List.{List, _∷_, _++_, map}
 use lib.ListN.{take, drop, set, getD, replicate}
 use Rattle.kinds.specs.declared.Body.{Body}
 use Rattle.kinds.specs.declared.Body.the-variants.{Empty}

@@ -1,16 +1,13 @@
 -- `station_turns::all_acked` meets its contract: what was passed is acknowledged.
-use Prim.Native.Nat.{ℕ, _≤_, _-_}
+use Prim.Native.Nat.{_≤_, _-_}
 use native.Mathlib.Omega.{arith}
-use mathlib.Core.Path.{_≡_, refl, sym, ap, _∙_}
-use mathlib.Core.Bool.{Bool, true, false}
-use lib.ListN.{getD, replicate}
-use lib.Dec.{ltb, eqb}
+use mathlib.Core.Path.{_≡_, sym}
+use mathlib.Core.Bool.{true, false}
+use lib.ListN.{getD}
 use borrow.Author.Needs.{needs}
-use borrow.Author.Tests.{lt-ltb, le-ltb, eq-eqb, ne-eqb, not-true, not-false}
-use Rattle.places.specs.Places.{allBelow, fill}
-use Rattle.places.proofs.Laws.{allBelow-more, allBelow-fails, fill-more, fill-above}
-use Rattle.lanes.specs.Lane.{noLane, popped}
-use Rattle.lanes.specs.Queue.{noSlot}
+use borrow.Author.Tests.{not-true, not-false}
+use Rattle.places.specs.Places.{allBelow}
+use Rattle.places.proofs.Laws.{allBelow-more, allBelow-fails}
 use Rattle.station_turns.proofs.all_acked.Statement.{statement}
 use Rattle.station_turns.proofs.all_acked.Tie as tie
 

@@ -1,5 +1,4 @@
 -- `station_turns::label_after` meets its contract.
-use mathlib.Core.Path.{_≡_}
 use borrow.Author.Needs.{needs}
 use Rattle.station_turns.proofs.label_after.Statement.{statement}
 use Rattle.station_turns.proofs.label_after.Tie as tie

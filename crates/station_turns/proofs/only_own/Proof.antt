@@ -1,16 +1,11 @@
 -- `station_turns::only_own` meets its contract: of the places passed only the own one is acknowledged.
-use Prim.Native.Nat.{ℕ, _≤_, _-_}
+use Prim.Native.Nat.{_≤_, _-_}
 use native.Mathlib.Omega.{arith}
-use mathlib.Core.Path.{_≡_, refl, sym, ap, _∙_}
-use mathlib.Core.Bool.{Bool, true, false}
-use lib.ListN.{getD, replicate}
-use lib.Dec.{ltb, eqb}
+use mathlib.Core.Path.{_≡_, refl, _∙_}
+use lib.Dec.{eqb}
 use borrow.Author.Needs.{needs}
-use borrow.Author.Tests.{lt-ltb, le-ltb, eq-eqb, ne-eqb, not-true, not-false}
-use Rattle.places.specs.Places.{allBelow, fill}
-use Rattle.places.proofs.Laws.{allBelow-more, allBelow-fails, fill-more, fill-above}
-use Rattle.lanes.specs.Lane.{noLane, popped}
-use Rattle.lanes.specs.Queue.{noSlot}
+use Rattle.places.specs.Places.{fill}
+use Rattle.places.proofs.Laws.{fill-more}
 use Rattle.station_turns.proofs.only_own.Statement.{statement}
 use Rattle.station_turns.proofs.only_own.Tie as tie
 

@@ -1,5 +1,4 @@
 -- `station_turns::starts_edit` meets its contract.
-use native.Mathlib.Omega.{arith}
 use borrow.Author.Tests.{eq-eqb, ne-eqb, not-true, not-false}
 use Rattle.station_turns.proofs.starts_edit.Statement.{statement}
 use Rattle.station_turns.proofs.starts_edit.Tie as tie

@@ -1,6 +1,5 @@
 -- `station_turns::waiting_after` meets its contract.
 use borrow.Author.Tests.{not-true, not-false}
-use borrow.Author.Needs.{needs}
 use Rattle.station_turns.proofs.waiting_after.Statement.{statement}
 use Rattle.station_turns.proofs.waiting_after.Tie as tie
 
