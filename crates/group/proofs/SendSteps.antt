@@ -105,17 +105,6 @@ worse-done a b h = go (eqb a 2) refl (eqb b 0) refl h
     go false p false q h = absurd (eqb-false b 0 q h)
 
 module _ (g : List Station) where
-  -- a group of one or more is inside its limits where all its stations are members
-  pub group-judged : 1 ≤ sizeOf g → groupInside g ≡ allBelow (sizeOf g) (memberInside g)
-  unfolding groupInside
-  group-judged low = go (allBelow (sizeOf g) (memberInside g)) refl
-    where
-      go :
-          (t : Bool) → allBelow (sizeOf g) (memberInside g) ≡ t →
-          memberInside g 0 && allBelow (sizeOf g) (memberInside g) ≡ allBelow (sizeOf g) (memberInside g)
-      go true e = rw (allBelow-at (sizeOf g) (memberInside g) e 0 low)
-      go false e = rw e (nowhere (memberInside g 0))
-
   pub judged-none : 0 ≡ judgedBelow g 0
   unfolding judgedBelow allBelow
   judged-none = refl

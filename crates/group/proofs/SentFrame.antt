@@ -1,4 +1,4 @@
--- The frame of a station inside its limits: it may be written, it fits into 260 bytes, and where it stands in a list of bytes it is heard as the very
+-- The frame of a station inside its limits: it fits into 260 bytes, and where it stands in a list of bytes it is heard as the very
 -- records that the table sends. The bytes past the frame are in no record's part.
 use Prim.Native.Nat.{ℕ, suc, _+_, _*_, _-_, _≤_, _<_}
 use mathlib.Core.Bool.{true, _&&_}
@@ -16,7 +16,7 @@ use Rattle.places.proofs.Laws.{and-both, and-left, allBelow-at, allBelow-make, 
 use Rattle.frames.specs.declared.Record.{Record}
 use Rattle.frames.specs.Record.{recordOf, bytesInside, recordFits}
 use Rattle.frames.specs.Frame.{part, recordsInside, recordsOf, frameBytes}
-use Rattle.frames.specs.Calls.{tableRecords, Writable}
+use Rattle.frames.specs.Calls.{tableRecords}
 use Rattle.frames.proofs.Bytes.{length-frame}
 use Rattle.frames.proofs.Check.{accepted-frame}
 use Rattle.frames.proofs.FrameTrip.{at-most}
@@ -39,15 +39,6 @@ labels-fit n labels h =
     rw (getD-take n labels i 0 below) (leb-true (getD labels i 0) 2 (h i below)))
 
 module _ (s : Station) (c : Inside s) where
-  pub writable : Writable (s .n) (s .own) (s .held) (s .table)
-  writable =
-      record {
-        few = c .high;
-        below = omega (arith, c .own, c .high);
-        station = λ k l e. omega (arith, c .places k l .held e .station, c .high);
-        labels = λ k l e. labels-fit (s .n) ((recordAt s k) .labels) (c .places k l .held e .labels);
-      }
-
   abbrev records : List Record
   records = tableRecords (s .n) (s .held) (s .table)
 

@@ -17,8 +17,9 @@ use Rattle.station_rules.specs.Calls.{frameOf, ownCountInside}
 use Rattle.group_rules.specs.State.{stationAt, sizeOf, memberInside, groupInside}
 use Rattle.group.specs.Frames.{frameStart, FramesBelow, sendRefusal, partAfter, worse, judgedBelow}
 use Rattle.group_rules.proofs.Members.{member-open}
+use Rattle.group.proofs.GroupLimits.{group-judged}
 use Rattle.group.proofs.SentFrame.{frame-fits}
-use Rattle.group.proofs.SendSteps.{part-frame, length-after, worse-done, judged-none, judged-more, judged-right, group-judged}
+use Rattle.group.proofs.SendSteps.{part-frame, length-after, worse-done, judged-none, judged-more, judged-right}
 
 -- bytes that end by place a stay where what follows from a on is replaced
 before-part :
