@@ -1,21 +1,20 @@
 -- The answers of sending one station's frame, each with the tests on its way decided; and what the round answers of all stations below a place.
-use Prim.Native.Nat.{ℕ, zero, suc, _+_, _≤_, _<_}
+use Prim.Native.Nat.{ℕ, _+_}
 use native.Mathlib.Numerals.{add-one}
 use native.Mathlib.Omega.{arith}
 use mathlib.Core.Bool.{Bool, true, false, cond, not, _&&_}
 use mathlib.Core.List.{List, _++_}
-use mathlib.Core.Path.{_≡_, refl, sym, ap, _∙_}
+use mathlib.Core.Path.{_≡_, refl}
 use lib.Dec.{eqb, ltb}
 use lib.ListN.{drop, length, length-append, length-drop}
 use borrow.Author.Tests.{eq-eqb, ne-eqb, eqb-true, eqb-false, ltb-false}
 use Rattle.kinds.specs.Refusals.{refuse}
 use Rattle.frames.specs.Calls.{bufferWith}
 use Rattle.places.specs.Places.{allBelow}
-use Rattle.places.proofs.Laws.{allBelow-at}
 use Rattle.station_rules.specs.declared.Station.{Station}
 use Rattle.station_rules.specs.Limits.{stationInside}
 use Rattle.station_rules.specs.Calls.{ownCountInside, frameOf}
-use Rattle.group_rules.specs.State.{stationAt, sizeOf, memberInside, groupInside}
+use Rattle.group_rules.specs.State.{stationAt, sizeOf, memberInside}
 use Rattle.group.specs.Frames.{sendRefusal, partAfter, worse, judgedBelow}
 
 nowhere : (a : Bool) → (a && false) ≡ false

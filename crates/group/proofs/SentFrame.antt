@@ -11,7 +11,6 @@ use borrow.Author.Tests.{leb-true, lt-ltb}
 use Rattle.labels.specs.Label.{isLabel}
 use Rattle.labels.specs.Packing.{allLabels}
 use Rattle.labels.proofs.Laws.{at-all}
-use Rattle.places.specs.Places.{allBelow}
 use Rattle.places.proofs.Laws.{and-both, and-left, allBelow-at, allBelow-make, tabulate-ext}
 use Rattle.frames.specs.declared.Record.{Record}
 use Rattle.frames.specs.Record.{recordOf, bytesInside, recordFits}

@@ -10,7 +10,6 @@ use lib.ListN.{take, drop, length, length-take, length-drop, length-append, take
 use lib.Seq.{length-take-le, take-append-le, drop-append-le, take-at, drop-at}
 use borrow.Author.Tests.{le-ltb}
 use Rattle.frames.specs.Calls.{bufferWith}
-use Rattle.places.specs.Places.{allBelow}
 use Rattle.places.proofs.Laws.{allBelow-at}
 use Rattle.station_rules.specs.declared.Station.{Station}
 use Rattle.station_rules.specs.Calls.{frameOf, ownCountInside}

@@ -1,11 +1,11 @@
 -- `group::round` meets its contract: the frames of the stations passed are sent, then the stations passed have heard and taken their turn, and no lane was
 -- overfull.
-use Prim.Native.Nat.{ℕ, _+_, _*_, _-_, _≤_, _<_}
+use Prim.Native.Nat.{ℕ, _-_, _≤_, _<_}
 use native.Mathlib.Omega.{arith}
-use mathlib.Core.Path.{_≡_, refl, sym, ap, subst, _∙_}
-use mathlib.Core.Bool.{Bool, true, false}
+use mathlib.Core.Path.{_≡_, refl, sym, ap, _∙_}
+use mathlib.Core.Bool.{false}
 use mathlib.Core.List.{List}
-use lib.ListN.{set, replicate, length}
+use lib.ListN.{set, replicate}
 use borrow.Author.Needs.{needs}
 use Rattle.places.specs.Places.{anyBelow, fill}
 use Rattle.places.proofs.Laws.{fill-more, fill-above}
@@ -13,9 +13,8 @@ use Rattle.station_rules.specs.declared.Station.{Station}
 use Rattle.station_rules.specs.Turn.{afterTurn}
 use Rattle.group_rules.specs.declared.Report.{Report}
 use Rattle.group_rules.specs.declared.RoundDone.{RoundDone}
-use Rattle.group_rules.specs.State.{noStation, stationAt, sizeOf, groupInside}
+use Rattle.group_rules.specs.State.{noStation, stationAt, sizeOf}
 use Rattle.group_rules.specs.Calls.{heard, noReport, reportOf, afterRound}
-use Rattle.group_rules.proofs.Members.{GroupShaped}
 use Rattle.group.proofs.GroupLengths.{group-lengths}
 use Rattle.group.proofs.GroupLimits.{none-outside, many-outside}
 use Rattle.group.proofs.WrittenFrames.{SentBelow, AllSent, sent-none, sent-more, all-sent}
