@@ -3,7 +3,7 @@
 use Prim.Native.Nat.{ℕ, _-_, _≤_, _<_}
 use mathlib.Core.Bool.{true, false}
 use mathlib.Core.List.{List, _++_}
-use mathlib.Core.Path.{_≡_, refl, sym, ap, subst, _∙_}
+use mathlib.Core.Path.{_≡_, sym, ap, subst, _∙_}
 use native.Mathlib.Omega.{arith}
 use lib.ListN.{getD, length, replicate}
 use Rattle.station_rules.specs.declared.Station.{Station}
@@ -15,7 +15,6 @@ use Rattle.station_rules.specs.Frames.{hearFrames, FrameAt, HearsAll}
 use Rattle.station_rules.specs.Turn.{afterTurn, turnReport}
 use Rattle.station_rules.specs.Calls.{turnDone}
 use Rattle.station_rules.proofs.StationLimits.{inside-make}
-use Rattle.group_rules.specs.declared.Report.{Report}
 use Rattle.group_rules.specs.State.{stationAt, sizeOf}
 use Rattle.group_rules.specs.Calls.{heard, noTaking, reportOf}
 use Rattle.group.specs.Frames.{heardCount, heardStarts}

@@ -6,3 +6,4 @@ pub mod SendSteps
 pub mod WrittenFrames
 pub mod HeardTurn
 pub mod GroupLengths
+pub mod GroupLimits

@@ -1,10 +1,9 @@
 -- The answers of a round, each with the tests on its way decided.
 use Prim.Native.Nat.{ℕ, _+_, _≤_, _<_}
-use native.Mathlib.Omega.{arith}
 use native.Mathlib.Numerals.{add-one}
 use mathlib.Core.Bool.{Bool, true, false, not}
 use mathlib.Core.List.{List}
-use mathlib.Core.Path.{_≡_, refl, sym, ap, _∙_}
+use mathlib.Core.Path.{_≡_, refl, ap, _∙_}
 use lib.ListN.{replicate}
 use Rattle.places.specs.Places.{allBelow, anyBelow, fill}
 use Rattle.places.proofs.Laws.{allBelow-not, anyBelow-none, anyBelow-hit}
@@ -14,8 +13,8 @@ use Rattle.group_rules.specs.declared.RoundDone.{RoundDone}
 use Rattle.group_rules.specs.State.{stationAt, sizeOf, memberInside, groupInside}
 use Rattle.group_rules.specs.Calls.{heard, noReport, reportOf, roundRefusal, afterRound, roundCall}
 use Rattle.group.specs.Frames.{judgedBelow}
-use Rattle.group_rules.proofs.Members.{group-low, group-high}
-use Rattle.group.proofs.SendSteps.{group-judged, judged-is}
+use Rattle.group.proofs.GroupLimits.{group-judged}
+use Rattle.group.proofs.SendSteps.{judged-is}
 
 pub anyBelow-more : (n : ℕ) (test : ℕ → Bool) → anyBelow n test ≡ false → test n ≡ false → anyBelow (n + 1) test ≡ false
 unfolding anyBelow
@@ -28,21 +27,6 @@ module _ (g : List Station) (masks : List ℕ) where
   pub round-outside : groupInside g ≡ false → refused 2 ≡ roundCall g masks
   unfolding roundCall roundRefusal
   round-outside i = rw i
-
-  -- a group whose N there is not
-  pub round-none : sizeOf g < 1 → refused 2 ≡ roundCall g masks
-  round-none l = go (groupInside g) refl
-    where
-      go : (t : Bool) → groupInside g ≡ t → refused 2 ≡ roundCall g masks
-      go true e = absurd (omega (arith, group-low g e))
-      go false e = round-outside e
-
-  pub round-many : 16 < sizeOf g → refused 2 ≡ roundCall g masks
-  round-many l = go (groupInside g) refl
-    where
-      go : (t : Bool) → groupInside g ≡ t → refused 2 ≡ roundCall g masks
-      go true e = absurd (omega (arith, group-high g e))
-      go false e = round-outside e
 
   module _ (i : groupInside g ≡ true) where
     abbrev tooHigh : ℕ → Bool

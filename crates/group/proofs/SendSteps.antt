@@ -1,21 +1,20 @@
 -- The answers of sending one station's frame, each with the tests on its way decided; and what the round answers of all stations below a place.
-use Prim.Native.Nat.{ℕ, zero, suc, _+_, _≤_, _<_}
+use Prim.Native.Nat.{ℕ, _+_}
 use native.Mathlib.Numerals.{add-one}
 use native.Mathlib.Omega.{arith}
 use mathlib.Core.Bool.{Bool, true, false, cond, not, _&&_}
 use mathlib.Core.List.{List, _++_}
-use mathlib.Core.Path.{_≡_, refl, sym, ap, _∙_}
+use mathlib.Core.Path.{_≡_, refl}
 use lib.Dec.{eqb, ltb}
 use lib.ListN.{drop, length, length-append, length-drop}
 use borrow.Author.Tests.{eq-eqb, ne-eqb, eqb-true, eqb-false, ltb-false}
 use Rattle.kinds.specs.Refusals.{refuse}
 use Rattle.frame_rules.specs.Calls.{bufferWith}
 use Rattle.places.specs.Places.{allBelow}
-use Rattle.places.proofs.Laws.{allBelow-at}
 use Rattle.station_rules.specs.declared.Station.{Station}
 use Rattle.station_rules.specs.Limits.{stationInside}
 use Rattle.station_rules.specs.Calls.{ownCountInside, frameOf}
-use Rattle.group_rules.specs.State.{stationAt, sizeOf, memberInside, groupInside}
+use Rattle.group_rules.specs.State.{stationAt, sizeOf, memberInside}
 use Rattle.group.specs.Frames.{sendRefusal, partAfter, worse, judgedBelow}
 
 nowhere : (a : Bool) → (a && false) ≡ false
@@ -105,17 +104,6 @@ worse-done a b h = go (eqb a 2) refl (eqb b 0) refl h
     go false p false q h = absurd (eqb-false b 0 q h)
 
 module _ (g : List Station) where
-  -- a group of one or more is inside its limits where all its stations are members
-  pub group-judged : 1 ≤ sizeOf g → groupInside g ≡ allBelow (sizeOf g) (memberInside g)
-  unfolding groupInside
-  group-judged low = go (allBelow (sizeOf g) (memberInside g)) refl
-    where
-      go :
-          (t : Bool) → allBelow (sizeOf g) (memberInside g) ≡ t →
-          memberInside g 0 && allBelow (sizeOf g) (memberInside g) ≡ allBelow (sizeOf g) (memberInside g)
-      go true e = rw (allBelow-at (sizeOf g) (memberInside g) e 0 low)
-      go false e = rw e (nowhere (memberInside g 0))
-
   pub judged-none : 0 ≡ judgedBelow g 0
   unfolding judgedBelow allBelow
   judged-none = refl

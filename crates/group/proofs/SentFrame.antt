@@ -1,4 +1,4 @@
--- The frame of a station inside its limits: it may be written, it fits into 260 bytes, and where it stands in a list of bytes it is heard as the very
+-- The frame of a station inside its limits: it fits into 260 bytes, and where it stands in a list of bytes it is heard as the very
 -- records that the table sends. The bytes past the frame are in no record's part.
 use Prim.Native.Nat.{ℕ, suc, _+_, _*_, _-_, _≤_, _<_}
 use mathlib.Core.Bool.{true, _&&_}
@@ -11,12 +11,11 @@ use borrow.Author.Tests.{leb-true, lt-ltb}
 use Rattle.labels.specs.Label.{isLabel}
 use Rattle.labels.specs.Packing.{allLabels}
 use Rattle.labels.proofs.Laws.{at-all}
-use Rattle.places.specs.Places.{allBelow}
 use Rattle.places.proofs.Laws.{and-both, and-left, allBelow-at, allBelow-make, tabulate-ext}
 use Rattle.frame_rules.specs.declared.Record.{Record}
 use Rattle.frame_rules.specs.Record.{recordOf, bytesInside, recordFits}
 use Rattle.frame_rules.specs.Frame.{part, recordsInside, recordsOf, frameBytes}
-use Rattle.frame_rules.specs.Calls.{tableRecords, Writable}
+use Rattle.frame_rules.specs.Calls.{tableRecords}
 use Rattle.frame_rules.proofs.Bytes.{length-frame}
 use Rattle.frame_rules.proofs.Check.{accepted-frame}
 use Rattle.frame_rules.proofs.FrameTrip.{at-most}
@@ -39,15 +38,6 @@ labels-fit n labels h =
     rw (getD-take n labels i 0 below) (leb-true (getD labels i 0) 2 (h i below)))
 
 module _ (s : Station) (c : Inside s) where
-  pub writable : Writable (s .n) (s .own) (s .held) (s .table)
-  writable =
-      record {
-        few = c .high;
-        below = omega (arith, c .own, c .high);
-        station = λ k l e. omega (arith, c .places k l .held e .station, c .high);
-        labels = λ k l e. labels-fit (s .n) ((recordAt s k) .labels) (c .places k l .held e .labels);
-      }
-
   abbrev records : List Record
   records = tableRecords (s .n) (s .held) (s .table)
 

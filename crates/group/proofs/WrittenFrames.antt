@@ -10,15 +10,15 @@ use lib.ListN.{take, drop, length, length-take, length-drop, length-append, take
 use lib.Seq.{length-take-le, take-append-le, drop-append-le, take-at, drop-at}
 use borrow.Author.Tests.{le-ltb}
 use Rattle.frame_rules.specs.Calls.{bufferWith}
-use Rattle.places.specs.Places.{allBelow}
 use Rattle.places.proofs.Laws.{allBelow-at}
 use Rattle.station_rules.specs.declared.Station.{Station}
 use Rattle.station_rules.specs.Calls.{frameOf, ownCountInside}
 use Rattle.group_rules.specs.State.{stationAt, sizeOf, memberInside, groupInside}
 use Rattle.group.specs.Frames.{frameStart, FramesBelow, sendRefusal, partAfter, worse, judgedBelow}
 use Rattle.group_rules.proofs.Members.{member-open}
+use Rattle.group.proofs.GroupLimits.{group-judged}
 use Rattle.group.proofs.SentFrame.{frame-fits}
-use Rattle.group.proofs.SendSteps.{part-frame, length-after, worse-done, judged-none, judged-more, judged-right, group-judged}
+use Rattle.group.proofs.SendSteps.{part-frame, length-after, worse-done, judged-none, judged-more, judged-right}
 
 -- bytes that end by place a stay where what follows from a on is replaced
 before-part :

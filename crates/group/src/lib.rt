@@ -1,6 +1,9 @@
 // A group of stations and its rounds.
 
 ghost use mathlib.Core.Path.{_≡_};
+ghost use mathlib.Core.Bool.{_&&_};
+ghost use lib.Dec.{eqb};
+ghost use Rattle.station_rules.specs.Limits.{stationInside};
 ghost use Rattle.group_rules.specs.Calls.{freshCall, postCall, noReport, roundCall};
 use group_rules::KeptGroup;
 use group_rules::Report;
@@ -15,12 +18,8 @@ use kinds::refusals::QUEUE_FULL;
 use station_rules::Station;
 use station_rules::Taking;
 
-pub mod checks;
 pub mod sends;
 pub mod starts;
-
-// The room of a frame of sixteen records.
-const FRAME_ROOM: usize = 260;
 
 // Group fresh: the group of n, as it begins.
 pub fn fresh(n: usize) -> KeptGroup
@@ -47,45 +46,63 @@ pub fn fresh(n: usize) -> KeptGroup
     }
 }
 
+// Is s inside its limits, of a group of n, and its number k?
+fn member_inside(s: Station, n: usize, k: usize) -> bool
+    ensures { λ r. ⌜ r ≡ (stationInside s && (eqb (s .n) n && eqb (s .own) k)) ⌝ }
+{
+    if s.n != n {
+        return false;
+    }
+    if s.own != k {
+        return false;
+    }
+    station_limits::station_inside(s)
+}
+
 // Group post: one more waiting edit at station k.
 pub fn post(g: [Station; 16], k: usize, body: Body) -> KeptGroup
     ensures { λ r. ⌜ r ≡ postCall g k body ⌝ }
 {
-    if !checks::group_inside(g) {
-        return KeptGroup {
-            refusal: OUTSIDE_LIMITS,
-            group: g,
-        };
+    let mut z = KeptGroup {
+        refusal: DONE,
+        group: g,
+    };
+    let first = z.group[0];
+    let n = first.n;
+    if n < 1 {
+        z.refusal = OUTSIDE_LIMITS;
+        return z;
     }
-    let first = g[0];
-    if first.n <= k {
-        return KeptGroup {
-            refusal: BAD_NUMBER,
-            group: g,
-        };
+    if 16 < n {
+        z.refusal = OUTSIDE_LIMITS;
+        return z;
+    }
+    let mut i: usize = 0;
+    while i < n {
+        if !member_inside(z.group[i], n, i) {
+            z.refusal = OUTSIDE_LIMITS;
+            return z;
+        }
+        i += 1;
+    }
+    if n <= k {
+        z.refusal = BAD_NUMBER;
+        return z;
     }
     if !kinds::is_edit(body) {
-        return KeptGroup {
-            refusal: NOT_AN_EDIT,
-            group: g,
-        };
+        z.refusal = NOT_AN_EDIT;
+        return z;
     }
-    let mut station = g[k];
+    let mut station = z.group[k];
     let queue = station.waiting;
     if 32 <= queue.len {
-        return KeptGroup {
-            refusal: QUEUE_FULL,
-            group: g,
-        };
+        z.refusal = QUEUE_FULL;
+        return z;
     }
     let waiting = lanes::queued(queue, body);
     station.waiting = waiting;
-    let mut group = g;
-    group[k] = station;
-    KeptGroup {
-        refusal: DONE,
-        group: group,
-    }
+    z.group[k] = station;
+    z
 }
 
 // What a round reports of a station that is not in it.
@@ -130,8 +147,8 @@ pub fn round(g: [Station; 16], masks: [u16; 16]) -> RoundDone
     let mut refusal = DONE;
     let mut k: usize = 0;
     while k < n {
-        let at = FRAME_ROOM * k;
-        let judged = sends::send(&mut bytes[at..at + FRAME_ROOM], z.group[k], n, k);
+        let at = sends::FRAME_ROOM * k;
+        let judged = sends::send(&mut bytes[at..at + sends::FRAME_ROOM], z.group[k], n, k);
         refusal = sends::worse(refusal, judged);
         k += 1;
     }

@@ -12,7 +12,7 @@ use kinds::refusals::OUTSIDE_LIMITS;
 use station_rules::Station;
 
 // The room of a frame of sixteen records.
-const FRAME_ROOM: usize = 260;
+pub const FRAME_ROOM: usize = 260;
 
 // Where the frames that a station hears begin, by ascending sender.
 pub struct Senders {

@@ -123,9 +123,10 @@ pub extern "C" fn relay_bench_rounds(schedule: &[u8], n: u32, rounds: u32) -> u3
         let at = MASKS_SIZE * place_of(number, len / MASKS_SIZE);
         let done = group::round(g, masks_at(schedule, at));
         g = done.group;
+        let reports = done.reports;
         let mut k: usize = 0;
         while k < (n as usize) {
-            sum = mix_report(sum, done.reports[k], number);
+            sum = mix_report(sum, reports[k], number);
             k += 1;
         }
         number += 1;

@@ -1,5 +1,4 @@
 -- `group::no_report` meets its contract.
-use mathlib.Core.Path.{_≡_, sym, ap, _∙_}
 use borrow.Author.Needs.{needs}
 use Rattle.group_rules.specs.Calls.{noReport}
 use Rattle.group.proofs.no_report.Statement.{statement}

@@ -1,11 +1,11 @@
 -- `group::round` meets its contract: the frames of the stations passed are sent, then the stations passed have heard and taken their turn, and no lane was
 -- overfull.
-use Prim.Native.Nat.{ℕ, _+_, _*_, _-_, _≤_, _<_}
+use Prim.Native.Nat.{ℕ, _-_, _≤_, _<_}
 use native.Mathlib.Omega.{arith}
-use mathlib.Core.Path.{_≡_, refl, sym, ap, subst, _∙_}
-use mathlib.Core.Bool.{Bool, true, false}
+use mathlib.Core.Path.{_≡_, refl, sym, ap, _∙_}
+use mathlib.Core.Bool.{false}
 use mathlib.Core.List.{List}
-use lib.ListN.{set, replicate, length}
+use lib.ListN.{set, replicate}
 use borrow.Author.Needs.{needs}
 use Rattle.places.specs.Places.{anyBelow, fill}
 use Rattle.places.proofs.Laws.{fill-more, fill-above}
@@ -13,13 +13,13 @@ use Rattle.station_rules.specs.declared.Station.{Station}
 use Rattle.station_rules.specs.Turn.{afterTurn}
 use Rattle.group_rules.specs.declared.Report.{Report}
 use Rattle.group_rules.specs.declared.RoundDone.{RoundDone}
-use Rattle.group_rules.specs.State.{noStation, stationAt, sizeOf, groupInside}
+use Rattle.group_rules.specs.State.{noStation, stationAt, sizeOf}
 use Rattle.group_rules.specs.Calls.{heard, noReport, reportOf, afterRound}
-use Rattle.group_rules.proofs.Members.{GroupShaped}
 use Rattle.group.proofs.GroupLengths.{group-lengths}
+use Rattle.group.proofs.GroupLimits.{none-outside, many-outside}
 use Rattle.group.proofs.WrittenFrames.{SentBelow, AllSent, sent-none, sent-more, all-sent}
 use Rattle.group.proofs.HeardTurn.{may-hear, full-is, may-turn, after-is, report-is}
-use Rattle.group.proofs.RoundSteps.{anyBelow-more, round-none, round-many, round-judged, round-full, round-done}
+use Rattle.group.proofs.RoundSteps.{anyBelow-more, round-outside, round-judged, round-full, round-done}
 use Rattle.group.proofs.round.Statement.{statement}
 use Rattle.group.proofs.round.Tie as tie
 
@@ -67,12 +67,12 @@ element-copy-out-first c = search needs
 returns : tie.Need-returns Inv-loop μ-loop Inv-loop2 μ-loop2
 returns c =
     let a = c .before .before .before .args in
-    ap (unreported 2 (a .g)) (c .before .before .no-report .ensures) ∙ round-none (a .g) (a .masks) (c .if1 .taken)
+    ap (unreported 2 (a .g)) (c .before .before .no-report .ensures) ∙ round-outside (a .g) (a .masks) (none-outside (a .g) (c .if1 .taken))
 
 returns-2 : tie.Need-returns-2 Inv-loop μ-loop Inv-loop2 μ-loop2
 returns-2 c =
     let a = c .before .before .before .before .args in
-    ap (unreported 2 (a .g)) (c .before .before .before .no-report .ensures) ∙ round-many (a .g) (a .masks) (c .if2 .taken)
+    ap (unreported 2 (a .g)) (c .before .before .before .no-report .ensures) ∙ round-outside (a .g) (a .masks) (many-outside (a .g) (c .if2 .taken))
 
 loop-holds : tie.Need-loop-holds Inv-loop μ-loop Inv-loop2 μ-loop2
 loop-holds c =

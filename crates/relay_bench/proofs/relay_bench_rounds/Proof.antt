@@ -8,10 +8,10 @@ use Rattle.relay_bench.proofs.relay_bench_rounds.Statement.{statement}
 use Rattle.relay_bench.proofs.relay_bench_rounds.Tie as tie
 
 abbrev Inv-loop2 : tie.InvT-loop2
-Inv-loop2 schedule n rounds len g sum₀ number at done k₀ sum k = (1 ≤ n) × (n ≤ 16) × (k ≤ n) × (32 ≤ len) × (len ≡ length schedule) × (number < rounds)
+Inv-loop2 schedule n rounds len g sum₀ number at reports k₀ sum k = (1 ≤ n) × (n ≤ 16) × (k ≤ n) × (32 ≤ len) × (len ≡ length schedule) × (number < rounds)
 
 abbrev μ-loop2 : tie.MeasureT-loop2
-μ-loop2 schedule n rounds len g sum₀ number at done k₀ sum k = n - k
+μ-loop2 schedule n rounds len g sum₀ number at reports k₀ sum k = n - k
 
 abbrev Inv-loop : tie.InvT-loop
 Inv-loop schedule n rounds len g₀ sum₀ number₀ g sum number = (1 ≤ n) × (n ≤ 16) × (32 ≤ len) × (len ≡ length schedule) × (number ≤ rounds)
@@ -64,8 +64,8 @@ loop2-holds c = search needs
 mul-mix-report : tie.Need-mul-mix-report Inv-loop2 μ-loop2 Inv-loop μ-loop
 mul-mix-report c = search needs
 
-element-copy-out-mix-report : tie.Need-element-copy-out-mix-report Inv-loop2 μ-loop2 Inv-loop μ-loop
-element-copy-out-mix-report c = search needs
+array-copy-out-mix-report : tie.Need-array-copy-out-mix-report Inv-loop2 μ-loop2 Inv-loop μ-loop
+array-copy-out-mix-report c = search needs
 
 mix-report-requires : tie.Need-mix-report-requires Inv-loop2 μ-loop2 Inv-loop μ-loop
 mix-report-requires c κs = search needs
@@ -117,7 +117,7 @@ relay-bench-rounds-spec =
     round-requires
     loop2-holds
     mul-mix-report
-    element-copy-out-mix-report
+    array-copy-out-mix-report
     mix-report-requires
     add-k
     loop2-less

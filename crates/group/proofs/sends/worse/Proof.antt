@@ -1,6 +1,4 @@
 -- `group::sends::worse` meets its contract, test by test.
-use native.Mathlib.Omega.{arith}
-use mathlib.Core.Path.{_≡_, refl, sym, ap, _∙_}
 use borrow.Author.Tests.{eq-eqb, ne-eqb}
 use Rattle.group.specs.Frames.{worse}
 use Rattle.group.proofs.sends.worse.Statement.{statement}

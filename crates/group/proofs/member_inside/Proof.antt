@@ -1,4 +1,4 @@
--- `group::checks::member_inside` meets its contract, test by test.
+-- `group::member_inside` meets its contract, test by test.
 use Prim.Native.Nat.{ℕ}
 use mathlib.Core.Path.{_≡_, refl, sym, _∙_}
 use mathlib.Core.Bool.{Bool, true, false, _&&_}
@@ -7,8 +7,8 @@ use borrow.Author.Needs.{needs}
 use borrow.Author.Tests.{eq-eqb, ne-eqb}
 use Rattle.station_rules.specs.declared.Station.{Station}
 use Rattle.station_rules.specs.Limits.{stationInside}
-use Rattle.group.proofs.checks.member_inside.Statement.{statement}
-use Rattle.group.proofs.checks.member_inside.Tie as tie
+use Rattle.group.proofs.member_inside.Statement.{statement}
+use Rattle.group.proofs.member_inside.Tie as tie
 
 nowhere : (a : Bool) → false ≡ (a && false)
 nowhere true = refl
