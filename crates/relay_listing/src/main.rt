@@ -2,21 +2,33 @@
 
 ghost use Prim.Native.Nat.{_≤_};
 ghost use lib.ListN.{length};
+ghost use Rattle.relay_listing.specs.Passing.{PassesIf};
 use libc::STDERR_FILENO;
 use libc::STDIN_FILENO;
 use libc::STDOUT_FILENO;
 use reader::Reader;
 
-// A reader, and whether everything that it put into the buffer was written.
+// A reader, and whether everything so far was read and written.
 struct Passed {
-    written: bool,
+    sound: bool,
     reader: Reader,
 }
 
-// Feeds a whole part to the reader, and writes what comes of it.
+// Writes the front of the buffer, and answers whether all of it was written.
+fn write_front(out: &[u8], len: usize) -> bool
+    requires { ⌜ len ≤ length (now out) ⌝ }
+{
+    if io::write_all(STDOUT_FILENO, &out[..len]) {
+        return true;
+    }
+    io::write_all(STDERR_FILENO, b"relay_listing: cannot write\n");
+    false
+}
+
+// Feeds a whole part to the reader, and writes what comes of it, call by call.
 fn pass(r: Reader, part: &[u8], out: &mut [u8]) -> Passed
     requires { ⌜ (r .len ≤ 146) × (26_880 ≤ length (now out)) ⌝ }
-    ensures { λ p. ⌜ p .reader .len ≤ 146 ⌝ }
+    ensures { λ p. ⌜ (p .reader .len ≤ 146) × PassesIf (p .sound) r (now (part .entry)) (p .reader) ⌝ }
 {
     let mut reader = r;
     let mut from = 0;
@@ -25,16 +37,15 @@ fn pass(r: Reader, part: &[u8], out: &mut [u8]) -> Passed
         let len = fed.len;
         reader = fed.reader;
         from += fed.read;
-        if !io::write_all(STDOUT_FILENO, &out[..len]) {
-            io::write_all(STDERR_FILENO, b"relay_listing: cannot write\n");
+        if !write_front(out, len) {
             return Passed {
-                written: false,
+                sound: false,
                 reader,
             };
         }
     }
     Passed {
-        written: true,
+        sound: true,
         reader,
     }
 }
@@ -53,19 +64,19 @@ fn read_input(out: &mut [u8]) -> Passed
         if got < 0 {
             io::write_all(STDERR_FILENO, b"relay_listing: cannot read\n");
             return Passed {
-                written: false,
+                sound: false,
                 reader,
             };
         }
         let n = io::count(got, &part);
         if n == 0 {
             return Passed {
-                written: true,
+                sound: true,
                 reader,
             };
         }
         let passed = pass(reader, &part[..n], out);
-        if !passed.written {
+        if !passed.sound {
             return passed;
         }
         reader = passed.reader;
@@ -76,7 +87,7 @@ fn read_input(out: &mut [u8]) -> Passed
         turns -= 1;
     }
     Passed {
-        written: true,
+        sound: true,
         reader,
     }
 }
@@ -84,8 +95,8 @@ fn read_input(out: &mut [u8]) -> Passed
 fn main() {
     let mut out = [0u8; 131072];
     let passed = read_input(&mut out);
-    if passed.written {
+    if passed.sound {
         let len = reader::finish(passed.reader, &mut out);
-        io::write_all(STDOUT_FILENO, &out[..len]);
+        write_front(&out, len);
     }
 }

@@ -1,7 +1,5 @@
 -- `relay_listing::main` is safe: what the end puts into the buffer lies in it.
-use mathlib.Core.Path.{sym}
 use native.Mathlib.Omega.{arith}
-use lib.Seq.{length-take-le}
 use Rattle.reader.proofs.Parts.{put-fits}
 use borrow.Author.Needs.{needs}
 use Rattle.relay_listing.proofs.main.Statement.{statement}
@@ -19,18 +17,13 @@ slice-aggregate-finish c = search needs
 finish-requires : tie.Need-finish-requires
 finish-requires c κs = search needs
 
-array-share-prefix-out : tie.Need-array-share-prefix-out
-array-share-prefix-out c =
-    let done = c .before .finish in
-    omega (arith, done .kept .1 .0, put-fits _ _ _ _ (done .ensures) (done .kept .1 .0))
+slice-aggregate-write-front : tie.Need-slice-aggregate-write-front
+slice-aggregate-write-front c = search needs
 
-slice-aggregate-write-all : tie.Need-slice-aggregate-write-all
-slice-aggregate-write-all c =
+write-front-requires : tie.Need-write-front-requires
+write-front-requires c κs =
     let done = c .before .before .finish in
-    sym (length-take-le (done .result) (done .last .1 .0) (omega (arith, done .kept .1 .0, put-fits _ _ _ _ (done .ensures) (done .kept .1 .0))))
-
-write-all-requires : tie.Need-write-all-requires
-write-all-requires c κs = search needs
+    omega (arith, done .kept .1 .0, put-fits _ _ _ _ (done .ensures) (done .kept .1 .0))
 
 returns : tie.Need-returns
 returns c = search needs
@@ -46,8 +39,7 @@ main-spec =
     read-input-requires
     slice-aggregate-finish
     finish-requires
-    array-share-prefix-out
-    slice-aggregate-write-all
-    write-all-requires
+    slice-aggregate-write-front
+    write-front-requires
     returns
     returns-2)

@@ -1,22 +1,25 @@
--- `relay_listing::pass` is safe and ends: each turn reads some of the part.
+-- `relay_listing::pass` feeds what is left of the part until nothing is: each call reads some of it.
 use Prim.Native.Nat.{_≤_, _-_}
 use mathlib.Core.Path.{_≡_}
 use native.Mathlib.Omega.{arith}
-use lib.ListN.{length}
+use lib.ListN.{length, take}
 use Rattle.lines.proofs.Placed.{part-length}
 use Rattle.reader.proofs.Parts.{put-fits}
+use Rattle.relay_listing.specs.Passing.{Passes}
+use Rattle.relay_listing.proofs.Parts.{passes-none, passes-more, passes-all}
 use borrow.Author.Needs.{needs}
 use Rattle.relay_listing.proofs.pass.Statement.{statement}
 use Rattle.relay_listing.proofs.pass.Tie as tie
 
 abbrev Inv-loop : tie.InvT-loop
-Inv-loop part out₀ reader₀ from₀ t8 out reader from = (reader .len ≤ 146) × (from ≤ length part) × (length out ≡ length out₀)
+Inv-loop part out₀ reader₀ from₀ out reader from =
+    (reader .len ≤ 146) × (from ≤ length part) × (length out ≡ length out₀) × Passes reader₀ (take from part) reader
 
 abbrev μ-loop : tie.MeasureT-loop
-μ-loop part out₀ reader₀ from₀ t8 out reader from = length part - from
+μ-loop part out₀ reader₀ from₀ out reader from = length part - from
 
 loop-holds : tie.Need-loop-holds Inv-loop μ-loop
-loop-holds c = search needs
+loop-holds c = (search needs, search needs, search needs, passes-none _)
 
 sub-feed : tie.Need-sub-feed Inv-loop μ-loop
 sub-feed c = search needs
@@ -33,29 +36,17 @@ feed-requires c κs = search needs
 add-from : tie.Need-add-from Inv-loop μ-loop
 add-from c = search needs
 
-slice-reshare-prefix-write-all : tie.Need-slice-reshare-prefix-write-all Inv-loop μ-loop
-slice-reshare-prefix-write-all c =
-    let fed = c .before .before .before .before .feed in
+write-front-requires : tie.Need-write-front-requires Inv-loop μ-loop
+write-front-requires c κs =
+    let fed = c .before .before .before .before .before .feed in
     let fits = put-fits _ _ _ _ (fed .ensures .lists .put) (fed .kept .1 .1 .0) in
     omega (arith, fits, fed .kept .1 .1 .0)
-
-slice-aggregate-write-all : tie.Need-slice-aggregate-write-all Inv-loop μ-loop
-slice-aggregate-write-all c = search needs
-
-write-all-requires : tie.Need-write-all-requires Inv-loop μ-loop
-write-all-requires c κs = search needs
-
-slice-aggregate-write-all-2 : tie.Need-slice-aggregate-write-all-2 Inv-loop μ-loop
-slice-aggregate-write-all-2 c = search needs
-
-write-all-requires-2 : tie.Need-write-all-requires-2 Inv-loop μ-loop
-write-all-requires-2 c κs = search needs
 
 same-length : tie.Need-same-length Inv-loop μ-loop
 same-length c = search needs
 
 returns : tie.Need-returns Inv-loop μ-loop
-returns c = search needs
+returns c = (search needs, tt)
 
 loop-less : tie.Need-loop-less Inv-loop μ-loop
 loop-less c =
@@ -67,13 +58,15 @@ loop-less c =
     omega arith
 
 loop-again : tie.Need-loop-again Inv-loop μ-loop
-loop-again c = search needs
+loop-again c =
+    let fed = c .before .before .before .before .before .before .before .feed in
+    (search needs, search needs, search needs, passes-more _ _ _ _ _ _ _ (c .before .before .before .before .before .before .before .before .before .before .before .loop .inv .3) (fed .ensures))
 
 same-length-2 : tie.Need-same-length-2 Inv-loop μ-loop
 same-length-2 c = search needs
 
 returns-2 : tie.Need-returns-2 Inv-loop μ-loop
-returns-2 c = search needs
+returns-2 c = (search needs, passes-all _ _ (c .before .before .before .before .args .part .now) (c .before .loop .from) (omega arith) (c .before .loop .inv .3))
 
 pub pass-spec : {M : Type 1} → statement M
 pass-spec =
@@ -87,11 +80,7 @@ pass-spec =
     part-feed-end
     feed-requires
     add-from
-    slice-reshare-prefix-write-all
-    slice-aggregate-write-all
-    write-all-requires
-    slice-aggregate-write-all-2
-    write-all-requires-2
+    write-front-requires
     same-length
     returns
     loop-less
