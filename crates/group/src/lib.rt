@@ -127,12 +127,11 @@ pub fn round(g: [Station; 16], masks: [u16; 16]) -> RoundDone
     ensures { λ r. ⌜ r ≡ roundCall g masks ⌝ }
 {
     let none = no_report();
-    let reports = [none; 16];
     let mut bytes = [0u8; 4160];
     let mut z = RoundDone {
         refusal: DONE,
         group: g,
-        reports: reports,
+        reports: [none; 16],
     };
     let first = z.group[0];
     let n = first.n;

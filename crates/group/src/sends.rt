@@ -1,11 +1,8 @@
 // The frames of a round: all are written before any station hears.
 
 ghost use mathlib.Core.Path.{_≡_};
-ghost use mathlib.Core.Bool.{true};
-ghost use Prim.Native.Nat.{ℕ, _≤_, _<_};
-ghost use lib.ListN.{length};
+ghost use Prim.Native.Nat.{_≤_};
 ghost use Rattle.group.specs.Frames as spec;
-ghost use Rattle.group.specs.Frames.{sendRefusal, partAfter, heardCount, heardStarts};
 use kinds::refusals::COUNT_TOO_HIGH;
 use kinds::refusals::DONE;
 use kinds::refusals::OUTSIDE_LIMITS;
@@ -20,9 +17,9 @@ pub struct Senders {
     pub starts: [usize; 16],
 }
 
-// Writes the frame of station k of a group of n into its part, and answers the refusal of a round in which it may not be written.
+// Writes the frame of station k of a group of n into its part; where it may not be written, answers with the refusal of the round.
 pub fn send(part: &mut [u8], s: Station, n: usize, k: usize) -> u32
-    ensures { λ r. ⌜ (r ≡ sendRefusal n k s) × (now (part .exit) ≡ partAfter n k s (now (part .entry))) ⌝ }
+    ensures { λ r. ⌜ (r ≡ spec.sendRefusal n k s) × (now (part .exit) ≡ spec.partAfter n k s (now (part .entry))) ⌝ }
 {
     if s.n != n {
         return OUTSIDE_LIMITS;
@@ -61,7 +58,7 @@ pub fn worse(a: u32, b: u32) -> u32
 // The frames that station i of n hears in a round with these masks.
 pub fn heard_by(masks: [u16; 16], n: usize, i: usize) -> Senders
     requires { ⌜ n ≤ 16 ⌝ }
-    ensures { λ r. ⌜ (r .len ≡ heardCount n masks i n) × (r .starts ≡ heardStarts n masks i n) ⌝ }
+    ensures { λ r. ⌜ (r .len ≡ spec.heardCount n masks i n) × (r .starts ≡ spec.heardStarts n masks i n) ⌝ }
 {
     let mut len: usize = 0;
     let mut starts = [0usize; 16];
