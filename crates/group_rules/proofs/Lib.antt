@@ -27,3 +27,5 @@ pub mod HistoryLists
 pub mod FromRun
 pub mod DemandThree
 pub mod Marked
+pub mod RunLines
+pub mod RunExamples

@@ -25,7 +25,7 @@ use Rattle.group_rules.specs.declared.Report.{Report}
 use Rattle.group_rules.specs.State.{groupInside, freshGroup}
 use Rattle.group_rules.specs.Calls.{groupPostRefusal, postCall, hearing, noReport, reportOf, roundRefusal, afterRound, roundCall}
 use Rattle.group_rules.specs.History.{History, Call.post, Call.round, next, begun, continued, historyOf, noRound, reportIn, unlessEmpty, editsOf, collect, started, takingsOf, takenFrom, airedList, endsAt}
-use Rattle.group_runs.proofs.Lines.{linesOf, linesIn, edit, edits, run, meshStarts, meshTakes, meshEnds, Mesh}
+use Rattle.group_rules.proofs.RunLines.{linesOf, linesIn, edit, edits, run, meshStarts, meshTakes, meshEnds, Mesh}
 
 abbrev everyone : List ℕ
 everyone = replicate 16 65_535

@@ -1,1 +1,1 @@
-// Runs of a group that are computed from the definitions, no code.
+// A run of sixteen stations, computed from the definitions; no code.

@@ -21,11 +21,11 @@ use Rattle.station_rules.specs.Limits.{laneInside, queueInside, recordInside, p
 use Rattle.station_rules.specs.Hearing.{replaced, heardNewer, hearRecord, hearRecords}
 use Rattle.station_rules.specs.Turn.{airs, rowOf, lanesAfter, ends, startedBody, passed, ownRecord, rewritten, afterTurn, turnReport}
 use Rattle.station_rules.specs.Calls.{posted, noTurn}
 use Rattle.group_rules.specs.declared.Report.{Report}
 use Rattle.group_rules.specs.State.{groupInside, freshGroup}
 use Rattle.group_rules.specs.Calls.{groupPostRefusal, postCall, hearing, noReport, reportOf, roundRefusal, afterRound, roundCall}
 use Rattle.group_rules.specs.History.{History, Call.post, Call.round, next, begun, continued, historyOf, noRound, reportIn, unlessEmpty, editsOf, collect, started, takingsOf, takenFrom, airedList, endsAt}
-use Rattle.group_runs.proofs.Lines.{taken, aired, ended, linesOf, linesIn, edit, edits, run, Mesh}
+use Rattle.group_rules.proofs.RunLines.{taken, aired, ended, linesOf, linesIn, edit, edits, run, Mesh}
 
 unfoldable pub seven : Body
 seven = Insert 7 (pos 100)
