@@ -13,15 +13,16 @@ use Rattle.station_rules.specs.Limits.{stationInside}
 use Rattle.station_rules.specs.Hearing.{Hearing, silent}
 use Rattle.station_rules.specs.Frames.{hearFrames, FrameAt, HearsAll}
 use Rattle.station_rules.specs.Turn.{afterTurn, turnReport}
+use Rattle.station_hearing.specs.Marks.{MarksAt}
 use Rattle.station_rules.specs.Calls.{turnDone}
 use Rattle.station_rules.proofs.StationLimits.{inside-make}
 use Rattle.group_rules.specs.State.{stationAt, sizeOf}
 use Rattle.group_rules.specs.Calls.{heard, noTaking, reportOf}
-use Rattle.group.specs.Frames.{heardCount, heardStarts}
+use Rattle.group.specs.Frames.{frameStart, MarksBelow, heardCount, heardStarts}
 use Rattle.group_rules.proofs.Members.{GroupShaped, group-high, member-at, members-open}
 use Rattle.group_rules.proofs.MembersRound.{hears-all}
 use Rattle.group.proofs.WrittenFrames.{AllSent}
-use Rattle.group.proofs.RoundFrames.{count-below, starts-at, heard-below}
+use Rattle.group.proofs.RoundFrames.{count-below, starts-at, frames-at, heard-below}
 
 module _ (g : List Station) (masks bytes : List ℕ) (sent : AllSent g bytes) (i : ℕ) (below : i < sizeOf g)
     (count : ℕ) (count-is : count ≡ heardCount (sizeOf g) masks i (sizeOf g))
@@ -34,21 +35,30 @@ module _ (g : List Station) (masks bytes : List ℕ) (sent : AllSent g bytes) (i
       (λ t. hearFrames (silent s) bytes (starts-is t) (count-is t))
       ∙ heard-below g (sent .inside) (sent .counts) masks bytes (sent .frames) i (sizeOf g) (omega arith) (group-high g (sent .inside))
 
-  -- what hearing asks for
-  abbrev MayHear : Station → Type 0
-  MayHear x = ((count ≤ 16) × (stationInside x ≡ true)) × ((f : ℕ) → f < count → FrameAt (x .n) bytes (getD starts f 0))
+  -- what holds of the start of each frame holds of each start that the station hears from
+  each-start : (P : ℕ → Type 0) → ((k : ℕ) → k < sizeOf g → P (frameStart k)) → (f : ℕ) → f < count → P (getD starts f 0)
+  each-start P each f l =
+      subst (λ (a : List ℕ). P (getD a f 0)) (sym starts-is)
+      (starts-at (sizeOf g) masks i P each (group-high g (sent .inside)) (sizeOf g) (omega arith) f (omega (arith, count-is)))
 
-  pub may-hear : (x : Station) → x ≡ s → MayHear x
-  may-hear x e =
-      let high = group-high g (sent .inside) in
-      let m = member-at g (sent .inside) i below in
-      subst MayHear (sym e) (
-        (omega (arith, count-is, count-below (sizeOf g) masks i (sizeOf g), high), inside-make s (m .inside)),
-        λ f l.
-            subst (λ (n : ℕ). FrameAt n bytes (getD starts f 0)) (sym (m .size))
-            (subst (λ (a : List ℕ). FrameAt (sizeOf g) bytes (getD a f 0)) (sym starts-is)
-            (starts-at g (sent .inside) (sent .counts) masks bytes (sent .frames) i (sizeOf g) (omega arith) high f (omega (arith, count-is)))),
-      )
+  -- what hearing asks for
+  module _ (marks : List ℕ) (marked : MarksBelow (sizeOf g) bytes marks) where
+    abbrev MayHear : Station → Type 0
+    MayHear x =
+        ((count ≤ 16) × (stationInside x ≡ true))
+        × (((f : ℕ) → f < count → FrameAt (x .n) bytes (getD starts f 0)) × ((f : ℕ) → f < count → MarksAt bytes marks (getD starts f 0)))
+
+    pub may-hear : (x : Station) → x ≡ s → MayHear x
+    may-hear x e =
+        let m = member-at g (sent .inside) i below in
+        let at = frames-at g (sent .inside) (sent .counts) masks bytes (sent .frames) in
+        subst MayHear (sym e) (
+          (omega (arith, count-is, count-below (sizeOf g) masks i (sizeOf g), group-high g (sent .inside)), inside-make s (m .inside)),
+          (
+            each-start (FrameAt (s .n) bytes) (λ k l. subst (λ (n : ℕ). FrameAt n bytes (frameStart k)) (sym (m .size)) (at .frame k l)),
+            each-start (MarksAt bytes marks) marked,
+          ),
+        )
 
   module _ (x : Station) (same : x ≡ s) (r : HeardAll) (hears : HearsAll x bytes starts count r) where
     h : HearsAll s bytes starts count r

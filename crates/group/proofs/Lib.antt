@@ -4,6 +4,7 @@ pub mod RoundFrames
 pub mod RoundSteps
 pub mod SendSteps
 pub mod WrittenFrames
+pub mod WrittenMarks
 pub mod HeardTurn
 pub mod GroupLengths
 pub mod GroupLimits

@@ -19,9 +19,9 @@ use Rattle.station_rules.specs.Hearing.{Hearing, silent, hearRecords}
 use Rattle.station_rules.specs.Frames.{hearFrames, FrameAt}
 use Rattle.group_rules.specs.State.{stationAt, sizeOf, groupInside}
 use Rattle.group_rules.specs.Calls.{hearing, heard}
-use Rattle.group.specs.Frames.{frameStart, FramesBelow, heardCount, heardStarts}
+use Rattle.group.specs.Frames.{frameStart, FramesBelow, FramesAt, heardCount, heardStarts}
 use Rattle.group_rules.proofs.Members.{Member, member-at}
-use Rattle.group.proofs.SentFrame.{heard-records, frame-at}
+use Rattle.group.proofs.SentFrame.{heard-records, frame-at, frame-few}
 
 hearFrames-none : (h : Hearing) (bytes starts : List ℕ) → hearFrames h bytes starts zero ≡ h
 unfolding hearFrames
@@ -84,13 +84,38 @@ module _ (n : ℕ) (masks : List ℕ) (i : ℕ) where
       go true h = length-set (heardStarts n masks i j) (heardCount n masks i j) (frameStart j) ∙ h
       go false h = h
 
+  -- what holds of the start of each of n frames holds of each listed start
+  module _ (P : ℕ → Type 0) (each : (k : ℕ) → k < n → P (frameStart k)) (high : n ≤ 16) where
+    pub starts-at : (j : ℕ) → j ≤ n → (f : ℕ) → f < heardCount n masks i j → P (getD (heardStarts n masks i j) f 0)
+    unfolding heardCount heardStarts
+    starts-at zero l f b = absurd (omega arith)
+    starts-at (suc j) l f b = go (hearsIn n masks i j) (λ m. starts-at j (omega arith) f m) b
+      where
+        go :
+            (t : Bool) → (f < heardCount n masks i j → P (getD (heardStarts n masks i j) f 0)) → f < heardCount n masks i j + cond t 1 0 →
+            P (getD (cond t (set (heardStarts n masks i j) (heardCount n masks i j) (frameStart j)) (heardStarts n masks i j)) f 0)
+        go true before m =
+            elim (ℕ-discrete f (heardCount n masks i j)) [
+              | yes e ↦
+                  rw (e, getD-set-same (heardStarts n masks i j) (heardCount n masks i j) (frameStart j) 0 (omega (arith, starts-length j, count-below j))) (each j l)
+              | no d ↦ rw (getD-set-other (heardStarts n masks i j) (heardCount n masks i j) f (frameStart j) 0 d) (before (omega arith))
+            ]
+        go false before m = before (omega arith)
+
 module _ (g : List Station) (inside : groupInside g ≡ true) (counts : (k : ℕ) → k < sizeOf g → ownCountInside (stationAt g k) ≡ true)
     (masks bytes : List ℕ) (frames : FramesBelow g (sizeOf g) bytes) where
-  frame-of : (k : ℕ) → k < sizeOf g → FrameAt (sizeOf g) bytes (frameStart k)
-  frame-of k l =
-      let m = member-at g inside k l in
-      subst (λ (n : ℕ). FrameAt n bytes (frameStart k)) (m .size)
-      (frame-at (stationAt g k) (m .inside) (counts k l) bytes (frameStart k) (frames .frame k l))
+  pub frames-at : FramesAt (sizeOf g) bytes
+  frames-at =
+      record {
+        frame =
+            λ k l.
+            let m = member-at g inside k l in
+            subst (λ (n : ℕ). FrameAt n bytes (frameStart k)) (m .size)
+            (frame-at (stationAt g k) (m .inside) (counts k l) bytes (frameStart k) (frames .frame k l));
+        few =
+            λ k l.
+            frame-few (stationAt g k) (member-at g inside k l .inside) (counts k l) bytes (frameStart k) (frames .frame k l);
+      }
 
   records-of : (k : ℕ) → k < sizeOf g → recordsOf (drop (frameStart k) bytes) ≡ sentRecords (stationAt g k)
   records-of k l =
@@ -102,25 +127,6 @@ module _ (g : List Station) (inside : groupInside g ≡ true) (counts : (k : ℕ
 
     abbrev count : ℕ → ℕ
     count j = heardCount (sizeOf g) masks i j
-
-    -- each listed start is the start of a frame
-    pub starts-at : (j : ℕ) → j ≤ sizeOf g → sizeOf g ≤ 16 → (f : ℕ) → f < count j → FrameAt (sizeOf g) bytes (getD (starts j) f 0)
-    unfolding heardCount heardStarts
-    starts-at zero l high f b = absurd (omega arith)
-    starts-at (suc j) l high f b =
-        go (hearsIn (sizeOf g) masks i j) (λ m. starts-at j (omega arith) high f m) b
-      where
-        go :
-            (t : Bool) → (f < count j → FrameAt (sizeOf g) bytes (getD (starts j) f 0)) → f < count j + cond t 1 0 →
-            FrameAt (sizeOf g) bytes (getD (cond t (set (starts j) (count j) (frameStart j)) (starts j)) f 0)
-        go true before m =
-            elim (ℕ-discrete f (count j)) [
-              | yes e ↦
-                  rw (e, getD-set-same (starts j) (count j) (frameStart j) 0 (omega (arith, starts-length (sizeOf g) masks i j, count-below (sizeOf g) masks i j)))
-                  (frame-of j l)
-              | no d ↦ rw (getD-set-other (starts j) (count j) f (frameStart j) 0 d) (before (omega arith))
-            ]
-        go false before m = before (omega arith)
 
     -- hearing them is hearing the senders below j of the mask
     pub heard-below :

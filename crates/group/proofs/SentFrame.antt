@@ -124,6 +124,9 @@ module _ (s : Station) (c : Inside s) where
           (λ k l. ap recordOf (part-is k l))
           ∙ rw (← amount) read-back)
 
+      pub frame-few : getD (drop start bytes) 2 0 ≤ 16
+      frame-few = rw counted records-few
+
       pub frame-at : FrameAt (s .n) bytes start
       frame-at =
           record {

@@ -1,6 +1,6 @@
 -- Document 01, "A group and its rounds": all frames of a round stand in one list of bytes before any station hears, that of station k from byte 260 × k on.
 -- Each station hears those of its mask by ascending sender.
-use Prim.Native.Nat.{ℕ, zero, suc, _+_, _*_, _<_}
+use Prim.Native.Nat.{ℕ, zero, suc, _+_, _*_, _<_, _≤_}
 use mathlib.Core.Path.{_≡_}
 use mathlib.Core.Bool.{cond, not, _&&_}
 use mathlib.Core.List.{List}
@@ -13,6 +13,8 @@ use Rattle.places.specs.Places.{allBelow}
 use Rattle.station_rules.specs.declared.Station.{Station}
 use Rattle.station_rules.specs.Limits.{stationInside}
 use Rattle.station_rules.specs.Calls.{frameOf, ownCountInside}
+use Rattle.station_rules.specs.Frames.{FrameAt}
+use Rattle.station_hearing.specs.Marks.{sizeAt, MarksAt}
 use Rattle.group_rules.specs.State.{stationAt, memberInside}
 
 -- where the frame of station k begins; 260 bytes hold sixteen records
@@ -43,6 +45,15 @@ judgedBelow g m =
 pub record FramesBelow (g : List Station) (m : ℕ) (bytes : List ℕ) : Type 0 where
   pub long : length bytes ≡ 4160
   pub frame : (k : ℕ) → k < m → take (length (frameOf (stationAt g k))) (drop (frameStart k) bytes) ≡ frameOf (stationAt g k)
+
+-- the frames of a group of n begin at their starts, each of at most sixteen records
+pub record FramesAt (n : ℕ) (bytes : List ℕ) : Type 0 where
+  pub frame : (k : ℕ) → k < n → FrameAt n bytes (frameStart k)
+  pub few : (k : ℕ) → k < n → sizeAt bytes (frameStart k) ≤ 16
+
+-- the marks of the frames of the stations below m stand, those of each frame from its start on
+abbrev pub MarksBelow : ℕ → List ℕ → List ℕ → Type 0
+MarksBelow m bytes marks = (k : ℕ) → k < m → MarksAt bytes marks (frameStart k)
 
 -- how many of the senders below j station i hears
 unfoldable pub heardCount : ℕ → List ℕ → ℕ → ℕ → ℕ

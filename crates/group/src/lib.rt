@@ -122,12 +122,13 @@ fn no_report() -> Report
     }
 }
 
-// Round: every frame is written, then each station hears those of its mask and takes its turn.
+// Round: every frame is written and marked, then each station hears those of its mask and takes its turn.
 pub fn round(g: [Station; 16], masks: [u16; 16]) -> RoundDone
     ensures { λ r. ⌜ r ≡ roundCall g masks ⌝ }
 {
     let none = no_report();
     let mut bytes = [0u8; 4160];
+    let mut marks = [0u8; 4160];
     let mut z = RoundDone {
         refusal: DONE,
         group: g,
@@ -155,11 +156,12 @@ pub fn round(g: [Station; 16], masks: [u16; 16]) -> RoundDone
         z.refusal = refusal;
         return z;
     }
+    sends::mark_frames(&mut marks, &bytes, n);
     let mut i: usize = 0;
     while i < n {
         let senders = sends::heard_by(masks, n, i);
         let starts = senders.starts;
-        let heard = station_hearing::hear_all(z.group[i], &bytes, starts, senders.len);
+        let heard = station_hearing::hear_all(z.group[i], &bytes, &marks, starts, senders.len);
         if heard.overfull {
             z.refusal = LANE_FULL;
             z.group = g;

@@ -2,6 +2,7 @@
 
 ghost use mathlib.Core.Path.{_≡_};
 ghost use Prim.Native.Nat.{_≤_};
+ghost use lib.ListN.{length};
 ghost use Rattle.group.specs.Frames as spec;
 use kinds::refusals::COUNT_TOO_HIGH;
 use kinds::refusals::DONE;
@@ -53,6 +54,18 @@ pub fn worse(a: u32, b: u32) -> u32
         return a;
     }
     b
+}
+
+// Writes the marks of the frames of n stations, those of each frame from its start on.
+pub fn mark_frames(marks: &mut [u8], bytes: &[u8], n: usize)
+    requires { ⌜ (n ≤ 16) × (length (now marks) ≡ 4160) ⌝ ∗ ⌜ spec.FramesAt n (now bytes) ⌝ }
+    ensures { λ _. ⌜ spec.MarksBelow n (now (bytes .entry)) (now (marks .exit)) ⌝ }
+{
+    let mut k: usize = 0;
+    while k < n {
+        station_hearing::put_marks(marks, bytes, FRAME_ROOM * k);
+        k += 1;
+    }
 }
 
 // The frames that station i of n hears in a round with these masks.

@@ -123,7 +123,9 @@ pub fn hear(s: Station, bytes: &[u8]) -> Heard
         };
     }
     let starts = [0usize; 16];
-    let heard = station_hearing::hear_all(s, bytes, starts, 1);
+    let mut marks = [0u8; 32];
+    station_hearing::put_marks(&mut marks, bytes, 0);
+    let heard = station_hearing::hear_all(s, bytes, &marks, starts, 1);
     if heard.overfull {
         return Heard {
             refusal: LANE_FULL,

@@ -135,13 +135,13 @@ module _ (s : Station) (bars : List ℕ) (r : Record) (b : BarsOf s bars) (high 
             ∙ sym (ap not (heeds-newer s r d)))
       ]
 
-  -- the same of a label and a count that were read
-  module _ (k l c : ℕ) (e : k ≡ r .station) (f : l ≡ ownLabel r) (g : c ≡ r .count) where
-    pub bar-skips : c < getD bars (4 * k + l) 0 → heeds s r ≡ false
-    bar-skips b = not-true (heeds s r) (sym bar-heeds ∙ lt-ltb (r .count) _ (rw (e, f, g) at b))
+  -- the same of a place and a count that were read
+  module _ (i c : ℕ) (e : i ≡ 4 * r .station + ownLabel r) (g : c ≡ r .count) where
+    pub bar-skips : c < getD bars i 0 → heeds s r ≡ false
+    bar-skips b = not-true (heeds s r) (sym bar-heeds ∙ lt-ltb (r .count) _ (rw (e, g) at b))
 
-    pub bar-passed : getD bars (4 * k + l) 0 ≤ c → heeds s r ≡ true
-    bar-passed b = not-false (heeds s r) (sym bar-heeds ∙ le-ltb (r .count) _ (rw (e, f, g) at b))
+    pub bar-passed : getD bars i 0 ≤ c → heeds s r ≡ true
+    bar-passed b = not-false (heeds s r) (sym bar-heeds ∙ le-ltb (r .count) _ (rw (e, g) at b))
 
   -- after a newer record
   module _ (shape : Shaped s) (h : heeds s r ≡ true) where

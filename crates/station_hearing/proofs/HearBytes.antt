@@ -23,10 +23,7 @@ use Rattle.station_rules.specs.State.{recordLabel}
 use Rattle.station_rules.specs.Frames.{FrameAt}
 use Rattle.station_rules.proofs.LimitsHear.{Carried}
 use Rattle.station_rules.proofs.LimitsHearing.{AllCarried}
-
--- record r of the frame that begins at start
-abbrev pub recordAt : List ℕ → ℕ → ℕ → Record
-recordAt bytes start r = recordOf (part (drop start bytes) r)
+use Rattle.station_hearing.specs.Marks.{recordAt}
 
 module _ (bytes : List ℕ) (start r : ℕ) where
   abbrev p : List ℕ

@@ -22,7 +22,7 @@ use Rattle.station_rules.specs.State.{ackedOf, labelOf, recordOf, laneAt, recor
 use Rattle.station_rules.specs.Hearing.{Hearing, silent, heeds, advances, takes, replaced, raised, heardNewer, hearRecord, hearRecords}
 use Rattle.station_rules.specs.Frames.{hearFrames, noTaking}
 use Rattle.station_rules.proofs.HearRecord.{heardOne, hearRecord-skips, hearRecord-heeds}
-use Rattle.station_hearing.proofs.HearBytes.{recordAt}
+use Rattle.station_hearing.specs.Marks.{recordAt}
 
 pub records-append : (h : Hearing) (xs ys : List Record) → hearRecords h (xs ++ ys) ≡ hearRecords (hearRecords h xs) ys
 unfolding hearRecords

@@ -1,4 +1,5 @@
 pub mod BarLaws
 pub mod HearBytes
 pub mod HearSteps
+pub mod MarkLaws
 pub mod SourceSteps

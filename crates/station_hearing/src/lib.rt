@@ -16,6 +16,7 @@ ghost use Rattle.station_rules.specs.Frames.{FrameAt, HearsAll};
 ghost use Rattle.station_rules.specs.Calls.{sourcesOf};
 ghost use Rattle.station_rules.specs.State.{recordLabel};
 ghost use Rattle.station_hearing.specs.Bars.{Bars};
+ghost use Rattle.station_hearing.specs.Marks.{Marked, Markable, MarksAt, sizeAt};
 use frame_rules::Record;
 use kinds::Body;
 use lanes::Lane;
@@ -128,10 +129,35 @@ fn overfills(takes: bool, lane: Lane) -> bool
     2 <= lane.len
 }
 
-// The station hears the frames that begin at the first `count` of the starts, each record in order.
-pub fn hear_all(s: Station, bytes: &[u8], starts: [usize; 16], count: usize) -> HeardAll
+// The marks and counts of the records of the frame that begins at `start`, from the same place on.
+pub fn put_marks(marks: &mut [u8], bytes: &[u8], start: usize)
+    requires { ⌜ Markable (now bytes) (now marks) start ⌝ }
+    ensures { λ _.
+        ⌜ Marked (now (bytes .entry)) (now (marks .entry)) (now (marks .exit)) start (sizeAt (now (bytes .entry)) start) ⌝ }
+{
+    let records = bytes[start + 2] as usize;
+    let mut r: usize = 0;
+    while r < records {
+        let at = start + 4 + 16 * r;
+        let k = bytes[at];
+        let label = records::label_at(bytes, at + 12, k as usize);
+        marks[start + 2 * r] = 4 * k + label;
+        marks[start + 2 * r + 1] = bytes[at + 1];
+        r += 1;
+    }
+}
+
+// The station hears the frames that begin at the first `count` of the starts, each record in order; their marks stand beside.
+pub fn hear_all(
+    s: Station,
+    bytes: &[u8],
+    marks: &[u8],
+    starts: [usize; 16],
+    count: usize,
+) -> HeardAll
     requires { ⌜ (count ≤ 16) × (stationInside s ≡ true) ⌝ ∗
-        ⌜ ((f : ℕ) → f < count → FrameAt (s .n) (now bytes) (getD starts f 0)) ⌝ }
+        ⌜ ((f : ℕ) → f < count → FrameAt (s .n) (now bytes) (getD starts f 0)) ⌝ ∗
+        ⌜ ((f : ℕ) → f < count → MarksAt (now bytes) (now marks) (getD starts f 0)) ⌝ }
     ensures { λ r. ⌜ HearsAll s (now (bytes .entry)) starts count r ⌝ }
 {
     let n = s.n;
@@ -153,16 +179,17 @@ pub fn hear_all(s: Station, bytes: &[u8], starts: [usize; 16], count: usize) -> 
         let mut r: usize = 0;
         while r < records {
             let at = start + 4 + 16 * r;
+            let mark = marks[start + 2 * r] as usize;
+            let seen_count = marks[start + 2 * r + 1];
             r += 1;
-            let k = bytes[at] as usize;
-            let seen_label = records::label_at(bytes, at + 12, k);
-            let seen_count = bytes[at + 1];
-            if (seen_count as u16) < bars[4 * k + (seen_label as usize)] {
+            if (seen_count as u16) < bars[mark] {
                 continue;
             }
+            let k = mark / 4;
+            let seen_label = (mark % 4) as u8;
             let next = labels::successor(seen_label);
             let past = labels::successor(next);
-            bars[4 * k + (seen_label as usize)] = above(seen_count);
+            bars[mark] = above(seen_count);
             bars[4 * k + (next as usize)] = 0;
             bars[4 * k + (past as usize)] = 256;
             let seen = records::read_record(&bytes[at..at + 16]);

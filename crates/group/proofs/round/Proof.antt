@@ -18,6 +18,7 @@ use Rattle.group_rules.specs.Calls.{heard, noReport, reportOf, afterRound}
 use Rattle.group.proofs.GroupLengths.{group-lengths}
 use Rattle.group.proofs.GroupLimits.{none-outside, many-outside}
 use Rattle.group.proofs.WrittenFrames.{SentBelow, AllSent, sent-none, sent-more, all-sent}
+use Rattle.group.proofs.RoundFrames.{frames-at}
 use Rattle.group.proofs.HeardTurn.{may-hear, full-is, may-turn, after-is, report-is}
 use Rattle.group.proofs.RoundSteps.{anyBelow-more, round-outside, round-judged, round-full, round-done}
 use Rattle.group.proofs.round.Statement.{statement}
@@ -37,23 +38,23 @@ abbrev unreported : ℕ → List Station → Report → RoundDone
 unreported refusal g none = record { refusal = refusal; group = g; reports = replicate 16 none }
 
 abbrev Inv-loop : tie.InvT-loop
-Inv-loop g masks none bytes₀ z n refusal₀ k₀ bytes refusal k =
+Inv-loop g masks none bytes₀ marks z n refusal₀ k₀ bytes refusal k =
     (n ≡ sizeOf g) × (1 ≤ n) × (k ≤ n) × (n ≤ 16) × SentBelow g k refusal bytes
 
 abbrev μ-loop : tie.MeasureT-loop
-μ-loop g masks none bytes₀ z n refusal₀ k₀ bytes refusal k = n - k
+μ-loop g masks none bytes₀ marks z n refusal₀ k₀ bytes refusal k = n - k
 
 abbrev Inv-loop2 : tie.InvT-loop2
-Inv-loop2 g masks none bytes z₀ n refusal k i₀ z i =
+Inv-loop2 g masks none bytes marks z₀ n refusal k i₀ z i =
     (n ≡ sizeOf g) × (i ≤ n) × (n ≤ 16) × AllSent g bytes × (anyBelow i (λ j. (heard g masks j) .overfull) ≡ false) × (z ≡ turned g masks i)
 
 abbrev μ-loop2 : tie.MeasureT-loop2
-μ-loop2 g masks none bytes z₀ n refusal k i₀ z i = n - i
+μ-loop2 g masks none bytes marks z₀ n refusal k i₀ z i = n - i
 
 -- the station that hears is as it was before the round
 unheard :
     (h : tie.After-heard-by Inv-loop μ-loop Inv-loop2 μ-loop2) →
-    stationAt (h .before .before .loop2 .z .group) (h .before .before .loop2 .i) ≡ stationAt (h .before .before .before .before .before .before .before .before .before .before .args .g) (h .before .before .loop2 .i)
+    stationAt (h .before .before .loop2 .z .group) (h .before .before .loop2 .i) ≡ stationAt (h .before .before .before .before .before .before .before .before .before .before .before .before .before .before .args .g) (h .before .before .loop2 .i)
 unheard h =
     let l = h .before .before .loop2 in
     ap (λ (z : RoundDone). stationAt (z .group) (l .i)) (l .inv .5) ∙ fill-above (l .i) _ _ (l .i) noStation (omega arith)
@@ -131,17 +132,36 @@ returns-3 c =
     ap (unreported (l .refusal) (a .g)) (c .before .before .before .before .before .before .no-report .ensures)
     ∙ round-judged (a .g) (a .masks) (l .k) (l .refusal) (omega arith) (l .inv .1) (l .inv .4 .judged) (c .if3 .taken)
 
+-- all frames stand
+all-frames : (c : tie.Else3 Inv-loop μ-loop Inv-loop2 μ-loop2) → AllSent (c .before .before .before .before .before .before .before .args .g) (c .before .before .loop .bytes)
+all-frames c =
+    let l = c .before .before .loop in
+    all-sent (c .before .before .before .before .before .before .before .args .g) (l .k) (l .refusal) (l .bytes) (l .inv .4) (omega arith) (l .inv .1) (c .if3 .left)
+
+slice-aggregate-mark-frames : tie.Need-slice-aggregate-mark-frames Inv-loop μ-loop Inv-loop2 μ-loop2
+slice-aggregate-mark-frames c = search needs
+
+slice-aggregate-mark-frames-2 : tie.Need-slice-aggregate-mark-frames-2 Inv-loop μ-loop Inv-loop2 μ-loop2
+slice-aggregate-mark-frames-2 c = search needs
+
+mark-frames-requires : tie.Need-mark-frames-requires Inv-loop μ-loop Inv-loop2 μ-loop2
+mark-frames-requires c κs =
+    let d = c .before .before in
+    let a = d .before .before .before .before .before .before .before .args in
+    let l = d .before .before .loop in
+    let sent = all-frames d in
+    ((l .inv .3, refl), frames-at (a .g) (sent .inside) (sent .counts) (a .masks) (l .bytes) (sent .frames))
+
 loop2-holds : tie.Need-loop2-holds Inv-loop μ-loop Inv-loop2 μ-loop2
 unfolding anyBelow fill
 loop2-holds c =
-    let a = c .before .before .before .before .before .before .before .args in
-    let l = c .before .before .loop in (
+    let d = c .before .before .before .before in (
       refl,
       omega arith,
-      l .inv .3,
-      all-sent (a .g) (l .k) (l .refusal) (l .bytes) (l .inv .4) (omega arith) (l .inv .1) (c .if3 .left),
+      d .before .before .loop .inv .3,
+      all-frames d,
       refl,
-      ap (unreported 0 (a .g)) (c .before .before .before .before .before .before .no-report .ensures),
+      ap (unreported 0 (d .before .before .before .before .before .before .before .args .g)) (d .before .before .before .before .before .before .no-report .ensures),
     )
 
 heard-by-requires : tie.Need-heard-by-requires Inv-loop μ-loop Inv-loop2 μ-loop2
@@ -156,38 +176,41 @@ element-copy-out-hear-all c = search needs
 slice-aggregate-hear-all : tie.Need-slice-aggregate-hear-all Inv-loop μ-loop Inv-loop2 μ-loop2
 slice-aggregate-hear-all c = search needs
 
+slice-aggregate-hear-all-2 : tie.Need-slice-aggregate-hear-all-2 Inv-loop μ-loop Inv-loop2 μ-loop2
+slice-aggregate-hear-all-2 c = search needs
+
 hear-all-requires : tie.Need-hear-all-requires Inv-loop μ-loop Inv-loop2 μ-loop2
 hear-all-requires c κs =
-    let h = c .before .before .before in
+    let h = c .before .before .before .before in
     let r = h .heard-by in
-    let a = h .before .before .before .before .before .before .before .before .before .before .args in
+    let a = h .before .before .before .before .before .before .before .before .before .before .before .before .before .before .args in
     let l = h .before .before .loop2 in
-    may-hear (a .g) (a .masks) (h .before .before .before .before .before .loop .bytes) (l .inv .3) (l .i) (omega arith) (r .result .len) (r .ensures .0) (r .result .starts)
-    (r .ensures .1) _ (unheard h)
+    may-hear (a .g) (a .masks) (h .before .before .before .before .before .before .before .before .before .loop .bytes) (l .inv .3) (l .i) (omega arith) (r .result .len) (r .ensures .0) (r .result .starts)
+    (r .ensures .1) _ (h .before .before .before .before .mark-frames .ensures) _ (unheard h)
 
 returns-4 : tie.Need-returns-4 Inv-loop μ-loop Inv-loop2 μ-loop2
 returns-4 c =
-    let h = c .before .before .before .before .before .before in
+    let h = c .before .before .before .before .before .before .before in
     let r = h .heard-by in
-    let a = h .before .before .before .before .before .before .before .before .before .before .args in
+    let a = h .before .before .before .before .before .before .before .before .before .before .before .before .before .before .args in
     let l = h .before .before .loop2 in
     let sent = l .inv .3 in
     let all = c .before .before .hear-all in
-    ap (unreported 8 (a .g)) (h .before .before .before .before .before .before .before .before .before .no-report .ensures)
+    ap (unreported 8 (a .g)) (h .before .before .before .before .before .before .before .before .before .before .before .before .before .no-report .ensures)
     ∙ round-full (a .g) (a .masks) (sent .inside) (sent .counts) (l .i) (omega arith)
     (sym
-    (full-is (a .g) (a .masks) (h .before .before .before .before .before .loop .bytes) sent (l .i) (omega arith) (r .result .len) (r .ensures .0) (r .result .starts)
+    (full-is (a .g) (a .masks) (h .before .before .before .before .before .before .before .before .before .loop .bytes) sent (l .i) (omega arith) (r .result .len) (r .ensures .0) (r .result .starts)
     (r .ensures .1) _ (unheard h) (all .result) (all .ensures))
     ∙ c .before .if4 .taken)
 
 take-turn-requires : tie.Need-take-turn-requires Inv-loop μ-loop Inv-loop2 μ-loop2
 take-turn-requires c κs =
-    let h = c .before .before .before .before .before .before .before in
+    let h = c .before .before .before .before .before .before .before .before in
     let r = h .heard-by in
-    let a = h .before .before .before .before .before .before .before .before .before .before in
+    let a = h .before .before .before .before .before .before .before .before .before .before .before .before .before .before in
     let l = h .before .before .loop2 in
     let all = c .before .before .before .hear-all in
-    may-turn (a .args .g) (a .args .masks) (h .before .before .before .before .before .loop .bytes) (l .inv .3) (l .i) (omega arith) (r .result .len) (r .ensures .0)
+    may-turn (a .args .g) (a .args .masks) (h .before .before .before .before .before .before .before .before .before .loop .bytes) (l .inv .3) (l .i) (omega arith) (r .result .len) (r .ensures .0)
     (r .result .starts) (r .ensures .1) _ (unheard h) (all .result) (all .ensures)
     (group-lengths (a .args .g) _ (a .good .0)) (c .before .before .if4 .left)
 
@@ -197,8 +220,8 @@ mul-after c = search needs
 element-set-from-after : tie.Need-element-set-from-after Inv-loop μ-loop Inv-loop2 μ-loop2
 element-set-from-after c = search needs
 
-mul-t38 : tie.Need-mul-t38 Inv-loop μ-loop Inv-loop2 μ-loop2
-mul-t38 c = search needs
+mul-t44 : tie.Need-mul-t44 Inv-loop μ-loop Inv-loop2 μ-loop2
+mul-t44 c = search needs
 
 element-set-from-z : tie.Need-element-set-from-z Inv-loop μ-loop Inv-loop2 μ-loop2
 element-set-from-z c = search needs
@@ -211,13 +234,13 @@ loop2-less c = search needs
 
 loop2-again : tie.Need-loop2-again Inv-loop μ-loop Inv-loop2 μ-loop2
 loop2-again c =
-    let h = c .before .before .before .before .before .before .before .before .before .before in
+    let h = c .before .before .before .before .before .before .before .before .before .before .before in
     let r = h .heard-by in
-    let a = h .before .before .before .before .before .before .before .before .before .before in
+    let a = h .before .before .before .before .before .before .before .before .before .before .before .before .before .before in
     let l = h .before .before .loop2 in
     let g = a .args .g in
     let masks = a .args .masks in
-    let bytes = h .before .before .before .before .before .loop .bytes in
+    let bytes = h .before .before .before .before .before .before .before .before .before .loop .bytes in
     let all = c .before .before .before .before .before .before .hear-all in
     let t = c .before .before .take-turn in
     let room = c .before .before .before .before .before .if4 .left in
@@ -254,7 +277,7 @@ loop2-again c =
 returns-5 : tie.Need-returns-5 Inv-loop μ-loop Inv-loop2 μ-loop2
 unfolding afterRound
 returns-5 c =
-    let a = c .before .before .before .before .before .before .before .before .before .args in
+    let a = c .before .before .before .before .before .before .before .before .before .before .before .before .before .args in
     let l = c .before .loop2 in
     let e : l .i ≡ sizeOf (a .g) = omega arith in
     l .inv .5
@@ -288,17 +311,21 @@ round-spec =
     loop-less
     loop-again
     returns-3
+    slice-aggregate-mark-frames
+    slice-aggregate-mark-frames-2
+    mark-frames-requires
     loop2-holds
     heard-by-requires
     mul-hear-all
     element-copy-out-hear-all
     slice-aggregate-hear-all
+    slice-aggregate-hear-all-2
     hear-all-requires
     returns-4
     take-turn-requires
     mul-after
     element-set-from-after
-    mul-t38
+    mul-t44
     element-set-from-z
     add-i
     loop2-less

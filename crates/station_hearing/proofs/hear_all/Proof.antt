@@ -1,6 +1,6 @@
 -- `station_hearing::hear_all` meets its contract. After f frames the station, the takings and their number are those of the definition's hearing
 -- of f frames, and in a frame after r records those of its hearing of r records more. The bars are always those of the station.
-use Prim.Native.Nat.{ℕ, _+_, _-_, _*_, _^_, _≤_, _<_}
+use Prim.Native.Nat.{ℕ, _+_, _-_, _*_, _/_, _%_, _^_, _≤_, _<_}
 use native.Mathlib.Omega.{arith}
 use mathlib.Core.Path.{_≡_, refl, sym, ap, subst, _∙_}
 use mathlib.Core.Bool.{Bool, true, false, cond, not, true≢false, _&&_, _||_}
@@ -27,48 +27,55 @@ use Rattle.station_rules.proofs.LimitsHearing.{Hears, hears-none, hears-record,
 use Rattle.station_rules.proofs.Lengths.{lengths}
 use Rattle.station_rules.proofs.LimitsHear.{Carried}
 use Rattle.station_hearing.proofs.BarLaws.{BarsOf, barred, bar-skips, bar-passed, bars-step}
-use Rattle.station_hearing.proofs.HearBytes.{recordAt, station-at, count-at, label-at, part-at, carried-at, all-carried}
+use Rattle.station_hearing.specs.Marks.{recordAt, MarksAt}
+use Rattle.station_hearing.proofs.HearBytes.{label-at, part-at, carried-at, all-carried}
 use Rattle.station_hearing.proofs.HearSteps.{heardTo, heard-none, heard-more, frames-none, frames-more, heard-frame, made, At, at-start, at-made, at-skip, at-kept, at-taken, taken-len, taken-free, over, overfull-all, newer-is}
 use Rattle.station_hearing.proofs.hear_all.Statement.{statement}
 use Rattle.station_hearing.proofs.hear_all.Tie as tie
 
 abbrev Inv-loop2 : tie.InvT-loop2
-Inv-loop2 bytes count starts n own bars₀ station₀ takings₀ len₀ f start records r₀ bars station takings len r =
+Inv-loop2 bytes marks count starts n own bars₀ station₀ takings₀ len₀ f start records r₀ bars station takings len r =
     (r ≤ records) × At (heardTo (made station₀ takings₀ len₀) bytes start r) station takings len × BarsOf station bars
 
 abbrev μ-loop2 : tie.MeasureT-loop2
-μ-loop2 bytes count starts n own bars₀ station₀ takings₀ len₀ f start records r₀ bars station takings len r =
+μ-loop2 bytes marks count starts n own bars₀ station₀ takings₀ len₀ f start records r₀ bars station takings len r =
     records - r
 
 abbrev Inv-loop : tie.InvT-loop
-Inv-loop bytes count starts n own bars₀ station₀ takings₀ len₀ f₀ bars station takings len f =
+Inv-loop bytes marks count starts n own bars₀ station₀ takings₀ len₀ f₀ bars station takings len f =
     (f ≤ count)
     × At (hearFrames (silent station₀) bytes starts f) station takings len
     × Hears (silent station₀) (hearFrames (silent station₀) bytes starts f)
     × BarsOf station bars
 
 abbrev μ-loop : tie.MeasureT-loop
-μ-loop bytes count starts n own bars₀ station₀ takings₀ len₀ f₀ bars station takings len f = count - f
+μ-loop bytes marks count starts n own bars₀ station₀ takings₀ len₀ f₀ bars station takings len f = count - f
 
 -- a turn of the outer loop: the frame that is heard
 module _ (c : tie.In-loop Inv-loop2 μ-loop2 Inv-loop μ-loop) where
   abbrev s : Station
-  s = c .before .before .before .before .before .before .args .s
+  s = c .before .before .before .before .before .before .before .args .s
 
   abbrev bytes : List ℕ
-  bytes = c .before .before .before .before .before .before .args .bytes .now
+  bytes = c .before .before .before .before .before .before .before .args .bytes .now
 
   abbrev starts : List ℕ
-  starts = c .before .before .before .before .before .before .args .t3
+  starts = c .before .before .before .before .before .before .before .args .t4
+
+  abbrev marks : List ℕ
+  marks = c .before .before .before .before .before .before .before .args .marks .now
 
   abbrev start : ℕ
   start = getD starts (c .before .loop .f) 0
 
   inside : Inside s
-  inside = inside-open s (c .before .before .before .before .before .before .pre .0 .1)
+  inside = inside-open s (c .before .before .before .before .before .before .before .pre .0 .1)
 
   frame : FrameAt (s .n) bytes start
-  frame = c .before .before .before .before .before .before .pre .1 (c .before .loop .f) (c .loop-test .taken)
+  frame = c .before .before .before .before .before .before .before .pre .1 .0 (c .before .loop .f) (c .loop-test .taken)
+
+  marked : MarksAt bytes marks start
+  marked = c .before .before .before .before .before .before .before .pre .1 .1 (c .before .loop .f) (c .loop-test .taken)
 
   -- how many records it has
   abbrev size : ℕ
@@ -78,7 +85,7 @@ module _ (c : tie.In-loop Inv-loop2 μ-loop2 Inv-loop μ-loop) where
   size-is = sym (getD-drop start bytes 2 0)
 
   fits : (start + 4 + 16 * size ≤ length bytes) × (length bytes < 2 ^ 64)
-  fits = (frame .room, c .before .before .before .before .before .before .good .1 .0 .0)
+  fits = (frame .room, c .before .before .before .before .before .before .before .good .1 .0 .0)
 
   -- what was heard before it
   abbrev before-it : Hearing
@@ -154,88 +161,94 @@ module _ (c : tie.In-loop2 Inv-loop2 μ-loop2 Inv-loop μ-loop) where
       let m = leb-true (seen .count) (2 * (s frame-turn .n - 1)) (k .count) in
       (omega arith, omega arith, i .high, omega (arith, i .high, m), leb-true (ownLabel seen) 2 (k .labels (seen .station) (k .station)))
 
-  -- the station that the record is of, and its count
-  abbrev k : ℕ
-  k = getD (bytes frame-turn) at 0
+  -- its mark, and what it tells
+  abbrev mark : ℕ
+  mark = getD (marks frame-turn) (start frame-turn + 2 * r) 0
 
   abbrev count : ℕ
-  count = getD (bytes frame-turn) (at + 1) 0
+  count = getD (marks frame-turn) (start frame-turn + 2 * r + 1) 0
 
-  station-is : k ≡ seen .station
-  station-is = station-at (bytes frame-turn) (start frame-turn) r
+  abbrev k : ℕ
+  k = mark / 4
+
+  abbrev label : ℕ
+  label = mark % 4
+
+  mark-is : mark ≡ 4 * seen .station + ownLabel seen
+  mark-is = marked frame-turn .mark r below
 
   count-seen : count ≡ seen .count
-  count-seen = count-at (bytes frame-turn) (start frame-turn) r
+  count-seen = marked frame-turn .count r below
+
+  station-is : k ≡ seen .station
+  station-is = omega (arith, mark-is, numbers .4)
+
+  label-is : label ≡ ownLabel seen
+  label-is = omega (arith, mark-is, numbers .4)
 
   sixteen : k < 16
   sixteen = omega (arith, station-is, numbers .0)
+
+  low : (mark < 64) × (k < 16) × (label ≤ 2) × (count ≤ 30)
+  low =
+      let n = numbers in
+      (omega (arith, mark-is, n .0, n .4), sixteen, omega (arith, label-is, n .4), omega (arith, count-seen, n .3))
+
+  written : (start frame-turn + 2 * r + 1 < length (marks frame-turn)) × (at + 16 ≤ length (bytes frame-turn)) × (length (bytes frame-turn) < 2 ^ 64)
+  written =
+      let l = below in
+      let m = marked frame-turn .room in
+      (omega arith, room .0, room .1)
 
   -- the step to the next record
   next : (x : Station) (t : List Taking) (l : ℕ) → At (hearRecord so-far seen) x t l →
       At (heardTo (made (frame-turn .before .loop .station) (frame-turn .before .loop .takings) (frame-turn .before .loop .len)) (bytes frame-turn) (start frame-turn) (r + 1)) x t l
   next x t l a = rw (made-is frame-turn, heard-more (before-it frame-turn) (bytes frame-turn) (start frame-turn) r) a
 
--- the own label of the record
-module _ (c : tie.After-label-at Inv-loop2 μ-loop2 Inv-loop μ-loop) where
-  abbrev turn : tie.In-loop2 Inv-loop2 μ-loop2 Inv-loop μ-loop
-  turn = c .before .before
-
-  abbrev label : ℕ
-  label = c .label-at .result
-
-  label-is : label ≡ ownLabel (seen turn)
-  label-is =
-      let o = frame-turn turn in
-      c .label-at .ensures ∙ label-at (bytes o) (start o) (r turn) (k turn) ∙ ap (recordLabel (seen turn)) (station-is turn)
-
-  marks : (k turn < 16) × (label ≤ 2) × (count turn ≤ 30)
-  marks = let n = numbers turn in (sixteen turn, omega (arith, label-is, n .4), omega (arith, count-seen turn, n .3))
-
 -- a record that passes its bar is heeded
-heeded : (c : tie.Else1 Inv-loop2 μ-loop2 Inv-loop μ-loop) → heeds (now-station (c .before .before .before .before)) (seen (c .before .before .before .before)) ≡ true
+heeded : (c : tie.Else1 Inv-loop2 μ-loop2 Inv-loop μ-loop) → heeds (now-station (c .before .before .before)) (seen (c .before .before .before)) ≡ true
 heeded c =
-    let v = c .before .before .before .before in
-    bar-passed (now-station v) (now-bars v) (seen v) (c .before .before .before .before .before .loop2 .inv .2) (high v) (carry-now v) (k v) (label (c .before .before)) (count v)
-    (station-is v) (label-is (c .before .before)) (count-seen v) (c .if1 .left)
+    let v = c .before .before .before in
+    bar-passed (now-station v) (now-bars v) (seen v) (v .before .loop2 .inv .2) (high v) (carry-now v) (mark v) (count v) (mark-is v) (count-seen v) (c .if1 .left)
 
 -- the bars after it
 module _ (c : tie.After-above Inv-loop2 μ-loop2 Inv-loop μ-loop) where
   abbrev anew : List ℕ
   anew =
-      set (set (set (now-bars (c .before .before .before .before .before .before .before)) (4 * k (c .before .before .before .before .before .before .before) + label (c .before .before .before .before .before)) (c .above .result)) (4 * k (c .before .before .before .before .before .before .before) + c .before .before .successor .result) 0)
-      (4 * k (c .before .before .before .before .before .before .before) + c .before .successor2 .result) 256
+      set (set (set (now-bars (c .before .before .before .before .before .before)) (mark (c .before .before .before .before .before .before)) (c .above .result)) (4 * k (c .before .before .before .before .before .before) + c .before .before .successor .result) 0)
+      (4 * k (c .before .before .before .before .before .before) + c .before .successor2 .result) 256
 
-  next-label : c .before .before .successor .result ≡ successor (ownLabel (seen (c .before .before .before .before .before .before .before)))
-  next-label = c .before .before .successor .ensures ∙ ap successor (label-is (c .before .before .before .before .before))
+  next-label : c .before .before .successor .result ≡ successor (ownLabel (seen (c .before .before .before .before .before .before)))
+  next-label = c .before .before .successor .ensures ∙ ap successor (label-is (c .before .before .before .before .before .before))
 
-  past-label : c .before .successor2 .result ≡ successor (successor (ownLabel (seen (c .before .before .before .before .before .before .before))))
+  past-label : c .before .successor2 .result ≡ successor (successor (ownLabel (seen (c .before .before .before .before .before .before))))
   past-label = c .before .successor2 .ensures ∙ ap successor next-label
 
-  anew-is : anew ≡ barred (now-bars (c .before .before .before .before .before .before .before)) (seen (c .before .before .before .before .before .before .before) .station) (ownLabel (seen (c .before .before .before .before .before .before .before))) (seen (c .before .before .before .before .before .before .before) .count)
+  anew-is : anew ≡ barred (now-bars (c .before .before .before .before .before .before)) (seen (c .before .before .before .before .before .before) .station) (ownLabel (seen (c .before .before .before .before .before .before))) (seen (c .before .before .before .before .before .before) .count)
   anew-is =
-      let q = station-is (c .before .before .before .before .before .before .before) in
-      let l = label-is (c .before .before .before .before .before) in
-      let a = c .above .ensures ∙ ap (λ (m : ℕ). m + 1) (count-seen (c .before .before .before .before .before .before .before)) in
+      let m = mark-is (c .before .before .before .before .before .before) in
+      let q = station-is (c .before .before .before .before .before .before) in
+      let a = c .above .ensures ∙ ap (λ (x : ℕ). x + 1) (count-seen (c .before .before .before .before .before .before)) in
       let n = next-label in
       let p = past-label in
-      λ i. set (set (set (now-bars (c .before .before .before .before .before .before .before)) (4 * q i + l i) (a i)) (4 * q i + n i) 0) (4 * q i + p i) 256
+      λ i. set (set (set (now-bars (c .before .before .before .before .before .before)) (m i) (a i)) (4 * q i + n i) 0) (4 * q i + p i) 256
 
-  places : (k (c .before .before .before .before .before .before .before) < 16) × (label (c .before .before .before .before .before) ≤ 2) × (c .before .before .successor .result ≤ 2) × (c .before .successor2 .result ≤ 2)
-  places = let m = marks (c .before .before .before .before .before) in (m .0, m .1, omega (arith, next-label), omega (arith, past-label))
+  places : (mark (c .before .before .before .before .before .before) < 64) × (k (c .before .before .before .before .before .before) < 16) × (c .before .before .successor .result ≤ 2) × (c .before .successor2 .result ≤ 2)
+  places = let m = low (c .before .before .before .before .before .before) in (m .0, m .1, omega (arith, next-label), omega (arith, past-label))
 
-read-is : (c : tie.After-read-record Inv-loop2 μ-loop2 Inv-loop μ-loop) → c .read-record .result ≡ seen (c .before .before .before .before .before .before .before .before .before)
+read-is : (c : tie.After-read-record Inv-loop2 μ-loop2 Inv-loop μ-loop) → c .read-record .result ≡ seen (c .before .before .before .before .before .before .before .before)
 read-is c =
-    let v = c .before .before .before .before .before .before .before .before .before in
+    let v = c .before .before .before .before .before .before .before .before in
     c .read-record .ensures ∙ ap Wire.recordOf (part-at (bytes (frame-turn v)) (start (frame-turn v)) (r v))
 
 -- whether its body is taken
 module _ (c : tie.After-takes-body Inv-loop2 μ-loop2 Inv-loop μ-loop) where
   abbrev taking-turn : tie.In-loop2 Inv-loop2 μ-loop2 Inv-loop μ-loop
-  taking-turn = c .before .before .before .before .before .before .before .before .before .before .before .before
+  taking-turn = c .before .before .before .before .before .before .before .before .before .before .before
 
-  advances-is : eqb (label (c .before .before .before .before .before .before .before .before .before .before)) (c .before .successor3 .result) ≡ advances (now-station taking-turn) (seen taking-turn)
+  advances-is : eqb (label taking-turn) (c .before .successor3 .result) ≡ advances (now-station taking-turn) (seen taking-turn)
   advances-is =
-      let l = label-is (c .before .before .before .before .before .before .before .before .before .before) in
+      let l = label-is taking-turn in
       let n = c .before .successor3 .ensures ∙ ap (λ (k : ℕ). successor (labelOf (now-station taking-turn) k)) (station-is taking-turn) in
       λ i. eqb (l i) (n i)
 
@@ -247,9 +260,9 @@ module _ (c : tie.After-takes-body Inv-loop2 μ-loop2 Inv-loop μ-loop) where
 
 over-is :
     (c : tie.After-overfills Inv-loop2 μ-loop2 Inv-loop μ-loop) →
-    c .overfills .result ≡ (takes (now-station (c .before .before .before .before .before .before .before .before .before .before .before .before .before .before)) (seen (c .before .before .before .before .before .before .before .before .before .before .before .before .before .before)) && leb 2 ((laneAt (now-station (c .before .before .before .before .before .before .before .before .before .before .before .before .before .before)) (seen (c .before .before .before .before .before .before .before .before .before .before .before .before .before .before) .station)) .len))
+    c .overfills .result ≡ (takes (now-station (c .before .before .before .before .before .before .before .before .before .before .before .before .before)) (seen (c .before .before .before .before .before .before .before .before .before .before .before .before .before)) && leb 2 ((laneAt (now-station (c .before .before .before .before .before .before .before .before .before .before .before .before .before)) (seen (c .before .before .before .before .before .before .before .before .before .before .before .before .before) .station)) .len))
 over-is c =
-    let v = c .before .before .before .before .before .before .before .before .before .before .before .before .before .before in
+    let v = c .before .before .before .before .before .before .before .before .before .before .before .before .before in
     let a = takes-is (c .before .before) in
     let k = station-is v in
     c .overfills .ensures ∙ (λ i. a i && leb 2 ((laneAt (now-station v) (k i)) .len))
@@ -257,18 +270,18 @@ over-is c =
 -- the station after the record
 module _ (c : tie.After-lane-after Inv-loop2 μ-loop2 Inv-loop μ-loop) where
   abbrev newer-turn : tie.In-loop2 Inv-loop2 μ-loop2 Inv-loop μ-loop
-  newer-turn = c .before .before .before .before .before .before .before .before .before .before .before .before .before .before .before .before .before .before .before .before .before .before .before
+  newer-turn = c .before .before .before .before .before .before .before .before .before .before .before .before .before .before .before .before .before .before .before .before .before .before
 
   abbrev old-station : Station
   old-station = now-station newer-turn
 
-  answer-is : (c .before .before .before .before .before .before .before) .label-at2 .result ≡ recordLabel (seen newer-turn) (old-station .own)
+  answer-is : (c .before .before .before .before .before .before .before) .label-at .result ≡ recordLabel (seen newer-turn) (old-station .own)
   answer-is =
       let o = frame-turn newer-turn in
-      (c .before .before .before .before .before .before .before) .label-at2 .ensures ∙ label-at (bytes o) (start o) (r newer-turn) (s o .own) ∙ ap (recordLabel (seen newer-turn)) (sym (own-is newer-turn))
+      (c .before .before .before .before .before .before .before) .label-at .ensures ∙ label-at (bytes o) (start o) (r newer-turn) (s o .own) ∙ ap (recordLabel (seen newer-turn)) (sym (own-is newer-turn))
 
   acked-is :
-      (ackedOf old-station (k newer-turn) || eqb ((c .before .before .before .before .before .before .before) .label-at2 .result) (labelOf old-station (s (frame-turn newer-turn) .own)))
+      (ackedOf old-station (k newer-turn) || eqb ((c .before .before .before .before .before .before .before) .label-at .result) (labelOf old-station (s (frame-turn newer-turn) .own)))
       ≡ (ackedOf old-station (k newer-turn) || eqb (recordLabel (seen newer-turn) (old-station .own)) (labelOf old-station (old-station .own)))
   acked-is =
       let a = answer-is in
@@ -309,7 +322,7 @@ module _ (c : tie.After-lane-after Inv-loop2 μ-loop2 Inv-loop μ-loop) where
         waiting = old-station .waiting;
         acked =
             set (old-station .acked) (k newer-turn)
-            (ackedOf old-station (k newer-turn) || eqb ((c .before .before .before .before .before .before .before) .label-at2 .result) (labelOf old-station (s (frame-turn newer-turn) .own)));
+            (ackedOf old-station (k newer-turn) || eqb ((c .before .before .before .before .before .before .before) .label-at .result) (labelOf old-station (s (frame-turn newer-turn) .own)));
         body = old-station .body;
         count = (c .before .before .before .before) .count-after .result;
         labels = set (old-station .labels) (k newer-turn) ((c .before .before .before) .label-after .result);
@@ -355,16 +368,16 @@ module _ (c : tie.Else3 Inv-loop2 μ-loop2 Inv-loop μ-loop) where
 
 bars-of-requires : tie.Need-bars-of-requires Inv-loop2 μ-loop2 Inv-loop μ-loop
 bars-of-requires c κs =
-    let i = inside-open (c .before .before .before .args .s) (c .before .before .before .pre .0 .1) in (
+    let i = inside-open (c .before .before .before .before .args .s) (c .before .before .before .before .pre .0 .1) in (
       (i .high, omega (arith, i .own, i .high)),
-      λ k l e. leb-true (recordLabel (recordOf (c .before .before .before .args .s) k) k) 2 (i .places k l .held e .labels k l),
+      λ k l e. leb-true (recordLabel (recordOf (c .before .before .before .before .args .s) k) k) 2 (i .places k l .held e .labels k l),
     )
 
 loop-holds : tie.Need-loop-holds Inv-loop2 μ-loop2 Inv-loop μ-loop
 loop-holds c =
-    let z = c .before .before .before .before in
-    let h = hearFrames (silent (z .args .s)) (z .args .bytes .now) (z .args .t3) 0 in
-    let e : h ≡ silent (z .args .s) = frames-none (silent (z .args .s)) (z .args .bytes .now) (z .args .t3) in
+    let z = c .before .before .before .before .before in
+    let h = hearFrames (silent (z .args .s)) (z .args .bytes .now) (z .args .t4) 0 in
+    let e : h ≡ silent (z .args .s) = frames-none (silent (z .args .s)) (z .args .bytes .now) (z .args .t4) in
     (omega arith, rw e (at-start (z .args .s)), rw e (hears-none (silent (z .args .s)) (inside-open (z .args .s) (z .pre .0 .1)) (lengths (z .args .s) (z .good .0))), c .bars-of .ensures)
 
 mul-start : tie.Need-mul-start Inv-loop2 μ-loop2 Inv-loop μ-loop
@@ -396,55 +409,55 @@ mul-at c = record { fits = omega (arith, room c) }
 add-at-2 : tie.Need-add-at-2 Inv-loop2 μ-loop2 Inv-loop μ-loop
 add-at-2 c = record { fits = omega (arith, room c) }
 
-add-r : tie.Need-add-r Inv-loop2 μ-loop2 Inv-loop μ-loop
-add-r c = record { fits = omega (arith, room c) }
+mul-mark : tie.Need-mul-mark Inv-loop2 μ-loop2 Inv-loop μ-loop
+mul-mark c = record { fits = omega (arith, written c) }
 
-shared-slice-read-k : tie.Need-shared-slice-read-k Inv-loop2 μ-loop2 Inv-loop μ-loop
-shared-slice-read-k c = omega (arith, room (c .before))
+add-mark : tie.Need-add-mark Inv-loop2 μ-loop2 Inv-loop μ-loop
+add-mark c = record { fits = omega (arith, written c) }
 
-cast-k : tie.Need-cast-k Inv-loop2 μ-loop2 Inv-loop μ-loop
-cast-k c = record { fits = omega (arith, sixteen (c .before)) }
+shared-slice-read-mark : tie.Need-shared-slice-read-mark Inv-loop2 μ-loop2 Inv-loop μ-loop
+shared-slice-read-mark c = omega (arith, written (c .before))
 
-add-label-at : tie.Need-add-label-at Inv-loop2 μ-loop2 Inv-loop μ-loop
-add-label-at c = record { fits = omega (arith, room (c .before)) }
+cast-mark : tie.Need-cast-mark Inv-loop2 μ-loop2 Inv-loop μ-loop
+cast-mark c = record { fits = omega (arith, low (c .before)) }
 
-label-at-requires : tie.Need-label-at-requires Inv-loop2 μ-loop2 Inv-loop μ-loop
-label-at-requires c κs = (omega (arith, room (c .before)), sixteen (c .before))
+mul-seen-count : tie.Need-mul-seen-count Inv-loop2 μ-loop2 Inv-loop μ-loop
+mul-seen-count c = record { fits = omega (arith, written (c .before)) }
 
 add-seen-count : tie.Need-add-seen-count Inv-loop2 μ-loop2 Inv-loop μ-loop
-add-seen-count c = record { fits = omega (arith, room (c .before .before)) }
+add-seen-count c = record { fits = omega (arith, written (c .before)) }
+
+add-seen-count-2 : tie.Need-add-seen-count-2 Inv-loop2 μ-loop2 Inv-loop μ-loop
+add-seen-count-2 c = record { fits = omega (arith, written (c .before)) }
 
 shared-slice-read-seen-count : tie.Need-shared-slice-read-seen-count Inv-loop2 μ-loop2 Inv-loop μ-loop
-shared-slice-read-seen-count c = omega (arith, room (c .before .before .before))
+shared-slice-read-seen-count c = omega (arith, written (c .before .before))
+
+add-r : tie.Need-add-r Inv-loop2 μ-loop2 Inv-loop μ-loop
+add-r c = record { fits = omega (arith, room (c .before .before)) }
 
 cast-if1 : tie.Need-cast-if1 Inv-loop2 μ-loop2 Inv-loop μ-loop
-cast-if1 c = record { fits = omega (arith, marks (c .before)) }
+cast-if1 c = record { fits = omega (arith, low (c .before .before)) }
 
 mul-if1 : tie.Need-mul-if1 Inv-loop2 μ-loop2 Inv-loop μ-loop
-mul-if1 c = record { fits = omega (arith, marks (c .before)) }
-
-cast-if1-2 : tie.Need-cast-if1-2 Inv-loop2 μ-loop2 Inv-loop μ-loop
-cast-if1-2 c = record { fits = omega (arith, marks (c .before)) }
-
-add-if1 : tie.Need-add-if1 Inv-loop2 μ-loop2 Inv-loop μ-loop
-add-if1 c = record { fits = omega (arith, marks (c .before)) }
-
-mul-if1-2 : tie.Need-mul-if1-2 Inv-loop2 μ-loop2 Inv-loop μ-loop
-mul-if1-2 c = record { fits = omega (arith, marks (c .before)) }
+mul-if1 c = record { fits = omega (arith, low (c .before .before)) }
 
 array-read-if1 : tie.Need-array-read-if1 Inv-loop2 μ-loop2 Inv-loop μ-loop
-array-read-if1 c = omega (arith, marks (c .before))
+array-read-if1 c = omega (arith, low (c .before .before))
 
 loop2-less : tie.Need-loop2-less Inv-loop2 μ-loop2 Inv-loop μ-loop
-loop2-less c = omega (arith, (c .before .before .before .before) .loop2-test .taken)
+loop2-less c = omega (arith, (c .before .before .before) .loop2-test .taken)
 
 loop2-again : tie.Need-loop2-again Inv-loop2 μ-loop2 Inv-loop μ-loop
 loop2-again c =
-    let v = c .before .before .before .before in
+    let v = c .before .before .before in
     let b = v .before .loop2 .inv .2 in
     let skipped : heeds (now-station v) (seen v) ≡ false =
-    bar-skips (now-station v) (now-bars v) (seen v) b (high v) (carry-now v) (k v) (label (c .before .before)) (count v) (station-is v) (label-is (c .before .before)) (count-seen v) (c .if1 .taken) in
+    bar-skips (now-station v) (now-bars v) (seen v) b (high v) (carry-now v) (mark v) (count v) (mark-is v) (count-seen v) (c .if1 .taken) in
     (omega (arith, v .loop2-test .taken), next v _ _ _ (at-skip (so-far v) (seen v) _ _ _ (is-at v) skipped), b)
+
+cast-seen-label : tie.Need-cast-seen-label Inv-loop2 μ-loop2 Inv-loop μ-loop
+cast-seen-label c = record { fits = omega (arith, low (c .before .before .before)) }
 
 successor-requires : tie.Need-successor-requires Inv-loop2 μ-loop2 Inv-loop μ-loop
 successor-requires c κs = tt
@@ -458,20 +471,26 @@ above-requires c κs = tt
 mul-bars : tie.Need-mul-bars Inv-loop2 μ-loop2 Inv-loop μ-loop
 mul-bars c = record { fits = omega (arith, places c) }
 
+array-write-bars : tie.Need-array-write-bars Inv-loop2 μ-loop2 Inv-loop μ-loop
+array-write-bars c = omega (arith, places c)
+
+mul-bars-2 : tie.Need-mul-bars-2 Inv-loop2 μ-loop2 Inv-loop μ-loop
+mul-bars-2 c = record { fits = omega (arith, places c) }
+
 cast-bars : tie.Need-cast-bars Inv-loop2 μ-loop2 Inv-loop μ-loop
 cast-bars c = record { fits = omega (arith, places c) }
 
 add-bars : tie.Need-add-bars Inv-loop2 μ-loop2 Inv-loop μ-loop
 add-bars c = record { fits = omega (arith, places c) }
 
-mul-bars-2 : tie.Need-mul-bars-2 Inv-loop2 μ-loop2 Inv-loop μ-loop
-mul-bars-2 c = record { fits = omega (arith, places c) }
-
-array-write-bars : tie.Need-array-write-bars Inv-loop2 μ-loop2 Inv-loop μ-loop
-array-write-bars c = omega (arith, places c)
-
 mul-bars-3 : tie.Need-mul-bars-3 Inv-loop2 μ-loop2 Inv-loop μ-loop
 mul-bars-3 c = record { fits = omega (arith, places c) }
+
+array-write-bars-2 : tie.Need-array-write-bars-2 Inv-loop2 μ-loop2 Inv-loop μ-loop
+array-write-bars-2 c = omega (arith, places c)
+
+mul-bars-4 : tie.Need-mul-bars-4 Inv-loop2 μ-loop2 Inv-loop μ-loop
+mul-bars-4 c = record { fits = omega (arith, places c) }
 
 cast-bars-2 : tie.Need-cast-bars-2 Inv-loop2 μ-loop2 Inv-loop μ-loop
 cast-bars-2 c = record { fits = omega (arith, places c) }
@@ -479,29 +498,14 @@ cast-bars-2 c = record { fits = omega (arith, places c) }
 add-bars-2 : tie.Need-add-bars-2 Inv-loop2 μ-loop2 Inv-loop μ-loop
 add-bars-2 c = record { fits = omega (arith, places c) }
 
-mul-bars-4 : tie.Need-mul-bars-4 Inv-loop2 μ-loop2 Inv-loop μ-loop
-mul-bars-4 c = record { fits = omega (arith, places c) }
-
-array-write-bars-2 : tie.Need-array-write-bars-2 Inv-loop2 μ-loop2 Inv-loop μ-loop
-array-write-bars-2 c = omega (arith, places c)
-
 mul-bars-5 : tie.Need-mul-bars-5 Inv-loop2 μ-loop2 Inv-loop μ-loop
 mul-bars-5 c = record { fits = omega (arith, places c) }
-
-cast-bars-3 : tie.Need-cast-bars-3 Inv-loop2 μ-loop2 Inv-loop μ-loop
-cast-bars-3 c = record { fits = omega (arith, places c) }
-
-add-bars-3 : tie.Need-add-bars-3 Inv-loop2 μ-loop2 Inv-loop μ-loop
-add-bars-3 c = record { fits = omega (arith, places c) }
-
-mul-bars-6 : tie.Need-mul-bars-6 Inv-loop2 μ-loop2 Inv-loop μ-loop
-mul-bars-6 c = record { fits = omega (arith, places c) }
 
 array-write-bars-3 : tie.Need-array-write-bars-3 Inv-loop2 μ-loop2 Inv-loop μ-loop
 array-write-bars-3 c = omega (arith, places c)
 
 add-read-record : tie.Need-add-read-record Inv-loop2 μ-loop2 Inv-loop μ-loop
-add-read-record c = record { fits = omega (arith, room (c .before .before .before .before .before .before .before)) }
+add-read-record c = record { fits = omega (arith, room (c .before .before .before .before .before .before)) }
 
 sub-read-record : tie.Need-sub-read-record Inv-loop2 μ-loop2 Inv-loop μ-loop
 sub-read-record c = omega arith
@@ -510,13 +514,13 @@ part-read-record-start : tie.Need-part-read-record-start Inv-loop2 μ-loop2 Inv-
 part-read-record-start c = omega arith
 
 part-read-record-end : tie.Need-part-read-record-end Inv-loop2 μ-loop2 Inv-loop μ-loop
-part-read-record-end c = omega (arith, room (c .before .before .before .before .before .before .before))
+part-read-record-end c = omega (arith, room (c .before .before .before .before .before .before))
 
 read-record-requires : tie.Need-read-record-requires Inv-loop2 μ-loop2 Inv-loop μ-loop
-read-record-requires c κs = simp (length-take, length-drop) (omega (arith, room (c .before .before .before .before .before .before .before .before)))
+read-record-requires c κs = simp (length-take, length-drop) (omega (arith, room (c .before .before .before .before .before .before .before)))
 
 element-copy-out-label : tie.Need-element-copy-out-label Inv-loop2 μ-loop2 Inv-loop μ-loop
-element-copy-out-label c = sixteen (c .before .before .before .before .before .before .before .before .before)
+element-copy-out-label c = sixteen (c .before .before .before .before .before .before .before .before)
 
 successor-requires-3 : tie.Need-successor-requires-3 Inv-loop2 μ-loop2 Inv-loop μ-loop
 successor-requires-3 c κs = tt
@@ -525,40 +529,40 @@ takes-body-requires : tie.Need-takes-body-requires Inv-loop2 μ-loop2 Inv-loop �
 takes-body-requires c κs = tt
 
 mul-lane : tie.Need-mul-lane Inv-loop2 μ-loop2 Inv-loop μ-loop
-mul-lane c = record { fits = omega (arith, sixteen (c .before .before .before .before .before .before .before .before .before .before .before .before)) }
+mul-lane c = record { fits = omega (arith, sixteen (c .before .before .before .before .before .before .before .before .before .before .before)) }
 
 element-copy-out-lane : tie.Need-element-copy-out-lane Inv-loop2 μ-loop2 Inv-loop μ-loop
-element-copy-out-lane c = sixteen (c .before .before .before .before .before .before .before .before .before .before .before .before)
+element-copy-out-lane c = sixteen (c .before .before .before .before .before .before .before .before .before .before .before)
 
 overfills-requires : tie.Need-overfills-requires Inv-loop2 μ-loop2 Inv-loop μ-loop
 overfills-requires c κs = tt
 
 returns : tie.Need-returns Inv-loop2 μ-loop2 Inv-loop μ-loop
 returns c =
-    let v = c .before .before .before .before .before .before .before .before .before .before .before .before .before .before .before in
+    let v = c .before .before .before .before .before .before .before .before .before .before .before .before .before .before in
     let o = frame-turn v in
     let full : (hearRecord (so-far v) (seen v)) .overfull ≡ true =
     over (so-far v) (seen v) _ _ _ (is-at v) (heeded (c .before .before .before .before .before .before .before .before .before .before .before)) (sym (over-is (c .before)) ∙ c .if2 .taken) in
     let l = below v in
-    let e : (hearFrames (silent (s o)) (bytes o) (starts o) (o .before .before .before .before .before .before .args .count)) .overfull ≡ true =
-    overfull-all (silent (s o)) (bytes o) (starts o) (o .before .loop .f) (r v + 1) (o .before .before .before .before .before .before .args .count) (o .loop-test .taken) (omega arith)
+    let e : (hearFrames (silent (s o)) (bytes o) (starts o) (o .before .before .before .before .before .before .before .args .count)) .overfull ≡ true =
+    overfull-all (silent (s o)) (bytes o) (starts o) (o .before .loop .f) (r v + 1) (o .before .before .before .before .before .before .before .args .count) (o .loop-test .taken) (omega arith)
     (rw (heard-more (before-it o) (bytes o) (start o) (r v)) full) in
     record { overfull = sym e; station = λ z. absurd (true≢false z); len = λ z. absurd (true≢false z); takings = λ z. absurd (true≢false z); few = λ z. absurd (true≢false z) }
 
-add-label-at-2 : tie.Need-add-label-at-2 Inv-loop2 μ-loop2 Inv-loop μ-loop
-add-label-at-2 c = record { fits = omega (arith, room (c .before .before .before .before .before .before .before .before .before .before .before .before .before .before .before)) }
+add-label-at : tie.Need-add-label-at Inv-loop2 μ-loop2 Inv-loop μ-loop
+add-label-at c = record { fits = omega (arith, room (c .before .before .before .before .before .before .before .before .before .before .before .before .before .before)) }
 
-label-at-requires-2 : tie.Need-label-at-requires-2 Inv-loop2 μ-loop2 Inv-loop μ-loop
-label-at-requires-2 c κs = (omega (arith, room (c .before .before .before .before .before .before .before .before .before .before .before .before .before .before .before)), numbers (c .before .before .before .before .before .before .before .before .before .before .before .before .before .before .before) .1)
+label-at-requires : tie.Need-label-at-requires Inv-loop2 μ-loop2 Inv-loop μ-loop
+label-at-requires c κs = (omega (arith, room (c .before .before .before .before .before .before .before .before .before .before .before .before .before .before)), numbers (c .before .before .before .before .before .before .before .before .before .before .before .before .before .before) .1)
 
 element-copy-out-station : tie.Need-element-copy-out-station Inv-loop2 μ-loop2 Inv-loop μ-loop
-element-copy-out-station c = sixteen (c .before .before .before .before .before .before .before .before .before .before .before .before .before .before .before .before)
+element-copy-out-station c = sixteen (c .before .before .before .before .before .before .before .before .before .before .before .before .before .before .before)
 
 element-copy-out-station-2 : tie.Need-element-copy-out-station-2 Inv-loop2 μ-loop2 Inv-loop μ-loop
-element-copy-out-station-2 c = numbers (c .before .before .before .before .before .before .before .before .before .before .before .before .before .before .before .before .before) .1
+element-copy-out-station-2 c = numbers (c .before .before .before .before .before .before .before .before .before .before .before .before .before .before .before .before) .1
 
 element-write-station : tie.Need-element-write-station Inv-loop2 μ-loop2 Inv-loop μ-loop
-element-write-station c = sixteen (c .before .before .before .before .before .before .before .before .before .before .before .before .before .before .before .before .before .before)
+element-write-station c = sixteen (c .before .before .before .before .before .before .before .before .before .before .before .before .before .before .before .before .before)
 
 count-after-requires : tie.Need-count-after-requires Inv-loop2 μ-loop2 Inv-loop μ-loop
 count-after-requires c κs = tt
@@ -567,37 +571,37 @@ label-after-requires : tie.Need-label-after-requires Inv-loop2 μ-loop2 Inv-loop
 label-after-requires c κs = tt
 
 element-write-station-2 : tie.Need-element-write-station-2 Inv-loop2 μ-loop2 Inv-loop μ-loop
-element-write-station-2 c = sixteen (c .before .before .before .before .before .before .before .before .before .before .before .before .before .before .before .before .before .before .before .before)
+element-write-station-2 c = sixteen (c .before .before .before .before .before .before .before .before .before .before .before .before .before .before .before .before .before .before .before)
 
 element-write-station-3 : tie.Need-element-write-station-3 Inv-loop2 μ-loop2 Inv-loop μ-loop
-element-write-station-3 c = sixteen (c .before .before .before .before .before .before .before .before .before .before .before .before .before .before .before .before .before .before .before .before)
+element-write-station-3 c = sixteen (c .before .before .before .before .before .before .before .before .before .before .before .before .before .before .before .before .before .before .before)
 
 mul-old : tie.Need-mul-old Inv-loop2 μ-loop2 Inv-loop μ-loop
-mul-old c = record { fits = omega (arith, sixteen (c .before .before .before .before .before .before .before .before .before .before .before .before .before .before .before .before .before .before .before .before)) }
+mul-old c = record { fits = omega (arith, sixteen (c .before .before .before .before .before .before .before .before .before .before .before .before .before .before .before .before .before .before .before)) }
 
 element-copy-out-old : tie.Need-element-copy-out-old Inv-loop2 μ-loop2 Inv-loop μ-loop
-element-copy-out-old c = sixteen (c .before .before .before .before .before .before .before .before .before .before .before .before .before .before .before .before .before .before .before .before)
+element-copy-out-old c = sixteen (c .before .before .before .before .before .before .before .before .before .before .before .before .before .before .before .before .before .before .before)
 
 replaced-requires : tie.Need-replaced-requires Inv-loop2 μ-loop2 Inv-loop μ-loop
-replaced-requires c κs = numbers (c .before .before .before .before .before .before .before .before .before .before .before .before .before .before .before .before .before .before .before .before .before) .2
+replaced-requires c κs = numbers (c .before .before .before .before .before .before .before .before .before .before .before .before .before .before .before .before .before .before .before .before) .2
 
-mul-t44 : tie.Need-mul-t44 Inv-loop2 μ-loop2 Inv-loop μ-loop
-mul-t44 c = record { fits = omega (arith, sixteen (c .before .before .before .before .before .before .before .before .before .before .before .before .before .before .before .before .before .before .before .before .before .before)) }
+mul-t57 : tie.Need-mul-t57 Inv-loop2 μ-loop2 Inv-loop μ-loop
+mul-t57 c = record { fits = omega (arith, sixteen (c .before .before .before .before .before .before .before .before .before .before .before .before .before .before .before .before .before .before .before .before .before)) }
 
 element-set-from-station : tie.Need-element-set-from-station Inv-loop2 μ-loop2 Inv-loop μ-loop
-element-set-from-station c = sixteen (c .before .before .before .before .before .before .before .before .before .before .before .before .before .before .before .before .before .before .before .before .before .before)
+element-set-from-station c = sixteen (c .before .before .before .before .before .before .before .before .before .before .before .before .before .before .before .before .before .before .before .before .before)
 
 lane-after-requires : tie.Need-lane-after-requires Inv-loop2 μ-loop2 Inv-loop μ-loop
 lane-after-requires c κs = tt
 
-mul-t50 : tie.Need-mul-t50 Inv-loop2 μ-loop2 Inv-loop μ-loop
-mul-t50 c = record { fits = omega (arith, sixteen (c .before .before .before .before .before .before .before .before .before .before .before .before .before .before .before .before .before .before .before .before .before .before .before)) }
+mul-t45 : tie.Need-mul-t45 Inv-loop2 μ-loop2 Inv-loop μ-loop
+mul-t45 c = record { fits = omega (arith, sixteen (c .before .before .before .before .before .before .before .before .before .before .before .before .before .before .before .before .before .before .before .before .before .before)) }
 
 element-set-from-station-2 : tie.Need-element-set-from-station-2 Inv-loop2 μ-loop2 Inv-loop μ-loop
-element-set-from-station-2 c = sixteen (c .before .before .before .before .before .before .before .before .before .before .before .before .before .before .before .before .before .before .before .before .before .before .before)
+element-set-from-station-2 c = sixteen (c .before .before .before .before .before .before .before .before .before .before .before .before .before .before .before .before .before .before .before .before .before .before)
 
 loop2-less-2 : tie.Need-loop2-less-2 Inv-loop2 μ-loop2 Inv-loop μ-loop
-loop2-less-2 c = omega (arith, (c .before .before .before .before .before .before .before .before .before .before .before .before .before .before .before .before .before .before .before .before .before .before .before .before) .loop2-test .taken)
+loop2-less-2 c = omega (arith, (c .before .before .before .before .before .before .before .before .before .before .before .before .before .before .before .before .before .before .before .before .before .before .before) .loop2-test .taken)
 
 loop2-again-2 : tie.Need-loop2-again-2 Inv-loop2 μ-loop2 Inv-loop μ-loop
 loop2-again-2 c =
@@ -613,10 +617,10 @@ array-set-from-takings : tie.Need-array-set-from-takings Inv-loop2 μ-loop2 Inv-
 array-set-from-takings c = left c
 
 add-len : tie.Need-add-len Inv-loop2 μ-loop2 Inv-loop μ-loop
-add-len c = record { fits = omega (arith, few (c .before .before .before .before .before .before .before .before .before .before .before .before .before .before .before .before .before .before .before .before .before .before .before .before)) }
+add-len c = record { fits = omega (arith, few (c .before .before .before .before .before .before .before .before .before .before .before .before .before .before .before .before .before .before .before .before .before .before .before)) }
 
 loop2-less-3 : tie.Need-loop2-less-3 Inv-loop2 μ-loop2 Inv-loop μ-loop
-loop2-less-3 c = omega (arith, (c .before .before .before .before .before .before .before .before .before .before .before .before .before .before .before .before .before .before .before .before .before .before .before .before) .loop2-test .taken)
+loop2-less-3 c = omega (arith, (c .before .before .before .before .before .before .before .before .before .before .before .before .before .before .before .before .before .before .before .before .before .before .before) .loop2-test .taken)
 
 loop2-again-3 : tie.Need-loop2-again-3 Inv-loop2 μ-loop2 Inv-loop μ-loop
 loop2-again-3 c =
@@ -653,7 +657,7 @@ loop-again c =
 returns-2 : tie.Need-returns-2 Inv-loop2 μ-loop2 Inv-loop μ-loop
 returns-2 c =
     let a = c .before .loop .inv .1 in
-    let e : c .before .loop .f ≡ c .before .before .before .before .before .before .args .count = omega arith in
+    let e : c .before .loop .f ≡ c .before .before .before .before .before .before .before .args .count = omega arith in
     let b = rw e at a in
     record { overfull = sym (b .free); station = λ z. b .station; len = λ z. b .len; takings = λ z. b .takings; few = λ z. omega (arith, a .len, takings-bounded _ _ (c .before .loop .inv .2) (a .free)) }
 
@@ -676,38 +680,35 @@ hear-all-spec =
     add-at
     mul-at
     add-at-2
-    add-r
-    shared-slice-read-k
-    cast-k
-    add-label-at
-    label-at-requires
+    mul-mark
+    add-mark
+    shared-slice-read-mark
+    cast-mark
+    mul-seen-count
     add-seen-count
+    add-seen-count-2
     shared-slice-read-seen-count
+    add-r
     cast-if1
     mul-if1
-    cast-if1-2
-    add-if1
-    mul-if1-2
     array-read-if1
     loop2-less
     loop2-again
+    cast-seen-label
     successor-requires
     successor-requires-2
     above-requires
     mul-bars
+    array-write-bars
+    mul-bars-2
     cast-bars
     add-bars
-    mul-bars-2
-    array-write-bars
     mul-bars-3
+    array-write-bars-2
+    mul-bars-4
     cast-bars-2
     add-bars-2
-    mul-bars-4
-    array-write-bars-2
     mul-bars-5
-    cast-bars-3
-    add-bars-3
-    mul-bars-6
     array-write-bars-3
     add-read-record
     sub-read-record
@@ -721,8 +722,8 @@ hear-all-spec =
     element-copy-out-lane
     overfills-requires
     returns
-    add-label-at-2
-    label-at-requires-2
+    add-label-at
+    label-at-requires
     element-copy-out-station
     element-copy-out-station-2
     element-write-station
@@ -733,10 +734,10 @@ hear-all-spec =
     mul-old
     element-copy-out-old
     replaced-requires
-    mul-t44
+    mul-t57
     element-set-from-station
     lane-after-requires
-    mul-t50
+    mul-t45
     element-set-from-station-2
     loop2-less-2
     loop2-again-2
