@@ -91,20 +91,20 @@ module _ (n : ℕ) (low : 1 ≤ n) (high : n ≤ 16) (calls : List Call) (free :
   R = runOf n low high calls
 
   -- u rounds are done, and these calls are still to come
-  record Tied (u : ℕ) (H : History) (todo : List Call) : Type 0 where
+  record Tied (u : ℕ) (H : History) (ahead : List Call) : Type 0 where
     rounds : H .rounds ≡ roundsBy R u
     log : H .log ≡ logBy R u
-    group : afterPosts (H .group) todo ≡ R .ready u
-    rest : afterNext todo ≡ callsAfter calls (suc u)
-    masks : nextMasks todo ≡ R .masks (suc u)
+    group : afterPosts (H .group) ahead ≡ R .ready u
+    rest : afterNext ahead ≡ callsAfter calls (suc u)
+    masks : nextMasks ahead ≡ R .masks (suc u)
 
   tied-first : Tied 0 (begun n) calls
   unfolding begun roundsBy logBy groupAfter callsAfter masksOf
   tied-first = record { rounds = refl; log = refl; group = refl; rest = refl; masks = refl }
 
-  tied-post : (u : ℕ) (H : History) (k : ℕ) (b : Body) (todo : List Call) → Tied u H (post k b ∷ todo) → Tied u (next H (post k b)) todo
+  tied-post : (u : ℕ) (H : History) (k : ℕ) (b : Body) (ahead : List Call) → Tied u H (post k b ∷ ahead) → Tied u (next H (post k b)) ahead
   unfolding next afterPosts afterNext nextMasks
-  tied-post u H k b todo t = record { rounds = t .rounds; log = t .log; group = t .group; rest = t .rest; masks = t .masks }
+  tied-post u H k b ahead t = record { rounds = t .rounds; log = t .log; group = t .group; rest = t .rest; masks = t .masks }
 
   -- the next calls and masks of the run
   calls-step : (u : ℕ) → callsAfter calls (suc (suc u)) ≡ afterNext (callsAfter calls (suc u))
@@ -115,10 +115,10 @@ module _ (n : ℕ) (low : 1 ≤ n) (high : n ≤ 16) (calls : List Call) (free :
   unfolding masksOf
   masks-step u = refl
 
-  round-parts : (g : List Station) (masks : List ℕ) (todo : List Call)
-      → (afterPosts g (round masks ∷ todo) ≡ g) × (afterNext (round masks ∷ todo) ≡ todo) × (nextMasks (round masks ∷ todo) ≡ masks)
+  round-parts : (g : List Station) (masks : List ℕ) (ahead : List Call)
+      → (afterPosts g (round masks ∷ ahead) ≡ g) × (afterNext (round masks ∷ ahead) ≡ ahead) × (nextMasks (round masks ∷ ahead) ≡ masks)
   unfolding afterPosts afterNext nextMasks
-  round-parts g masks todo = (refl, refl, refl)
+  round-parts g masks ahead = (refl, refl, refl)
 
   round-next : (H : History) (masks : List ℕ)
       → next H (round masks)
@@ -143,12 +143,12 @@ module _ (n : ℕ) (low : 1 ≤ n) (high : n ≤ 16) (calls : List Call) (free :
   unfolding roundIn
   roundIn-group u = refl
 
-  tied-round : (u : ℕ) (H : History) (masks : List ℕ) (todo : List Call) → Tied u H (round masks ∷ todo) → Tied (suc u) (next H (round masks)) todo
-  tied-round u H masks todo t =
-      let parts = round-parts (H .group) masks todo in
+  tied-round : (u : ℕ) (H : History) (masks : List ℕ) (ahead : List Call) → Tied u H (round masks ∷ ahead) → Tied (suc u) (next H (round masks)) ahead
+  tied-round u H masks ahead t =
+      let parts = round-parts (H .group) masks ahead in
       let g : H .group ≡ R .ready u = sym (parts .0) ∙ t .group in
       let m : masks ≡ R .masks (suc u) = sym (parts .2) ∙ t .masks in
-      let c : todo ≡ callsAfter calls (suc u) = sym (parts .1) ∙ t .rest in
+      let c : ahead ≡ callsAfter calls (suc u) = sym (parts .1) ∙ t .rest in
       let e : roundCall (H .group) masks ≡ roundIn R u = ap₂ roundCall g m ∙ round-call R u (free u) in
       rw (round-next H masks)
       (record {
@@ -159,11 +159,11 @@ module _ (n : ℕ) (low : 1 ≤ n) (high : n ≤ 16) (calls : List Call) (free :
         masks = ap nextMasks c ∙ sym (masks-step u);
       })
 
-  tied-last : (u : ℕ) (H : History) (todo : List Call) → Tied u H todo → (v : ℕ) × Tied v (continued H todo) []
+  tied-last : (u : ℕ) (H : History) (ahead : List Call) → Tied u H ahead → (v : ℕ) × Tied v (continued H ahead) []
   unfolding continued
   tied-last u H [] t = (u, t)
-  tied-last u H (post k b ∷ todo) t = tied-last u (next H (post k b)) todo (tied-post u H k b todo t)
-  tied-last u H (round masks ∷ todo) t = tied-last (suc u) (next H (round masks)) todo (tied-round u H masks todo t)
+  tied-last u H (post k b ∷ ahead) t = tied-last u (next H (post k b)) ahead (tied-post u H k b ahead t)
+  tied-last u H (round masks ∷ ahead) t = tied-last (suc u) (next H (round masks)) ahead (tied-round u H masks ahead t)
 
   abbrev H : History
   H = historyOf n calls
