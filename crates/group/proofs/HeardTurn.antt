@@ -13,7 +13,7 @@ use Rattle.station_rules.specs.Limits.{stationInside}
 use Rattle.station_rules.specs.Hearing.{Hearing, silent}
 use Rattle.station_rules.specs.Frames.{hearFrames, FrameAt, HearsAll}
 use Rattle.station_rules.specs.Turn.{afterTurn, turnReport}
-use Rattle.station_hearing.specs.Marks.{MarksAt}
+use Rattle.frame_marks.specs.Marks.{MarksAt}
 use Rattle.station_rules.specs.Calls.{turnDone}
 use Rattle.station_rules.proofs.StationLimits.{inside-make}
 use Rattle.group_rules.specs.State.{stationAt, sizeOf}

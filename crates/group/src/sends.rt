@@ -63,7 +63,7 @@ pub fn mark_frames(marks: &mut [u8], bytes: &[u8], n: usize)
 {
     let mut k: usize = 0;
     while k < n {
-        station_hearing::put_marks(marks, bytes, FRAME_ROOM * k);
+        frame_marks::put_marks(marks, bytes, FRAME_ROOM * k);
         k += 1;
     }
 }

@@ -124,7 +124,7 @@ pub fn hear(s: Station, bytes: &[u8]) -> Heard
     }
     let starts = [0usize; 16];
     let mut marks = [0u8; 32];
-    station_hearing::put_marks(&mut marks, bytes, 0);
+    frame_marks::put_marks(&mut marks, bytes, 0);
     let heard = station_hearing::hear_all(s, bytes, &marks, starts, 1);
     if heard.overfull {
         return Heard {
@@ -135,7 +135,7 @@ pub fn hear(s: Station, bytes: &[u8]) -> Heard
     }
     let station = heard.station;
     let takings = heard.takings;
-    let taken = station_hearing::sources(takings, heard.takings_len);
+    let taken = heard_records::sources(takings, heard.takings_len);
     Heard {
         refusal: DONE,
         station: station,

@@ -1,5 +1,1 @@
-pub mod BarLaws
-pub mod HearBytes
 pub mod HearSteps
-pub mod MarkLaws
-pub mod SourceSteps

@@ -13,8 +13,8 @@ use Rattle.station_rules.specs.Frames.{hearFrames, FrameAt}
 use Rattle.station_rules.specs.Calls.{sourcesOf}
 use Rattle.frame_rules.specs.Frame.{frameRefusal}
 use Rattle.frame_rules.proofs.Check.{accepted-frame, shape}
-use Rattle.station_hearing.specs.Marks.{MarksAt}
-use Rattle.station_hearing.proofs.MarkLaws.{marked-at}
+use Rattle.frame_marks.specs.Marks.{MarksAt}
+use Rattle.frame_marks.proofs.MarkLaws.{marked-at}
 use Rattle.station_rules.proofs.StationLimits.{inside-open}
 use Rattle.station_rules.proofs.CallSteps.{heardFrame, hear-outside, hear-refused, hear-full, hear-done, one-frame, frame-at, takings-are}
 use borrow.Author.Needs.{needs}
@@ -78,7 +78,8 @@ hear-all-requires c κs =
     let e = accepted d in
     let one : (f : ℕ) → f < 1 → FrameAt (a .s .n) (a .bytes .now) (getD (replicate 16 0) f 0) =
     λ f l. let z : f ≡ 0 = omega arith in rw z (frame-at (a .bytes .now) (a .s .n) (a .s .own) e) in
-    let marks = marked-at (a .bytes .now) (replicate 32 0) _ 0 (omega (arith, few (a .bytes .now) (a .s .n) (a .s .own) e)) (c .before .before .put-marks .ensures) in
+    let most = few (a .bytes .now) (a .s .n) (a .s .own) e in
+    let marks = marked-at (a .bytes .now) (replicate 32 0) _ 0 most (omega (arith, most)) (c .before .before .put-marks .ensures) in
     ((omega arith, within (d .before .before)), (one, one-marked _ _ marks))
 
 returns-3 : tie.Need-returns-3

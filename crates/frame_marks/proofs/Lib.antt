@@ -1,0 +1,2 @@
+pub mod FrameBytes
+pub mod MarkLaws

@@ -1,0 +1,22 @@
+// Marks: a frame's records in short, two bytes a record.
+
+ghost use lib.ListN.{length};
+ghost use Rattle.frame_marks.specs.Marks.{Marked, Markable, sizeAt};
+
+// The marks and counts of the records of the frame that begins at `start`, from the same place on.
+pub fn put_marks(marks: &mut [u8], bytes: &[u8], start: usize)
+    requires { ⌜ Markable (now bytes) (now marks) start ⌝ }
+    ensures { λ _.
+        ⌜ Marked (now (bytes .entry)) (now (marks .entry)) (now (marks .exit)) start (sizeAt (now (bytes .entry)) start) ⌝ }
+{
+    let records = bytes[start + 2] as usize;
+    let mut r: usize = 0;
+    while r < records {
+        let at = start + 4 + 16 * r;
+        let k = bytes[at];
+        let label = records::label_at(bytes, at + 12, k as usize);
+        marks[start + 2 * r] = 4 * k + label;
+        marks[start + 2 * r + 1] = bytes[at + 1];
+        r += 1;
+    }
+}

@@ -1,0 +1,146 @@
+-- `heard_records::heard` meets its contract: each entry is what its function makes of the record that was read.
+use Prim.Native.Nat.{ℕ, _<_}
+use mathlib.Core.Path.{_≡_, ap, subst, sym, _∙_}
+use mathlib.Core.Bool.{cond, not, _&&_, _||_}
+use mathlib.Core.List.{List}
+use lib.ListN.{take, drop}
+use lib.Dec.{leb, eqb}
+use borrow.Author.Needs.{needs}
+use Rattle.kinds.specs.Body.{kindOf}
+use Rattle.labels.specs.Label.{successor}
+use Rattle.frame_rules.specs.declared.Record.{Record}
+use Rattle.frame_rules.specs.Record.{recordOf}
+use Rattle.lanes.specs.Lane.{pushed}
+use Rattle.station_rules.specs.State.{recordLabel, ownLabel}
+use Rattle.station_rules.specs.Hearing.{replaced, raised}
+use Rattle.frame_marks.proofs.FrameBytes.{part-in, station-in, label-in}
+use Rattle.heard_records.specs.Effects.{advancesAt, takesAt}
+use Rattle.heard_records.proofs.heard.Statement.{statement}
+use Rattle.heard_records.proofs.heard.Tie as tie
+
+-- the record
+module _ (c : tie.After-read-record) where
+  abbrev bytes : List ℕ
+  bytes = c .before .before .before .args .bytes .now
+
+  abbrev at : ℕ
+  at = c .before .before .before .args .at
+
+  abbrev seen : Record
+  seen = recordOf (take 16 (drop at bytes))
+
+  read-is : c .read-record .result ≡ seen
+  read-is = c .read-record .ensures ∙ ap recordOf (part-in bytes at)
+
+  low : c .read-record .result .station < 16
+  low =
+      subst (λ (k : ℕ). k < 16) (station-in bytes at ∙ ap (λ (x : Record). x .station) (sym read-is)) (c .before .before .before .pre .3)
+
+-- what it shows
+module _ (c : tie.After-takes-body) where
+  abbrev read : tie.After-read-record
+  read = c .before .before .before .before
+
+  abbrev known : ℕ
+  known = read .before .before .before .args .label
+
+  own-label : c .before .before .before .label-at .result ≡ ownLabel (seen read)
+  own-label =
+      c .before .before .before .label-at .ensures
+      ∙ label-in (bytes read) (at read) _
+      ∙ ap (λ (x : Record). recordLabel (seen read) (x .station)) (read-is read)
+
+  advances-is : eqb (c .before .before .before .label-at .result) (c .before .successor .result) ≡ advancesAt known (seen read)
+  advances-is = let l = own-label in let n = c .before .successor .ensures in λ i. eqb (l i) (n i)
+
+  takes-is : c .takes-body .result ≡ takesAt known (seen read)
+  takes-is = let a = advances-is in let x = read-is read in c .takes-body .ensures ∙ (λ i. a i && not (eqb (kindOf ((x i) .body)) 0))
+
+add-read-record : tie.Need-add-read-record
+add-read-record c = search needs
+
+sub-read-record : tie.Need-sub-read-record
+sub-read-record c = search needs
+
+part-read-record-start : tie.Need-part-read-record-start
+part-read-record-start c = search needs
+
+part-read-record-end : tie.Need-part-read-record-end
+part-read-record-end c = search needs
+
+read-record-requires : tie.Need-read-record-requires
+read-record-requires c κs = search needs
+
+add-label-at : tie.Need-add-label-at
+add-label-at c = search needs
+
+label-at-requires : tie.Need-label-at-requires
+label-at-requires c κs = (search needs, low c)
+
+add-label-at-2 : tie.Need-add-label-at-2
+add-label-at-2 c = search needs
+
+label-at-requires-2 : tie.Need-label-at-requires-2
+label-at-requires-2 c κs = search needs
+
+successor-requires : tie.Need-successor-requires
+successor-requires c κs = tt
+
+takes-body-requires : tie.Need-takes-body-requires
+takes-body-requires c κs = tt
+
+overfills-requires : tie.Need-overfills-requires
+overfills-requires c κs = tt
+
+count-after-requires : tie.Need-count-after-requires
+count-after-requires c κs = tt
+
+label-after-requires : tie.Need-label-after-requires
+label-after-requires c κs = tt
+
+replaced-requires : tie.Need-replaced-requires
+replaced-requires c κs = search needs
+
+lane-after-requires : tie.Need-lane-after-requires
+lane-after-requires c κs = tt
+
+returns : tie.Need-returns
+returns c =
+    let w = c .before .before .before .before .before in
+    let g = read w .before .before .before .args in
+    let a = advances-is w in
+    let t = takes-is w in
+    let x = read-is (read w) in
+    let o = w .before .before .label-at2 .ensures ∙ label-in (bytes (read w)) (at (read w)) (g .own) in
+    record {
+      overfull = c .before .before .before .before .overfills .ensures ∙ (λ i. t i && leb 2 (g .lane .len));
+      takes = t;
+      body = ap (λ (r : Record). r .body) x;
+      acked = λ i. g .acked || eqb (o i) (g .own-label);
+      count = c .before .before .before .count-after .ensures ∙ (λ i. cond (a i) (raised (g .count)) (g .count));
+      label = c .before .before .label-after .ensures ∙ (λ i. cond (a i) (successor (g .label)) (g .label));
+      entry = c .before .replaced .ensures ∙ (λ i. replaced (g .n) (g .old) (x i));
+      lane = c .lane-after .ensures ∙ (λ i. cond (t i) (pushed (g .lane) ((x i) .body)) (g .lane));
+    }
+
+pub heard-spec : {M : Type 1} → statement M
+heard-spec =
+    tie.close
+    (tie.spec
+    add-read-record
+    sub-read-record
+    part-read-record-start
+    part-read-record-end
+    read-record-requires
+    add-label-at
+    label-at-requires
+    add-label-at-2
+    label-at-requires-2
+    successor-requires
+    takes-body-requires
+    overfills-requires
+    count-after-requires
+    label-after-requires
+    replaced-requires
+    lane-after-requires
+    returns)

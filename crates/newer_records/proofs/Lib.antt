@@ -1,0 +1,2 @@
+pub mod BarLaws
+pub mod SieveLaws

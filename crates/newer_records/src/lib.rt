@@ -1,0 +1,116 @@
+// Which of the records that a station hears are newer, decided by the marks beside the frames.
+
+ghost use mathlib.Core.Path.{_≡_};
+ghost use mathlib.Core.Bool.{true};
+ghost use Prim.Native.Nat.{ℕ, _+_, _*_, _/_, _%_, _≤_, _<_};
+ghost use lib.ListN.{getD, length};
+ghost use Rattle.station_rules.specs.Limits.{stationInside};
+ghost use Rattle.station_rules.specs.Frames.{FrameAt};
+ghost use Rattle.frame_marks.specs.Marks.{MarksAt};
+ghost use Rattle.newer_records.specs.Bars.{Bars, barred};
+ghost use Rattle.newer_records.specs.Sieve.{Siftable, Sifts};
+ghost use Rattle.newer_records.specs.Newer.{NewerAt};
+use station_rules::Station;
+
+// The places of newer records, in the order heard: 16 × the number of the frame + that of the record in it.
+pub struct Found {
+    pub len: usize,
+    pub places: [u8; 256],
+}
+
+// After a record of station k the bars let its next label pass, and this one with a higher count.
+fn raise(bars: &mut [u16], k: usize, label: u8, count: u8)
+    requires { ⌜ (length (now bars) ≡ 64) × (k < 16) × (label ≤ 2) ⌝ }
+    ensures { λ _. ⌜ now (bars .exit) ≡ barred (now (bars .entry)) k label count ⌝ }
+{
+    let next = labels::successor(label);
+    let past = labels::successor(next);
+    bars[4 * k + (label as usize)] = (count as u16) + 1;
+    bars[4 * k + (next as usize)] = 0;
+    bars[4 * k + (past as usize)] = 256;
+}
+
+// For each station and each label, at place 4 × station + label, the least count with which a seen record is heeded.
+fn bars_of(s: Station) -> [u16; 64]
+    requires { ⌜ stationInside s ≡ true ⌝ }
+    ensures { λ r. ⌜ Bars (s .n) (s .own) (s .held) (s .table) r ⌝ }
+{
+    let n = s.n;
+    let own = s.own;
+    let mut bars = [0u16; 64];
+    let mut k: usize = 0;
+    while k < n {
+        let i = k;
+        k += 1;
+        if !s.held[i] {
+            continue;
+        }
+        let old = s.table[i];
+        raise(&mut bars, i, old.labels[i], old.count);
+    }
+    bars[4 * own] = 256;
+    bars[4 * own + 1] = 256;
+    bars[4 * own + 2] = 256;
+    bars
+}
+
+// Goes through the marks of frame f, adds the places of the newer records to those before, and answers how many there are.
+fn sift(
+    bars: &mut [u16],
+    places: &mut [u8],
+    before: usize,
+    marks: &[u8],
+    start: usize,
+    records: usize,
+    f: usize,
+) -> usize
+    requires { ⌜ Siftable (now bars) (now places) before (now marks) start records f ⌝ }
+    ensures { λ r.
+        ⌜ Sifts (now (bars .entry)) (now (places .entry)) before (now (marks .entry)) start records f (now (bars .exit)) (now (places .exit)) r ⌝ }
+{
+    let mut len = before;
+    let mut r: usize = 0;
+    while r < records {
+        let i = r;
+        r += 1;
+        let mark = marks[start + 2 * i] as usize;
+        let count = marks[start + 2 * i + 1];
+        if (count as u16) < bars[mark] {
+            continue;
+        }
+        raise(bars, mark / 4, (mark % 4) as u8, count);
+        places[len] = (16 * f + i) as u8;
+        len += 1;
+    }
+    len
+}
+
+// The places of the records that are newer when they are heard, of the frames that begin at the first `count` of the starts.
+pub fn find_newer(
+    s: Station,
+    bytes: &[u8],
+    marks: &[u8],
+    starts: [usize; 16],
+    count: usize,
+) -> Found
+    requires { ⌜ (count ≤ 16) × (stationInside s ≡ true) ⌝ ∗
+        ⌜ ((f : ℕ) → f < count → FrameAt (s .n) (now bytes) (getD starts f 0)) ⌝ ∗
+        ⌜ ((f : ℕ) → f < count → MarksAt (now bytes) (now marks) (getD starts f 0)) ⌝ }
+    ensures { λ r. ⌜ NewerAt s (now (bytes .entry)) starts count (r .places) (r .len) ⌝ }
+{
+    let mut bars = bars_of(s);
+    let mut places = [0u8; 256];
+    let mut len: usize = 0;
+    let mut f: usize = 0;
+    while f < count {
+        let start = starts[f];
+        let records = bytes[start + 2] as usize;
+        let more = sift(&mut bars, &mut places, len, marks, start, records, f);
+        len = more;
+        f += 1;
+    }
+    Found {
+        len: len,
+        places: places,
+    }
+}
