@@ -1,0 +1,3 @@
+pub mod GroupLengths
+pub mod HeardTurn
+pub mod RoundSteps
