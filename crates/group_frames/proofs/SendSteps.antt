@@ -1,13 +1,13 @@
 -- The answers of sending one station's frame, each with the tests on its way decided; and what the round answers of all stations below a place.
-use Prim.Native.Nat.{ℕ, _+_, _≤_, _<_}
+use Prim.Native.Nat.{ℕ, _+_, _*_, _≤_, _<_}
 use native.Mathlib.Numerals.{add-one}
 use native.Mathlib.Omega.{arith}
 use mathlib.Core.Bool.{Bool, true, false, cond, not, _&&_}
 use mathlib.Core.List.{List, _++_}
 use mathlib.Core.Path.{_≡_, refl, sym, ap, subst, _∙_}
 use lib.Dec.{eqb, ltb}
-use lib.ListN.{drop, length, length-append, length-drop}
-use borrow.Author.Tests.{eqb-true, eqb-false, ltb-false}
+use lib.ListN.{take, drop, length, length-append, length-drop, take-append-drop}
+use borrow.Author.Tests.{ne-eqb, eqb-true, eqb-false, ltb-false}
 use Rattle.kinds.specs.Refusals.{refuse}
 use Rattle.frame_rules.specs.Record.{countInside}
 use Rattle.frame_rules.specs.Frame.{frameBytes}
@@ -21,7 +21,7 @@ use Rattle.station_rules.specs.Calls.{ownCountInside, frameOf}
 use Rattle.station_rules.proofs.StationLimits.{Inside, inside-open}
 use Rattle.station_rules.proofs.WriteSteps.{writable, frame-is}
 use Rattle.group_rules.specs.State.{stationAt, sizeOf, memberInside}
-use Rattle.group_frames.specs.Frames.{sendRefusal, partAfter, worse, judgedBelow}
+use Rattle.group_frames.specs.Frames.{sendRefusal, partAfter, bytesAfter, worse, judgedBelow}
 
 -- s is a station of a group of n, with number k, inside its limits
 abbrev pub member : ℕ → ℕ → Station → Bool
@@ -59,27 +59,52 @@ module _ (n k : ℕ) (s : Station) where
     frame : frameBytes n k (tableRecords n (s .held) (s .table)) ≡ frameOf s
     frame = sym (λ i. frameBytes (size i) (own i) (tableRecords (size i) (s .held) (s .table))) ∙ frame-is s
 
+  pub part-frame : (part : List ℕ) → sendRefusal n k s ≡ 0 → partAfter n k s part ≡ bufferWith (frameOf s) part
+  unfolding partAfter
+  part-frame part e = rw e
+
+  part-kept : (part : List ℕ) → (sendRefusal n k s ≡ 0 → ⊥) → partAfter n k s part ≡ part
+  unfolding partAfter
+  part-kept part d = rw (ne-eqb (sendRefusal n k s) 0 d)
+
   module _ (b : List ℕ) where
+    abbrev rest : List ℕ
+    rest = drop (260 * k) b
+
     abbrev Sent : ℕ → List ℕ → Type 0
-    Sent r after = (r ≡ sendRefusal n k s) × (after ≡ partAfter n k s b)
+    Sent r after = (r ≡ sendRefusal n k s) × (after ≡ bytesAfter n k s b)
+
+    refused : (r : ℕ) → (r ≡ 0 → ⊥) → r ≡ sendRefusal n k s → Sent r b
+    refused r d e = (
+      e,
+      sym
+          (ap (λ (x : List ℕ). take (260 * k) b ++ (x ++ drop 260 rest)) (part-kept (take 260 rest) (λ z. d (e ∙ z)))
+          ∙ ap (λ (x : List ℕ). take (260 * k) b ++ x) (take-append-drop 260 rest)
+          ∙ take-append-drop (260 * k) b),
+    )
 
     pub send-outside : member n k s ≡ false → Sent 2 b
-    unfolding sendRefusal partAfter
-    send-outside m = (rw m, rw m)
+    unfolding sendRefusal
+    send-outside m = refused 2 (λ e. absurd (omega arith)) (rw m)
 
     pub send-count : member n k s ≡ true → countInside n ((recordOf s k) .count) ≡ false → Sent 10 b
-    unfolding sendRefusal partAfter
-    send-count m e = let c = count-is m ∙ e in (rw (m, c), rw (m, c))
+    unfolding sendRefusal
+    send-count m e = refused 10 (λ z. absurd (omega arith)) (rw (m, count-is m ∙ e))
 
-    pub send-frame :
-        member n k s ≡ true → countInside n ((recordOf s k) .count) ≡ true →
-        Sent 0 (bufferWith (frameBytes n k (tableRecords n (s .held) (s .table))) b)
-    unfolding sendRefusal partAfter
-    send-frame m e = let c = count-is m ∙ e in (rw (m, c), rw (m, c) (ap (λ (f : List ℕ). bufferWith f b) (frame m)))
+    -- the part as it was written
+    module _ (m : member n k s ≡ true) (fits : countInside n ((recordOf s k) .count) ≡ true) (w : ℕ) (size : w ≡ 260) (made : List ℕ)
+        (is : made ≡ bufferWith (frameBytes n k (tableRecords n (s .held) (s .table))) (take w rest)) where
+      done : 0 ≡ sendRefusal n k s
+      unfolding sendRefusal
+      done = rw (m, count-is m ∙ fits)
 
-    pub part-frame : sendRefusal n k s ≡ 0 → partAfter n k s b ≡ bufferWith (frameOf s) b
-    unfolding partAfter
-    part-frame e = rw e
+      pub send-frame : Sent 0 (take (260 * k) b ++ (made ++ drop w rest))
+      send-frame = (
+        done,
+        (λ i. take (260 * k) b ++ (is i ++ drop (size i) rest))
+            ∙ (λ i. take (260 * k) b ++ (bufferWith (frame m i) (take (size i) rest) ++ drop 260 rest))
+            ∙ ap (λ (x : List ℕ). take (260 * k) b ++ (x ++ drop 260 rest)) (sym (part-frame (take 260 rest) (sym done))),
+      )
 
 -- the part keeps its length
 length-with : (f b : List ℕ) → length (bufferWith f b) ≡ length b

@@ -14,7 +14,7 @@ use Rattle.places.proofs.Laws.{allBelow-at}
 use Rattle.station_rules.specs.declared.Station.{Station}
 use Rattle.station_rules.specs.Calls.{frameOf, ownCountInside}
 use Rattle.group_rules.specs.State.{stationAt, sizeOf, memberInside, groupInside}
-use Rattle.group_frames.specs.Frames.{frameStart, FramesBelow, sendRefusal, partAfter, worse, judgedBelow}
+use Rattle.group_frames.specs.Frames.{frameStart, FramesBelow, sendRefusal, partAfter, bytesAfter, worse, judgedBelow}
 use Rattle.group_rules.proofs.Members.{member-open}
 use Rattle.group_limits.proofs.GroupLimits.{group-judged}
 use Rattle.group_frames.proofs.SentFrame.{frame-fits}
@@ -31,69 +31,75 @@ before-part m k a bytes rest l h = front rest ∙ sym (front (drop a bytes)) ∙
         ap (take m) (drop-append-le k (take a bytes) x (omega arith))
         ∙ take-append-le m (drop k (take a bytes)) x (omega (arith, length-drop k (take a bytes)))
 
+-- the bytes with another part of station k
+abbrev withPart : ℕ → List ℕ → List ℕ → List ℕ
+withPart k bytes made = take (260 * k) bytes ++ (made ++ drop 260 (drop (260 * k) bytes))
+
+abbrev part : ℕ → List ℕ → List ℕ
+part k bytes = take 260 (drop (260 * k) bytes)
+
+module _ (k : ℕ) (below : k < 16) (bytes : List ℕ) (long : length bytes ≡ 4160) where
+  part-length : length (part k bytes) ≡ 260
+  part-length = omega (arith, length-take 260 (drop (260 * k) bytes), length-drop (260 * k) bytes)
+
+  front-length : length (take (260 * k) bytes) ≡ 260 * k
+  front-length = length-take-le (260 * k) bytes (omega arith)
+
+  whole-length : (made : List ℕ) → length made ≡ 260 → length (withPart k bytes made) ≡ 4160
+  whole-length made e =
+      let past = drop 260 (drop (260 * k) bytes) in
+      omega (
+        arith,
+        length-append (take (260 * k) bytes) (made ++ past),
+        length-append made past,
+        front-length,
+        length-drop 260 (drop (260 * k) bytes),
+        length-drop (260 * k) bytes,
+      )
+
 module _ (g : List Station) where
   pub frames-none : (bytes : List ℕ) → length bytes ≡ 4160 → FramesBelow g 0 bytes
   frames-none bytes long = record { long = long; frame = λ k l. absurd (omega arith) }
 
   module _ (k : ℕ) (below : k < 16) (bytes : List ℕ) (old : FramesBelow g k bytes)
       (fit : (i : ℕ) → i ≤ k → length (frameOf (stationAt g i)) ≤ 260) (made : List ℕ)
-      (is : made ≡ bufferWith (frameOf (stationAt g k)) (take (260 * k + 260 - 260 * k) (drop (260 * k) bytes))) where
-    abbrev at : ℕ
-    at = 260 * k
-
-    abbrev part : List ℕ
-    part = take (at + 260 - at) (drop at bytes)
-
-    abbrev tail : List ℕ
-    tail = drop (at + 260 - at) (drop at bytes)
-
+      (is : made ≡ bufferWith (frameOf (stationAt g k)) (part k bytes)) where
     abbrev here : List ℕ
     here = frameOf (stationAt g k)
 
-    part-length : length part ≡ 260
-    part-length = omega (arith, length-take (at + 260 - at) (drop at bytes), length-drop at bytes, old .long)
+    abbrev kept : List ℕ
+    kept = drop (length here) (part k bytes)
 
-    made-is : made ≡ here ++ drop (length here) part
+    size : length (part k bytes) ≡ 260
+    size = part-length k below bytes (old .long)
+
+    made-is : made ≡ here ++ kept
     unfolding bufferWith
-    made-is = is ∙ rw (le-ltb (length part) (length here) (omega (arith, part-length, fit k (omega arith))))
+    made-is = is ∙ rw (le-ltb (length (part k bytes)) (length here) (omega (arith, size, fit k (omega arith))))
 
     made-length : length made ≡ 260
     made-length =
-        ap length made-is
-        ∙ length-append here (drop (length here) part)
-        ∙ omega (arith, length-drop (length here) part, part-length, fit k (omega arith))
+        ap length made-is ∙ length-append here kept ∙ omega (arith, length-drop (length here) (part k bytes), size, fit k (omega arith))
 
-    whole-length : length (take at bytes ++ (made ++ tail)) ≡ 4160
-    whole-length =
-        omega (
-          arith,
-          length-append (take at bytes) (made ++ tail),
-          length-append made tail,
-          made-length,
-          length-take-le at bytes (omega (arith, old .long)),
-          length-drop (at + 260 - at) (drop at bytes),
-          length-drop at bytes,
-          old .long,
-        )
-
-    this-frame : take (length here) (drop at (take at bytes ++ (made ++ tail))) ≡ here
+    this-frame : take (length here) (drop (260 * k) (withPart k bytes made)) ≡ here
     this-frame =
-        ap (take (length here)) (drop-at (take at bytes) (made ++ tail) at (length-take-le at bytes (omega (arith, old .long))))
-        ∙ ap (λ (m : List ℕ). take (length here) (m ++ tail)) made-is
-        ∙ ap (take (length here)) (append-assoc here (drop (length here) part) tail)
-        ∙ take-at here (drop (length here) part ++ tail) (length here) refl
+        let past = drop 260 (drop (260 * k) bytes) in
+        ap (take (length here)) (drop-at (take (260 * k) bytes) (made ++ past) (260 * k) (front-length k below bytes (old .long)))
+        ∙ ap (λ (m : List ℕ). take (length here) (m ++ past)) made-is
+        ∙ ap (take (length here)) (append-assoc here kept past)
+        ∙ take-at here (kept ++ past) (length here) refl
 
-    pub frames-more : FramesBelow g (k + 1) (take at bytes ++ (made ++ tail))
+    pub frames-more : FramesBelow g (k + 1) (withPart k bytes made)
     frames-more =
         record {
-          long = whole-length;
+          long = whole-length k below bytes (old .long) made made-length;
           frame =
               λ i l.
               elim (ℕ-discrete i k) [
                 | yes e ↦ rw e this-frame
                 | no d ↦
-                    before-part (length (frameOf (stationAt g i))) (260 * i) at bytes (made ++ tail)
-                    (omega (arith, fit i (omega arith))) (omega (arith, old .long))
+                    before-part (length (frameOf (stationAt g i))) (260 * i) (260 * k) bytes _ (omega (arith, fit i (omega arith)))
+                    (omega (arith, old .long))
                     ∙ old .frame i (omega arith)
               ];
         }
@@ -115,26 +121,16 @@ module _ (g : List Station) where
       (allBelow-at m (λ k. ownCountInside (stationAt g k)) (r .1) i l)
 
   module _ (k : ℕ) (below : k < 16) (refusal : ℕ) (bytes : List ℕ) (old : SentBelow g k refusal bytes)
-      (judged : ℕ) (judged-is : judged ≡ sendRefusal (sizeOf g) k (stationAt g k)) (made : List ℕ)
-      (made-is : made ≡ partAfter (sizeOf g) k (stationAt g k) (take (260 * k + 260 - 260 * k) (drop (260 * k) bytes)))
-      (all : ℕ) (all-is : all ≡ worse refusal judged) where
-    abbrev after : List ℕ
-    after = take (260 * k) bytes ++ (made ++ drop (260 * k + 260 - 260 * k) (drop (260 * k) bytes))
+      (judged : ℕ) (judged-is : judged ≡ sendRefusal (sizeOf g) k (stationAt g k)) (after : List ℕ)
+      (after-is : after ≡ bytesAfter (sizeOf g) k (stationAt g k) bytes) (all : ℕ) (all-is : all ≡ worse refusal judged) where
+    abbrev made : List ℕ
+    made = partAfter (sizeOf g) k (stationAt g k) (part k bytes)
 
     after-length : length after ≡ 4160
     after-length =
-        omega (
-          arith,
-          length-append (take (260 * k) bytes) (made ++ drop (260 * k + 260 - 260 * k) (drop (260 * k) bytes)),
-          length-append made (drop (260 * k + 260 - 260 * k) (drop (260 * k) bytes)),
-          ap length made-is,
-          length-after (sizeOf g) k (stationAt g k) (take (260 * k + 260 - 260 * k) (drop (260 * k) bytes)),
-          length-take (260 * k + 260 - 260 * k) (drop (260 * k) bytes),
-          length-take-le (260 * k) bytes (omega (arith, old .long)),
-          length-drop (260 * k + 260 - 260 * k) (drop (260 * k) bytes),
-          length-drop (260 * k) bytes,
-          old .long,
-        )
+        ap length after-is
+        ∙ whole-length k below bytes (old .long) made
+        (length-after (sizeOf g) k (stationAt g k) (part k bytes) ∙ part-length k below bytes (old .long))
 
     all-judged : all ≡ judgedBelow g (k + 1)
     all-judged = all-is ∙ (λ i. worse (old .judged i) (judged-is i)) ∙ judged-more g k
@@ -142,9 +138,10 @@ module _ (g : List Station) where
     all-frames : all ≡ 0 → FramesBelow g (k + 1) after
     all-frames e =
         let r = worse-done refusal judged (sym all-is ∙ e) in
-        frames-more g k below bytes (old .frames (r .0))
+        subst (FramesBelow g (k + 1)) (sym after-is)
+        (frames-more g k below bytes (old .frames (r .0))
         (λ i l. fits-below (k + 1) (sym all-judged ∙ e) i (omega arith))
-        made (made-is ∙ part-frame (sizeOf g) k (stationAt g k) _ (sym judged-is ∙ r .1))
+        made (part-frame (sizeOf g) k (stationAt g k) (part k bytes) (sym judged-is ∙ r .1)))
 
     pub sent-more : SentBelow g (k + 1) all after
     sent-more = record { long = after-length; judged = all-judged; frames = all-frames }

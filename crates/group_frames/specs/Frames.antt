@@ -1,13 +1,11 @@
 -- Document 01, "A group and its rounds": all frames of a round stand in one list of bytes before any station hears, that of station k from byte 260 × k on.
--- Each station hears those of its mask by ascending sender.
-use Prim.Native.Nat.{ℕ, zero, suc, _+_, _*_, _<_, _≤_}
+use Prim.Native.Nat.{ℕ, _*_, _<_, _≤_}
 use mathlib.Core.Path.{_≡_}
 use mathlib.Core.Bool.{cond, not, _&&_}
-use mathlib.Core.List.{List}
-use lib.ListN.{set, take, drop, length, replicate}
+use mathlib.Core.List.{List, _++_}
+use lib.ListN.{take, drop, length}
 use lib.Dec.{eqb}
 use Rattle.kinds.specs.Refusals.{done, outsideLimits, countTooHigh, refuse}
-use Rattle.links.specs.Log.{hearsIn}
 use Rattle.frame_rules.specs.Calls.{bufferWith}
 use Rattle.places.specs.Places.{allBelow}
 use Rattle.station_rules.specs.declared.Station.{Station}
@@ -30,6 +28,12 @@ sendRefusal n k s =
 -- its part of the bytes afterwards: its frame and then what stood past it, or as it was
 unfoldable pub partAfter : ℕ → ℕ → Station → List ℕ → List ℕ
 partAfter n k s part = cond (eqb (sendRefusal n k s) done) (bufferWith (frameOf s) part) part
+
+-- all the bytes afterwards: the others stay
+abbrev pub bytesAfter : ℕ → ℕ → Station → List ℕ → List ℕ
+bytesAfter n k s bytes =
+    let rest = drop (frameStart k) bytes in
+    take (frameStart k) bytes ++ (partAfter n k s (take 260 rest) ++ drop 260 rest)
 
 -- of the refusals of two stations the one that the round answers: 2 before 10, and 10 before none
 unfoldable pub worse : ℕ → ℕ → ℕ
@@ -54,16 +58,3 @@ pub record FramesAt (n : ℕ) (bytes : List ℕ) : Type 0 where
 -- the marks of the frames of the stations below m stand, those of each frame from its start on
 abbrev pub MarksBelow : ℕ → List ℕ → List ℕ → Type 0
 MarksBelow m bytes marks = (k : ℕ) → k < m → MarksAt bytes marks (frameStart k)
-
--- how many of the senders below j station i hears
-unfoldable pub heardCount : ℕ → List ℕ → ℕ → ℕ → ℕ
-heardCount n masks i zero = 0
-heardCount n masks i (suc j) = heardCount n masks i j + cond (hearsIn n masks i j) 1 0
-
--- where their frames begin, by ascending sender; unused places are zero
-unfoldable pub heardStarts : ℕ → List ℕ → ℕ → ℕ → List ℕ
-heardStarts n masks i zero = replicate 16 0
-heardStarts n masks i (suc j) =
-    cond (hearsIn n masks i j)
-    (set (heardStarts n masks i j) (heardCount n masks i j) (frameStart j))
-    (heardStarts n masks i j)

@@ -12,15 +12,10 @@ use station_rules::Station;
 // The room of a frame of sixteen records.
 pub const FRAME_ROOM: usize = 260;
 
-// Where the frames that a station hears begin, by ascending sender.
-pub struct Senders {
-    pub len: usize,
-    pub starts: [usize; 16],
-}
-
-// Writes the frame of station k of a group of n into its part; where it may not be written, answers with the refusal of the round.
-pub fn send(part: &mut [u8], s: Station, n: usize, k: usize) -> u32
-    ensures { λ r. ⌜ (r ≡ spec.sendRefusal n k s) × (now (part .exit) ≡ spec.partAfter n k s (now (part .entry))) ⌝ }
+// Writes the frame of station k of a group of n into its part of the bytes; where it may not be written, answers with the refusal of the round.
+pub fn send(bytes: &mut [u8], s: Station, n: usize, k: usize) -> u32
+    requires { ⌜ length (now bytes) ≡ 4160 ⌝ }
+    ensures { λ r. ⌜ (r ≡ spec.sendRefusal n k s) × (now (bytes .exit) ≡ spec.bytesAfter n k s (now (bytes .entry))) ⌝ }
 {
     if !group_limits::member_inside(s, n, k) {
         return OUTSIDE_LIMITS;
@@ -31,7 +26,8 @@ pub fn send(part: &mut [u8], s: Station, n: usize, k: usize) -> u32
     }
     let held = s.held;
     let table = s.table;
-    frame_writer::write_table(part, held, table, n, k);
+    let at = FRAME_ROOM * k;
+    frame_writer::write_table(&mut bytes[at..at + FRAME_ROOM], held, table, n, k);
     DONE
 }
 
@@ -57,28 +53,5 @@ pub fn mark_frames(marks: &mut [u8], bytes: &[u8], n: usize)
     while k < n {
         station_hearing::put_marks(marks, bytes, FRAME_ROOM * k);
         k += 1;
-    }
-}
-
-// The frames that station i of n hears in a round with these masks.
-pub fn heard_by(masks: [u16; 16], n: usize, i: usize) -> Senders
-    requires { ⌜ n ≤ 16 ⌝ }
-    ensures { λ r. ⌜ (r .len ≡ spec.heardCount n masks i n) × (r .starts ≡ spec.heardStarts n masks i n) ⌝ }
-{
-    let mut len: usize = 0;
-    let mut starts = [0usize; 16];
-    let mut j: usize = 0;
-    while j < n {
-        if !links::hears(masks, n, i, j) {
-            j += 1;
-            continue;
-        }
-        starts[len] = FRAME_ROOM * j;
-        len += 1;
-        j += 1;
-    }
-    Senders {
-        len: len,
-        starts: starts,
     }
 }

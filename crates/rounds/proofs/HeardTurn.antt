@@ -5,65 +5,59 @@ use mathlib.Core.Bool.{true, false}
 use mathlib.Core.List.{List, _++_}
 use mathlib.Core.Path.{_≡_, sym, ap, subst, _∙_}
 use native.Mathlib.Omega.{arith}
-use lib.ListN.{getD, length, replicate}
+use lib.ListN.{length, replicate}
 use Rattle.station_rules.specs.declared.Station.{Station}
-use Rattle.station_rules.specs.declared.Turned.{Turned}
 use Rattle.station_rules.specs.declared.HeardAll.{HeardAll}
 use Rattle.station_rules.specs.Limits.{stationInside}
 use Rattle.station_rules.specs.Hearing.{Hearing, silent}
-use Rattle.station_rules.specs.Frames.{hearFrames, FrameAt, HearsAll}
+use Rattle.station_rules.specs.Frames.{hearFrames, HearsAll}
 use Rattle.station_rules.specs.Turn.{afterTurn, turnReport}
-use Rattle.station_hearing.specs.Marks.{MarksAt}
-use Rattle.station_rules.specs.Calls.{turnDone}
 use Rattle.station_rules.proofs.StationLimits.{inside-make}
 use Rattle.group_rules.specs.State.{stationAt, sizeOf}
 use Rattle.group_rules.specs.Calls.{heard, noTaking, reportOf}
-use Rattle.group_frames.specs.Frames.{frameStart, MarksBelow, heardCount, heardStarts}
-use Rattle.group_rules.proofs.Members.{GroupShaped, group-high, member-at, members-open}
+use Rattle.group_rules.proofs.Members.{Member, GroupShaped, group-high, member-at, members-open}
 use Rattle.group_rules.proofs.MembersRound.{hears-all}
+use Rattle.group_frames.specs.Frames.{FramesAt, MarksBelow}
 use Rattle.group_frames.proofs.WrittenFrames.{AllSent}
-use Rattle.group_frames.proofs.RoundFrames.{count-below, starts-at, frames-at, heard-below}
+use Rattle.group_frames.proofs.GroupFrames.{frames-at}
+use Rattle.group_turns.specs.declared.Step.{Step}
+use Rattle.group_turns.specs.Mask.{heardCount, heardStarts}
+use Rattle.group_turns.specs.Turn.{stepAfter}
+use Rattle.rounds.proofs.RoundFrames.{heard-below}
 
-module _ (g : List Station) (masks bytes : List ℕ) (sent : AllSent g bytes) (i : ℕ) (below : i < sizeOf g)
-    (count : ℕ) (count-is : count ≡ heardCount (sizeOf g) masks i (sizeOf g))
-    (starts : List ℕ) (starts-is : starts ≡ heardStarts (sizeOf g) masks i (sizeOf g)) where
+-- what hearing by the mask asks for
+abbrev pub MayHear : List ℕ → List ℕ → Station → Type 0
+MayHear bytes marks x = (stationInside x ≡ true) × (FramesAt (x .n) bytes × MarksBelow (x .n) bytes marks)
+
+-- what it tells
+abbrev pub HearsMask : List ℕ → List ℕ → HeardAll → Station → Type 0
+HearsMask masks bytes r x = HearsAll x bytes (heardStarts (x .n) masks (x .own) (x .n)) (heardCount (x .n) masks (x .own) (x .n)) r
+
+module _ (g : List Station) (masks bytes : List ℕ) (sent : AllSent g bytes) (i : ℕ) (below : i < sizeOf g) where
   abbrev s : Station
   s = stationAt g i
 
-  frames-heard : hearFrames (silent s) bytes starts count ≡ heard g masks i
+  member : Member (sizeOf g) g i
+  member = member-at g (sent .inside) i below
+
+  pub may-hear : (marks : List ℕ) → MarksBelow (sizeOf g) bytes marks → MayHear bytes marks s
+  may-hear marks marked =
+      let size = sym (member .size) in (
+        inside-make s (member .inside),
+        (
+          subst (λ (n : ℕ). FramesAt n bytes) size (frames-at g (sent .inside) (sent .counts) bytes (sent .frames)),
+          subst (λ (n : ℕ). MarksBelow n bytes marks) size marked,
+        ),
+      )
+
+  frames-heard :
+      hearFrames (silent s) bytes (heardStarts (s .n) masks (s .own) (s .n)) (heardCount (s .n) masks (s .own) (s .n)) ≡ heard g masks i
   frames-heard =
-      (λ t. hearFrames (silent s) bytes (starts-is t) (count-is t))
+      let m = member in
+      (λ t. hearFrames (silent s) bytes (heardStarts (m .size t) masks (m .own t) (m .size t)) (heardCount (m .size t) masks (m .own t) (m .size t)))
       ∙ heard-below g (sent .inside) (sent .counts) masks bytes (sent .frames) i (sizeOf g) (omega arith) (group-high g (sent .inside))
 
-  -- what holds of the start of each frame holds of each start that the station hears from
-  each-start : (P : ℕ → Type 0) → ((k : ℕ) → k < sizeOf g → P (frameStart k)) → (f : ℕ) → f < count → P (getD starts f 0)
-  each-start P each f l =
-      subst (λ (a : List ℕ). P (getD a f 0)) (sym starts-is)
-      (starts-at (sizeOf g) masks i P each (group-high g (sent .inside)) (sizeOf g) (omega arith) f (omega (arith, count-is)))
-
-  -- what hearing asks for
-  module _ (marks : List ℕ) (marked : MarksBelow (sizeOf g) bytes marks) where
-    abbrev MayHear : Station → Type 0
-    MayHear x =
-        ((count ≤ 16) × (stationInside x ≡ true))
-        × (((f : ℕ) → f < count → FrameAt (x .n) bytes (getD starts f 0)) × ((f : ℕ) → f < count → MarksAt bytes marks (getD starts f 0)))
-
-    pub may-hear : (x : Station) → x ≡ s → MayHear x
-    may-hear x e =
-        let m = member-at g (sent .inside) i below in
-        let at = frames-at g (sent .inside) (sent .counts) masks bytes (sent .frames) in
-        subst MayHear (sym e) (
-          (omega (arith, count-is, count-below (sizeOf g) masks i (sizeOf g), group-high g (sent .inside)), inside-make s (m .inside)),
-          (
-            each-start (FrameAt (s .n) bytes) (λ k l. subst (λ (n : ℕ). FrameAt n bytes (frameStart k)) (sym (m .size)) (at .frame k l)),
-            each-start (MarksAt bytes marks) marked,
-          ),
-        )
-
-  module _ (x : Station) (same : x ≡ s) (r : HeardAll) (hears : HearsAll x bytes starts count r) where
-    h : HearsAll s bytes starts count r
-    h = subst (λ (y : Station). HearsAll y bytes starts count r) same hears
-
+  module _ (r : HeardAll) (h : HearsMask masks bytes r s) where
     pub full-is : r .overfull ≡ (heard g masks i) .overfull
     full-is = h .overfull ∙ ap (λ (x : Hearing). x .overfull) frames-heard
 
@@ -76,15 +70,16 @@ module _ (g : List Station) (masks bytes : List ℕ) (sent : AllSent g bytes) (i
           let hs = hears-all (sizeOf g) g (members-open g shape (sent .inside)) masks (sent .counts) i below in
           rw station-is (inside-make ((heard g masks i) .station) (hs .inside (sym full-is ∙ room)))
 
-      module _ (t : Turned) (turned : t ≡ turnDone (r .station)) where
+      module _ (t : Step) (turned : t ≡ stepAfter r) where
         pub after-is : t .station ≡ afterTurn ((heard g masks i) .station)
-        after-is = ap (λ (x : Turned). x .station) turned ∙ ap afterTurn station-is
+        unfolding stepAfter
+        after-is = ap (λ (x : Step). x .station) turned ∙ ap afterTurn station-is
 
-        pub report-is : record { «takings_len» = r .«takings_len»; takings = r .takings; turn = t .report } ≡ reportOf g masks i
-        unfolding reportOf
+        pub report-is : t .report ≡ reportOf g masks i
+        unfolding stepAfter reportOf
         report-is =
             let len : r .«takings_len» ≡ length ((heard g masks i) .takings) = h .len room ∙ ap (λ (x : Hearing). length (x .takings)) frames-heard in
             let takings : r .takings ≡ (heard g masks i) .takings ++ replicate (30 - length ((heard g masks i) .takings)) noTaking =
             h .takings room ∙ ap (λ (x : Hearing). x .takings ++ replicate (30 - length (x .takings)) noTaking) frames-heard in
-            let turn : t .report ≡ turnReport ((heard g masks i) .station) = ap (λ (x : Turned). x .report) turned ∙ ap turnReport station-is in
-            (λ j. record { «takings_len» = len j; takings = takings j; turn = turn j })
+            ap (λ (x : Step). x .report) turned
+            ∙ (λ j. record { «takings_len» = len j; takings = takings j; turn = turnReport (station-is j) })

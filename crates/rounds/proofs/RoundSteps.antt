@@ -1,17 +1,20 @@
 -- The answers of a round, each with the tests on its way decided.
 use Prim.Native.Nat.{ℕ, _+_, _≤_, _<_}
 use native.Mathlib.Numerals.{add-one}
-use mathlib.Core.Bool.{Bool, true, false, not}
+use mathlib.Core.Bool.{Bool, true, false, not, false≢true}
 use mathlib.Core.List.{List}
-use mathlib.Core.Path.{_≡_, refl, ap, _∙_}
+use mathlib.Core.Path.{_≡_, refl, sym, ap, _∙_}
 use lib.ListN.{replicate}
+use borrow.Author.Tests.{le-leb, lt-ltb}
 use Rattle.places.specs.Places.{allBelow, anyBelow, fill}
-use Rattle.places.proofs.Laws.{allBelow-not, anyBelow-none, anyBelow-hit}
+use Rattle.places.proofs.Laws.{and-both, allBelow-not, anyBelow-none, anyBelow-hit}
+use Rattle.frame_rules.specs.Frame.{validNumber}
 use Rattle.station_rules.specs.declared.Station.{Station}
 use Rattle.station_rules.specs.Calls.{ownCountInside}
 use Rattle.group_rules.specs.declared.RoundDone.{RoundDone}
 use Rattle.group_rules.specs.State.{stationAt, sizeOf, memberInside, groupInside}
 use Rattle.group_rules.specs.Calls.{heard, noReport, reportOf, roundRefusal, afterRound, roundCall}
+use Rattle.group_rules.proofs.Members.{group-low, group-high}
 use Rattle.group_frames.specs.Frames.{judgedBelow}
 use Rattle.group_limits.proofs.GroupLimits.{group-judged}
 use Rattle.group_frames.proofs.SendSteps.{judged-is}
@@ -19,6 +22,18 @@ use Rattle.group_frames.proofs.SendSteps.{judged-is}
 pub anyBelow-more : (n : ℕ) (test : ℕ → Bool) → anyBelow n test ≡ false → test n ≡ false → anyBelow (n + 1) test ≡ false
 unfolding anyBelow
 anyBelow-more n test h e = rw (add-one n, h, e)
+
+-- a group of a number of stations that there is not
+pub size-outside : (g : List Station) → validNumber (sizeOf g) 0 ≡ false → groupInside g ≡ false
+size-outside g v = go (groupInside g) refl
+  where
+    go : (t : Bool) → groupInside g ≡ t → groupInside g ≡ false
+    go true e =
+        absurd
+        (false≢true
+        (sym v
+        ∙ and-both (and-both (le-leb 1 (sizeOf g) (group-low g e)) (le-leb (sizeOf g) 16 (group-high g e))) (lt-ltb 0 (sizeOf g) (group-low g e))))
+    go false e = e
 
 module _ (g : List Station) (masks : List ℕ) where
   abbrev refused : ℕ → RoundDone

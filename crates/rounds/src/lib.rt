@@ -42,24 +42,14 @@ pub fn round(g: [Station; 16], masks: [u16; 16]) -> RoundDone
     };
     let first = z.group[0];
     let n = first.n;
-    if n < 1 {
-        z.refusal = OUTSIDE_LIMITS;
-        return z;
-    }
-    if 16 < n {
+    if !station_limits::valid_number(n, 0) {
         z.refusal = OUTSIDE_LIMITS;
         return z;
     }
     let mut refusal = DONE;
     let mut k: usize = 0;
     while k < n {
-        let at = group_frames::FRAME_ROOM * k;
-        let judged = group_frames::send(
-            &mut bytes[at..at + group_frames::FRAME_ROOM],
-            z.group[k],
-            n,
-            k,
-        );
+        let judged = group_frames::send(&mut bytes, z.group[k], n, k);
         refusal = group_frames::worse(refusal, judged);
         k += 1;
     }
@@ -70,26 +60,18 @@ pub fn round(g: [Station; 16], masks: [u16; 16]) -> RoundDone
     group_frames::mark_frames(&mut marks, &bytes, n);
     let mut i: usize = 0;
     while i < n {
-        let senders = group_frames::heard_by(masks, n, i);
-        let starts = senders.starts;
-        let heard = station_hearing::hear_all(z.group[i], &bytes, &marks, starts, senders.len);
+        let heard = group_turns::hear_mask(z.group[i], &bytes, &marks, masks);
         if heard.overfull {
             z.refusal = LANE_FULL;
             z.group = g;
             z.reports = [none; 16];
             return z;
         }
-        let station = heard.station;
-        let takings = heard.takings;
-        let turned = station_turns::take_turn(station);
-        let after = turned.station;
-        let turn = turned.report;
-        z.group[i] = after;
-        z.reports[i] = Report {
-            takings_len: heard.takings_len,
-            takings: takings,
-            turn: turn,
-        };
+        let step = group_turns::turn_after(heard);
+        let station = step.station;
+        let report = step.report;
+        z.group[i] = station;
+        z.reports[i] = report;
         i += 1;
     }
     z

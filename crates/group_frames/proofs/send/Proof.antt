@@ -1,4 +1,5 @@
 -- `group_frames::send` meets its contract, refusal by refusal; then the table is written.
+use Prim.Native.Nat.{_+_, _*_, _-_}
 use mathlib.Core.Path.{_≡_, sym, _∙_}
 use mathlib.Core.Bool.{true}
 use native.Mathlib.Omega.{arith}
@@ -18,7 +19,7 @@ member-inside-requires c κs = search needs
 returns : tie.Need-returns
 returns c =
     let a = c .before .before .before .args in
-    send-outside (a .n) (a .k) (a .t2) (a .part .now) (sym (c .before .member-inside .ensures) ∙ not-true _ (c .if1 .taken))
+    send-outside (a .n) (a .k) (a .t2) (a .bytes .now) (sym (c .before .member-inside .ensures) ∙ not-true _ (c .if1 .taken))
 
 mul-record : tie.Need-mul-record
 mul-record c =
@@ -40,7 +41,31 @@ returns-2 : tie.Need-returns-2
 returns-2 c =
     let d = c .before .before .before in
     let a = d .before .before .before .args in
-    send-count (a .n) (a .k) (a .t2) (a .part .now) (within d) (sym (c .before .count-fits .ensures) ∙ not-true _ (c .if2 .taken))
+    send-count (a .n) (a .k) (a .t2) (a .bytes .now) (within d) (sym (c .before .count-fits .ensures) ∙ not-true _ (c .if2 .taken))
+
+mul-at : tie.Need-mul-at
+mul-at c =
+    let d = c .before .before .before .before .before in
+    let a = d .before .before .before .args in
+    omega (arith, below (a .n) (a .k) (a .t2) (within d))
+
+add-write-table : tie.Need-add-write-table
+add-write-table c =
+    let d = c .before .before .before .before .before in
+    let a = d .before .before .before .args in
+    omega (arith, below (a .n) (a .k) (a .t2) (within d))
+
+sub-write-table : tie.Need-sub-write-table
+sub-write-table c = search needs
+
+part-write-table-start : tie.Need-part-write-table-start
+part-write-table-start c = search needs
+
+part-write-table-end : tie.Need-part-write-table-end
+part-write-table-end c =
+    let d = c .before .before .before .before .before in
+    let a = d .before .before .before .args in
+    omega (arith, below (a .n) (a .k) (a .t2) (within d), d .before .before .before .pre)
 
 write-table-requires : tie.Need-write-table-requires
 write-table-requires c κs =
@@ -56,9 +81,9 @@ returns-3 c =
     let f = c .before .before .before .before .before .before in
     let d = f .before .before .before in
     let a = d .before .before .before .args in
-    let sent =
-    send-frame (a .n) (a .k) (a .t2) (a .part .now) (within d) (sym (f .before .count-fits .ensures) ∙ not-false _ (f .if2 .left)) in
-    (sent .0, c .before .before .write-table .ensures .1 ∙ sent .1)
+    let t = c .before .before .write-table in
+    send-frame (a .n) (a .k) (a .t2) (a .bytes .now) (within d) (sym (f .before .count-fits .ensures) ∙ not-false _ (f .if2 .left))
+    (260 * a .k + 260 - 260 * a .k) (omega arith) (t .last .0) (t .ensures .1)
 
 pub send-spec : {M : Type 1} → statement M
 send-spec =
@@ -70,6 +95,11 @@ send-spec =
     element-copy-out-record
     count-fits-requires
     returns-2
+    mul-at
+    add-write-table
+    sub-write-table
+    part-write-table-start
+    part-write-table-end
     write-table-requires
     same-length
     returns-3)
