@@ -1,33 +1,46 @@
 -- The answers of group fresh and group post, each with the tests on its way decided.
 use Prim.Native.Nat.{ℕ, _≤_, _<_}
-use mathlib.Core.Path.{_≡_, refl}
-use mathlib.Core.Bool.{true, false}
+use mathlib.Core.Path.{_≡_, refl, _∙_}
+use mathlib.Core.Bool.{Bool, true, false, cond, _&&_}
 use mathlib.Core.List.{List}
-use lib.Dec.{leb, ltb}
+use native.Mathlib.Omega.{arith}
+use lib.Dec.{leb, ltb, eqb}
 use lib.ListN.{set}
-use borrow.Author.Tests.{le-leb, lt-leb, lt-ltb, le-ltb}
+use lib.Seq.{set-getD}
+use borrow.Author.Tests.{leb-true, leb-false, le-leb, lt-leb, lt-ltb, le-ltb, ltb-false}
+use Rattle.places.proofs.Laws.{and-left}
 use Rattle.kinds.specs.declared.Body.{Body}
-use Rattle.kinds.specs.Limits.{isEdit}
+use Rattle.frame_rules.specs.Frame.{validNumber}
 use Rattle.station_rules.specs.declared.Station.{Station}
-use Rattle.station_rules.specs.Calls.{posted}
+use Rattle.station_rules.specs.declared.Kept.{Kept}
+use Rattle.station_rules.specs.Limits.{stationInside}
+use Rattle.station_rules.specs.Calls as station
+use Rattle.station_rules.specs.Calls.{posted, postRefusal}
+use Rattle.station_rules.proofs.StationLimits.{inside-make}
 use Rattle.group_rules.specs.declared.KeptGroup.{KeptGroup}
-use Rattle.group_rules.specs.State.{stationAt, sizeOf, groupInside, freshGroup}
+use Rattle.group_rules.specs.State.{noStation, stationAt, sizeOf, groupInside, freshGroup}
 use Rattle.group_rules.specs.Calls.{freshCall, groupPostRefusal, postCall}
+use Rattle.group_rules.proofs.Members.{member-at}
 
 -- fresh: 1
-pub fresh-none : (n : ℕ) (g : List Station) → n < 1 → g ≡ freshGroup 1 → record { refusal = 1; group = g } ≡ freshCall n
-unfolding freshCall
-fresh-none n g l e = rw (lt-leb 1 n l, e)
+module _ (n : ℕ) (g : List Station) where
+  pub fresh-done : validNumber n 0 ≡ true → g ≡ freshGroup n → record { refusal = 0; group = g } ≡ freshCall n
+  unfolding freshCall
+  fresh-done v e = rw (and-left (leb 1 n && leb n 16) (ltb 0 n) v, e)
 
-pub fresh-many : (n : ℕ) (g : List Station) → 1 ≤ n → 16 < n → g ≡ freshGroup 1 → record { refusal = 1; group = g } ≡ freshCall n
-unfolding freshCall
-fresh-many n g l h e = rw (le-leb 1 n l, lt-leb n 16 h, e)
+  pub fresh-refused : validNumber n 0 ≡ false → g ≡ freshGroup 1 → record { refusal = 1; group = g } ≡ freshCall n
+  unfolding freshCall
+  fresh-refused v e = rw (go (leb 1 n) refl v, e)
+    where
+      left : (t : Bool) → (t && true) ≡ false → t ≡ false
+      left true h = h
+      left false h = refl
 
-pub fresh-done : (n : ℕ) (g : List Station) → 1 ≤ n → n ≤ 16 → g ≡ freshGroup n → record { refusal = 0; group = g } ≡ freshCall n
-unfolding freshCall
-fresh-done n g l h e = rw (le-leb 1 n l, le-leb n 16 h, e)
+      go : (t : Bool) → leb 1 n ≡ t → (t && leb n 16) && ltb 0 n ≡ false → leb 1 n && leb n 16 ≡ false
+      go true p v = rw p (left (leb n 16) (rw (lt-ltb 0 n (leb-true 1 n p)) at v))
+      go false p v = rw p
 
--- post: 2, 1, 4, 3
+-- post: 2, 1, and then what the station answers
 module _ (g : List Station) (k : ℕ) (b : Body) where
   pub post-outside : groupInside g ≡ false → record { refusal = 2; group = g } ≡ postCall g k b
   unfolding postCall groupPostRefusal
@@ -39,15 +52,20 @@ module _ (g : List Station) (k : ℕ) (b : Body) where
     post-nobody l = rw (i, le-ltb k (sizeOf g) l)
 
     module _ (l : k < sizeOf g) where
-      pub post-no-edit : isEdit b ≡ false → record { refusal = 4; group = g } ≡ postCall g k b
-      unfolding postCall groupPostRefusal
-      post-no-edit e = rw (i, lt-ltb k (sizeOf g) l, e)
+      abbrev s : Station
+      s = stationAt g k
 
-      pub post-full : isEdit b ≡ true → 32 ≤ stationAt g k .waiting .len → record { refusal = 3; group = g } ≡ postCall g k b
-      unfolding postCall groupPostRefusal
-      post-full e f = rw (i, lt-ltb k (sizeOf g) l, e, le-leb 32 (stationAt g k .waiting .len) f)
+      inside : stationInside s ≡ true
+      inside = inside-make s (member-at g i k l .inside)
 
-      pub post-done :
-          isEdit b ≡ true → stationAt g k .waiting .len < 32 → record { refusal = 0; group = set g k (posted (stationAt g k) b) } ≡ postCall g k b
-      unfolding postCall groupPostRefusal
-      post-done e f = rw (i, lt-ltb k (sizeOf g) l, e, lt-leb 32 (stationAt g k .waiting .len) f)
+      -- a station that is put back as it was leaves the group
+      put : (t : Bool) → set g k (cond t (posted s b) s) ≡ cond t (set g k (posted s b)) g
+      put true = refl
+      put false = set-getD g k noStation
+
+      pub post-there :
+          (kept : Kept) → kept ≡ station.postCall s b → record { refusal = kept .refusal; group = set g k (kept .station) } ≡ postCall g k b
+      unfolding postCall groupPostRefusal station.postCall
+      post-there kept e =
+          rw (e, inside, i, lt-ltb k (sizeOf g) l)
+          (λ j. record { refusal = postRefusal s b; group = put (eqb (postRefusal s b) 0) j })

@@ -1,10 +1,1 @@
 pub mod CallSteps
-pub mod SentFrame
-pub mod RoundFrames
-pub mod RoundSteps
-pub mod SendSteps
-pub mod WrittenFrames
-pub mod WrittenMarks
-pub mod HeardTurn
-pub mod GroupLengths
-pub mod GroupLimits

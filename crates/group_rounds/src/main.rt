@@ -22,7 +22,7 @@ fn run(n: u32, rounds: u32)
         let before = kept.group;
         let drawn = draws::masks(post.state);
         let masks = drawn.masks;
-        let done = group::round(before, masks);
+        let done = rounds::round(before, masks);
         state = drawn.state;
         g = done.group;
         let reports = done.reports;

@@ -187,7 +187,7 @@ fn apply_round(s: Session, line: &[u8], out: &mut [u8]) -> Applied
     }
     let group = s.group;
     let masks = script::masks(line, s.n);
-    let made = group::round(group, masks);
+    let made = rounds::round(group, masks);
     after_round(s, made, out)
 }
 

@@ -121,7 +121,7 @@ pub extern "C" fn relay_bench_rounds(schedule: &[u8], n: u32, rounds: u32) -> u3
             g = kept.group;
         }
         let at = MASKS_SIZE * place_of(number, len / MASKS_SIZE);
-        let done = group::round(g, masks_at(schedule, at));
+        let done = rounds::round(g, masks_at(schedule, at));
         g = done.group;
         let reports = done.reports;
         let mut k: usize = 0;

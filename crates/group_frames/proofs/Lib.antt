@@ -1,0 +1,5 @@
+pub mod SendSteps
+pub mod SentFrame
+pub mod GroupFrames
+pub mod WrittenFrames
+pub mod WrittenMarks

@@ -1,0 +1,57 @@
+// The frames of a round: all are written before any station hears.
+
+ghost use mathlib.Core.Path.{_≡_};
+ghost use Prim.Native.Nat.{_≤_};
+ghost use lib.ListN.{length};
+ghost use Rattle.group_frames.specs.Frames as spec;
+use kinds::refusals::COUNT_TOO_HIGH;
+use kinds::refusals::DONE;
+use kinds::refusals::OUTSIDE_LIMITS;
+use station_rules::Station;
+
+// The room of a frame of sixteen records.
+pub const FRAME_ROOM: usize = 260;
+
+// Writes the frame of station k of a group of n into its part of the bytes; where it may not be written, answers with the refusal of the round.
+pub fn send(bytes: &mut [u8], s: Station, n: usize, k: usize) -> u32
+    requires { ⌜ length (now bytes) ≡ 4160 ⌝ }
+    ensures { λ r. ⌜ (r ≡ spec.sendRefusal n k s) × (now (bytes .exit) ≡ spec.bytesAfter n k s (now (bytes .entry))) ⌝ }
+{
+    if !group_limits::member_inside(s, n, k) {
+        return OUTSIDE_LIMITS;
+    }
+    let record = s.table[k];
+    if !station_limits::count_fits(n, record.count) {
+        return COUNT_TOO_HIGH;
+    }
+    let held = s.held;
+    let table = s.table;
+    let at = FRAME_ROOM * k;
+    frame_writer::write_table(&mut bytes[at..at + FRAME_ROOM], held, table, n, k);
+    DONE
+}
+
+// Of the refusals of two stations, the one that the round answers.
+pub fn worse(a: u32, b: u32) -> u32
+    ensures { λ r. ⌜ r ≡ spec.worse a b ⌝ }
+{
+    if a == OUTSIDE_LIMITS {
+        return a;
+    }
+    if b == DONE {
+        return a;
+    }
+    b
+}
+
+// Writes the marks of the frames of n stations, those of each frame from its start on.
+pub fn mark_frames(marks: &mut [u8], bytes: &[u8], n: usize)
+    requires { ⌜ (n ≤ 16) × (length (now marks) ≡ 4160) ⌝ ∗ ⌜ spec.FramesAt n (now bytes) ⌝ }
+    ensures { λ _. ⌜ spec.MarksBelow n (now (bytes .entry)) (now (marks .exit)) ⌝ }
+{
+    let mut k: usize = 0;
+    while k < n {
+        frame_marks::put_marks(marks, bytes, FRAME_ROOM * k);
+        k += 1;
+    }
+}

@@ -1,0 +1,92 @@
+-- `group_limits::group_inside` meets its contract: the stations passed are members.
+use Prim.Native.Nat.{ℕ, _≤_, _-_}
+use native.Mathlib.Omega.{arith}
+use mathlib.Core.Path.{_≡_, refl, sym, ap, _∙_}
+use mathlib.Core.Bool.{true}
+use borrow.Author.Needs.{needs}
+use borrow.Author.Tests.{not-true, not-false}
+use Rattle.places.specs.Places.{allBelow}
+use Rattle.places.proofs.Laws.{allBelow-more, allBelow-fails}
+use Rattle.group_rules.specs.State.{sizeOf, memberInside}
+use Rattle.group_limits.proofs.GroupLimits.{none-outside, many-outside, group-judged}
+use Rattle.group_limits.proofs.group_inside.Statement.{statement}
+use Rattle.group_limits.proofs.group_inside.Tie as tie
+
+abbrev Inv-loop : tie.InvT-loop
+Inv-loop g n k₀ k = (n ≡ sizeOf g) × (1 ≤ n) × (k ≤ n) × (n ≤ 16) × (allBelow k (memberInside g) ≡ true)
+
+abbrev μ-loop : tie.MeasureT-loop
+μ-loop g n k₀ k = n - k
+
+array-copy-out-first : tie.Need-array-copy-out-first Inv-loop μ-loop
+array-copy-out-first c = search needs
+
+returns : tie.Need-returns Inv-loop μ-loop
+returns c = sym (none-outside (c .before .before .args .t1) (c .if1 .taken))
+
+returns-2 : tie.Need-returns-2 Inv-loop μ-loop
+returns-2 c = sym (many-outside (c .before .before .before .args .t1) (c .if2 .taken))
+
+loop-holds : tie.Need-loop-holds Inv-loop μ-loop
+unfolding allBelow
+loop-holds c = (refl, c .before .if1 .left, omega arith, c .if2 .left, refl)
+
+mul-member-inside : tie.Need-mul-member-inside Inv-loop μ-loop
+mul-member-inside c = search needs
+
+array-copy-out-member-inside : tie.Need-array-copy-out-member-inside Inv-loop μ-loop
+array-copy-out-member-inside c = search needs
+
+member-inside-requires : tie.Need-member-inside-requires Inv-loop μ-loop
+member-inside-requires c κs = search needs
+
+returns-3 : tie.Need-returns-3 Inv-loop μ-loop
+returns-3 c =
+    let g = c .before .before .before .before .before .before .before .before .args .t1 in
+    let l = c .before .before .before .before .loop in
+    sym
+    (group-judged g (l .inv .1)
+    ∙ allBelow-fails (sizeOf g) (memberInside g) (l .k) (omega arith) (sym (c .before .member-inside .ensures) ∙ not-true _ (c .if3 .taken)))
+
+add-k : tie.Need-add-k Inv-loop μ-loop
+add-k c = search needs
+
+loop-less : tie.Need-loop-less Inv-loop μ-loop
+loop-less c = search needs
+
+loop-again : tie.Need-loop-again Inv-loop μ-loop
+loop-again c =
+    let g = c .before .before .before .before .before .before .before .before .args .t1 in
+    let l = c .before .before .before .before .loop in (
+      refl,
+      l .inv .1,
+      omega arith,
+      l .inv .3,
+      allBelow-more (l .k) (memberInside g) (l .inv .4) (sym (c .before .member-inside .ensures) ∙ not-false _ (c .if3 .left)),
+    )
+
+returns-4 : tie.Need-returns-4 Inv-loop μ-loop
+returns-4 c =
+    let g = c .before .before .before .before .before .args .t1 in
+    let l = c .before .loop in
+    let e : l .k ≡ sizeOf g = omega arith in
+    sym (group-judged g (l .inv .1) ∙ ap (λ (m : ℕ). allBelow m (memberInside g)) (sym e) ∙ l .inv .4)
+
+pub group-inside-spec : {M : Type 1} → statement M
+group-inside-spec =
+    tie.close
+    (tie.spec
+    Inv-loop
+    μ-loop
+    array-copy-out-first
+    returns
+    returns-2
+    loop-holds
+    mul-member-inside
+    array-copy-out-member-inside
+    member-inside-requires
+    returns-3
+    add-k
+    loop-less
+    loop-again
+    returns-4)

@@ -1,0 +1,2 @@
+pub mod MaskStarts
+pub mod MayHear

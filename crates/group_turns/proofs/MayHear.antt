@@ -1,0 +1,44 @@
+-- Hearing from the starts that a mask lists: each is the start of a frame with its marks, as hearing asks for.
+use Prim.Native.Nat.{ℕ, _≤_, _<_}
+use mathlib.Core.Bool.{true}
+use mathlib.Core.List.{List}
+use mathlib.Core.Path.{_≡_, sym, subst}
+use native.Mathlib.Omega.{arith}
+use lib.ListN.{getD}
+use Rattle.station_rules.specs.declared.Station.{Station}
+use Rattle.station_rules.specs.Limits.{stationInside}
+use Rattle.station_rules.specs.declared.HeardAll.{HeardAll}
+use Rattle.station_rules.specs.Frames.{FrameAt, HearsAll}
+use Rattle.station_rules.proofs.StationLimits.{inside-open}
+use Rattle.frame_marks.specs.Marks.{MarksAt}
+use Rattle.group_frames.specs.Frames.{frameStart, FramesAt, MarksBelow}
+use Rattle.group_turns.specs.Mask.{heardCount, heardStarts}
+use Rattle.group_turns.proofs.MaskStarts.{count-below, starts-at}
+
+module _ (s : Station) (inside : stationInside s ≡ true) where
+  pub few : s .n ≤ 16
+  few = inside-open s inside .high
+
+  module _ (masks bytes marks : List ℕ) (frames : FramesAt (s .n) bytes) (marked : MarksBelow (s .n) bytes marks)
+      (count : ℕ) (count-is : count ≡ heardCount (s .n) masks (s .own) (s .n))
+      (starts : List ℕ) (starts-is : starts ≡ heardStarts (s .n) masks (s .own) (s .n)) where
+    -- what holds of the start of each frame holds of each start that the station hears from
+    each-start : (P : ℕ → Type 0) → ((k : ℕ) → k < s .n → P (frameStart k)) → (f : ℕ) → f < count → P (getD starts f 0)
+    each-start P each f l =
+        subst (λ (a : List ℕ). P (getD a f 0)) (sym starts-is)
+        (starts-at (s .n) masks (s .own) P each few (s .n) (omega arith) f (omega (arith, count-is)))
+
+    pub may-hear :
+        ((count ≤ 16) × (stationInside s ≡ true))
+        × (((f : ℕ) → f < count → FrameAt (s .n) bytes (getD starts f 0)) × ((f : ℕ) → f < count → MarksAt bytes marks (getD starts f 0)))
+    may-hear = (
+      (omega (arith, count-is, count-below (s .n) masks (s .own) (s .n), few), inside),
+      (each-start (FrameAt (s .n) bytes) (frames .frame), each-start (MarksAt bytes marks) marked),
+    )
+
+    pub mask-heard :
+        (r : HeardAll) → HearsAll s bytes starts count r →
+        HearsAll s bytes (heardStarts (s .n) masks (s .own) (s .n)) (heardCount (s .n) masks (s .own) (s .n)) r
+    mask-heard r h =
+        subst (λ (m : ℕ). HearsAll s bytes (heardStarts (s .n) masks (s .own) (s .n)) m r) count-is
+        (subst (λ (l : List ℕ). HearsAll s bytes l count r) starts-is h)

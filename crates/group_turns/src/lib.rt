@@ -1,0 +1,79 @@
+// A station's part in a round: it hears the frames of its mask, and takes its turn.
+
+ghost use mathlib.Core.Path.{_≡_};
+ghost use mathlib.Core.Bool.{true};
+ghost use Prim.Native.Nat.{_≤_};
+ghost use Rattle.station_rules.specs.Limits.{stationInside};
+ghost use Rattle.station_rules.specs.Frames.{HearsAll};
+ghost use Rattle.group_frames.specs.Frames.{FramesAt, MarksBelow};
+ghost use Rattle.group_turns.specs.Mask as spec;
+ghost use Rattle.group_turns.specs.Turn.{stepAfter};
+use group_frames::FRAME_ROOM;
+use group_rules::Report;
+use station_rules::HeardAll;
+use station_rules::Station;
+
+// Where the frames that a station hears begin, by ascending sender.
+struct Senders {
+    len: usize,
+    starts: [usize; 16],
+}
+
+// A station after its turn, and what the round reports of it.
+pub struct Step {
+    pub station: Station,
+    pub report: Report,
+}
+
+// The frames that station i of n hears in a round with these masks.
+fn heard_by(masks: [u16; 16], n: usize, i: usize) -> Senders
+    requires { ⌜ n ≤ 16 ⌝ }
+    ensures { λ r. ⌜ (r .len ≡ spec.heardCount n masks i n) × (r .starts ≡ spec.heardStarts n masks i n) ⌝ }
+{
+    let mut len: usize = 0;
+    let mut starts = [0usize; 16];
+    let mut j: usize = 0;
+    while j < n {
+        if !links::hears(masks, n, i, j) {
+            j += 1;
+            continue;
+        }
+        starts[len] = FRAME_ROOM * j;
+        len += 1;
+        j += 1;
+    }
+    Senders {
+        len: len,
+        starts: starts,
+    }
+}
+
+// The station hears the frames of its mask, of all that stand in these bytes with their marks beside.
+pub fn hear_mask(s: Station, bytes: &[u8], marks: &[u8], masks: [u16; 16]) -> HeardAll
+    requires { ⌜ stationInside s ≡ true ⌝ ∗ ⌜ FramesAt (s .n) (now bytes) ⌝ ∗ ⌜ MarksBelow (s .n) (now bytes) (now marks) ⌝ }
+    ensures { λ r. ⌜ HearsAll s (now (bytes .entry)) (spec.heardStarts (s .n) masks (s .own) (s .n)) (spec.heardCount (s .n) masks (s .own) (s .n)) r ⌝ }
+{
+    let senders = heard_by(masks, s.n, s.own);
+    let starts = senders.starts;
+    station_hearing::hear_all(s, bytes, marks, starts, senders.len)
+}
+
+// A station that has heard takes its turn.
+pub fn turn_after(heard: HeardAll) -> Step
+    requires { ⌜ stationInside (heard .station) ≡ true ⌝ }
+    ensures { λ r. ⌜ r ≡ stepAfter heard ⌝ }
+{
+    let station = heard.station;
+    let takings = heard.takings;
+    let turned = station_turns::take_turn(station);
+    let after = turned.station;
+    let turn = turned.report;
+    Step {
+        station: after,
+        report: Report {
+            takings_len: heard.takings_len,
+            takings: takings,
+            turn: turn,
+        },
+    }
+}

@@ -1,0 +1,15 @@
+-- `rounds::no_report` meets its contract.
+use borrow.Author.Needs.{needs}
+use Rattle.group_rules.specs.Calls.{noReport}
+use Rattle.rounds.proofs.no_report.Statement.{statement}
+use Rattle.rounds.proofs.no_report.Tie as tie
+
+no-turn-requires : tie.Need-no-turn-requires
+no-turn-requires c κs = search needs
+
+returns : tie.Need-returns
+unfolding noReport
+returns c = rw (c .no-turn .ensures)
+
+pub no-report-spec : {M : Type 1} → statement M
+no-report-spec = tie.close (tie.spec no-turn-requires returns)
