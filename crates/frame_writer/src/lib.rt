@@ -5,7 +5,7 @@ ghost use mathlib.Core.Bool.{true, cond, not, _||_};
 ghost use Prim.Native.Nat.{_+_, _*_, _≤_, _<_};
 ghost use lib.ListN.{length};
 ghost use Rattle.frame_rules.specs.Record.{placeFits};
-ghost use Rattle.frame_rules.specs.Frame.{validNumber, frameBytes};
+ghost use Rattle.frame_rules.specs.Frame.{frameBytes};
 ghost use Rattle.frame_rules.specs.Calls.{tableRecords, heldCount, written, bufferWith, Writable, tableFits, frameWritten, frameBuffer};
 use frame_rules::Record;
 use frame_rules::Written;
@@ -78,19 +78,6 @@ pub fn write_table(
     }
 }
 
-// Is n a number of stations, and the sender one of them?
-fn valid_number(n: usize, sender: usize) -> bool
-    ensures { λ r. ⌜ r ≡ validNumber n sender ⌝ }
-{
-    if n < 1 {
-        return false;
-    }
-    if 16 < n {
-        return false;
-    }
-    sender < n
-}
-
 // Is this a record of station k that a frame among n stations may carry?
 fn place_fits(n: usize, k: usize, r: Record) -> bool
     requires { ⌜ (k < n) × (n ≤ 16) ⌝ }
@@ -148,7 +135,7 @@ pub fn write_frame(
         ⌜ (r ≡ frameWritten n sender held table (length (now (buffer .entry))))
         × (now (buffer .exit) ≡ frameBuffer n sender held table (now (buffer .entry))) ⌝ }
 {
-    if !valid_number(n, sender) {
+    if !numbers::valid_number(n, sender) {
         return Written {
             refusal: BAD_NUMBER,
             len: 0,

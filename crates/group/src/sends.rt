@@ -34,7 +34,7 @@ pub fn send(part: &mut [u8], s: Station, n: usize, k: usize) -> u32
     let size = s.n;
     let own = s.own;
     let record = s.table[own];
-    if !station_limits::count_fits(size, record.count) {
+    if !numbers::count_fits(size, record.count) {
         return COUNT_TOO_HIGH;
     }
     let held = s.held;

@@ -39,7 +39,7 @@ fn turn(s: Station) -> Station {
 }
 
 fn hear(s: Station, bytes: &[u8]) -> Station {
-    let h = station::hear(s, bytes);
+    let h = station_frames::hear(s, bytes);
     let taken = h.taken;
     let after = h.station;
     line(h.refusal, digests::of_flags(0, taken), after);
@@ -54,7 +54,7 @@ struct Frame {
 
 fn write(s: Station) -> Frame {
     let mut buffer = [7u8; 36];
-    let w = station::write(s, &mut buffer);
+    let w = station_frames::write(s, &mut buffer);
     line(w.refusal, w.len as u64, s);
     Frame {
         bytes: buffer,
@@ -214,7 +214,7 @@ fn refused_calls() {
     write(outside);
     hear(outside, b"none");
     let mut small = [7u8; 19];
-    let w = station::write(s, &mut small);
+    let w = station_frames::write(s, &mut small);
     line(w.refusal, wide(small[0]), s);
     let mut high = s;
     let mut own = high.table[0];

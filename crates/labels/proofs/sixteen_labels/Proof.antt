@@ -1,15 +1,16 @@
--- `station_limits::all_labels` meets its contract: what was passed is judged as one truth value.
+-- `labels::sixteen_labels` meets its contract: what was passed is judged as one truth value.
 use Prim.Native.Nat.{ℕ, _≤_, _+_, _-_}
 use native.Mathlib.Numerals.{add-one}
 use native.Mathlib.Omega.{arith}
-use mathlib.Core.Path.{_≡_, ap, _∙_}
+use mathlib.Core.Path.{_≡_, sym, ap, _∙_}
 use mathlib.Core.Bool.{Bool, _&&_}
 use borrow.Author.Needs.{needs}
 use lib.ListN.{getD}
 use Rattle.labels.specs.Label.{isLabel}
 use Rattle.places.specs.Places.{allBelow}
-use Rattle.station_limits.proofs.all_labels.Statement.{statement}
-use Rattle.station_limits.proofs.all_labels.Tie as tie
+use Rattle.labels.proofs.Laws.{all-below}
+use Rattle.labels.proofs.sixteen_labels.Statement.{statement}
+use Rattle.labels.proofs.sixteen_labels.Tie as tie
 
 abbrev Inv-loop : tie.InvT-loop
 Inv-loop labels inside₀ j₀ inside j = (j ≤ 16) × (inside ≡ allBelow j (λ i. isLabel (getD labels i 0)))
@@ -44,9 +45,9 @@ loop-again c =
 returns : tie.Need-returns Inv-loop μ-loop
 returns c =
     let e : c .before .loop .j ≡ 16 = omega arith in
-    rw e at (c .before .loop .inv .1)
+    (rw e at (c .before .loop .inv .1)) ∙ sym (all-below 16 (c .before .before .args .t1))
 
-pub all-labels-spec : {M : Type 1} → statement M
-all-labels-spec =
+pub sixteen-labels-spec : {M : Type 1} → statement M
+sixteen-labels-spec =
     tie.close
     (tie.spec Inv-loop μ-loop loop-holds array-read-inside add-j loop-less loop-again returns)

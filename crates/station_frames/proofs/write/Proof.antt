@@ -1,4 +1,4 @@
--- `station::write` meets its contract, refusal by refusal; then the table is written.
+-- `station_frames::write` meets its contract, refusal by refusal; then the table is written.
 use mathlib.Core.Path.{_≡_, sym, ap, _∙_}
 use mathlib.Core.Bool.{true, false}
 use mathlib.Core.List.{List}
@@ -11,8 +11,8 @@ use Rattle.station_rules.specs.Limits.{stationInside}
 use Rattle.station_rules.proofs.StationLimits.{Inside, inside-open}
 use Rattle.station_rules.proofs.WriteSteps.{writable, frame-is, write-outside, kept-outside, write-count, kept-count, write-frame, buffer-frame}
 use borrow.Author.Needs.{needs}
-use Rattle.station.proofs.write.Statement.{statement}
-use Rattle.station.proofs.write.Tie as tie
+use Rattle.station_frames.proofs.write.Statement.{statement}
+use Rattle.station_frames.proofs.write.Tie as tie
 
 -- the station is inside its limits
 within : (c : tie.Else1) → stationInside (c .before .before .before .args .t1) ≡ true

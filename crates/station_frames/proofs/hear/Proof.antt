@@ -1,4 +1,4 @@
--- `station::hear` meets its contract, refusal by refusal; where none applies, hearing all frames of a list of one is hearing the frame.
+-- `station_frames::hear` meets its contract, refusal by refusal; where none applies, hearing all frames of a list of one is hearing the frame.
 use Prim.Native.Nat.{ℕ, _≤_, _<_}
 use mathlib.Core.Path.{_≡_, sym, ap, _∙_}
 use mathlib.Core.Bool.{Bool, true, false}
@@ -18,8 +18,8 @@ use Rattle.station_hearing.proofs.MarkLaws.{marked-at}
 use Rattle.station_rules.proofs.StationLimits.{inside-open}
 use Rattle.station_rules.proofs.CallSteps.{heardFrame, hear-outside, hear-refused, hear-full, hear-done, one-frame, frame-at, takings-are}
 use borrow.Author.Needs.{needs}
-use Rattle.station.proofs.hear.Statement.{statement}
-use Rattle.station.proofs.hear.Tie as tie
+use Rattle.station_frames.proofs.hear.Statement.{statement}
+use Rattle.station_frames.proofs.hear.Tie as tie
 
 -- the tests that were passed
 within : (c : tie.Else1) → stationInside (c .before .before .before .args .s) ≡ true

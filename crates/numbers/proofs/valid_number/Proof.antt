@@ -1,8 +1,7 @@
--- `station_limits::valid_number` meets its contract, test by test.
-use mathlib.Core.Path.{refl}
+-- `numbers::valid_number` meets its contract, test by test.
 use borrow.Author.Tests.{le-leb, lt-leb}
-use Rattle.station_limits.proofs.valid_number.Statement.{statement}
-use Rattle.station_limits.proofs.valid_number.Tie as tie
+use Rattle.numbers.proofs.valid_number.Statement.{statement}
+use Rattle.numbers.proofs.valid_number.Tie as tie
 
 returns : tie.Need-returns
 returns c = simp (lt-leb _ _ (c .if1 .taken))
