@@ -11,9 +11,9 @@ use lib.ListN.{getD, length}
 use lib.Signed.{leZ, mag}
 use borrow.Author.Tests.{le-ltb, lt-ltb, le-leb, lt-leb, leb-true, leb-false, ltb-true, ltb-false}
 use Rattle.kinds.specs.Limits.{limitsOf, numbersInside}
-use Rattle.frames.specs.declared.Span.{Span}
+use Rattle.kind_words.specs.declared.Span.{Span}
 use Rattle.frame_rules.specs.Words.{signed, unsigned}
-use Rattle.frames.specs.Spans.{above, spanOf, spansOf, spans}
+use Rattle.kind_words.specs.Spans.{above, spanOf, spansOf, spans}
 use Rattle.frame_rules.proofs.Spelled.{unsigned-small, unsigned-back}
 
 -- a difference at 32 bits is the distance

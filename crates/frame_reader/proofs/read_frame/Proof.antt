@@ -1,4 +1,4 @@
--- `frames::read_frame` meets its contract. The loop's invariant: the first k entries are the first k records, and the others are still zero.
+-- `frame_reader::read_frame` meets its contract. The loop's invariant: the first k entries are the first k records, and the others are still zero.
 use mathlib.Core.Path.{_≡_, sym, ap, _∙_}
 use Prim.Native.Nat.{_≤_, _-_}
 use native.Mathlib.Omega.{arith}
@@ -6,10 +6,10 @@ use borrow.Author.Needs.{needs}
 use lib.ListN.{length-take, length-drop}
 use Rattle.frame_rules.specs.Record.{recordOf}
 use Rattle.frame_rules.proofs.Check.{Shape, frame-shape, long-enough}
 use Rattle.frames.proofs.Records.{part-is}
 use Rattle.frame_rules.proofs.Entries.{entriesBelow, entries-none, entries-more, reading-refused, reading-done}
-use Rattle.frames.proofs.read_frame.Statement.{statement}
-use Rattle.frames.proofs.read_frame.Tie as tie
+use Rattle.frame_reader.proofs.read_frame.Statement.{statement}
+use Rattle.frame_reader.proofs.read_frame.Tie as tie
 
 abbrev Inv-loop : tie.InvT-loop
 Inv-loop bytes n own records₀ refusal count k₀ records k = (k ≤ count) × Shape bytes × (records ≡ entriesBelow bytes k)

@@ -1,8 +1,8 @@
--- `frames::spans` meets its contract: it has the five rows of the table one after the other.
+-- `kind_words::spans` meets its contract: it has the five rows of the table one after the other.
 use borrow.Author.Needs.{needs}
-use Rattle.frames.proofs.Distances.{five-rows}
-use Rattle.frames.proofs.spans.Statement.{statement}
-use Rattle.frames.proofs.spans.Tie as tie
+use Rattle.kind_words.proofs.Distances.{five-rows}
+use Rattle.kind_words.proofs.spans.Statement.{statement}
+use Rattle.kind_words.proofs.spans.Tie as tie
 
 array-copy-out-span-of : tie.Need-array-copy-out-span-of
 array-copy-out-span-of c = search needs

@@ -1,4 +1,4 @@
--- `frames::words_inside` meets its contract: the table holds each row's least and spans, and `Distances` says why one test of a distance is enough.
+-- `kind_words::words_inside` meets its contract: the table holds each row's least and spans, and `Distances` says why one test of a distance is enough.
 use mathlib.Core.Path.{ap, _∙_}
 use Prim.Native.Nat.{ℕ}
 use native.Mathlib.Omega.{arith}
@@ -6,9 +6,9 @@ use lib.ListN.{length}
 use borrow.Author.Needs.{needs}
 use Rattle.kinds.specs.Limits.{numbersInside}
 use Rattle.frame_rules.specs.Words.{signed}
-use Rattle.frames.proofs.Distances.{spans-length, no-kind, refused-event, judged-argument}
-use Rattle.frames.proofs.words_inside.Statement.{statement}
-use Rattle.frames.proofs.words_inside.Tie as tie
+use Rattle.kind_words.proofs.Distances.{spans-length, no-kind, refused-event, judged-argument}
+use Rattle.kind_words.proofs.words_inside.Statement.{statement}
+use Rattle.kind_words.proofs.words_inside.Tie as tie
 
 wide-requires : tie.Need-wide-requires
 wide-requires c κs = search needs

@@ -4,7 +4,7 @@ use Prim.Native.Nat.{ℕ, _+_, _-_, _%_}
 use mathlib.Core.List.{List, [], _∷_}
 use Rattle.kinds.specs.declared.Limits.{Limits}
 use Rattle.kinds.specs.Limits.{kinds}
-use Rattle.frames.specs.declared.Span.{Span}
+use Rattle.kind_words.specs.declared.Span.{Span}
 use Rattle.frame_rules.specs.Words.{unsigned}
 
 -- how far word a lies above word b

@@ -1,4 +1,4 @@
--- `frames::span_of` meets its contract: a difference at 32 bits is the distance that the definition names.
+-- `kind_words::span_of` meets its contract: a difference at 32 bits is the distance that the definition names.
 use mathlib.Core.Path.{_≡_, ap, ap₂, _∙_}
 use Prim.Native.Nat.{_-_}
 use native.Mathlib.Omega.{arith}
@@ -6,10 +6,10 @@ use mir.Syntax.{w32}
 use mir.ValLaws.{toZ-ofZ}
 use borrow.Author.Needs.{needs}
 use Rattle.frame_rules.specs.Words.{unsigned}
-use Rattle.frames.specs.Spans.{above}
-use Rattle.frames.proofs.Distances.{above-is}
-use Rattle.frames.proofs.span_of.Statement.{statement}
-use Rattle.frames.proofs.span_of.Tie as tie
+use Rattle.kind_words.specs.Spans.{above}
+use Rattle.kind_words.proofs.Distances.{above-is}
+use Rattle.kind_words.proofs.span_of.Statement.{statement}
+use Rattle.kind_words.proofs.span_of.Tie as tie
 
 unsigned-requires : tie.Need-unsigned-requires
 unsigned-requires c κs = search needs
