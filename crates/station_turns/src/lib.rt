@@ -3,14 +3,14 @@
 ghost use mathlib.Core.Path.{_≡_};
 ghost use mathlib.Core.Bool.{true, false, cond, _&&_};
 ghost use Prim.Native.Nat.{_≤_, _<_};
-ghost use lib.ListN.{getD, replicate};
+ghost use lib.ListN.{getD};
 ghost use lib.Dec.{ltb, eqb};
 ghost use Rattle.kinds.specs.Body.{kindOf};
 ghost use Rattle.kinds.specs.declared.Body.the-variants.{Empty, Neutral};
 ghost use Rattle.labels.specs.Label.{successor};
 ghost use Rattle.places.specs.Places.{allBelow, fill};
-ghost use Rattle.lanes.specs.Lane.{noLane, pushed, popped};
-ghost use Rattle.lanes.specs.Queue.{noSlot, unqueued};
+ghost use Rattle.lanes.specs.Lane.{noLane, pushed};
+ghost use Rattle.lanes.specs.Queue.{unqueued};
 ghost use Rattle.station_rules.specs.Limits.{stationInside};
 ghost use Rattle.station_rules.specs.Calls.{turnDone};
 use frame_rules::Record;
@@ -157,36 +157,6 @@ fn label_after(ended: bool, label: u8) -> u8
     label
 }
 
-// A row, and what is left of the lanes that it was taken from.
-struct TakenRow {
-    row: [Slot; 16],
-    left: [Lane; 16],
-}
-
-// The oldest body of each of the first lanes.
-fn take_row(lanes: [Lane; 16], most: usize) -> TakenRow
-    requires { ⌜ most ≤ 16 ⌝ }
-    ensures { λ r.
-        ⌜ (r .row ≡ fill most (λ k. record { body = (getD lanes k noLane) .first }) (replicate 16 noSlot))
-        × (r .left ≡ fill most (λ k. popped (getD lanes k noLane)) lanes) ⌝ }
-{
-    let slot = Slot { body: Body::Empty };
-    let mut row = [slot; 16];
-    let mut left = lanes;
-    let mut k: usize = 0;
-    while k < most {
-        let lane = left[k];
-        let body = lane.first;
-        row[k] = Slot { body: body };
-        left[k] = lanes::popped(lane);
-        k += 1;
-    }
-    TakenRow {
-        row: row,
-        left: left,
-    }
-}
-
 // The turn of a station that is known to be inside its limits.
 pub fn take_turn(s: Station) -> Turned
     requires { ⌜ stationInside s ≡ true ⌝ }
@@ -200,9 +170,18 @@ pub fn take_turn(s: Station) -> Turned
     let held = s.held;
     let lanes = s.lanes;
     let aired = all_full(n, lanes);
-    let taken = take_row(lanes, count_if(aired, n));
-    let row = taken.row;
-    let mut left = taken.left;
+    let most = count_if(aired, n);
+    let slot = Slot { body: Body::Empty };
+    let mut row = [slot; 16];
+    let mut left = lanes;
+    let mut k: usize = 0;
+    while k < most {
+        let lane = left[k];
+        let body = lane.first;
+        row[k] = Slot { body: body };
+        left[k] = lanes::popped(lane);
+        k += 1;
+    }
     let ended = all_acked(n, had);
     let own_lane = left[own];
     let own_len = own_lane.len;
