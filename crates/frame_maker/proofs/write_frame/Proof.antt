@@ -1,12 +1,12 @@
--- `frame_writer::write_frame` meets its contract: what is refused changes nothing, and a table that fits is one that `write_table` may be called with.
+-- `frame_maker::write_frame` meets its contract: what is refused changes nothing, and a table that fits is one that `write_table` may be called with.
 use mathlib.Core.Path.{sym, _∙_}
 use lib.ListN.{length}
 use borrow.Author.Needs.{needs}
 use borrow.Author.Tests.{not-true, not-false}
 use Rattle.frame_rules.proofs.Check.{valid-few, valid-own}
 use Rattle.frame_rules.proofs.Fitting.{writable, number-answer, number-buffer, record-answer, record-buffer, frame-answer, frame-buffer}
-use Rattle.frame_writer.proofs.write_frame.Statement.{statement}
-use Rattle.frame_writer.proofs.write_frame.Tie as tie
+use Rattle.frame_maker.proofs.write_frame.Statement.{statement}
+use Rattle.frame_maker.proofs.write_frame.Tie as tie
 
 valid-number-requires : tie.Need-valid-number-requires
 valid-number-requires c κs = search needs

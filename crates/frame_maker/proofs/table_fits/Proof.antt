@@ -1,4 +1,4 @@
--- `frame_writer::table_fits` meets its contract: after k places the records at the held ones among them fit.
+-- `frame_maker::table_fits` meets its contract: after k places the records at the held ones among them fit.
 use mathlib.Core.Path.{_≡_, sym, _∙_}
 use mathlib.Core.Bool.{true}
 use Prim.Native.Nat.{_-_, _≤_}
@@ -7,8 +7,8 @@ use borrow.Author.Tests.{not-true, not-false}
 use Rattle.places.specs.Places.{allBelow}
 use Rattle.places.proofs.Laws.{allBelow-make, allBelow-more}
 use Rattle.frame_rules.proofs.Fitting.{fitsAt, one-fails, by-sender's}
-use Rattle.frame_writer.proofs.table_fits.Statement.{statement}
-use Rattle.frame_writer.proofs.table_fits.Tie as tie
+use Rattle.frame_maker.proofs.table_fits.Statement.{statement}
+use Rattle.frame_maker.proofs.table_fits.Tie as tie
 
 abbrev Inv-loop : tie.InvT-loop
 Inv-loop n sender held table k₀ k = (k ≤ n) × (allBelow k (fitsAt n sender held table) ≡ true)

@@ -1,11 +1,11 @@
--- `frame_writer::place_fits` meets its contract: each test is one of the definition's, in its order.
+-- `frame_maker::place_fits` meets its contract: each test is one of the definition's, in its order.
 use mathlib.Core.Path.{sym, _∙_}
 use native.Mathlib.Omega.{arith}
 use borrow.Author.Needs.{needs}
 use borrow.Author.Tests.{not-true, not-false}
 use Rattle.frame_rules.proofs.Fitting.{other-station, high-count, other-body, by-all-labels}
-use Rattle.frame_writer.proofs.place_fits.Statement.{statement}
-use Rattle.frame_writer.proofs.place_fits.Tie as tie
+use Rattle.frame_maker.proofs.place_fits.Statement.{statement}
+use Rattle.frame_maker.proofs.place_fits.Tie as tie
 
 returns : tie.Need-returns
 returns c =

@@ -1,8 +1,8 @@
--- `frame_writer::held_fits` meets its contract.
+-- `frame_maker::held_fits` meets its contract.
 use borrow.Author.Tests.{not-false}
 use borrow.Author.Needs.{needs}
-use Rattle.frame_writer.proofs.held_fits.Statement.{statement}
-use Rattle.frame_writer.proofs.held_fits.Tie as tie
+use Rattle.frame_maker.proofs.held_fits.Statement.{statement}
+use Rattle.frame_maker.proofs.held_fits.Tie as tie
 
 returns : tie.Need-returns
 returns c = search needs
