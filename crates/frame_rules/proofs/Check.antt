@@ -149,23 +149,13 @@ module _ (s : List ℕ) (n own : ℕ) where
       unfolding frameRefusal
       refused-records c = rw (a, b, c)
 
-  pub refused-none : n < 1 → badNumber ≡ checkRefusal s n own
+  pub refused-number : validNumber n own ≡ false → badNumber ≡ checkRefusal s n own
   unfolding checkRefusal
-  refused-none a = simp (lt-leb _ _ a)
+  refused-number a = rw a
 
-  module _ (a : 1 ≤ n) where
-    pub refused-many : 16 < n → badNumber ≡ checkRefusal s n own
-    unfolding checkRefusal
-    refused-many b = simp (le-leb _ _ a, lt-leb _ _ b)
-
-    module _ (b : n ≤ 16) where
-      pub refused-own : n ≤ own → badNumber ≡ checkRefusal s n own
-      unfolding checkRefusal
-      refused-own c = simp (le-leb _ _ a, le-leb _ _ b, le-ltb _ _ c)
-
-      pub by-frame : own < n → frameRefusal s n own ≡ checkRefusal s n own
-      unfolding checkRefusal
-      by-frame c = simp (le-leb _ _ a, le-leb _ _ b, lt-ltb _ _ c)
+  pub by-frame : validNumber n own ≡ true → frameRefusal s n own ≡ checkRefusal s n own
+  unfolding checkRefusal
+  by-frame a = rw a
 
 -- what a valid number says
 module _ (n own : ℕ) (v : validNumber n own ≡ true) where

@@ -1,20 +1,12 @@
-// Frames judged and read.
+// Frames judged.
 
 ghost use mathlib.Core.Path.{_≡_};
 ghost use mathlib.Core.Bool.{true};
 ghost use Prim.Native.Nat.{_+_, _*_, _≤_, _<_};
 ghost use lib.ListN.{length, getD};
-ghost use Rattle.frame_rules.specs.Words.{signed, unsigned};
-ghost use Rattle.kinds.specs.Limits.{numbersInside};
-ghost use Rattle.frames.specs.Spans.{spanOf, spans};
+ghost use Rattle.kind_words.specs.Spans.{spans};
 ghost use Rattle.frame_rules.specs.Record.{bytesInside};
 ghost use Rattle.frame_rules.specs.Frame.{shapeWrong, addressWrong, recordsInside, frameRefusal, checkRefusal};
-ghost use Rattle.frame_rules.specs.Calls.{reading};
-use frame_rules::Reading;
-use frame_rules::Record;
-use kinds::Body;
-use kinds::KINDS;
-use kinds::Limits;
 use kinds::refusals::BAD_ADDRESS;
 use kinds::refusals::BAD_NUMBER;
 use kinds::refusals::BAD_RECORD;
@@ -22,79 +14,6 @@ use kinds::refusals::BAD_SHAPE;
 use kinds::refusals::DONE;
 use records::FRAME_MARK;
 use records::RECORD_MARK;
-use std::num::wrapping_sub_u32;
-
-// A row of the table of kinds in words: the least event and the least argument, and how far above them the most lie.
-struct Span {
-    event: u32,
-    events: u32,
-    argument: u32,
-    arguments: u32,
-}
-
-fn span_of(row: Limits) -> Span
-    requires { ⌜ row .«least_event» ≤ row .«most_event» ⌝ }
-    ensures { λ r. ⌜ r ≡ spanOf row ⌝ }
-{
-    let least = records::unsigned(row.least_argument);
-    let most = records::unsigned(row.most_argument);
-    Span {
-        event: row.least_event,
-        events: row.most_event - row.least_event,
-        argument: least,
-        arguments: wrapping_sub_u32(most, least),
-    }
-}
-
-// The rows of all kinds, four words each.
-fn spans() -> [u32; 20]
-    ensures { λ r. ⌜ r ≡ spans ⌝ }
-{
-    let rows = KINDS;
-    let a = span_of(rows[0]);
-    let b = span_of(rows[1]);
-    let c = span_of(rows[2]);
-    let d = span_of(rows[3]);
-    let e = span_of(rows[4]);
-    [
-        a.event,
-        a.events,
-        a.argument,
-        a.arguments,
-        b.event,
-        b.events,
-        b.argument,
-        b.arguments,
-        c.event,
-        c.events,
-        c.argument,
-        c.arguments,
-        d.event,
-        d.events,
-        d.argument,
-        d.arguments,
-        e.event,
-        e.events,
-        e.argument,
-        e.arguments,
-    ]
-}
-
-// Are these the numbers of a body inside its limits, the argument as a word? Of each number one test judges both limits.
-fn words_inside(table: &[u32], kind: u8, event: u32, argument: u32) -> bool
-    requires { ⌜ now table ≡ spans ⌝ }
-    ensures { λ r. ⌜ r ≡ numbersInside kind event (signed argument) ⌝ }
-{
-    let row = records::wide(kind);
-    if KINDS.len() <= row {
-        return false;
-    }
-    let at = 4 * row;
-    if table[at + 1] < wrapping_sub_u32(event, table[at]) {
-        return false;
-    }
-    wrapping_sub_u32(argument, table[at + 2]) <= table[at + 3]
-}
 
 // Are the sixteen bytes of a record inside its limits?
 fn record_inside(table: &[u32], part: &[u8], n: usize) -> bool
@@ -109,7 +28,7 @@ fn record_inside(table: &[u32], part: &[u8], n: usize) -> bool
     }
     let event = records::word_at(part, 4);
     let argument = records::word_at(part, 8);
-    if !words_inside(table, part[2], event, argument) {
+    if !kind_words::words_inside(table, part[2], event, argument) {
         return false;
     }
     if part[3] != RECORD_MARK {
@@ -161,7 +80,7 @@ fn records_inside(bytes: &[u8], n: usize) -> bool
 {
     let count = records::wide(bytes[2]);
     let sender = records::wide(bytes[1]);
-    let table = spans();
+    let table = kind_words::spans();
     let mut found = false;
     let mut least: usize = 0;
     let mut k: usize = 0;
@@ -202,47 +121,8 @@ pub fn frame_refusal(bytes: &[u8], n: usize, own: usize) -> u32
 pub fn check_frame(bytes: &[u8], n: usize, own: usize) -> u32
     ensures { λ r. ⌜ r ≡ checkRefusal (now (bytes .entry)) n own ⌝ }
 {
-    if n < 1 {
-        return BAD_NUMBER;
-    }
-    if 16 < n {
-        return BAD_NUMBER;
-    }
-    if n <= own {
+    if !numbers::valid_number(n, own) {
         return BAD_NUMBER;
     }
     frame_refusal(bytes, n, own)
-}
-
-// The records of a frame that the frame check accepts.
-pub fn read_frame(bytes: &[u8], n: usize, own: usize) -> Reading
-    ensures { λ r. ⌜ r ≡ reading (now (bytes .entry)) n own ⌝ }
-{
-    let none = Record {
-        station: 0,
-        count: 0,
-        body: Body::Empty,
-        labels: [0u8; 16],
-    };
-    let mut records = [none; 16];
-    let refusal = check_frame(bytes, n, own);
-    if refusal != DONE {
-        return Reading {
-            refusal: refusal,
-            count: 0,
-            records: records,
-        };
-    }
-    let count = records::wide(bytes[2]);
-    let mut k: usize = 0;
-    while k < count {
-        let at = 4 + 16 * k;
-        records[k] = records::read_record(&bytes[at..at + 16]);
-        k += 1;
-    }
-    Reading {
-        refusal: DONE,
-        count: count,
-        records: records,
-    }
 }

@@ -31,7 +31,7 @@ fn fresh_group(n: usize) -> [Station; 16]
 pub fn fresh(n: usize) -> KeptGroup
     ensures { λ r. ⌜ r ≡ freshCall n ⌝ }
 {
-    if station_limits::valid_number(n, 0) {
+    if numbers::valid_number(n, 0) {
         let group = fresh_group(n);
         return KeptGroup {
             refusal: DONE,

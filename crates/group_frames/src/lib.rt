@@ -21,7 +21,7 @@ pub fn send(bytes: &mut [u8], s: Station, n: usize, k: usize) -> u32
         return OUTSIDE_LIMITS;
     }
     let record = s.table[k];
-    if !station_limits::count_fits(n, record.count) {
+    if !numbers::count_fits(n, record.count) {
         return COUNT_TOO_HIGH;
     }
     let held = s.held;

@@ -2,7 +2,6 @@
 -- goes label by label.
 use Prim.Native.Nat.{ℕ, zero, suc, _+_, _-_, _*_, _/_, _%_, _^_, _≤_, _<_, zero-le, suc-le-suc}
 use native.Mathlib.Nat.{pow-le-pow-right, pow-succ', suc-add, zero-add}
-use native.Mathlib.Decide.{ℕ-discrete}
 use native.Mathlib.Omega.{arith}
 use mathlib.Core.Bool.{Bool, true, false, _&&_, and-assoc}
 use mathlib.Core.List.{List, [], _∷_, _++_, append-nil}
@@ -11,7 +10,9 @@ use lib.Dec.{leb, eqb}
 use lib.ListN.{length, getD, take, drop, replicate}
 use lib.Seq.{length-take-le, take-at, drop-at, getD-take}
 use borrow.Author.Tests.{leb-true, eqb-true, le-leb, eq-eqb}
-use Rattle.places.proofs.Laws.{both}
+use Rattle.places.specs.Places.{allBelow}
+use Rattle.places.proofs.Laws.{both, allBelow-make, allBelow-at}
+use Rattle.labels.specs.Label.{isLabel}
 use Rattle.labels.specs.Packing.{packed, unpacked, allLabels, allZero, wordInside}
 
 -- two tests that follow from each other are the same
@@ -46,8 +47,7 @@ at-all [] f = refl
 at-all (label ∷ labels) f =
     rw (le-leb label 2 (f 0 (suc-le-suc zero-le))) (at-all labels (λ i h. f (suc i) (suc-le-suc h)))
 
--- a list is labels where both its parts are
--- the first n entries are labels where each is, and not where one isn't
+-- the first n entries are labels where each is
 pub take-all : (n : ℕ) (labels : List ℕ) → ((i : ℕ) → i < n → getD labels i 0 ≤ 2) → allLabels (take n labels) ≡ true
 unfolding allLabels
 take-all zero labels h = refl
@@ -55,18 +55,14 @@ take-all (suc n) [] h = refl
 take-all (suc n) (label ∷ labels) h =
     rw (le-leb label 2 (h 0 (suc-le-suc zero-le))) (take-all n labels (λ i l. h (suc i) (suc-le-suc l)))
 
--- one entry more, as a loop's counter has it
-pub more-labels :
-    (labels : List ℕ) (i : ℕ) → ((j : ℕ) → j < i → getD labels j 0 ≤ 2) → getD labels i 0 ≤ 2 → (j : ℕ) → j < i + 1 → getD labels j 0 ≤ 2
-more-labels labels i h l j b = elim (ℕ-discrete j i) [ yes e ↦ rw e l | no d ↦ h j (omega arith) ]
+-- the same as a test of every place below n
+pub all-below : (n : ℕ) (labels : List ℕ) → allLabels (take n labels) ≡ allBelow n (λ j. isLabel (getD labels j 0))
+all-below n labels =
+    same-test (allLabels (take n labels)) (allBelow n (λ j. isLabel (getD labels j 0)))
+    (λ e. allBelow-make n (λ j. isLabel (getD labels j 0)) (λ j l. le-leb (getD labels j 0) 2 (omega (arith, all-at (take n labels) e j, getD-take n labels j 0 l))))
+    (λ e. take-all n labels (λ j l. leb-true (getD labels j 0) 2 (allBelow-at n (λ k. isLabel (getD labels k 0)) e j l)))
 
-pub take-fails : (n : ℕ) (labels : List ℕ) (i : ℕ) → i < n → 2 < getD labels i 0 → allLabels (take n labels) ≡ false
-take-fails n labels i l h = go (allLabels (take n labels)) refl
-  where
-    go : (t : Bool) → allLabels (take n labels) ≡ t → t ≡ false
-    go true e = absurd (omega (arith, all-at (take n labels) e i, getD-take n labels i 0 l))
-    go false e = refl
-
+-- a list is labels where both its parts are
 pub all-split :
     (n : ℕ) (labels : List ℕ) →
     allLabels labels ≡ (allLabels (take n labels) && allLabels (drop n labels))

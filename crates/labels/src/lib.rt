@@ -1,4 +1,4 @@
-// Labels: the successor, sixteen of them in a word, and which of two records is newer.
+// Labels: the successor, which lists are labels, and sixteen of them in a word.
 
 ghost use mathlib.Core.Path.{_≡_};
 ghost use mathlib.Core.Bool.{true};
@@ -7,13 +7,6 @@ ghost use lib.ListN.{take, getD};
 ghost use Rattle.places.specs.Places.{fill};
 ghost use Rattle.labels.specs.Label.{successor};
 ghost use Rattle.labels.specs.Packing.{packed, unpacked, allLabels, wordInside};
-ghost use Rattle.labels.specs.Newer.{isNewer, ageOf};
-
-// What is decided of a seen record beside the held one.
-pub enum Age {
-    Newer,
-    NotNewer,
-}
 
 // The label after this one.
 pub fn successor(label: u8) -> u8
@@ -22,24 +15,17 @@ pub fn successor(label: u8) -> u8
     (((label as u32) + 1) % 3) as u8
 }
 
-// Is a seen record with this own label and count newer than the held one, if one is held?
-pub fn newer(held: bool, held_label: u8, held_count: u8, seen_label: u8, seen_count: u8) -> Age
-    ensures { λ r. ⌜ r ≡ ageOf (isNewer held «held_label» «held_count» «seen_label» «seen_count») ⌝ }
+// Are all sixteen labels? A loop of a fixed length without an early end is unrolled.
+fn sixteen_labels(labels: [u8; 16]) -> bool
+    ensures { λ r. ⌜ r ≡ allLabels (take 16 labels) ⌝ }
 {
-    if !held {
-        return Age::Newer;
+    let mut inside = true;
+    let mut j: usize = 0;
+    while j < 16 {
+        inside = inside & (labels[j] <= 2);
+        j += 1;
     }
-    let next = successor(held_label);
-    if seen_label == next {
-        return Age::Newer;
-    }
-    if seen_label != held_label {
-        return Age::NotNewer;
-    }
-    if held_count < seen_count {
-        return Age::Newer;
-    }
-    Age::NotNewer
+    inside
 }
 
 // Is each of the first n entries a label?
@@ -47,12 +33,15 @@ pub fn all_labels(labels: [u8; 16], n: usize) -> bool
     requires { ⌜ n ≤ 16 ⌝ }
     ensures { λ r. ⌜ r ≡ allLabels (take n labels) ⌝ }
 {
-    let mut i: usize = 0;
-    while i < n {
-        if 2 < labels[i] {
+    if n == 16 {
+        return sixteen_labels(labels);
+    }
+    let mut j: usize = 0;
+    while j < n {
+        if 2 < labels[j] {
             return false;
         }
-        i += 1;
+        j += 1;
     }
     true
 }

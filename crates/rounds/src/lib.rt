@@ -42,7 +42,7 @@ pub fn round(g: [Station; 16], masks: [u16; 16]) -> RoundDone
     };
     let first = z.group[0];
     let n = first.n;
-    if !station_limits::valid_number(n, 0) {
+    if !numbers::valid_number(n, 0) {
         z.refusal = OUTSIDE_LIMITS;
         return z;
     }

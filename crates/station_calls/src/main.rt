@@ -1,6 +1,7 @@
 // Drives every call of a station through accepted and refused cases. Each line has the refusal, another number of the answer, and a digest of the
 // whole station that came back.
 
+ghost use Prim.Native.Nat.{_<_};
 use kinds::Body;
 use lanes::Lane;
 use station_rules::Station;
@@ -39,7 +40,7 @@ fn turn(s: Station) -> Station {
 }
 
 fn hear(s: Station, bytes: &[u8]) -> Station {
-    let h = station::hear(s, bytes);
+    let h = station_frames::hear(s, bytes);
     let taken = h.taken;
     let after = h.station;
     line(h.refusal, digests::of_flags(0, taken), after);
@@ -54,7 +55,7 @@ struct Frame {
 
 fn write(s: Station) -> Frame {
     let mut buffer = [7u8; 36];
-    let w = station::write(s, &mut buffer);
+    let w = station_frames::write(s, &mut buffer);
     line(w.refusal, w.len as u64, s);
     Frame {
         bytes: buffer,
@@ -92,87 +93,119 @@ fn fresh_calls() {
     fresh(3, 3);
 }
 
-// Posts of every kind, and then the same edit until the queue is full and once more.
-fn post_calls() {
-    let s0 = fresh(2, 0);
-    let s1 = post(s0, Body::Empty);
-    let s2 = post(s1, Body::Neutral);
-    let s3 = post(
-        s2,
-        Body::Shift {
-            event: 1,
-            frames: -90_001,
-        },
-    );
-    let s4 = post(
-        s3,
-        Body::Shift {
-            event: 1,
-            frames: -90_000,
-        },
-    );
-    let s5 = post(
-        s4,
-        Body::Insert {
-            event: 99_999_999,
-            start: 2_160_000,
-        },
-    );
-    let mut s = s5;
+// An edit beyond a limit of its kind, one at the limit, and one beyond again.
+fn post_limits(s: Station) -> Station {
+    let below = Body::Shift {
+        event: 1,
+        frames: -90_001,
+    };
+    let least = Body::Shift {
+        event: 1,
+        frames: -90_000,
+    };
+    let above = Body::Insert {
+        event: 99_999_999,
+        start: 2_160_000,
+    };
+    post(post(post(s, below), least), above)
+}
+
+// The same edit until the queue is full, and once more.
+fn post_many(first: Station) {
+    let mut s = first;
     let mut i: usize = 0;
     while i < 33 {
-        let next = post(s, Body::Drop { event: 5 });
-        s = next;
+        s = post(s, Body::Drop { event: 5 });
         i += 1;
+    }
+}
+
+// Posts of every kind.
+fn post_calls() {
+    let s = post(post(fresh(2, 0), Body::Empty), Body::Neutral);
+    post_many(post_limits(s));
+}
+
+fn insert() -> Body {
+    Body::Insert {
+        event: 7,
+        start: 100,
     }
 }
 
 // A station alone: an insert starts, is aired, and Neutral follows.
 fn turn_calls() {
-    let s0 = fresh(1, 0);
-    let s1 = post(
-        s0,
-        Body::Insert {
-            event: 7,
-            start: 100,
-        },
-    );
-    let s2 = turn(s1);
-    let s3 = turn(s2);
-    let s4 = turn(s3);
-    turn(s4);
+    let s = turn(turn(post(fresh(1, 0), insert())));
+    turn(turn(s));
 }
 
-// Two stations hear each other round by round.
-fn rounds() {
-    let a0 = fresh(2, 0);
-    let b0 = fresh(2, 1);
-    let mut a = post(
-        a0,
-        Body::Insert {
-            event: 7,
-            start: 100,
-        },
-    );
-    let mut b = post(
-        b0,
+struct Pair {
+    a: Station,
+    b: Station,
+}
+
+// Both write, then both hear, then both take their turn.
+fn exchange(pair: Pair) -> Pair {
+    let a = pair.a;
+    let b = pair.b;
+    let from_a = write(a);
+    let from_b = write(b);
+    let a_heard = hear_frame(a, from_b);
+    let b_heard = hear_frame(b, from_a);
+    let a_after = turn(a_heard);
+    let b_after = turn(b_heard);
+    Pair {
+        a: a_after,
+        b: b_after,
+    }
+}
+
+fn two() -> Pair {
+    let a = fresh(2, 0);
+    let b = fresh(2, 1);
+    let a_posted = post(a, insert());
+    let b_posted = post(
+        b,
         Body::Shift {
             event: 8,
             frames: -5,
         },
     );
+    Pair {
+        a: a_posted,
+        b: b_posted,
+    }
+}
+
+// Two stations hear each other round by round.
+fn rounds() {
+    let mut pair = two();
     let mut i: usize = 0;
     while i < 6 {
-        let from_a = write(a);
-        let from_b = write(b);
-        let a1 = hear_frame(a, from_b);
-        let b1 = hear_frame(b, from_a);
-        let a2 = turn(a1);
-        let b2 = turn(b1);
-        a = a2;
-        b = b2;
+        pair = exchange(pair);
         i += 1;
     }
+}
+
+// A frame with one byte changed.
+fn hear_changed(s: Station, frame: [u8; 36], at: usize, byte: u8)
+    requires { ⌜ at < 36 ⌝ }
+{
+    let mut bytes = frame;
+    bytes[at] = byte;
+    hear_first(s, &bytes, 20);
+}
+
+// A body heard by a station that has a place for it, and by one that has none.
+fn hear_full(s: Station, frame: [u8; 36]) {
+    let mut full = s;
+    full.lanes[0] = Lane {
+        len: 2,
+        first: Body::Neutral,
+        second: Body::Neutral,
+    };
+    hear_changed(s, frame, 6, 1);
+    hear_changed(full, frame, 6, 1);
 }
 
 // Frames that are turned down.
@@ -183,44 +216,43 @@ fn hear_calls() {
     let good = frame.bytes;
     hear_first(b, &good, 3);
     hear_first(b, &good, 19);
-    let mut other_n = good;
-    other_n[0] = 3;
-    hear_first(b, &other_n, 20);
-    let mut own_frame = good;
-    own_frame[1] = 1;
-    hear_first(b, &own_frame, 20);
-    let mut marked = good;
-    marked[7] = 1;
-    hear_first(b, &marked, 20);
-    let mut full = b;
-    full.lanes[0] = Lane {
-        len: 2,
-        first: Body::Neutral,
-        second: Body::Neutral,
-    };
-    let mut taking = good;
-    taking[6] = 1;
-    hear_first(b, &taking, 20);
-    hear_first(full, &taking, 20);
+    hear_changed(b, good, 0, 3);
+    hear_changed(b, good, 1, 1);
+    hear_changed(b, good, 7, 1);
+    hear_full(b, good);
 }
 
-// A station outside its limits, a short buffer, a count that fits no frame.
-fn refused_calls() {
-    let s = fresh(2, 0);
+// A station outside its limits.
+fn outside_calls(s: Station) {
     let mut outside = s;
     outside.n = 17;
     post(outside, Body::Drop { event: 5 });
     turn(outside);
     write(outside);
     hear(outside, b"none");
+}
+
+// A short buffer.
+fn short_call(s: Station) {
     let mut small = [7u8; 19];
-    let w = station::write(s, &mut small);
+    let w = station_frames::write(s, &mut small);
     line(w.refusal, wide(small[0]), s);
+}
+
+// A count that fits no frame.
+fn count_call(s: Station) {
     let mut high = s;
     let mut own = high.table[0];
     own.count = 3;
     high.table[0] = own;
     write(high);
+}
+
+fn refused_calls() {
+    let s = fresh(2, 0);
+    outside_calls(s);
+    short_call(s);
+    count_call(s);
 }
 
 fn main() {

@@ -1,33 +1,16 @@
 // When a station is inside its limits. Entries from N up, places past a length, and records that are not held are not looked at.
 
 ghost use mathlib.Core.Path.{_≡_};
-ghost use mathlib.Core.Bool.{cond, not, _&&_, _||_};
+ghost use mathlib.Core.Bool.{cond, not, _||_};
 ghost use Prim.Native.Nat.{_≤_};
-ghost use lib.ListN.{getD};
 ghost use lib.Dec.{eqb};
-ghost use Rattle.labels.specs.Label.{isLabel};
-ghost use Rattle.frame_rules.specs.Frame.{validNumber};
 ghost use Rattle.frame_rules.specs.Record.{countInside};
-ghost use Rattle.places.specs.Places.{allBelow};
 ghost use Rattle.station_rules.specs.Limits as spec;
 use frame_rules::Record;
 use kinds::Body;
 use lanes::Lane;
 use lanes::Queue;
 use station_rules::Station;
-
-// Is n a number of stations, and own one of them?
-pub fn valid_number(n: usize, own: usize) -> bool
-    ensures { λ r. ⌜ r ≡ validNumber n own ⌝ }
-{
-    if n < 1 {
-        return false;
-    }
-    if 16 < n {
-        return false;
-    }
-    own < n
-}
 
 // May a lane hold this body?
 fn takeable(body: Body) -> bool
@@ -89,45 +72,6 @@ fn queue_inside(queue: Queue) -> bool
     true
 }
 
-// Are all sixteen labels? A loop of a fixed length without an early end is unrolled.
-fn all_labels(labels: [u8; 16]) -> bool
-    ensures { λ r. ⌜ r ≡ allBelow 16 (λ j. isLabel (getD labels j 0)) ⌝ }
-{
-    let mut inside = true;
-    let mut j: usize = 0;
-    while j < 16 {
-        inside = inside & (labels[j] <= 2);
-        j += 1;
-    }
-    inside
-}
-
-// Are the first n labels labels?
-fn labels_inside(labels: [u8; 16], n: usize) -> bool
-    requires { ⌜ n ≤ 16 ⌝ }
-    ensures { λ r. ⌜ r ≡ allBelow n (λ j. isLabel (getD labels j 0)) ⌝ }
-{
-    if n == 16 {
-        return all_labels(labels);
-    }
-    let mut j: usize = 0;
-    while j < n {
-        if 2 < labels[j] {
-            return false;
-        }
-        j += 1;
-    }
-    true
-}
-
-// May a record in a frame have this count?
-pub fn count_fits(n: usize, count: u8) -> bool
-    requires { ⌜ (1 ≤ n) × (n ≤ 16) ⌝ }
-    ensures { λ r. ⌜ r ≡ countInside n count ⌝ }
-{
-    (count as usize) <= 2 * (n - 1)
-}
-
 // May the record of station k have this count? The own record's may reach 255.
 fn count_inside(n: usize, own: usize, k: usize, count: u8) -> bool
     requires { ⌜ (1 ≤ n) × (n ≤ 16) ⌝ }
@@ -136,7 +80,7 @@ fn count_inside(n: usize, own: usize, k: usize, count: u8) -> bool
     if k == own {
         return true;
     }
-    count_fits(n, count)
+    numbers::count_fits(n, count)
 }
 
 // Is this a record of station k, inside its limits, in the table of station own among n?
@@ -155,7 +99,7 @@ fn record_inside(n: usize, own: usize, k: usize, record: Record) -> bool
         return false;
     }
     let labels = record.labels;
-    labels_inside(labels, n)
+    labels::all_labels(labels, n)
 }
 
 // Is the record of station k inside its limits, if one is held?
@@ -197,7 +141,7 @@ pub fn station_inside(s: Station) -> bool
 {
     let n = s.n;
     let own = s.own;
-    if !valid_number(n, own) {
+    if !numbers::valid_number(n, own) {
         return false;
     }
     if !s.acked[own] {

@@ -1,34 +1,31 @@
 -- `frames::check_frame` meets its contract: N and the own number first, then what `frame_refusal` says.
-use mathlib.Core.Path.{_∙_}
-use native.Mathlib.Omega.{arith}
-use Rattle.frame_rules.proofs.Check.{refused-none, refused-many, refused-own, by-frame}
+use mathlib.Core.Path.{_≡_, sym, _∙_}
+use mathlib.Core.Bool.{true}
 use borrow.Author.Needs.{needs}
+use borrow.Author.Tests.{not-true, not-false}
+use Rattle.frame_rules.specs.Frame.{validNumber}
+use Rattle.frame_rules.proofs.Check.{refused-number, by-frame, valid-few}
 use Rattle.frames.proofs.check_frame.Statement.{statement}
 use Rattle.frames.proofs.check_frame.Tie as tie
 
+valid-number-requires : tie.Need-valid-number-requires
+valid-number-requires c κs = search needs
+
 returns : tie.Need-returns
 returns c =
-    let s = c .before .before .args in
-    refused-none (s .bytes .now) (s .n) (s .own) (omega arith)
+    let s = c .before .before .before .args in
+    refused-number (s .bytes .now) (s .n) (s .own) (sym (c .before .valid-number .ensures) ∙ not-true _ (c .if1 .taken))
+
+frame-refusal-requires : tie.Need-frame-refusal-requires
+frame-refusal-requires c κs =
+    let s = c .before .before .before .args in
+    valid-few (s .n) (s .own) (sym (c .before .valid-number .ensures) ∙ not-false _ (c .if1 .left))
 
 returns-2 : tie.Need-returns-2
 returns-2 c =
-    let s = c .before .before .before .args in
-    refused-many (s .bytes .now) (s .n) (s .own) (omega arith) (omega arith)
-
-returns-3 : tie.Need-returns-3
-returns-3 c =
     let s = c .before .before .before .before .args in
-    refused-own (s .bytes .now) (s .n) (s .own) (omega arith) (omega arith) (omega arith)
-
-frame-refusal-requires : tie.Need-frame-refusal-requires
-frame-refusal-requires c κs = search needs
-
-returns-4 : tie.Need-returns-4
-returns-4 c =
-    let s = c .before .before .before .before .before .args in
-    c .frame-refusal .ensures ∙ by-frame (s .bytes .now) (s .n) (s .own) (omega arith) (omega arith) (omega arith)
+    c .frame-refusal .ensures
+    ∙ by-frame (s .bytes .now) (s .n) (s .own) (sym (c .before .before .valid-number .ensures) ∙ not-false _ (c .before .if1 .left))
 
 pub check-frame-spec : {M : Type 1} → statement M
-check-frame-spec =
-    tie.close (tie.spec returns returns-2 returns-3 frame-refusal-requires returns-4)
+check-frame-spec = tie.close (tie.spec valid-number-requires returns frame-refusal-requires returns-2)

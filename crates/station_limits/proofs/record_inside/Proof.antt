@@ -7,6 +7,7 @@ use Rattle.kinds.specs.Limits.{bodyInside}
 use Rattle.frame_rules.specs.Record.{countInside}
 use Rattle.station_rules.specs.Limits.{recordInside}
 use borrow.Author.Needs.{needs}
+use Rattle.labels.proofs.Laws.{all-below}
 use Rattle.station_limits.proofs.record_inside.Statement.{statement}
 use Rattle.station_limits.proofs.record_inside.Tie as tie
 
@@ -36,8 +37,8 @@ returns-3 c =
     let f : bodyInside (a .«record» .body) ≡ false = sym (c .before .body-inside .ensures) ∙ not-true _ (c .if3 .taken) in
     rw (eq-eqb _ _ (b .before .if1 .left), e, f)
 
-labels-inside-requires : tie.Need-labels-inside-requires
-labels-inside-requires c κs = search needs
+all-labels-requires : tie.Need-all-labels-requires
+all-labels-requires c κs = search needs
 
 returns-4 : tie.Need-returns-4
 unfolding recordInside
@@ -46,7 +47,7 @@ returns-4 c =
     let a = b .before .before .before .args in
     let e : (eqb (a .k) (a .own) || countInside (a .n) (a .«record» .count)) ≡ true = sym (b .count-inside .ensures) ∙ not-false _ (c .before .before .before .before .if2 .left) in
     let f : bodyInside (a .«record» .body) ≡ true = sym (c .before .before .before .body-inside .ensures) ∙ not-false _ (c .before .before .if3 .left) in
-    rw (eq-eqb _ _ (b .before .if1 .left), e, f) (c .labels-inside .ensures)
+    rw (eq-eqb _ _ (b .before .if1 .left), e, f) (c .all-labels .ensures ∙ all-below (a .n) (a .«record» .labels))
 
 pub record-inside-spec : {M : Type 1} → statement M
 record-inside-spec =
@@ -57,5 +58,5 @@ record-inside-spec =
     returns-2
     body-inside-requires
     returns-3
-    labels-inside-requires
+    all-labels-requires
     returns-4)

@@ -1,0 +1,41 @@
+// A frame read.
+
+ghost use mathlib.Core.Path.{_≡_};
+ghost use Rattle.frame_rules.specs.Calls.{reading};
+use frame_rules::Reading;
+use frame_rules::Record;
+use kinds::Body;
+use kinds::refusals::DONE;
+
+// The records of a frame that the frame check accepts.
+pub fn read_frame(bytes: &[u8], n: usize, own: usize) -> Reading
+    ensures { λ r. ⌜ r ≡ reading (now (bytes .entry)) n own ⌝ }
+{
+    let none = Record {
+        station: 0,
+        count: 0,
+        body: Body::Empty,
+        labels: [0u8; 16],
+    };
+    let mut records = [none; 16];
+    let refusal = frames::check_frame(bytes, n, own);
+    if refusal != DONE {
+        return Reading {
+            refusal: refusal,
+            count: 0,
+            records: records,
+        };
+    }
+    let count = records::wide(bytes[2]);
+    let mut k: usize = 0;
+    while k < count {
+        let at = 4 + 16 * k;
+        records[k] = records::read_record(&bytes[at..at + 16]);
+        k += 1;
+    }
+    Reading {
+        refusal: DONE,
+        count: count,
+        records: records,
+    }
+}

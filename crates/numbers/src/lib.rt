@@ -1,0 +1,27 @@
+// Which numbers of stations, which stations and which counts there may be.
+
+ghost use mathlib.Core.Path.{_≡_};
+ghost use Prim.Native.Nat.{_≤_};
+ghost use Rattle.frame_rules.specs.Frame.{validNumber};
+ghost use Rattle.frame_rules.specs.Record.{countInside};
+
+// Is n a number of stations, and own one of them?
+pub fn valid_number(n: usize, own: usize) -> bool
+    ensures { λ r. ⌜ r ≡ validNumber n own ⌝ }
+{
+    if n < 1 {
+        return false;
+    }
+    if 16 < n {
+        return false;
+    }
+    own < n
+}
+
+// May a record in a frame have this count?
+pub fn count_fits(n: usize, count: u8) -> bool
+    requires { ⌜ (1 ≤ n) × (n ≤ 16) ⌝ }
+    ensures { λ r. ⌜ r ≡ countInside n count ⌝ }
+{
+    (count as usize) <= 2 * (n - 1)
+}
