@@ -1,13 +1,13 @@
 -- The records of a frame that begins somewhere in a list of bytes: each of their fields as the bytes have it, and that a frame may carry them.
-use Prim.Native.Nat.{ℕ, zero, suc, _+_, _-_, _*_, _<_, _≤_}
+use Prim.Native.Nat.{ℕ, _+_, _-_, _*_, _<_, _≤_}
 use native.Mathlib.Nat.{add-zero, add-assoc}
 use native.Mathlib.Omega.{arith}
-use mathlib.Core.Path.{_≡_, refl, sym, ap, ap₂, _∙_}
-use mathlib.Core.Bool.{Bool, true, false, _&&_}
-use mathlib.Core.List.{List, [], _∷_, _++_}
-use lib.ListN.{getD, take, drop, length}
+use mathlib.Core.Path.{_≡_, sym, ap, _∙_}
+use mathlib.Core.Bool.{Bool, true, _&&_}
+use mathlib.Core.List.{List}
+use lib.ListN.{getD, take, drop}
 use lib.Seq.{getD-take, getD-drop, drop-drop}
-use lib.Dec.{ltb, leb, eqb}
+use lib.Dec.{ltb, eqb}
 use borrow.Author.Tests.{ltb-true, le-leb}
 use Rattle.kinds.specs.Limits.{numbersInside}
 use Rattle.kinds.proofs.Laws.{inside-back}
@@ -17,12 +17,10 @@ use Rattle.frame_rules.specs.declared.Record.{Record}
 use Rattle.frame_rules.specs.Words.{wordAt, signed}
 use Rattle.frame_rules.specs.Record.{recordOf, recordMark, countInside, bytesInside}
 use Rattle.frame_rules.specs.Frame.{part}
-use Rattle.places.specs.Places.{allBelow, tabulate}
 use Rattle.places.proofs.Laws.{and-left, and-right, allBelow-at}
 use Rattle.station_rules.specs.State.{recordLabel}
 use Rattle.station_rules.specs.Frames.{FrameAt}
 use Rattle.station_rules.proofs.LimitsHear.{Carried}
-use Rattle.station_rules.proofs.LimitsHearing.{AllCarried}
 use Rattle.frame_marks.specs.Marks.{recordAt}
 
 -- sixteen bytes from a place on
@@ -121,16 +119,6 @@ module _ (n : ℕ) (b : List ℕ) (h : bytesInside n b ≡ true) where
         labels = λ j l. le-leb _ 2 (labelled j l);
       }
 
-all-append : (n : ℕ) (xs : List Record) (y : Record) → AllCarried n xs → Carried n y → AllCarried n (xs ++ (y ∷ []))
-all-append n [] y a c = (c, tt)
-all-append n (x ∷ xs) y a c = (a .0, all-append n xs y (a .1) c)
-
 module _ (n : ℕ) (bytes : List ℕ) (start : ℕ) (fr : FrameAt n bytes start) where
   pub carried-at : (r : ℕ) → r < getD (drop start bytes) 2 0 → Carried n (recordAt bytes start r)
   carried-at r l = carried n (part (drop start bytes) r) (allBelow-at _ _ (fr .inside) r l)
-
-  pub all-carried : (r : ℕ) → r ≤ getD (drop start bytes) 2 0 → AllCarried n (tabulate r (recordAt bytes start))
-  unfolding tabulate
-  all-carried zero l = tt
-  all-carried (suc r) l =
-      all-append n (tabulate r (recordAt bytes start)) (recordAt bytes start r) (all-carried r (omega arith)) (carried-at r l)

@@ -2,11 +2,11 @@
 use Prim.Native.Nat.{ℕ, _+_, _*_, _<_, _≤_}
 use native.Mathlib.Omega.{arith}
 use native.Mathlib.Decide.{ℕ-discrete}
-use mathlib.Core.Path.{_≡_, refl, sym, ap, subst, _∙_}
+use mathlib.Core.Path.{_≡_, refl, sym, subst, _∙_}
 use mathlib.Core.List.{List}
 use lib.ListN.{getD, set, length, length-set}
 use lib.Seq.{getD-set-same, getD-set-other}
-use Rattle.frame_marks.specs.Marks.{recordAt, sizeAt, markOf, Marked, Markable, MarksAt}
+use Rattle.frame_marks.specs.Marks.{recordAt, sizeAt, markOf, Marked, MarksAt}
 
 pub marked-none : (bytes before : List ℕ) (start : ℕ) → Marked bytes before before start 0
 marked-none bytes before start =

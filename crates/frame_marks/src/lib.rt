@@ -1,6 +1,5 @@
 // Marks: a frame's records in short, two bytes a record.
 
-ghost use lib.ListN.{length};
 ghost use Rattle.frame_marks.specs.Marks.{Marked, Markable, sizeAt};
 
 // The marks and counts of the records of the frame that begins at `start`, from the same place on.

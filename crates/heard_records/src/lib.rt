@@ -1,21 +1,19 @@
 // What a newer record does: to what a station has of the record's station, to its count, and what it takes.
 
 ghost use mathlib.Core.Path.{_≡_};
-ghost use mathlib.Core.Bool.{true, cond, not, _&&_};
+ghost use mathlib.Core.Bool.{cond, not, _&&_};
 ghost use Prim.Native.Nat.{_+_, _≤_, _<_};
-ghost use lib.ListN.{getD, length, set, take, drop};
+ghost use lib.ListN.{getD, length, take, drop};
 ghost use lib.Dec.{leb, eqb};
 ghost use Rattle.kinds.specs.Body.{kindOf};
 ghost use Rattle.labels.specs.Label.{successor};
 ghost use Rattle.frame_rules.specs.Record.{recordOf};
 ghost use Rattle.lanes.specs.Lane.{pushed};
 ghost use Rattle.station_rules.specs.Hearing as spec;
-ghost use Rattle.station_rules.specs.Calls.{sourcesOf};
 ghost use Rattle.heard_records.specs.Effects.{Effects};
 use frame_rules::Record;
 use kinds::Body;
 use lanes::Lane;
-use station_rules::Taking;
 
 // Whether a lane would overfill, whether the body is taken, and what comes of the count and of the entries of the record's station.
 pub struct Effect {
@@ -136,32 +134,4 @@ pub fn heard(
         entry: entry,
         lane: lane_now,
     }
-}
-
-// The places with one more marked.
-fn marked(places: [bool; 16], source: usize) -> [bool; 16]
-    ensures { λ r. ⌜ r ≡ set places source true ⌝ }
-{
-    let mut more = places;
-    if source < 16 {
-        more[source] = true;
-        return more;
-    }
-    places
-}
-
-// The stations that the first takings are of.
-pub fn sources(takings: [Taking; 30], len: usize) -> [bool; 16]
-    requires { ⌜ len ≤ 30 ⌝ }
-    ensures { λ r. ⌜ r ≡ sourcesOf (take len takings) ⌝ }
-{
-    let mut places = [false; 16];
-    let mut i = len;
-    while 0 < i {
-        i -= 1;
-        let taking = takings[i];
-        let more = marked(places, taking.source);
-        places = more;
-    }
-    places
 }

@@ -1,2 +1,3 @@
 pub mod BarLaws
 pub mod SieveLaws
+pub mod SieveSteps

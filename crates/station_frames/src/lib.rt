@@ -74,7 +74,7 @@ pub fn hear(s: Station, bytes: &[u8]) -> Heard
     }
     let station = heard.station;
     let takings = heard.takings;
-    let taken = heard_records::sources(takings, heard.takings_len);
+    let taken = heard_sources::sources(takings, heard.takings_len);
     Heard {
         refusal: DONE,
         station: station,

@@ -3,14 +3,13 @@ use Prim.Native.Nat.{ℕ, _+_, _-_, _*_, _^_, _≤_, _<_}
 use native.Mathlib.Omega.{arith}
 use mathlib.Core.Path.{_≡_, sym, ap, subst, _∙_}
 use mathlib.Core.List.{List}
-use lib.ListN.{getD, drop, length, length-set}
+use lib.ListN.{getD, length, length-set}
 use lib.Seq.{getD-drop}
 use borrow.Author.Tests.{leb-true}
 use Rattle.frame_rules.specs.declared.Record.{Record}
 use Rattle.station_rules.specs.State.{recordLabel, ownLabel}
-use Rattle.station_rules.specs.Frames.{FrameAt}
 use Rattle.station_rules.proofs.LimitsHear.{Carried}
-use Rattle.frame_marks.specs.Marks.{recordAt, sizeAt, markOf, Marked, Markable}
+use Rattle.frame_marks.specs.Marks.{recordAt, sizeAt, markOf, Marked}
 use Rattle.frame_marks.proofs.FrameBytes.{station-at, count-at, label-at, carried-at}
 use Rattle.frame_marks.proofs.MarkLaws.{marked-none, marked-more}
 use Rattle.frame_marks.proofs.put_marks.Statement.{statement}

@@ -1,5 +1,5 @@
 -- `heard_records::overfills` meets its contract.
-use borrow.Author.Tests.{not-true, not-false, lt-ltb, le-ltb}
+use borrow.Author.Tests.{not-true, not-false}
 use Rattle.heard_records.proofs.overfills.Statement.{statement}
 use Rattle.heard_records.proofs.overfills.Tie as tie
 

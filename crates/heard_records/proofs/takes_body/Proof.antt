@@ -1,7 +1,7 @@
 -- `heard_records::takes_body` meets its contract.
 use mathlib.Core.Bool.{Bool, not}
 use mathlib.Core.Path.{ap}
-use borrow.Author.Tests.{not-true, not-false, lt-ltb, le-ltb}
+use borrow.Author.Tests.{not-true, not-false}
 use borrow.Author.Needs.{needs}
 use Rattle.heard_records.proofs.takes_body.Statement.{statement}
 use Rattle.heard_records.proofs.takes_body.Tie as tie

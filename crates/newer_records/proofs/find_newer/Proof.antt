@@ -2,9 +2,9 @@
 -- hearing.
 use Prim.Native.Nat.{ℕ, _+_, _-_, _*_, _^_, _≤_, _<_}
 use native.Mathlib.Omega.{arith}
-use mathlib.Core.Path.{_≡_, refl, sym, ap, subst, _∙_}
+use mathlib.Core.Path.{_≡_, sym, subst, _∙_}
 use mathlib.Core.List.{List}
-use lib.ListN.{getD, drop, length, replicate}
+use lib.ListN.{getD, length, replicate}
 use lib.Seq.{getD-drop}
 use Rattle.station_rules.specs.declared.Station.{Station}
 use Rattle.station_rules.specs.Hearing.{silent}
@@ -13,8 +13,8 @@ use Rattle.station_rules.proofs.StationLimits.{Inside, inside-open}
 use Rattle.station_rules.proofs.Lengths.{lengths}
 use Rattle.frame_marks.specs.Marks.{sizeAt}
 use Rattle.newer_records.specs.Sieve.{Sieve, sifted, Siftable}
-use Rattle.newer_records.specs.Newer.{NewerAt}
-use Rattle.newer_records.proofs.SieveLaws.{siftedFrames, frames-none, frames-more, Follows, follows-none, follows-frames, follows-all, follows-siftable}
+use Rattle.newer_records.proofs.SieveSteps.{siftedFrames, frames-none, frames-more}
+use Rattle.newer_records.proofs.SieveLaws.{Follows, follows-none, follows-frames, follows-all, follows-siftable}
 use Rattle.newer_records.proofs.find_newer.Statement.{statement}
 use Rattle.newer_records.proofs.find_newer.Tie as tie
 

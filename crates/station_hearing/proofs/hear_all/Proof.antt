@@ -2,7 +2,7 @@
 -- hearing of these records, and to hear all of them is to hear all frames.
 use Prim.Native.Nat.{ℕ, _+_, _-_, _*_, _/_, _%_, _^_, _≤_, _<_}
 use native.Mathlib.Omega.{arith}
-use mathlib.Core.Path.{_≡_, refl, sym, ap, subst, _∙_}
+use mathlib.Core.Path.{_≡_, sym, ap, subst, _∙_}
 use mathlib.Core.Bool.{true, true≢false}
 use mathlib.Core.List.{List}
 use lib.ListN.{getD, length}
@@ -18,7 +18,7 @@ use Rattle.station_rules.proofs.LimitsHearing.{Hears, hears-none, hears-record,
 use Rattle.frame_marks.specs.Marks.{sizeAt}
 use Rattle.frame_marks.proofs.FrameBytes.{station-at, record-at, carried-at}
 use Rattle.newer_records.specs.Newer.{placeRecord, heardAt, NewerAt}
-use Rattle.newer_records.proofs.SieveLaws.{heardAt-none, heardAt-more}
+use Rattle.newer_records.proofs.SieveSteps.{heardAt-none, heardAt-more}
 use Rattle.station_hearing.proofs.HearSteps.{At, at-start, Does, newer-full, newer-kept, newer-room, newer-taken, overfull-later}
 use Rattle.station_hearing.proofs.hear_all.Statement.{statement}
 use Rattle.station_hearing.proofs.hear_all.Tie as tie

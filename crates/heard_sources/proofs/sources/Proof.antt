@@ -1,17 +1,16 @@
--- `heard_records::sources` meets its contract: the loop goes from the last taking to the first.
-use Prim.Native.Nat.{ℕ, _+_, _-_, _≤_}
-use mathlib.Core.Path.{_≡_, sym, ap, _∙_}
+-- `heard_sources::sources` meets its contract: the loop goes from the last taking to the first.
+use Prim.Native.Nat.{_+_, _-_, _≤_}
+use mathlib.Core.Path.{_≡_, ap, _∙_}
 use mathlib.Core.Bool.{Bool, true}
 use mathlib.Core.List.{List}
 use native.Mathlib.Omega.{arith}
-use lib.ListN.{take, drop, length, length-map, set, getD}
-use Rattle.station_rules.specs.declared.Taking.{Taking}
+use lib.ListN.{take, drop, length, set, getD}
 use Rattle.station_rules.specs.Frames.{noTaking}
 use Rattle.station_rules.specs.Calls.{sourcesOf}
-use Rattle.heard_records.proofs.SourceSteps.{sources-none, sources-more}
+use Rattle.heard_sources.proofs.SourceSteps.{sources-none, sources-more}
 use borrow.Author.Needs.{needs}
-use Rattle.heard_records.proofs.sources.Statement.{statement}
-use Rattle.heard_records.proofs.sources.Tie as tie
+use Rattle.heard_sources.proofs.sources.Statement.{statement}
+use Rattle.heard_sources.proofs.sources.Tie as tie
 
 abbrev Inv-loop : tie.InvT-loop
 Inv-loop len takings places₀ i₀ places i = (i ≤ len) × (len ≤ length takings) × (places ≡ sourcesOf (drop i (take len takings)))

@@ -1,12 +1,11 @@
--- `heard_records::marked` meets its contract: a place from 16 up is none, and setting it changes nothing.
-use Prim.Native.Nat.{_≤_}
+-- `heard_sources::marked` meets its contract: a place from 16 up is none, and setting it changes nothing.
 use mathlib.Core.Path.{_≡_, sym}
 use native.Mathlib.Omega.{arith}
 use lib.ListN.{length}
 use lib.Seq.{set-out}
 use borrow.Author.Needs.{needs}
-use Rattle.heard_records.proofs.marked.Statement.{statement}
-use Rattle.heard_records.proofs.marked.Tie as tie
+use Rattle.heard_sources.proofs.marked.Statement.{statement}
+use Rattle.heard_sources.proofs.marked.Tie as tie
 
 array-write-more : tie.Need-array-write-more
 array-write-more c = search needs

@@ -1,10 +1,10 @@
 -- The stations in a list of takings, from the last taking to the first.
-use Prim.Native.Nat.{ℕ, suc, _+_, _<_, _≤_}
+use Prim.Native.Nat.{ℕ, _+_, _<_, _≤_}
 use native.Mathlib.Omega.{arith}
 use native.Mathlib.Numerals.{add-one}
-use mathlib.Core.Path.{_≡_, refl, sym, ap, _∙_}
+use mathlib.Core.Path.{_≡_}
 use mathlib.Core.Bool.{true, false}
-use mathlib.Core.List.{List, [], _∷_}
+use mathlib.Core.List.{List}
 use lib.ListN.{getD, set, take, drop, length, replicate, length-take, drop-of-length-le}
 use lib.Seq.{drop-cons, getD-take}
 use Rattle.station_rules.specs.declared.Taking.{Taking}
