@@ -1,6 +1,6 @@
 -- A round's frames as they are sent, station after station: one more written into its part of the bytes leaves the frames before it, for their parts end
 -- where its part begins. Where no station is refused, all frames stand.
-use Prim.Native.Nat.{ℕ, _+_, _*_, _-_, _≤_, _<_}
+use Prim.Native.Nat.{ℕ, _+_, _*_, _≤_, _<_}
 use mathlib.Core.Bool.{true}
 use mathlib.Core.List.{List, _++_, append-assoc}
 use mathlib.Core.Path.{_≡_, refl, sym, ap, subst, _∙_}
@@ -14,7 +14,7 @@ use Rattle.places.proofs.Laws.{allBelow-at}
 use Rattle.station_rules.specs.declared.Station.{Station}
 use Rattle.station_rules.specs.Calls.{frameOf, ownCountInside}
 use Rattle.group_rules.specs.State.{stationAt, sizeOf, memberInside, groupInside}
-use Rattle.group_frames.specs.Frames.{frameStart, FramesBelow, sendRefusal, partAfter, bytesAfter, worse, judgedBelow}
+use Rattle.group_frames.specs.Frames.{FramesBelow, sendRefusal, partAfter, bytesAfter, worse, judgedBelow}
 use Rattle.group_rules.proofs.Members.{member-open}
 use Rattle.group_limits.proofs.GroupLimits.{group-judged}
 use Rattle.group_frames.proofs.SentFrame.{frame-fits}

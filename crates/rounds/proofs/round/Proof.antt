@@ -1,12 +1,10 @@
 -- `rounds::round` meets its contract: the frames of the stations passed are sent, then the stations passed have heard and taken their turn, and no lane was
 -- overfull.
-use Prim.Native.Nat.{ℕ, _-_, _≤_, _<_}
+use Prim.Native.Nat.{_-_, _≤_}
 use native.Mathlib.Omega.{arith}
 use mathlib.Core.Path.{_≡_, refl, sym, ap, _∙_}
-use mathlib.Core.Bool.{true}
 use borrow.Author.Needs.{needs}
 use borrow.Author.Tests.{not-true, not-false}
-use Rattle.frame_rules.specs.Frame.{validNumber}
 use Rattle.station_rules.proofs.CallSteps.{valid-parts}
 use Rattle.group_rules.specs.State.{sizeOf}
 use Rattle.group_frames.proofs.WrittenFrames.{SentBelow, AllSent, sent-none, sent-more, all-sent}
