@@ -1,13 +1,12 @@
 -- The answers of group fresh and group post, each with the tests on its way decided.
 use Prim.Native.Nat.{ℕ, _≤_, _<_}
-use mathlib.Core.Path.{_≡_, refl, _∙_}
+use mathlib.Core.Path.{_≡_, refl}
 use mathlib.Core.Bool.{Bool, true, false, cond, _&&_}
 use mathlib.Core.List.{List}
-use native.Mathlib.Omega.{arith}
 use lib.Dec.{leb, ltb, eqb}
 use lib.ListN.{set}
 use lib.Seq.{set-getD}
-use borrow.Author.Tests.{leb-true, leb-false, le-leb, lt-leb, lt-ltb, le-ltb, ltb-false}
+use borrow.Author.Tests.{leb-true, lt-ltb, le-ltb}
 use Rattle.places.proofs.Laws.{and-left}
 use Rattle.kinds.specs.declared.Body.{Body}
 use Rattle.frame_rules.specs.Frame.{validNumber}
@@ -17,7 +16,6 @@ use Rattle.station_rules.specs.Limits.{stationInside}
 use Rattle.station_rules.specs.Calls as station
 use Rattle.station_rules.specs.Calls.{posted, postRefusal}
 use Rattle.station_rules.proofs.StationLimits.{inside-make}
-use Rattle.group_rules.specs.declared.KeptGroup.{KeptGroup}
 use Rattle.group_rules.specs.State.{noStation, stationAt, sizeOf, groupInside, freshGroup}
 use Rattle.group_rules.specs.Calls.{freshCall, groupPostRefusal, postCall}
 use Rattle.group_rules.proofs.Members.{member-at}

@@ -1,6 +1,6 @@
 -- A round's frames as they are sent, station after station: one more written into its part of the bytes leaves the frames before it, for their parts end
 -- where its part begins. Where no station is refused, all frames stand.
-use Prim.Native.Nat.{ℕ, _+_, _*_, _-_, _≤_, _<_}
+use Prim.Native.Nat.{ℕ, _+_, _*_, _≤_, _<_}
 use mathlib.Core.Bool.{true}
 use mathlib.Core.List.{List, _++_, append-assoc}
 use mathlib.Core.Path.{_≡_, refl, sym, ap, subst, _∙_}
@@ -14,7 +14,7 @@ use Rattle.places.proofs.Laws.{allBelow-at}
 use Rattle.station_rules.specs.declared.Station.{Station}
 use Rattle.station_rules.specs.Calls.{frameOf, ownCountInside}
 use Rattle.group_rules.specs.State.{stationAt, sizeOf, memberInside, groupInside}
-use Rattle.group_frames.specs.Frames.{frameStart, FramesBelow, sendRefusal, partAfter, bytesAfter, worse, judgedBelow}
+use Rattle.group_frames.specs.Frames.{FramesBelow, sendRefusal, partAfter, bytesAfter, worse, judgedBelow}
 use Rattle.group_rules.proofs.Members.{member-open}
 use Rattle.group_limits.proofs.GroupLimits.{group-judged}
 use Rattle.group_frames.proofs.SentFrame.{frame-fits}
@@ -121,8 +121,8 @@ module _ (g : List Station) where
       (allBelow-at m (λ k. ownCountInside (stationAt g k)) (r .1) i l)
 
   module _ (k : ℕ) (below : k < 16) (refusal : ℕ) (bytes : List ℕ) (old : SentBelow g k refusal bytes)
-      (judged : ℕ) (judged-is : judged ≡ sendRefusal (sizeOf g) k (stationAt g k)) (after : List ℕ)
-      (after-is : after ≡ bytesAfter (sizeOf g) k (stationAt g k) bytes) (all : ℕ) (all-is : all ≡ worse refusal judged) where
+      (after : List ℕ) (after-is : after ≡ bytesAfter (sizeOf g) k (stationAt g k) bytes) (all : ℕ)
+      (all-is : all ≡ worse refusal (sendRefusal (sizeOf g) k (stationAt g k))) where
     abbrev made : List ℕ
     made = partAfter (sizeOf g) k (stationAt g k) (part k bytes)
 
@@ -133,15 +133,15 @@ module _ (g : List Station) where
         (length-after (sizeOf g) k (stationAt g k) (part k bytes) ∙ part-length k below bytes (old .long))
 
     all-judged : all ≡ judgedBelow g (k + 1)
-    all-judged = all-is ∙ (λ i. worse (old .judged i) (judged-is i)) ∙ judged-more g k
+    all-judged = all-is ∙ ap (λ (r : ℕ). worse r (sendRefusal (sizeOf g) k (stationAt g k))) (old .judged) ∙ judged-more g k
 
     all-frames : all ≡ 0 → FramesBelow g (k + 1) after
     all-frames e =
-        let r = worse-done refusal judged (sym all-is ∙ e) in
+        let r = worse-done refusal (sendRefusal (sizeOf g) k (stationAt g k)) (sym all-is ∙ e) in
         subst (FramesBelow g (k + 1)) (sym after-is)
         (frames-more g k below bytes (old .frames (r .0))
         (λ i l. fits-below (k + 1) (sym all-judged ∙ e) i (omega arith))
-        made (part-frame (sizeOf g) k (stationAt g k) (part k bytes) (sym judged-is ∙ r .1)))
+        made (part-frame (sizeOf g) k (stationAt g k) (part k bytes) (r .1)))
 
     pub sent-more : SentBelow g (k + 1) all after
     sent-more = record { long = after-length; judged = all-judged; frames = all-frames }

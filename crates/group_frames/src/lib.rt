@@ -12,8 +12,8 @@ use station_rules::Station;
 // The room of a frame of sixteen records.
 pub const FRAME_ROOM: usize = 260;
 
-// Writes the frame of station k of a group of n into its part of the bytes; where it may not be written, answers with the refusal of the round.
-pub fn send(bytes: &mut [u8], s: Station, n: usize, k: usize) -> u32
+// Writes the frame of station k of a group of n into its part of the bytes; where it may not be written, answers why.
+fn write_part(bytes: &mut [u8], s: Station, n: usize, k: usize) -> u32
     requires { ⌜ length (now bytes) ≡ 4160 ⌝ }
     ensures { λ r. ⌜ (r ≡ spec.sendRefusal n k s) × (now (bytes .exit) ≡ spec.bytesAfter n k s (now (bytes .entry))) ⌝ }
 {
@@ -32,7 +32,7 @@ pub fn send(bytes: &mut [u8], s: Station, n: usize, k: usize) -> u32
 }
 
 // Of the refusals of two stations, the one that the round answers.
-pub fn worse(a: u32, b: u32) -> u32
+fn worse(a: u32, b: u32) -> u32
     ensures { λ r. ⌜ r ≡ spec.worse a b ⌝ }
 {
     if a == OUTSIDE_LIMITS {
@@ -42,6 +42,16 @@ pub fn worse(a: u32, b: u32) -> u32
         return a;
     }
     b
+}
+
+// Writes the frame of station k of a group of n, where it may be written; gives the refusal of the round, which was `refusal` before this station.
+pub fn send(bytes: &mut [u8], s: Station, n: usize, k: usize, refusal: u32) -> u32
+    requires { ⌜ length (now bytes) ≡ 4160 ⌝ }
+    ensures { λ r.
+        ⌜ (r ≡ spec.worse refusal (spec.sendRefusal n k s)) × (now (bytes .exit) ≡ spec.bytesAfter n k s (now (bytes .entry))) ⌝ }
+{
+    let judged = write_part(bytes, s, n, k);
+    worse(refusal, judged)
 }
 
 // Writes the marks of the frames of n stations, those of each frame from its start on.

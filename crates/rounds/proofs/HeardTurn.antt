@@ -1,6 +1,6 @@
 -- One station of a round, as the code goes: what it hears from the bytes is what it hears by definition, so it is inside its limits for its turn, and what it
 -- reports is its report.
-use Prim.Native.Nat.{ℕ, _-_, _≤_, _<_}
+use Prim.Native.Nat.{ℕ, _-_, _<_}
 use mathlib.Core.Bool.{true, false}
 use mathlib.Core.List.{List, _++_}
 use mathlib.Core.Path.{_≡_, sym, ap, subst, _∙_}

@@ -1,5 +1,5 @@
 -- The stations of a round, one after the other: those passed have heard and taken their turn, no lane was overfull, and the others are as they were.
-use Prim.Native.Nat.{ℕ, _+_, _≤_, _<_}
+use Prim.Native.Nat.{ℕ, _+_, _<_}
 use mathlib.Core.Bool.{true, false}
 use mathlib.Core.List.{List}
 use mathlib.Core.Path.{_≡_, refl, sym, ap, subst, _∙_}

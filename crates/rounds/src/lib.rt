@@ -49,8 +49,7 @@ pub fn round(g: [Station; 16], masks: [u16; 16]) -> RoundDone
     let mut refusal = DONE;
     let mut k: usize = 0;
     while k < n {
-        let judged = group_frames::send(&mut bytes, z.group[k], n, k);
-        refusal = group_frames::worse(refusal, judged);
+        refusal = group_frames::send(&mut bytes, z.group[k], n, k, refusal);
         k += 1;
     }
     if refusal != DONE {

@@ -1,6 +1,5 @@
 -- `group::fresh` meets its contract.
 use mathlib.Core.Path.{sym, _∙_}
-use native.Mathlib.Omega.{arith}
 use borrow.Author.Needs.{needs}
 use Rattle.station_rules.proofs.CallSteps.{valid-parts}
 use Rattle.group.proofs.CallSteps.{fresh-done, fresh-refused}

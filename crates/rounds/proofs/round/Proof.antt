@@ -1,12 +1,10 @@
 -- `rounds::round` meets its contract: the frames of the stations passed are sent, then the stations passed have heard and taken their turn, and no lane was
 -- overfull.
-use Prim.Native.Nat.{ℕ, _-_, _≤_, _<_}
+use Prim.Native.Nat.{_-_, _≤_}
 use native.Mathlib.Omega.{arith}
 use mathlib.Core.Path.{_≡_, refl, sym, ap, _∙_}
-use mathlib.Core.Bool.{true}
 use borrow.Author.Needs.{needs}
 use borrow.Author.Tests.{not-true, not-false}
-use Rattle.frame_rules.specs.Frame.{validNumber}
 use Rattle.station_rules.proofs.CallSteps.{valid-parts}
 use Rattle.group_rules.specs.State.{sizeOf}
 use Rattle.group_frames.proofs.WrittenFrames.{SentBelow, AllSent, sent-none, sent-more, all-sent}
@@ -64,9 +62,6 @@ element-copy-out-send c = search needs
 send-requires : tie.Need-send-requires Inv-loop μ-loop Inv-loop2 μ-loop2
 send-requires c κs = c .before .before .before .loop .inv .4 .long
 
-worse-requires : tie.Need-worse-requires Inv-loop μ-loop Inv-loop2 μ-loop2
-worse-requires c κs = search needs
-
 add-k : tie.Need-add-k Inv-loop μ-loop Inv-loop2 μ-loop2
 add-k c = search needs
 
@@ -75,14 +70,15 @@ loop-less c = search needs
 
 loop-again : tie.Need-loop-again Inv-loop μ-loop Inv-loop2 μ-loop2
 loop-again c =
-    let l = c .before .before .before .before .before .before .loop in
-    let sent = c .before .before .send in (
+    let l = c .before .before .before .before .before .loop in
+    let sent = c .before .send in
+    let below = c .before .before .before .before .loop-test .taken in (
       refl,
       l .inv .1,
-      omega arith,
+      omega (arith, below),
       l .inv .3,
-      sent-more (c .before .before .before .before .before .before .before .before .before .before .before .args .g) (l .k) (omega arith) (l .refusal) (l .bytes) (l .inv .4) (sent .result) (sent .ensures .0) _ (sent .ensures .1)
-          (c .worse .result) (c .worse .ensures),
+      sent-more (c .before .before .before .before .before .before .before .before .before .before .args .g) (l .k) (omega (arith, below, l .inv .3)) (l .refusal) (l .bytes) (l .inv .4) _ (sent .ensures .1) (sent .result)
+          (sent .ensures .0),
     )
 
 returns-2 : tie.Need-returns-2 Inv-loop μ-loop Inv-loop2 μ-loop2
@@ -206,7 +202,6 @@ round-spec =
     mul-send
     element-copy-out-send
     send-requires
-    worse-requires
     add-k
     loop-less
     loop-again
