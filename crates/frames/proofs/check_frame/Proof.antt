@@ -1,9 +1,7 @@
 -- `frames::check_frame` meets its contract: N and the own number first, then what `frame_refusal` says.
-use mathlib.Core.Path.{_≡_, sym, _∙_}
-use mathlib.Core.Bool.{true}
+use mathlib.Core.Path.{sym, _∙_}
 use borrow.Author.Needs.{needs}
 use borrow.Author.Tests.{not-true, not-false}
-use Rattle.frame_rules.specs.Frame.{validNumber}
 use Rattle.frame_rules.proofs.Check.{refused-number, by-frame, valid-few}
 use Rattle.frames.proofs.check_frame.Statement.{statement}
 use Rattle.frames.proofs.check_frame.Tie as tie
