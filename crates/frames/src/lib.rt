@@ -121,7 +121,13 @@ pub fn frame_refusal(bytes: &[u8], n: usize, own: usize) -> u32
 pub fn check_frame(bytes: &[u8], n: usize, own: usize) -> u32
     ensures { λ r. ⌜ r ≡ checkRefusal (now (bytes .entry)) n own ⌝ }
 {
-    if !numbers::valid_number(n, own) {
+    if n < 1 {
+        return BAD_NUMBER;
+    }
+    if 16 < n {
+        return BAD_NUMBER;
+    }
+    if n <= own {
         return BAD_NUMBER;
     }
     frame_refusal(bytes, n, own)

@@ -1,5 +1,5 @@
 -- `station::post` meets its contract, refusal by refusal.
-use mathlib.Core.Path.{_≡_, sym, ap, _∙_}
+use mathlib.Core.Path.{sym, ap, _∙_}
 use borrow.Author.Tests.{not-true, not-false}
 use Rattle.lanes.specs.declared.Queue.{Queue}
 use Rattle.station_rules.specs.declared.Station.{Station}

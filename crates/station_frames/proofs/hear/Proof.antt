@@ -1,12 +1,11 @@
 -- `station_frames::hear` meets its contract, refusal by refusal; where none applies, hearing all frames of a list of one is hearing the frame.
 use Prim.Native.Nat.{ℕ, _≤_, _<_}
 use mathlib.Core.Path.{_≡_, sym, ap, _∙_}
-use mathlib.Core.Bool.{Bool, true, false}
+use mathlib.Core.Bool.{true}
 use mathlib.Core.List.{List}
 use lib.ListN.{getD, replicate}
 use native.Mathlib.Omega.{arith}
 use borrow.Author.Tests.{not-true, not-false}
-use Rattle.station_rules.specs.declared.Station.{Station}
 use Rattle.station_rules.specs.Limits.{stationInside}
 use Rattle.station_rules.specs.Hearing.{Hearing, hearRecords}
 use Rattle.station_rules.specs.Frames.{hearFrames, FrameAt}

@@ -1,5 +1,5 @@
 -- `station_limits::held_inside` meets its contract.
-use borrow.Author.Tests.{not-true, not-false}
+use borrow.Author.Tests.{not-false}
 use borrow.Author.Needs.{needs}
 use Rattle.station_limits.proofs.held_inside.Statement.{statement}
 use Rattle.station_limits.proofs.held_inside.Tie as tie

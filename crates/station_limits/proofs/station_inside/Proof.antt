@@ -1,15 +1,14 @@
 -- `station_limits::station_inside` meets its contract: the station as a whole first, then place after place.
-use Prim.Native.Nat.{ℕ, _≤_, _<_, _-_}
+use Prim.Native.Nat.{_≤_, _<_, _-_}
 use native.Mathlib.Omega.{arith}
 use mathlib.Core.Path.{_≡_, refl, sym, _∙_}
 use mathlib.Core.Bool.{Bool, true, false, _&&_}
-use lib.Dec.{leb, ltb}
 use borrow.Author.Needs.{needs}
-use borrow.Author.Tests.{le-leb, lt-leb, leb-true, ltb-true, not-true, not-false}
+use borrow.Author.Tests.{not-true, not-false}
 use Rattle.kinds.specs.Limits.{bodyInside}
 use Rattle.frame_rules.specs.Frame.{validNumber}
 use Rattle.places.specs.Places.{allBelow}
-use Rattle.places.proofs.Laws.{and-left, and-right, allBelow-more, allBelow-fails}
+use Rattle.places.proofs.Laws.{allBelow-more, allBelow-fails}
 use Rattle.station_rules.specs.declared.Station.{Station}
 use Rattle.station_rules.specs.State.{ackedOf, heldOf}
 use Rattle.station_rules.specs.Limits.{queueInside, placeInside, stationInside}

@@ -1,5 +1,4 @@
 -- `station_limits::takeable` meets its contract: the body's kind is asked first, then its limits.
-use native.Mathlib.Omega.{arith}
 use Prim.Native.Nat.{_<_, _≤_}
 use borrow.Author.Needs.{needs}
 use borrow.Author.Tests.{le-leb, lt-leb}
