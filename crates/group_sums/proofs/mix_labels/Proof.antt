@@ -1,11 +1,11 @@
--- `group_rounds::sums::mix_labels` is safe: the loop ends.
+-- `group_sums::mix_labels` is safe: the loop ends.
 use Prim.Native.Nat.{_≤_, _<_, _-_}
 use native.Mathlib.Omega.{arith}
 use mathlib.Core.Path.{_≡_, refl}
 use lib.ListN.{length, length-set}
 use borrow.Author.Needs.{needs}
-use Rattle.group_rounds.proofs.sums.mix_labels.Statement.{statement}
-use Rattle.group_rounds.proofs.sums.mix_labels.Tie as tie
+use Rattle.group_sums.proofs.mix_labels.Statement.{statement}
+use Rattle.group_sums.proofs.mix_labels.Tie as tie
 
 abbrev Inv-loop : tie.InvT-loop
 Inv-loop sum labels mixed₀ k₀ mixed k = k ≤ 16

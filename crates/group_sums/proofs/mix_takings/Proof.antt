@@ -1,32 +1,32 @@
--- `group_rounds::sums::mix_queue` is safe: the loop ends.
+-- `group_sums::mix_takings` is safe: the loop ends.
 use Prim.Native.Nat.{_≤_, _<_, _-_}
 use native.Mathlib.Omega.{arith}
 use mathlib.Core.Path.{_≡_, refl}
 use lib.ListN.{length, length-set}
 use borrow.Author.Needs.{needs}
-use Rattle.group_rounds.proofs.sums.mix_queue.Statement.{statement}
-use Rattle.group_rounds.proofs.sums.mix_queue.Tie as tie
+use Rattle.group_sums.proofs.mix_takings.Statement.{statement}
+use Rattle.group_sums.proofs.mix_takings.Tie as tie
 
 abbrev Inv-loop : tie.InvT-loop
-Inv-loop sum queue mixed₀ k₀ mixed k = k ≤ 32
+Inv-loop sum takings mixed₀ k₀ mixed k = k ≤ 30
 
 abbrev μ-loop : tie.MeasureT-loop
-μ-loop sum queue mixed₀ k₀ mixed k = 32 - k
+μ-loop sum takings mixed₀ k₀ mixed k = 30 - k
+
+loop-holds : tie.Need-loop-holds Inv-loop μ-loop
+loop-holds c = search needs
+
+mul-taking : tie.Need-mul-taking Inv-loop μ-loop
+mul-taking c = search needs
+
+array-copy-out-taking : tie.Need-array-copy-out-taking Inv-loop μ-loop
+array-copy-out-taking c = search needs
 
 low-requires : tie.Need-low-requires Inv-loop μ-loop
 low-requires c κs = search needs
 
 mix-requires : tie.Need-mix-requires Inv-loop μ-loop
 mix-requires c κs = search needs
-
-loop-holds : tie.Need-loop-holds Inv-loop μ-loop
-loop-holds c = search needs
-
-mul-slot : tie.Need-mul-slot Inv-loop μ-loop
-mul-slot c = search needs
-
-element-copy-out-slot : tie.Need-element-copy-out-slot Inv-loop μ-loop
-element-copy-out-slot c = search needs
 
 mix-body-requires : tie.Need-mix-body-requires Inv-loop μ-loop
 mix-body-requires c κs = search needs
@@ -43,17 +43,17 @@ loop-again c = search needs
 returns : tie.Need-returns Inv-loop μ-loop
 returns c = search needs
 
-pub mix-queue-spec : {M : Type 1} → statement M
-mix-queue-spec =
+pub mix-takings-spec : {M : Type 1} → statement M
+mix-takings-spec =
     tie.close
     (tie.spec
     Inv-loop
     μ-loop
+    loop-holds
+    mul-taking
+    array-copy-out-taking
     low-requires
     mix-requires
-    loop-holds
-    mul-slot
-    element-copy-out-slot
     mix-body-requires
     add-k
     loop-less

@@ -1,11 +1,11 @@
--- `group_rounds::sums::of_reports` is safe: the loop ends.
+-- `group_sums::of_reports` is safe: the loop ends.
 use Prim.Native.Nat.{_≤_, _<_, _-_}
 use native.Mathlib.Omega.{arith}
 use mathlib.Core.Path.{_≡_, refl}
 use lib.ListN.{length, length-set}
 use borrow.Author.Needs.{needs}
-use Rattle.group_rounds.proofs.sums.of_reports.Statement.{statement}
-use Rattle.group_rounds.proofs.sums.of_reports.Tie as tie
+use Rattle.group_sums.proofs.of_reports.Statement.{statement}
+use Rattle.group_sums.proofs.of_reports.Tie as tie
 
 abbrev Inv-loop : tie.InvT-loop
 Inv-loop reports sum₀ k₀ sum k = k ≤ 16
