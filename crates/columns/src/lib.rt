@@ -6,7 +6,7 @@ ghost use mathlib.Core.Bool.{false};
 ghost use lib.IntN.{natAbs};
 ghost use lib.ListN.{length};
 ghost use Rattle.columns.specs.Reading.{digitOf, started, grown, next, readColumns};
-ghost use Rattle.columns.specs.Writing.{lead, columns, natColumns, intColumns};
+ghost use Rattle.columns.specs.Writing.{lead, columns, intColumns};
 
 // What is read so far: blanks only, a minus, a number behind a minus or not, or no number in its columns.
 pub enum Reading {
@@ -136,13 +136,6 @@ pub fn write_columns(part: &mut [u8], minus: bool, value: u64)
         }
         v = v / 10;
     }
-}
-
-// A natural number right-justified in the whole part.
-pub fn write_natural(part: &mut [u8], value: u64)
-    ensures { λ r. ⌜ now (part .exit) ≡ natColumns (length (now (part .entry))) value ⌝ }
-{
-    write_columns(part, false, value);
 }
 
 // A whole number without its sign.

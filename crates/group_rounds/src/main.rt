@@ -5,7 +5,6 @@ ghost use Prim.Native.Nat.{_≤_};
 
 mod draws;
 mod lines;
-mod sums;
 
 // One run: before each round a post, of a body that may be refused, at a station that may not be there.
 fn run(n: u32, rounds: u32)
@@ -32,8 +31,8 @@ fn run(n: u32, rounds: u32)
             round,
             kept.refusal,
             done.refusal,
-            sums::of_reports(reports),
-            sums::of_group(g),
+            group_sums::of_reports(reports),
+            group_sums::of_group(g),
         );
     }
 }

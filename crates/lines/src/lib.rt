@@ -13,20 +13,12 @@ ghost use Rattle.kinds.specs.Limits.{isEdit};
 ghost use Rattle.lines.specs.Reports.{lineIf, takenText, airedText, turnText, reportText, roundText};
 ghost use Rattle.lines.specs.Lines.{headBytes, bodyBytes, lineBytes, endLine, placed, Put};
 
-// One byte put into the buffer.
-fn put_byte(out: &mut [u8], at: usize, b: u8)
-    requires { ⌜ at + 1 ≤ length (now out) ⌝ }
-    ensures { λ r. ⌜ now (out .exit) ≡ placed (now (out .entry)) at (b ∷ []) ⌝ }
-{
-    out[at] = b;
-}
-
 // A number put into the columns from one place to another.
 fn put_natural(out: &mut [u8], at: usize, end: usize, value: u64)
     requires { ⌜ (at ≤ end) × (end ≤ length (now out)) ⌝ }
     ensures { λ r. ⌜ now (out .exit) ≡ placed (now (out .entry)) at (natColumns (end - at) value) ⌝ }
 {
-    columns::write_natural(&mut out[at..end], value);
+    columns::write_columns(&mut out[at..end], false, value);
 }
 
 fn put_whole(out: &mut [u8], at: usize, end: usize, value: i32)
@@ -42,8 +34,8 @@ fn put_head(out: &mut [u8], at: usize, round: u32, letter: u8, station: usize, s
     ensures { λ r. ⌜ now (out .exit) ≡ placed (now (out .entry)) at (headBytes round letter station source) ⌝ }
 {
     put_natural(out, at, at + 6, round as u64);
-    put_byte(out, at + 6, 32);
-    put_byte(out, at + 7, letter);
+    out[at + 6] = 32;
+    out[at + 7] = letter;
     put_natural(out, at + 8, at + 11, station as u64);
     put_natural(out, at + 11, at + 14, source as u64);
 }
@@ -56,7 +48,7 @@ fn put_body(out: &mut [u8], at: usize, body: Body)
     put_natural(out, at, at + 2, kinds::kind_of(body) as u64);
     put_natural(out, at + 2, at + 11, kinds::event_of(body) as u64);
     put_whole(out, at + 11, at + 20, kinds::argument_of(body));
-    put_byte(out, at + 20, 10);
+    out[at + 20] = 10;
 }
 
 // A listing line put into the buffer. Returns the place behind it.

@@ -58,11 +58,11 @@ pub example :
 unfolding headBytes bodyBytes allBelow anyBelow fill gather tabulate bodyOf numbersInside bodyInside isEdit isNewer bit hearsIn framed bodies laneOf noneWaiting queued oldest unqueued sentRecords tableRecords freshStation laneInside queueInside recordInside placeInside stationInside replaced heardNewer hearRecord hearRecords airs rowOf lanesAfter ends startedBody passed ownRecord rewritten afterTurn turnReport posted noTurn groupInside freshGroup freshCall groupPostRefusal postCall hearing noReport reportOf roundRefusal afterRound roundCall started grown next readFrom lead columns fieldOf sizeLine postShaped postLine isMask masksInside roundLine commandOf maskAt masksOf lineBytes endLine joined takenText airedText turnText reportText roundText begun postedBody sizedBy postedBy roundedBy obeyed refusedText answered after printed restText linesOf listed listingOf
 example = refl
 
--- an empty script, and one whose first line is not `N`: the reading stops
+-- an empty script, and one whose first line is not `N`: the reading stops, whatever follows
 pub empty : listingOf [] ≡ lineBytes 0 turnedDown 0 11 Empty ++ endLine
 unfolding listingOf linesOf listed begun restText
 empty = refl
 
-pub stops : listingOf (88 ∷ 10 ∷ []) ≡ lineBytes 0 turnedDown 0 11 Empty ++ endLine
-unfolding listingOf linesOf listed begun after printed obeyed answered commandOf sizeLine lineBytes headBytes bodyBytes columns lead endLine
+pub stops : listingOf (88 ∷ 10 ∷ script) ≡ lineBytes 0 turnedDown 0 11 Empty ++ endLine
+unfolding listingOf linesOf listed begun after printed obeyed answered commandOf sizeLine lineBytes headBytes bodyBytes columns lead endLine restText
 stops = refl

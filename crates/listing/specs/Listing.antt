@@ -1,6 +1,6 @@
 -- Document 01, "The relay listing": the whole listing of a whole script, over the group's calls.
 use Prim.Native.Nat.{ℕ, _+_}
-use mathlib.Core.Bool.{Bool, true, false, cond, _&&_, not}
+use mathlib.Core.Bool.{Bool, true, false, cond, _&&_, _||_}
 use mathlib.Core.Path.{_≡_}
 use mathlib.Core.List.{List, [], _∷_, _++_}
 use lib.Dec.{leb, ltb, eqb}
@@ -80,17 +80,17 @@ answered s masks Round =
     (malformedText s)
 answered s masks Malformed = malformedText s
 
--- the session after a line, and what the line prints
+-- the session after a line, and what the line prints; a reading that has stopped neither changes nor prints any more
 unfoldable pub after : Session → List ℕ → Session
-after s line = obeyed s (masksOf (s .n) line) (commandOf (s .n) line)
+after s line = cond (s .stopped) s (obeyed s (masksOf (s .n) line) (commandOf (s .n) line))
 
 unfoldable pub printed : Session → List ℕ → List ℕ
-printed s line = answered s (masksOf (s .n) line) (commandOf (s .n) line)
+printed s line = cond (s .stopped) [] (answered s (masksOf (s .n) line) (commandOf (s .n) line))
 
--- the end of a script whose reading did not stop; so many bytes stand after its last line end. With none there, and an `N` line read, nothing is printed; else the
--- script breaks off in a line, or has no `N` line, and that is malformed
+-- the end of a script; so many bytes stand after its last line end. Nothing is printed where the reading has stopped, or where an `N` line was read and none
+-- stand there; else the script has no `N` line, or breaks off in a line, and that is malformed
 unfoldable pub restText : Session → ℕ → List ℕ
-restText s length = cond (ltb 0 (s .n) && eqb length 0) [] (malformedText s)
+restText s length = cond (s .stopped || (ltb 0 (s .n) && eqb length 0)) [] (malformedText s)
 
 abbrev pub closed : Session → List ℕ → List ℕ
 closed s rest = restText s (length rest)
@@ -99,6 +99,13 @@ closed s rest = restText s (length rest)
 pub record Answer (after : Session) (text entry exit : List ℕ) (r : Applied) : Type 0 where
   pub session : r .session ≡ after
   pub put : Put entry exit 0 (r .len) text
+
+-- the same of a post and of a round, by what the group's call returned
+abbrev pub AnswersPost : Session → ℕ → KeptGroup → List ℕ → List ℕ → Applied → Type 0
+AnswersPost s station made entry exit r = Answer (postedBy s made) (refusedText s station (made .refusal)) entry exit r
+
+abbrev pub AnswersRound : Session → RoundDone → List ℕ → List ℕ → Applied → Type 0
+AnswersRound s made entry exit r = Answer (roundedBy s made) (roundText (s .n) (s .rounds + 1) (made .reports)) entry exit r
 
 -- a script's lines, each without its line end, and what stands after the last line end
 pub data Lines : Type 0 where
@@ -115,10 +122,10 @@ unfoldable pub linesOf : List ℕ → Lines
 linesOf [] = rest []
 linesOf (b ∷ bs) = cond (eqb b 10) (line [] (linesOf bs)) (before b (linesOf bs))
 
--- what the lines print, as far as they are read
+-- what the lines print
 unfoldable pub listed : Session → Lines → List ℕ
 listed s (rest l) = closed s l
-listed s (line l ls) = printed s l ++ cond ((after s l) .stopped) [] (listed (after s l) ls)
+listed s (line l ls) = printed s l ++ listed (after s l) ls
 
 -- the listing of a script
 unfoldable pub listingOf : List ℕ → List ℕ

@@ -1,20 +1,19 @@
 // One script line applied to a group, and the listing that comes of it.
 
-use group_rules::KeptGroup;
 use group_rules::RoundDone;
 use kinds::Body;
 use script::Command;
 use station_rules::Station;
 ghost use mathlib.Core.Path.{_≡_};
-ghost use mathlib.Core.Bool.{cond, _&&_};
+ghost use mathlib.Core.Bool.{cond, _&&_, _||_};
 ghost use mathlib.Core.List.{_++_};
 ghost use lib.Dec.{ltb, eqb};
-ghost use Prim.Native.Nat.{_+_, _≤_, _<_};
+ghost use Prim.Native.Nat.{_≤_, _<_};
 ghost use lib.ListN.{length};
+ghost use Rattle.group_rules.specs.Calls.{freshCall, postCall};
+ghost use Rattle.script.specs.Line.{commandOf, masksOf};
 ghost use Rattle.lines.specs.Lines.{Put, endLine};
-ghost use Rattle.script.specs.Line.{masksOf};
-ghost use Rattle.lines.specs.Reports.{roundText};
-ghost use Rattle.listing.specs.Listing.{Answer, begun, obeyed, answered, after, printed, postedBody, malformedText, halted, sizedBy, postedBy, roundedBy, refusedText, restText, closed};
+ghost use Rattle.listing.specs.Listing.{Answer, AnswersPost, AnswersRound, begun, obeyed, answered, after, printed, postedBody, malformedText, halted, sizedBy, refusedText, restText, closed};
 
 // Where a script stands: the group's size, 0 before the `N` line; the rounds done; whether the reading has stopped; the group.
 pub struct Session {
@@ -85,11 +84,28 @@ fn put_post(s: Session, station: usize, refusal: u32, out: &mut [u8]) -> usize
     )
 }
 
-// The session after a post, and what the post prints.
-fn after_post(s: Session, station: usize, made: KeptGroup, out: &mut [u8]) -> Applied
-    requires { ⌜ 35 ≤ length (now out) ⌝ }
-    ensures { λ r. ⌜ Answer (postedBy s made) (refusedText s station (made .refusal)) (now (out .entry)) (now (out .exit)) r ⌝ }
+// An `N` line: a new group, of which nothing is printed.
+fn apply_size(s: Session, n: usize) -> Applied
+    ensures { λ r. ⌜ (r .session ≡ sizedBy s n (freshCall n)) × (r .len ≡ 0) ⌝ }
 {
+    let made = group::fresh(n);
+    let group = made.group;
+    let session = Session {
+        n,
+        rounds: s.rounds,
+        stopped: false,
+        group,
+    };
+    Applied { len: 0, session }
+}
+
+// A post, and its refusal where it is refused.
+fn apply_post(s: Session, station: usize, body: Body, out: &mut [u8]) -> Applied
+    requires { ⌜ 35 ≤ length (now out) ⌝ }
+    ensures { λ r. ⌜ AnswersPost s station (postCall (s .group) station body) (now (out .entry)) (now (out .exit)) r ⌝ }
+{
+    let before = s.group;
+    let made = group::post(before, station, body);
     let len = put_post(s, station, made.refusal, out);
     let group = made.group;
     let session = Session {
@@ -104,7 +120,7 @@ fn after_post(s: Session, station: usize, made: KeptGroup, out: &mut [u8]) -> Ap
 // The session after a round, and what the round prints.
 fn after_round(s: Session, made: RoundDone, out: &mut [u8]) -> Applied
     requires { ⌜ (s .n ≤ 16) × (s .rounds < 999_999) × (26_880 ≤ length (now out)) ⌝ }
-    ensures { λ r. ⌜ Answer (roundedBy s made) (roundText (s .n) (s .rounds + 1) (made .reports)) (now (out .entry)) (now (out .exit)) r ⌝ }
+    ensures { λ r. ⌜ AnswersRound s made (now (out .entry)) (now (out .exit)) r ⌝ }
 {
     let rounds = s.rounds + 1;
     let reports = made.reports;
@@ -119,24 +135,13 @@ fn after_round(s: Session, made: RoundDone, out: &mut [u8]) -> Applied
     Applied { len, session }
 }
 
-// The session of a new group, of which nothing is printed.
-fn after_size(s: Session, n: usize, made: KeptGroup) -> Applied
-    ensures { λ r. ⌜ (r .session ≡ sizedBy s n made) × (r .len ≡ 0) ⌝ }
+// Nothing is malformed at the end of a script: the reading has stopped, or an `N` line was read and nothing stands after the last line end.
+fn is_over(stopped: bool, n: usize, rest: usize) -> bool
+    ensures { λ r. ⌜ r ≡ (stopped || (ltb 0 n && eqb rest 0)) ⌝ }
 {
-    let group = made.group;
-    let session = Session {
-        n,
-        rounds: s.rounds,
-        stopped: false,
-        group,
-    };
-    Applied { len: 0, session }
-}
-
-// An `N` line was read, and nothing stands after the last line end.
-fn is_over(n: usize, rest: usize) -> bool
-    ensures { λ r. ⌜ r ≡ (ltb 0 n && eqb rest 0) ⌝ }
-{
+    if stopped {
+        return true;
+    }
     if n == 0 {
         return false;
     }
@@ -148,13 +153,13 @@ fn put_rest(s: Session, rest: usize, out: &mut [u8]) -> usize
     requires { ⌜ 35 ≤ length (now out) ⌝ }
     ensures { λ r. ⌜ Put (now (out .entry)) (now (out .exit)) 0 r (restText s rest) × (r ≤ 35) ⌝ }
 {
-    if is_over(s.n, rest) {
+    if is_over(s.stopped, s.n, rest) {
         return 0;
     }
     lines::put_line(out, 0, s.rounds, 88, 0, 11, Body::Empty)
 }
 
-// The end of a script whose reading did not stop, with what stands after its last line end; then the listing's last line.
+// The end of a script, with what stands after its last line end; then the listing's last line.
 pub fn close(s: Session, rest: &[u8], out: &mut [u8]) -> usize
     requires { ⌜ 39 ≤ length (now out) ⌝ }
     ensures { λ r. ⌜ Put (now (out .entry)) (now (out .exit)) 0 r (closed s (now (rest .entry)) ++ endLine) ⌝ }
@@ -191,17 +196,13 @@ fn apply_round(s: Session, line: &[u8], out: &mut [u8]) -> Applied
     after_round(s, made, out)
 }
 
-// One line, without its line end. The buffer has room for what sixteen stations can report of a round.
-pub fn apply(s: Session, line: &[u8], out: &mut [u8]) -> Applied
-    requires { ⌜ 26_880 ≤ length (now out) ⌝ }
-    ensures { λ r. ⌜ Answer (after s (now (line .entry))) (printed s (now (line .entry))) (now (out .entry)) (now (out .exit)) r ⌝ }
+// What a line says, done.
+fn obey(s: Session, command: Command, line: &[u8], out: &mut [u8]) -> Applied
+    requires { ⌜ (command ≡ commandOf (s .n) (now line)) × (26_880 ≤ length (now out)) ⌝ }
+    ensures { λ r. ⌜ Answer (obeyed s (masksOf (s .n) (now (line .entry))) command) (answered s (masksOf (s .n) (now (line .entry))) command) (now (out .entry)) (now (out .exit)) r ⌝ }
 {
-    let command = script::read_line(line, s.n);
     match command {
-        Command::Size { n } => {
-            let made = group::fresh(n);
-            after_size(s, n, made)
-        }
+        Command::Size { n } => apply_size(s, n),
         Command::Post {
             station,
             kind,
@@ -209,11 +210,21 @@ pub fn apply(s: Session, line: &[u8], out: &mut [u8]) -> Applied
             argument,
         } => {
             let body = posted_body(kind, event, argument);
-            let group = s.group;
-            let made = group::post(group, station as usize, body);
-            after_post(s, station as usize, made, out)
+            apply_post(s, station as usize, body, out)
         }
         Command::Round => apply_round(s, line, out),
         Command::Malformed => halt(s, out),
     }
+}
+
+// One line, without its line end; nothing once the reading has stopped. The buffer has room for what sixteen stations can report of a round.
+pub fn apply(s: Session, line: &[u8], out: &mut [u8]) -> Applied
+    requires { ⌜ 26_880 ≤ length (now out) ⌝ }
+    ensures { λ r. ⌜ Answer (after s (now (line .entry))) (printed s (now (line .entry))) (now (out .entry)) (now (out .exit)) r ⌝ }
+{
+    if s.stopped {
+        return Applied { len: 0, session: s };
+    }
+    let command = script::read_line(line, s.n);
+    obey(s, command, line, out)
 }

@@ -1,12 +1,11 @@
--- A part of a script read: nothing at first, then bytes into the line, lines into the buffer; and nothing more where the reading has stopped.
+-- A part of a script read: nothing at first, then bytes into the line and lines into the buffer.
 use mathlib.Core.Path.{_≡_, refl, sym, ap, _∙_}
-use mathlib.Core.Bool.{Bool, true, false, not}
 use mathlib.Core.List.{List, [], _∷_, _++_, append-assoc, append-nil}
 use Prim.Native.Nat.{ℕ, _+_, _-_, _≤_, _<_}
 use native.Mathlib.Omega.{arith}
 use native.Mathlib.Numerals.{add-one}
-use lib.ListN.{length, take, drop, getD, length-append, length-drop, take-append-drop, drop-of-length-le}
-use lib.Seq.{take-all, take-at, take-add, take-suc, take-length, length-take-le, drop-drop}
+use lib.ListN.{length, take, drop, getD, length-append, length-drop, drop-of-length-le}
+use lib.Seq.{take-all, take-at, take-add, take-suc, length-take-le, drop-drop}
 use Rattle.lines.specs.Lines.{Put, placed}
 use Rattle.lines.proofs.Placed.{put-none, put-more}
 use Rattle.listing.specs.declared.Session.{Session}
@@ -14,8 +13,8 @@ use Rattle.listing.specs.declared.Applied.{Applied}
 use Rattle.listing.specs.Listing.{after, printed}
 use Rattle.reader.specs.declared.Reader.{Reader}
 use Rattle.reader.specs.declared.Fed.{Fed}
-use Rattle.reader.specs.Remaining.{remainingAt, heldBy, Listed, Feeds, Same, EndsAt}
-use Rattle.reader.proofs.Steps.{line-end, stopped-same}
+use Rattle.reader.specs.Remaining.{remainingAt, heldBy, Listed, Feeds, Same}
+use Rattle.reader.proofs.Steps.{line-end}
 
 -- a text that a call put at the front of the buffer's part from a place on: it lies in the part, and stands in the buffer at that place
 pub put-fits : (l m text : List ℕ) (len : ℕ) → Put l m 0 len text → length m ≡ length l → len ≤ length l
@@ -45,15 +44,6 @@ front out exit text at end h p =
     let size : length (take at out ++ text) ≡ end = omega (arith, p .behind, length-append (take at out) text, length-take-le at out h) in
     rw (p .holds) (take-at (take at out ++ text) (drop (at + length text) out) end size)
 
--- what was found at the end of a run of bytes
-pub part-over : (t : Bool) (part : List ℕ) (next : ℕ) → not t ≡ true → EndsAt t part next → next ≡ length part
-part-over true part next e h = let z : _≡_ {A = ℕ} 0 1 = cc in absurd (omega arith)
-part-over false part next e h = h
-
-pub line-over : (t : Bool) (part : List ℕ) (next : ℕ) → not t ≡ false → EndsAt t part next → (next < length part) × (getD part next 0 ≡ 10)
-line-over true part next e h = h
-line-over false part next e h = let z : _≡_ {A = ℕ} 0 1 = cc in absurd (omega arith)
-
 module _ (s : Session) (held part entry : List ℕ) where
   pub listed-none : Listed s held part entry s held 0 0 entry
   listed-none = record { inside = omega arith; put = put-none entry 0; lists = λ more. refl }
@@ -77,26 +67,12 @@ module _ (s : Session) (held part entry : List ℕ) where
               ∙ ap (λ (l : List ℕ). take len exit ++ l) (q .same s' more);
         }
 
-    -- all of the part, which is no longer looked at
-    pub listed-stopped : s' .stopped ≡ true → Listed s held part entry s' held' (length part) len exit
-    listed-stopped e =
-        let parts : take (length part) part ≡ take read part ++ drop read part = take-length part ∙ sym (take-append-drop read part) in
-        record {
-          inside = omega arith;
-          put = p .put;
-          lists = λ more.
-              ap (λ (l : List ℕ). remainingAt s held (l ++ more)) parts
-              ∙ ap (remainingAt s held) (append-assoc (take read part) (drop read part) more)
-              ∙ p .lists (drop read part ++ more)
-              ∙ ap (λ (l : List ℕ). take len exit ++ l) (stopped-same s' held' _ held' _ e);
-        }
-
     -- a line end, whose line was applied to the session
     pub listed-line :
-        (exit' : List ℕ) (a : Applied) → s' .stopped ≡ false → read < length part → getD part read 0 ≡ 10 → len ≤ length exit →
+        (exit' : List ℕ) (a : Applied) → read < length part → getD part read 0 ≡ 10 → len ≤ length exit →
         a .session ≡ after s' held' → Put exit exit' len (len + a .len) (printed s' held') →
         Listed s held part entry (a .session) [] (read + 1) (len + a .len) exit'
-    listed-line exit' a going inside ends room e q =
+    listed-line exit' a inside ends room e q =
         let text = front exit exit' (printed s' held') len (len + a .len) room q in
         let parts : take (read + 1) part ≡ take read part ++ (10 ∷ []) =
         rw (add-one, take-suc part read 0 inside, ends) in
@@ -107,7 +83,7 @@ module _ (s : Session) (held part entry : List ℕ) where
               ap (λ (l : List ℕ). remainingAt s held (l ++ more)) parts
               ∙ ap (remainingAt s held) (append-assoc (take read part) (10 ∷ []) more)
               ∙ p .lists (10 ∷ more)
-              ∙ ap (λ (l : List ℕ). take len exit ++ l) (line-end s' held' more going)
+              ∙ ap (λ (l : List ℕ). take len exit ++ l) (line-end s' held' more)
               ∙ rw (text, e, append-assoc);
         }
 

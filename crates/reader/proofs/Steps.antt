@@ -1,15 +1,14 @@
 -- What is still to be listed, byte by byte: a byte joins the line that is held, one too many changes nothing, a line end prints the line, and the end closes the script.
-use mathlib.Core.Path.{_≡_, refl, sym, ap, _∙_}
-use mathlib.Core.Bool.{Bool, true, false, cond, and-false}
+use mathlib.Core.Path.{_≡_, refl, _∙_}
 use mathlib.Core.List.{List, [], _∷_, _++_, append-assoc, append-nil}
-use Prim.Native.Nat.{ℕ, _+_, _<_}
+use Prim.Native.Nat.{ℕ, _<_}
 use native.Mathlib.Omega.{arith}
 use lib.ListN.{length, length-append}
 use borrow.Author.Tests.{ne-eqb}
 use Rattle.lines.specs.Lines.{endLine}
-use Rattle.script.proofs.Rounds.{overlong}
 use Rattle.listing.specs.declared.Session.{Session}
-use Rattle.listing.specs.Listing.{Lines, rest, line, before, begun, linesOf, listed, listingOf, after, printed, obeyed, answered, restText, closed, halted, malformedText}
+use Rattle.listing.specs.Listing.{Lines, rest, line, before, begun, linesOf, listed, listingOf, after, printed, closed}
+use Rattle.listing.proofs.Overlong.{printed-long, after-long, closed-some}
 use Rattle.reader.specs.Remaining.{behind, remainingAt}
 
 behind-none : (ls : Lines) → behind [] ls ≡ ls
@@ -25,27 +24,15 @@ pub joins : (s : Session) (held : List ℕ) (b : ℕ) (bytes : List ℕ) → (b 
 unfolding remainingAt linesOf
 joins s held b bytes d = rw (ne-eqb b 10 d, behind-before)
 
--- a line of more than 145 bytes is malformed, whatever its bytes
-printed-long : (s : Session) (l : List ℕ) → 145 < length l → printed s l ≡ malformedText s
-unfolding printed answered
-printed-long s l h = rw (overlong (s .n) l h)
-
-after-long : (s : Session) (l : List ℕ) → 145 < length l → after s l ≡ halted s
-unfolding after obeyed
-after-long s l h = rw (overlong (s .n) l h)
-
-closed-some : (s : Session) (l : List ℕ) → 0 < length l → closed s l ≡ malformedText s
-unfolding restText
-closed-some s l h = rw (ne-eqb (length l) 0 (λ e. absurd (omega arith)), and-false)
-
+-- the bytes of a line of more than 145 don't matter
 listed-long : (s : Session) (held more : List ℕ) (ls : Lines) → 145 < length held → 145 < length more → listed s (behind held ls) ≡ listed s (behind more ls)
 unfolding listed
 listed-long s held more (rest l) h k =
-    closed-some s (held ++ l) (omega (arith, length-append held l)) ∙ sym (closed-some s (more ++ l) (omega (arith, length-append more l)))
+    closed-some s (held ++ l) (more ++ l) (omega (arith, length-append held l)) (omega (arith, length-append more l))
 listed-long s held more (line l ls) h k =
     let left : 145 < length (held ++ l) = omega (arith, length-append held l) in
     let right : 145 < length (more ++ l) = omega (arith, length-append more l) in
-    rw (printed-long s (held ++ l) left, after-long s (held ++ l) left, printed-long s (more ++ l) right, after-long s (more ++ l) right)
+    rw (printed-long s (held ++ l) (more ++ l) left right, after-long s (held ++ l) (more ++ l) left right)
 
 long-same : (s : Session) (held more bytes : List ℕ) → 145 < length held → 145 < length more → remainingAt s held bytes ≡ remainingAt s more bytes
 unfolding remainingAt
@@ -57,38 +44,17 @@ pub drops :
     remainingAt s held (b ∷ bytes) ≡ remainingAt s held bytes
 drops s held b bytes d h = joins s held b bytes d ∙ long-same s (held ++ (b ∷ [])) held bytes (omega (arith, length-append held (b ∷ []))) h
 
-going : (t : Bool) (l m : List ℕ) → t ≡ false → cond t l m ≡ m
-going t l m e = rw e
-
 -- a line end prints the line
-pub line-end :
-    (s : Session) (held bytes : List ℕ) → s .stopped ≡ false →
-    remainingAt s held (10 ∷ bytes) ≡ printed s held ++ remainingAt (after s held) [] bytes
+pub line-end : (s : Session) (held bytes : List ℕ) → remainingAt s held (10 ∷ bytes) ≡ printed s held ++ remainingAt (after s held) [] bytes
 unfolding remainingAt linesOf listed
-line-end s held bytes e =
-    going (s .stopped) endLine _ e
-    ∙ rw (append-nil, append-assoc, behind-none) (ap (λ (l : List ℕ). printed s held ++ l) (go ((after s held) .stopped) (listed (after s held) (linesOf bytes))))
-  where
-    go : (t : Bool) (l : List ℕ) → cond t [] l ++ endLine ≡ cond t endLine (l ++ endLine)
-    go true l = refl
-    go false l = refl
-
--- a reading that has stopped lists no more
-pub stopped-same :
-    (s : Session) (held bytes held' bytes' : List ℕ) → s .stopped ≡ true → remainingAt s held bytes ≡ remainingAt s held' bytes'
-unfolding remainingAt
-stopped-same s held bytes held' bytes' e = rw e
-
-pub stopped-end : (s : Session) (held bytes : List ℕ) → s .stopped ≡ true → remainingAt s held bytes ≡ endLine
-unfolding remainingAt
-stopped-end s held bytes e = rw e
+line-end s held bytes = rw (append-nil, append-assoc, behind-none)
 
 -- the end of the script
-pub at-end : (s : Session) (held : List ℕ) → s .stopped ≡ false → remainingAt s held [] ≡ closed s held ++ endLine
+pub at-end : (s : Session) (held : List ℕ) → remainingAt s held [] ≡ closed s held ++ endLine
 unfolding remainingAt linesOf listed
-at-end s held e = rw (e, append-nil)
+at-end s held = rw append-nil
 
 -- before any byte is read the whole listing is still to come
 pub at-start : (script : List ℕ) → remainingAt begun [] script ≡ listingOf script
-unfolding remainingAt listingOf begun
+unfolding remainingAt listingOf
 at-start script = rw behind-none

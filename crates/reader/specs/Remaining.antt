@@ -1,6 +1,5 @@
 -- A script read in parts: what is still to be listed where the reading stands, and what each call says of it.
 use Prim.Native.Nat.{ℕ, _+_, _≤_, _<_}
-use mathlib.Core.Bool.{Bool, true, false, cond}
 use mathlib.Core.Path.{_≡_}
 use mathlib.Core.List.{List, _++_}
 use lib.ListN.{length, take, getD, replicate}
@@ -15,11 +14,12 @@ abbrev pub behind : List ℕ → Lines → Lines
 behind held (rest l) = rest (held ++ l)
 behind held (line l ls) = line (held ++ l) ls
 
--- what is still to be listed: nothing but the last line once the reading has stopped; else what the lines print, of which the first begins with the bytes held
+-- what is still to be listed: what the lines print, of which the first begins with the bytes held, and the last line
 unfoldable pub remainingAt : Session → List ℕ → List ℕ → List ℕ
-remainingAt s held bytes = cond (s .stopped) endLine (listed s (behind held (linesOf bytes)) ++ endLine)
+remainingAt s held bytes = listed s (behind held (linesOf bytes)) ++ endLine
 
--- the bytes of a line whose line end is still to come
+-- the bytes of a line whose line end is still to come. What stands in the array past them is left from earlier lines and is no part of the state: nothing that a reader
+-- does or promises depends on it
 abbrev pub heldBy : Reader → List ℕ
 heldBy r = take (r .len) (r .line)
 
@@ -47,7 +47,6 @@ pub record Feeds (r : Reader) (part entry exit : List ℕ) (f : Fed) : Type 0 wh
 pub record Same (held bytes held' : List ℕ) : Type 0 where
   pub same : (s : Session) (more : List ℕ) → remainingAt s held (bytes ++ more) ≡ remainingAt s held' more
 
--- a line end stands at a place, or the part is over
-abbrev pub EndsAt : Bool → List ℕ → ℕ → Type 0
-EndsAt true part next = (next < length part) × (getD part next 0 ≡ 10)
-EndsAt false part next = next ≡ length part
+-- at a place of a part a line end stands, or the part is over
+abbrev pub EndsAt : List ℕ → ℕ → Type 0
+EndsAt part next = (next ≤ length part) × (next < length part → getD part next 0 ≡ 10)

@@ -23,9 +23,8 @@ pub struct Fed {
     pub reader: Reader,
 }
 
-// Bytes taken into a line: up to a line end, or all.
+// Bytes taken into a line, up to a line end or to the end of the part: the place behind them, and how many bytes of the line are held then.
 struct Taken {
-    ended: bool,
     next: usize,
     len: usize,
 }
@@ -45,27 +44,19 @@ fn keep(line: &mut [u8], len: usize, b: u8) -> usize
 // The bytes of a part from a place up to a line end, taken into the line.
 fn take_line(line: &mut [u8], held: usize, part: &[u8], from: usize) -> Taken
     requires { ⌜ (held ≤ 146) × (146 ≡ length (now line)) × (from ≤ length (now part)) ⌝ }
-    ensures { λ r. ⌜ Same (take held (now (line .entry))) (take (r .next - from) (drop from (now (part .entry)))) (take (r .len) (now (line .exit))) × (r .len ≤ 146) × (from ≤ r .next) × EndsAt (r .ended) (now (part .entry)) (r .next) ⌝ }
+    ensures { λ r. ⌜ Same (take held (now (line .entry))) (take (r .next - from) (drop from (now (part .entry)))) (take (r .len) (now (line .exit))) × (r .len ≤ 146) × (from ≤ r .next) × EndsAt (now (part .entry)) (r .next) ⌝ }
 {
     let mut len = held;
     let mut next = from;
     while next < part.len() {
         let b = part[next];
         if b == 10 {
-            return Taken {
-                ended: true,
-                next,
-                len,
-            };
+            return Taken { next, len };
         }
         len = keep(line, len, b);
         next += 1;
     }
-    Taken {
-        ended: false,
-        next,
-        len,
-    }
+    Taken { next, len }
 }
 
 // A reader before any byte is read.
@@ -102,20 +93,17 @@ pub fn feed(r: Reader, part: &[u8], out: &mut [u8]) -> Fed
     let mut read = 0;
     let mut at = 0;
     while 26_880 <= out.len() - at {
-        if session.stopped {
-            return answer(session, held, line, part.len(), at);
-        }
         let taken = take_line(&mut line, held, part, read);
-        let len = taken.len;
-        let next = taken.next;
-        if !taken.ended {
-            return answer(session, len, line, next, at);
+        held = taken.len;
+        read = taken.next;
+        if read == part.len() {
+            return answer(session, held, line, read, at);
         }
-        let applied = listing::apply(session, &line[..len], &mut out[at..]);
+        let applied = listing::apply(session, &line[..held], &mut out[at..]);
         session = applied.session;
         at += applied.len;
         held = 0;
-        read = next + 1;
+        read += 1;
     }
     answer(session, held, line, read, at)
 }
@@ -125,11 +113,8 @@ pub fn finish(r: Reader, out: &mut [u8]) -> usize
     requires { ⌜ (r .len ≤ 146) × (39 ≤ length (now out)) ⌝ }
     ensures { λ k. ⌜ Put (now (out .entry)) (now (out .exit)) 0 k (remaining r []) ⌝ }
 {
-    let last = r.session;
-    if last.stopped {
-        return lines::put_end(out, 0);
-    }
+    let session = r.session;
     let line = r.line;
     let len = r.len;
-    listing::close(last, &line[..len], out)
+    listing::close(session, &line[..len], out)
 }

@@ -2,8 +2,10 @@
 
 ghost use Prim.Native.Nat.{_+_, _≤_, _<_};
 ghost use lib.ListN.{length};
+use group_rules::KeptGroup;
 use group_rules::Report;
 use kinds::Body;
+use station_rules::Station;
 
 // The bytes of one round's masks: sixteen, two bytes each, the low byte first.
 const MASKS_SIZE: usize = 32;
@@ -94,6 +96,56 @@ fn place_of(number: u32, places: usize) -> usize
     (number as usize) % places
 }
 
+// The masks of a round, by its number: the schedule is gone through again and again.
+fn masks_of(schedule: &[u8], number: u32) -> [u16; 16]
+    requires { ⌜ 32 ≤ length (now schedule) ⌝ }
+{
+    let at = MASKS_SIZE * place_of(number, schedule.len() / MASKS_SIZE);
+    masks_at(schedule, at)
+}
+
+// A post, by its number, made at its station.
+fn posted(g: [Station; 16], n: usize, post: u32) -> KeptGroup
+    requires { ⌜ 1 ≤ n ⌝ }
+{
+    group::post(g, place_of(post, n), body_of(post))
+}
+
+// The numbers of the reports of a round.
+fn mix_reports(sum: u64, reports: [Report; 16], n: usize, number: u32) -> u64
+    requires { ⌜ n ≤ 16 ⌝ }
+{
+    let mut mixed = sum;
+    let mut k: usize = 0;
+    while k < n {
+        mixed = mix_report(mixed, reports[k], number);
+        k += 1;
+    }
+    mixed
+}
+
+// From fresh, so many rounds; gives a checksum of what they report.
+fn run(schedule: &[u8], n: usize, rounds: u32) -> u32
+    requires { ⌜ (1 ≤ n) × (n ≤ 16) × (32 ≤ length (now schedule)) ⌝ }
+{
+    let fresh = group::fresh(n);
+    let mut g = fresh.group;
+    let mut sum: u64 = 0;
+    let mut number: u32 = 0;
+    while number < rounds {
+        if number % POST_EVERY == 0 {
+            let kept = posted(g, n, number / POST_EVERY);
+            g = kept.group;
+        }
+        let done = rounds::round(g, masks_of(schedule, number));
+        g = done.group;
+        let reports = done.reports;
+        sum = mix_reports(sum, reports, n, number);
+        number += 1;
+    }
+    (sum % LOW) as u32
+}
+
 // From fresh, rounds with the masks of a schedule, again and again; gives a checksum of what they report, and 0 if a number is refused.
 #[no_mangle]
 pub extern "C" fn relay_bench_rounds(schedule: &[u8], n: u32, rounds: u32) -> u32 {
@@ -110,26 +162,5 @@ pub extern "C" fn relay_bench_rounds(schedule: &[u8], n: u32, rounds: u32) -> u3
     if len % MASKS_SIZE != 0 {
         return 0;
     }
-    let fresh = group::fresh(n as usize);
-    let mut g = fresh.group;
-    let mut sum: u64 = 0;
-    let mut number: u32 = 0;
-    while number < rounds {
-        if number % POST_EVERY == 0 {
-            let post = number / POST_EVERY;
-            let kept = group::post(g, place_of(post, n as usize), body_of(post));
-            g = kept.group;
-        }
-        let at = MASKS_SIZE * place_of(number, len / MASKS_SIZE);
-        let done = rounds::round(g, masks_at(schedule, at));
-        g = done.group;
-        let reports = done.reports;
-        let mut k: usize = 0;
-        while k < (n as usize) {
-            sum = mix_report(sum, reports[k], number);
-            k += 1;
-        }
-        number += 1;
-    }
-    (sum % LOW) as u32
+    run(schedule, n as usize, rounds)
 }

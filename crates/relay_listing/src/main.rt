@@ -14,6 +14,12 @@ struct Passed {
     reader: Reader,
 }
 
+// How many bytes were read into a part, and whether they could be.
+struct Part {
+    sound: bool,
+    len: usize,
+}
+
 // Writes the front of the buffer, and answers whether all of it was written.
 fn write_front(out: &[u8], len: usize) -> bool
     requires { ⌜ len ≤ length (now out) ⌝ }
@@ -50,6 +56,32 @@ fn pass(r: Reader, part: &[u8], out: &mut [u8]) -> Passed
     }
 }
 
+// Reads the next bytes of standard input into the part: none at its end, and none where the reading failed.
+fn read_part(part: &mut [u8]) -> Part
+    ensures { λ p. ⌜ p .len ≤ length (now (part .exit)) ⌝ }
+{
+    let got = libc::read(STDIN_FILENO, part);
+    if got < 0 {
+        io::write_all(STDERR_FILENO, b"relay_listing: cannot read\n");
+        return Part {
+            sound: false,
+            len: 0,
+        };
+    }
+    let len = io::count(got, part);
+    Part { sound: true, len }
+}
+
+// Nothing more is read after a write that failed, nor once the reading of the script has stopped.
+fn is_over(passed: Passed) -> bool {
+    if !passed.sound {
+        return true;
+    }
+    let reader = passed.reader;
+    let session = reader.session;
+    session.stopped
+}
+
 // Reads standard input until it ends or the reading stops. A proved loop has to end, and nothing says that the input does: the loop counts its
 // turns down from a number that no run uses up.
 fn read_input(out: &mut [u8]) -> Passed
@@ -57,33 +89,21 @@ fn read_input(out: &mut [u8]) -> Passed
     ensures { λ p. ⌜ p .reader .len ≤ 146 ⌝ }
 {
     let mut reader = reader::begin();
-    let mut part = io::large_buffer();
+    let mut bytes = io::large_buffer();
     let mut turns = u64::MAX;
     while turns > 0 {
-        let got = libc::read(STDIN_FILENO, &mut part);
-        if got < 0 {
-            io::write_all(STDERR_FILENO, b"relay_listing: cannot read\n");
+        let part = read_part(&mut bytes);
+        if part.len == 0 {
             return Passed {
-                sound: false,
+                sound: part.sound,
                 reader,
             };
         }
-        let n = io::count(got, &part);
-        if n == 0 {
-            return Passed {
-                sound: true,
-                reader,
-            };
-        }
-        let passed = pass(reader, &part[..n], out);
-        if !passed.sound {
+        let passed = pass(reader, &bytes[..part.len], out);
+        if is_over(passed) {
             return passed;
         }
         reader = passed.reader;
-        let session = reader.session;
-        if session.stopped {
-            return passed;
-        }
         turns -= 1;
     }
     Passed {
@@ -92,8 +112,9 @@ fn read_input(out: &mut [u8]) -> Passed
     }
 }
 
+// The buffer has room for what several rounds can print. The listing's last line is written only where all before it was.
 fn main() {
-    let mut out = [0u8; 131072];
+    let mut out = io::large_buffer();
     let passed = read_input(&mut out);
     if passed.sound {
         let len = reader::finish(passed.reader, &mut out);

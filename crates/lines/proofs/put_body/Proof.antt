@@ -1,8 +1,11 @@
 -- `lines::put_body` puts three numbers and the line end one behind the other.
+use Prim.Native.Nat.{_+_, _<_}
 use mathlib.Core.Path.{_∙_}
 use native.Mathlib.Omega.{arith}
 use mir.Syntax.{w32}
 use mir.ValLaws.{toZ-ofZ}
+use lib.ListN.{length, length-set}
+use Rattle.lines.proofs.Placed.{placed-byte}
 use Rattle.lines.proofs.Columns.{body-made}
 use borrow.Author.Needs.{needs}
 use Rattle.lines.proofs.put_body.Statement.{statement}
@@ -47,19 +50,26 @@ argument-of-requires c κs = search needs
 put-whole-requires : tie.Need-put-whole-requires
 put-whole-requires c κs = search needs
 
-add-put-byte : tie.Need-add-put-byte
-add-put-byte c = search needs
+add-out : tie.Need-add-out
+add-out c = search needs
 
-put-byte-requires : tie.Need-put-byte-requires
-put-byte-requires c κs = search needs
+slice-write-out : tie.Need-slice-write-out
+slice-write-out c = search needs
 
 same-length : tie.Need-same-length
-same-length c = search needs
+same-length c =
+    simp length-set (omega (arith, c .before .before .put-whole .kept .0, c .before .before .before .before .before .before .before .put-natural2 .kept .0, c .before .before .before .before .before .before .before .before .before .before .before .before .put-natural .kept .0))
 
 returns : tie.Need-returns
-returns c = body-made _ _ _ _ _ (c .before .before .before .before .before .before .before .before .before .before .before .before .before .before .before .before .before .before .before .before .args .at) (c .before .before .before .before .before .before .before .before .before .before .before .before .before .before .before .before .before .before .before .before .args .body) _ _ _ (omega (arith, c .before .before .before .before .before .before .before .before .before .before .before .before .before .before .before .before .before .before .before .before .pre)) (c .before .before .before .before .before .before .before .before .before .before .before .before .before .before .before .before .before .kind-of .ensures) (c .before .before .before .before .before .before .before .before .before .before .before .before .event-of .ensures)
-    (toZ-ofZ w32 (c .before .before .before .before .before .before .before .argument-of .result) (record { sfits = c .before .before .before .before .before .before .before .argument-of .ok }) ∙ c .before .before .before .before .before .before .before .argument-of .ensures)
-    (c .before .before .before .before .before .before .before .before .before .before .before .before .before .before .before .before .put-natural .ensures) (c .before .before .before .before .before .before .before .before .before .before .before .put-natural2 .ensures) (c .before .before .before .before .before .before .put-whole .ensures) (c .before .before .put-byte .ensures)
+returns c =
+    let start = c .before .before .before .before .before .before .before .before .before .before .before .before .before .before .before .before in
+    let argument = c .before .before .before .argument-of in
+    let last = c .before .before .put-whole in
+    let same = toZ-ofZ w32 (argument .result) (record { sfits = argument .ok }) in
+    let room : start .args .at + 20 < length (last .last .0) =
+    omega (arith, start .pre, last .kept .0, c .before .before .before .before .before .before .before .put-natural2 .kept .0, c .before .before .before .before .before .before .before .before .before .before .before .before .put-natural .kept .0) in
+    body-made _ _ _ _ _ (start .args .at) (start .args .body) _ _ _ (omega (arith, start .pre)) (c .before .before .before .before .before .before .before .before .before .before .before .before .before .kind-of .ensures) (c .before .before .before .before .before .before .before .before .event-of .ensures)
+    (same ∙ argument .ensures) (c .before .before .before .before .before .before .before .before .before .before .before .before .put-natural .ensures) (c .before .before .before .before .before .before .before .put-natural2 .ensures) (last .ensures) (placed-byte _ _ _ room)
 
 pub put-body-spec : {M : Type 1} → statement M
 put-body-spec =
@@ -78,7 +88,7 @@ put-body-spec =
     add-put-whole-2
     argument-of-requires
     put-whole-requires
-    add-put-byte
-    put-byte-requires
+    add-out
+    slice-write-out
     same-length
     returns)

@@ -9,17 +9,17 @@ use borrow.Author.Needs.{needs}
 use Rattle.lines.proofs.put_natural.Statement.{statement}
 use Rattle.lines.proofs.put_natural.Tie as tie
 
-sub-write-natural : tie.Need-sub-write-natural
-sub-write-natural c = search needs
+sub-write-columns : tie.Need-sub-write-columns
+sub-write-columns c = search needs
 
-part-write-natural-start : tie.Need-part-write-natural-start
-part-write-natural-start c = search needs
+part-write-columns-start : tie.Need-part-write-columns-start
+part-write-columns-start c = search needs
 
-part-write-natural-end : tie.Need-part-write-natural-end
-part-write-natural-end c = search needs
+part-write-columns-end : tie.Need-part-write-columns-end
+part-write-columns-end c = search needs
 
-write-natural-requires : tie.Need-write-natural-requires
-write-natural-requires c κs = search needs
+write-columns-requires : tie.Need-write-columns-requires
+write-columns-requires c κs = search needs
 
 same-length : tie.Need-same-length
 same-length c = search needs
@@ -27,16 +27,16 @@ same-length c = search needs
 returns : tie.Need-returns
 returns c = let a = c .before .before .before .before .before .args in
     let size = part-length (a .out .now) (a .at) (a .end) (c .before .before .before .before .before .pre .1) in
-    placed-part (a .out .now) (a .at) (a .end - a .at) (c .before .before .write-natural .last .0) _ (c .before .before .write-natural .kept .0 ∙ size)
-    (c .before .before .write-natural .ensures ∙ ap (λ (w : ℕ). natColumns w (a .value)) size)
+    placed-part (a .out .now) (a .at) (a .end - a .at) (c .before .before .write-columns .last .0) _ (c .before .before .write-columns .kept .0 ∙ size)
+    (c .before .before .write-columns .ensures ∙ ap (λ (w : ℕ). natColumns w (a .value)) size)
 
 pub put-natural-spec : {M : Type 1} → statement M
 put-natural-spec =
     tie.close
     (tie.spec
-    sub-write-natural
-    part-write-natural-start
-    part-write-natural-end
-    write-natural-requires
+    sub-write-columns
+    part-write-columns-start
+    part-write-columns-end
+    write-columns-requires
     same-length
     returns)

@@ -6,7 +6,7 @@ use lib.ListN.{length, take, length-map}
 use lib.Seq.{length-take-le}
 use Rattle.lines.proofs.Placed.{part-length, put-length}
 use Rattle.reader.specs.Remaining.{Listed}
-use Rattle.reader.proofs.Parts.{put-fits, put-tail, part-over, line-over, listed-none, listed-held, listed-stopped, listed-line, fed-by}
+use Rattle.reader.proofs.Parts.{put-fits, put-tail, listed-none, listed-held, listed-line, fed-by}
 use borrow.Author.Needs.{needs}
 use Rattle.reader.proofs.feed.Statement.{statement}
 use Rattle.reader.proofs.feed.Tie as tie
@@ -22,10 +22,16 @@ abbrev μ-loop : tie.MeasureT-loop
 loop-holds : tie.Need-loop-holds Inv-loop μ-loop
 loop-holds c =
     let long : length (c .before .before .before .before .args .r .line) ≡ 146 = simp length-map at (c .before .before .before .before .good .0 .1 .1 .1 .1 .0 .1 .0 .1) in
-    (omega arith, omega arith, omega arith, search needs, λ h. absurd (omega arith), listed-none _ _ _ _)
+    (omega arith, omega arith, omega arith, refl, λ h. absurd (omega arith), listed-none _ _ _ _)
 
 sub-loop : tie.Need-sub-loop Inv-loop μ-loop
 sub-loop c = search needs
+
+slice-aggregate-take-line : tie.Need-slice-aggregate-take-line Inv-loop μ-loop
+slice-aggregate-take-line c = search needs
+
+take-line-requires : tie.Need-take-line-requires Inv-loop μ-loop
+take-line-requires c κs = search needs
 
 answer-requires : tie.Need-answer-requires Inv-loop μ-loop
 answer-requires c κs = search needs
@@ -35,35 +41,17 @@ same-length c = search needs
 
 returns : tie.Need-returns Inv-loop μ-loop
 returns c =
-    let at-test = c .before .before .before .loop in
-    fed-by _ _ _ _ _ _ _ _ _ _ (c .answer .ensures) (listed-stopped _ _ _ _ _ _ _ _ _ (at-test .inv .5) (c .before .if1 .taken)) (at-test .inv .0) (λ h. h)
-
-slice-aggregate-take-line : tie.Need-slice-aggregate-take-line Inv-loop μ-loop
-slice-aggregate-take-line c = search needs
-
-take-line-requires : tie.Need-take-line-requires Inv-loop μ-loop
-take-line-requires c κs = search needs
-
-answer-requires-2 : tie.Need-answer-requires-2 Inv-loop μ-loop
-answer-requires-2 c κs = search needs
-
-same-length-2 : tie.Need-same-length-2 Inv-loop μ-loop
-same-length-2 c = search needs
-
-returns-2 : tie.Need-returns-2 Inv-loop μ-loop
-returns-2 c =
-    let at-test = c .before .before .before .before .before .before .before .before .loop in
-    let taken = c .before .before .before .before .take-line in
-    let over : taken .result .next ≡ length (c .before .before .before .before .before .before .before .before .before .before .before .before .before .args .part .now) = part-over (taken .result .ended) _ _ (c .before .if2 .taken) (taken .ensures .3) in
-    fed-by _ _ _ _ _ _ _ _ _ _ (c .answer2 .ensures)
-    (listed-held _ _ _ _ _ _ _ _ _ (at-test .inv .5) _ _ (taken .ensures .2) (omega arith) (taken .ensures .0)) (taken .ensures .1) (λ h. omega arith)
+    let at-test = c .before .before .before .before .before .before .loop in
+    let taken = c .before .before .before .take-line in
+    fed-by _ _ _ _ _ _ _ _ _ _ (c .answer .ensures)
+    (listed-held _ _ _ _ _ _ _ _ _ (at-test .inv .5) _ _ (taken .ensures .2) (taken .ensures .3 .0) (taken .ensures .0)) (taken .ensures .1) (λ h. omega arith)
 
 array-share-prefix-line : tie.Need-array-share-prefix-line Inv-loop μ-loop
 array-share-prefix-line c = search needs
 
 slice-aggregate-apply : tie.Need-slice-aggregate-apply Inv-loop μ-loop
 slice-aggregate-apply c =
-    let taken = c .before .before .before .before .take-line in
+    let taken = c .before .before .before .take-line in
     sym (length-take-le (taken .result .len) (taken .last .0) (omega (arith, taken .ensures .1, taken .kept .0)))
 
 sub-apply : tie.Need-sub-apply Inv-loop μ-loop
@@ -80,41 +68,29 @@ apply-requires c κs = search needs
 
 add-at : tie.Need-add-at Inv-loop μ-loop
 add-at c =
-    let at-test = c .before .before .before .before .before .before .before .before .before .before .before .before .before .before .loop in
-    let taken = c .before .before .before .before .before .before .before .before .before .before .take-line in
+    let at-test = c .before .before .before .before .before .before .before .before .before .before .before .before .loop in
+    let start = c .before .before .before .before .before .before .before .before .before .before .before .before .before .before .before .before .before in
     let applied = c .before .before .before .before .apply in
-    let start = c .before .before .before .before .before .before .before .before .before .before .before .before .before .before .before .before .before .before .before in
-    let ends = line-over (taken .result .ended) _ _ (c .before .before .before .before .before .before .before .if2 .left) (taken .ensures .3) in
     let fits = put-fits _ _ _ _ (applied .ensures .put) (applied .kept .1 .1 .0) in
     search needs
 
 add-read : tie.Need-add-read Inv-loop μ-loop
-add-read c =
-    let at-test = c .before .before .before .before .before .before .before .before .before .before .before .before .before .before .loop in
-    let taken = c .before .before .before .before .before .before .before .before .before .before .take-line in
-    let applied = c .before .before .before .before .apply in
-    let start = c .before .before .before .before .before .before .before .before .before .before .before .before .before .before .before .before .before .before .before in
-    let ends = line-over (taken .result .ended) _ _ (c .before .before .before .before .before .before .before .if2 .left) (taken .ensures .3) in
-    search needs
+add-read c = search needs
 
 loop-less : tie.Need-loop-less Inv-loop μ-loop
 loop-less c =
-    let at-test = c .before .before .before .before .before .before .before .before .before .before .before .before .before .before .loop in
-    let taken = c .before .before .before .before .before .before .before .before .before .before .take-line in
-    let applied = c .before .before .before .before .apply in
-    let start = c .before .before .before .before .before .before .before .before .before .before .before .before .before .before .before .before .before .before .before in
-    let ends = line-over (taken .result .ended) _ _ (c .before .before .before .before .before .before .before .if2 .left) (taken .ensures .3) in
-    omega (arith, taken .ensures .2, ends .0)
+    let taken = c .before .before .before .before .before .before .before .before .before .take-line in
+    omega (arith, taken .ensures .2, taken .ensures .3 .0)
 
 loop-again : tie.Need-loop-again Inv-loop μ-loop
 loop-again c =
-    let at-test = c .before .before .before .before .before .before .before .before .before .before .before .before .before .before .loop in
-    let taken = c .before .before .before .before .before .before .before .before .before .before .take-line in
+    let at-test = c .before .before .before .before .before .before .before .before .before .before .before .before .loop in
+    let taken = c .before .before .before .before .before .before .before .before .before .take-line in
     let applied = c .before .before .before .before .apply in
     let out = at-test .out in
     let at = at-test .at in
     let k = length out - at in
-    let ends = line-over (taken .result .ended) _ _ (c .before .before .before .before .before .before .before .if2 .left) (taken .ensures .3) in
+    let more : taken .result .next < length (c .before .before .before .before .before .before .before .before .before .before .before .before .before .before .before .before .before .args .part .now) = omega (arith, taken .ensures .3 .0) in
     let fits = put-fits _ _ _ _ (applied .ensures .put) (applied .kept .1 .1 .0) in
     let put = put-tail out (applied .last .1 .1 .0) _ at k (applied .result .len) refl (applied .ensures .put) in
     let room : at + applied .result .len ≤ length out = omega (arith, part-length out at (length out) (omega arith)) in
@@ -125,20 +101,20 @@ loop-again c =
       omega (arith, same),
       λ h. omega arith,
       listed-line _ _ _ _ _ _ _ _ _
-          (listed-held _ _ _ _ _ _ _ _ _ (at-test .inv .5) _ _ (taken .ensures .2) (omega (arith, ends .0)) (taken .ensures .0))
-          _ (applied .result) (c .before .before .before .before .before .before .before .before .before .before .before .before .if1 .left) (ends .0) (ends .1) (at-test .inv .2) (applied .ensures .session) put,
+          (listed-held _ _ _ _ _ _ _ _ _ (at-test .inv .5) _ _ (taken .ensures .2) (taken .ensures .3 .0) (taken .ensures .0))
+          _ (applied .result) more (taken .ensures .3 .1 more) (at-test .inv .2) (applied .ensures .session) put,
     )
 
-answer-requires-3 : tie.Need-answer-requires-3 Inv-loop μ-loop
-answer-requires-3 c κs = search needs
+answer-requires-2 : tie.Need-answer-requires-2 Inv-loop μ-loop
+answer-requires-2 c κs = search needs
 
-same-length-3 : tie.Need-same-length-3 Inv-loop μ-loop
-same-length-3 c = search needs
+same-length-2 : tie.Need-same-length-2 Inv-loop μ-loop
+same-length-2 c = search needs
 
-returns-3 : tie.Need-returns-3 Inv-loop μ-loop
-returns-3 c =
+returns-2 : tie.Need-returns-2 Inv-loop μ-loop
+returns-2 c =
     let at-test = c .before .before .loop in
-    fed-by _ _ _ _ _ _ _ _ _ _ (c .answer3 .ensures) (at-test .inv .5) (at-test .inv .0) (λ h. at-test .inv .4 (omega arith))
+    fed-by _ _ _ _ _ _ _ _ _ _ (c .answer2 .ensures) (at-test .inv .5) (at-test .inv .0) (λ h. at-test .inv .4 (omega arith))
 
 pub feed-spec : {M : Type 1} → statement M
 feed-spec =
@@ -148,14 +124,11 @@ feed-spec =
     μ-loop
     loop-holds
     sub-loop
+    slice-aggregate-take-line
+    take-line-requires
     answer-requires
     same-length
     returns
-    slice-aggregate-take-line
-    take-line-requires
-    answer-requires-2
-    same-length-2
-    returns-2
     array-share-prefix-line
     slice-aggregate-apply
     sub-apply
@@ -166,6 +139,6 @@ feed-spec =
     add-read
     loop-less
     loop-again
-    answer-requires-3
-    same-length-3
-    returns-3)
+    answer-requires-2
+    same-length-2
+    returns-2)

@@ -30,7 +30,7 @@ same-length : tie.Need-same-length Inv-loop μ-loop
 same-length c = search needs
 
 returns : tie.Need-returns Inv-loop μ-loop
-returns c = (c .before .before .before .loop .inv .4, search needs, search needs, (search needs, c .if1 .taken))
+returns c = (c .before .before .before .loop .inv .4, search needs, search needs, (search needs, λ h. c .if1 .taken))
 
 keep-requires : tie.Need-keep-requires Inv-loop μ-loop
 keep-requires c κs = (search needs, search needs, c .before .if1 .left)
@@ -56,7 +56,7 @@ same-length-2 : tie.Need-same-length-2 Inv-loop μ-loop
 same-length-2 c = search needs
 
 returns-2 : tie.Need-returns-2 Inv-loop μ-loop
-returns-2 c = (c .before .loop .inv .4, search needs, search needs, omega arith)
+returns-2 c = (c .before .loop .inv .4, search needs, search needs, (search needs, λ h. absurd (omega arith)))
 
 pub take-line-spec : {M : Type 1} → statement M
 take-line-spec =

@@ -5,6 +5,9 @@ use borrow.Author.Needs.{needs}
 use Rattle.relay_listing.proofs.main.Statement.{statement}
 use Rattle.relay_listing.proofs.main.Tie as tie
 
+large-buffer-requires : tie.Need-large-buffer-requires
+large-buffer-requires c κs = search needs
+
 slice-aggregate-read-input : tie.Need-slice-aggregate-read-input
 slice-aggregate-read-input c = search needs
 
@@ -35,6 +38,7 @@ pub main-spec : {M : Type 1} → statement M
 main-spec =
     tie.close
     (tie.spec
+    large-buffer-requires
     slice-aggregate-read-input
     read-input-requires
     slice-aggregate-finish

@@ -1,5 +1,5 @@
--- `script::is_whole_at` asks of field k.
-use mathlib.Core.Path.{ap, _∙_}
+-- `script::is_whole_at` goes by what was read.
+use mathlib.Core.Path.{ap, sym, _∙_}
 use Rattle.script.specs.Line.{isWhole}
 use borrow.Author.Needs.{needs}
 use Rattle.script.proofs.is_whole_at.Statement.{statement}
@@ -8,11 +8,40 @@ use Rattle.script.proofs.is_whole_at.Tie as tie
 field-requires : tie.Need-field-requires
 field-requires c κs = search needs
 
-is-whole-requires : tie.Need-is-whole-requires
-is-whole-requires c κs = search needs
+enum-told : tie.Need-enum-told
+enum-told c = search needs
+
+enum-told-2 : tie.Need-enum-told-2
+enum-told-2 c = search needs
+
+enum-told-3 : tie.Need-enum-told-3
+enum-told-3 c = search needs
+
+enum-told-4 : tie.Need-enum-told-4
+enum-told-4 c = search needs
 
 returns : tie.Need-returns
-returns c = c .is-whole .ensures ∙ ap isWhole (c .before .field .ensures)
+returns c = sym (ap isWhole (sym (c .before .before .field .ensures) ∙ c .enum-told .given .1))
+
+returns-2 : tie.Need-returns-2
+returns-2 c = sym (ap isWhole (sym (c .before .before .field .ensures) ∙ c .enum-told2 .given .1))
+
+returns-3 : tie.Need-returns-3
+returns-3 c = sym (ap isWhole (sym (c .before .before .field .ensures) ∙ c .enum-told3 .given .1))
+
+returns-4 : tie.Need-returns-4
+returns-4 c = sym (ap isWhole (sym (c .before .before .field .ensures) ∙ c .enum-told4 .given .1))
 
 pub is-whole-at-spec : {M : Type 1} → statement M
-is-whole-at-spec = tie.close (tie.spec field-requires is-whole-requires returns)
+is-whole-at-spec =
+    tie.close
+    (tie.spec
+    field-requires
+    enum-told
+    enum-told-2
+    enum-told-3
+    enum-told-4
+    returns
+    returns-2
+    returns-3
+    returns-4)

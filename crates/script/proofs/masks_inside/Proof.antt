@@ -5,8 +5,7 @@ use Prim.Native.Nat.{_+_, _-_, _≤_}
 use native.Mathlib.Omega.{arith}
 use borrow.Author.Needs.{needs}
 use Rattle.script.specs.Line.{masksInside}
-use Rattle.script.proofs.Values.{refused, passed}
-use Rattle.script.proofs.Rounds.{masks-none, masks-more, masks-fail}
+use Rattle.script.proofs.Rounds.{mask-over, mask-inside, masks-none, masks-more, masks-fail}
 use Rattle.script.proofs.masks_inside.Statement.{statement}
 use Rattle.script.proofs.masks_inside.Tie as tie
 
@@ -19,11 +18,11 @@ abbrev μ-loop : tie.MeasureT-loop
 loop-holds : tie.Need-loop-holds Inv-loop μ-loop
 loop-holds c = (omega arith, masks-none _)
 
-is-mask-at-requires : tie.Need-is-mask-at-requires Inv-loop μ-loop
-is-mask-at-requires c κs = search needs
+natural-at-requires : tie.Need-natural-at-requires Inv-loop μ-loop
+natural-at-requires c κs = search needs
 
 returns : tie.Need-returns Inv-loop μ-loop
-returns c = sym (masks-fail _ _ (c .before .before .before .loop .k) (c .before .before .loop-test .taken) (refused (c .if1 .taken) (c .before .is-mask-at .ensures)))
+returns c = sym (masks-fail _ _ (c .before .before .before .loop .k) (c .before .before .loop-test .taken) (mask-over _ (rw (c .before .natural-at .ensures) at (c .if1 .taken))))
 
 add-k : tie.Need-add-k Inv-loop μ-loop
 add-k c = search needs
@@ -32,7 +31,7 @@ loop-less : tie.Need-loop-less Inv-loop μ-loop
 loop-less c = search needs
 
 loop-again : tie.Need-loop-again Inv-loop μ-loop
-loop-again c = (omega arith, masks-more _ _ (c .before .before .before .loop .inv .1) (passed (c .if1 .left) (c .before .is-mask-at .ensures)))
+loop-again c = (omega arith, masks-more _ _ (c .before .before .before .loop .inv .1) (mask-inside _ (rw (c .before .natural-at .ensures) at (c .if1 .left))))
 
 returns-2 : tie.Need-returns-2 Inv-loop μ-loop
 returns-2 c = let e : c .before .loop .k ≡ c .before .before .before .args .n = omega arith in sym (rw e at (c .before .loop .inv .1))
@@ -44,7 +43,7 @@ masks-inside-spec =
     Inv-loop
     μ-loop
     loop-holds
-    is-mask-at-requires
+    natural-at-requires
     returns
     add-k
     loop-less

@@ -1,5 +1,5 @@
--- `script::natural_at` asks of field k.
-use mathlib.Core.Path.{ap, _∙_}
+-- `script::natural_at` goes by what was read.
+use mathlib.Core.Path.{ap, sym, _∙_}
 use Rattle.script.specs.Line.{naturalOf}
 use borrow.Author.Needs.{needs}
 use Rattle.script.proofs.natural_at.Statement.{statement}
@@ -8,11 +8,44 @@ use Rattle.script.proofs.natural_at.Tie as tie
 field-requires : tie.Need-field-requires
 field-requires c κs = search needs
 
-natural-requires : tie.Need-natural-requires
-natural-requires c κs = search needs
+enum-known-reading : tie.Need-enum-known-reading
+enum-known-reading c = search needs
 
 returns : tie.Need-returns
-returns c = c .natural .ensures ∙ ap naturalOf (c .before .field .ensures)
+returns c = sym (ap naturalOf (sym (c .before .before .before .before .field .ensures) ∙ c .before .before .reading .given .1) ∙ rw (c .if1 .taken))
+
+enum-told : tie.Need-enum-told
+enum-told c = search needs
+
+enum-told-2 : tie.Need-enum-told-2
+enum-told-2 c = search needs
+
+enum-told-3 : tie.Need-enum-told-3
+enum-told-3 c = search needs
+
+returns-2 : tie.Need-returns-2
+returns-2 c = sym (ap naturalOf (sym (c .before .before .before .before .field .ensures) ∙ c .before .before .reading .given .1) ∙ rw (c .if1 .left))
+
+returns-3 : tie.Need-returns-3
+returns-3 c = sym (ap naturalOf (sym (c .before .before .field .ensures) ∙ c .enum-told .given .1))
+
+returns-4 : tie.Need-returns-4
+returns-4 c = sym (ap naturalOf (sym (c .before .before .field .ensures) ∙ c .enum-told2 .given .1))
+
+returns-5 : tie.Need-returns-5
+returns-5 c = sym (ap naturalOf (sym (c .before .before .field .ensures) ∙ c .enum-told3 .given .1))
 
 pub natural-at-spec : {M : Type 1} → statement M
-natural-at-spec = tie.close (tie.spec field-requires natural-requires returns)
+natural-at-spec =
+    tie.close
+    (tie.spec
+    field-requires
+    enum-known-reading
+    returns
+    enum-told
+    enum-told-2
+    enum-told-3
+    returns-2
+    returns-3
+    returns-4
+    returns-5)

@@ -1,5 +1,5 @@
 -- `script::post_shaped` tests the shape, and then field after field.
-use mathlib.Core.Path.{ap, sym, _∙_}
+use borrow.Author.Tests.{lt-ltb, le-ltb}
 use Rattle.script.specs.Line.{postShaped}
 use Rattle.script.proofs.Values.{refused, passed}
 use borrow.Author.Needs.{needs}
@@ -13,34 +13,34 @@ returns : tie.Need-returns
 unfolding postShaped
 returns c = rw (refused (c .if1 .taken) (c .before .shaped .ensures))
 
-is-natural-at-requires : tie.Need-is-natural-at-requires
-is-natural-at-requires c κs = search needs
+natural-at-requires : tie.Need-natural-at-requires
+natural-at-requires c κs = search needs
 
 returns-2 : tie.Need-returns-2
 unfolding postShaped
-returns-2 c = rw (passed (c .before .before .if1 .left) (c .before .before .before .shaped .ensures), refused (c .if2 .taken) (c .before .is-natural-at .ensures))
+returns-2 c = rw (passed (c .before .before .if1 .left) (c .before .before .before .shaped .ensures), le-ltb _ 1_000_000_000 (rw (c .before .natural-at .ensures) at (c .if2 .taken)))
 
-is-natural-at-requires-2 : tie.Need-is-natural-at-requires-2
-is-natural-at-requires-2 c κs = search needs
+natural-at-requires-2 : tie.Need-natural-at-requires-2
+natural-at-requires-2 c κs = search needs
 
 returns-3 : tie.Need-returns-3
 unfolding postShaped
 returns-3 c = rw (
   passed (c .before .before .before .before .if1 .left) (c .before .before .before .before .before .shaped .ensures),
-  passed (c .before .before .if2 .left) (c .before .before .before .is-natural-at .ensures),
-  refused (c .if3 .taken) (c .before .is-natural-at2 .ensures),
+  lt-ltb _ 1_000_000_000 (rw (c .before .before .before .natural-at .ensures) at (c .before .before .if2 .left)),
+  le-ltb _ 1_000_000_000 (rw (c .before .natural-at2 .ensures) at (c .if3 .taken)),
 )
 
-is-natural-at-requires-3 : tie.Need-is-natural-at-requires-3
-is-natural-at-requires-3 c κs = search needs
+natural-at-requires-3 : tie.Need-natural-at-requires-3
+natural-at-requires-3 c κs = search needs
 
 returns-4 : tie.Need-returns-4
 unfolding postShaped
 returns-4 c = rw (
   passed (c .before .before .before .before .before .before .if1 .left) (c .before .before .before .before .before .before .before .shaped .ensures),
-  passed (c .before .before .before .before .if2 .left) (c .before .before .before .before .before .is-natural-at .ensures),
-  passed (c .before .before .if3 .left) (c .before .before .before .is-natural-at2 .ensures),
-  refused (c .if4 .taken) (c .before .is-natural-at3 .ensures),
+  lt-ltb _ 1_000_000_000 (rw (c .before .before .before .before .before .natural-at .ensures) at (c .before .before .before .before .if2 .left)),
+  lt-ltb _ 1_000_000_000 (rw (c .before .before .before .natural-at2 .ensures) at (c .before .before .if3 .left)),
+  le-ltb _ 1_000_000_000 (rw (c .before .natural-at3 .ensures) at (c .if4 .taken)),
 )
 
 is-whole-at-requires : tie.Need-is-whole-at-requires
@@ -50,9 +50,9 @@ returns-5 : tie.Need-returns-5
 unfolding postShaped
 returns-5 c = rw (
   passed (c .before .before .before .before .before .before .before .if1 .left) (c .before .before .before .before .before .before .before .before .shaped .ensures),
-  passed (c .before .before .before .before .before .if2 .left) (c .before .before .before .before .before .before .is-natural-at .ensures),
-  passed (c .before .before .before .if3 .left) (c .before .before .before .before .is-natural-at2 .ensures),
-  passed (c .before .if4 .left) (c .before .before .is-natural-at3 .ensures),
+  lt-ltb _ 1_000_000_000 (rw (c .before .before .before .before .before .before .natural-at .ensures) at (c .before .before .before .before .before .if2 .left)),
+  lt-ltb _ 1_000_000_000 (rw (c .before .before .before .before .natural-at2 .ensures) at (c .before .before .before .if3 .left)),
+  lt-ltb _ 1_000_000_000 (rw (c .before .before .natural-at3 .ensures) at (c .before .if4 .left)),
 ) (c .is-whole-at .ensures)
 
 pub post-shaped-spec : {M : Type 1} → statement M
@@ -61,11 +61,11 @@ post-shaped-spec =
     (tie.spec
     shaped-requires
     returns
-    is-natural-at-requires
+    natural-at-requires
     returns-2
-    is-natural-at-requires-2
+    natural-at-requires-2
     returns-3
-    is-natural-at-requires-3
+    natural-at-requires-3
     returns-4
     is-whole-at-requires
     returns-5)

@@ -1,6 +1,4 @@
 -- `script::size_line` tests form and size one after the other.
-use mathlib.Core.Path.{ap, sym, _∙_}
-use native.Mathlib.Omega.{arith}
 use borrow.Author.Tests.{le-leb, lt-leb}
 use Rattle.script.specs.Line.{sizeLine}
 use Rattle.script.proofs.Values.{refused, passed}
@@ -15,56 +13,37 @@ returns : tie.Need-returns
 unfolding sizeLine
 returns c = rw (refused (c .if1 .taken) (c .before .shaped .ensures))
 
-is-natural-at-requires : tie.Need-is-natural-at-requires
-is-natural-at-requires c κs = search needs
+natural-at-requires : tie.Need-natural-at-requires
+natural-at-requires c κs = search needs
 
 returns-2 : tie.Need-returns-2
 unfolding sizeLine
-returns-2 c = rw (passed (c .before .before .if1 .left) (c .before .before .before .shaped .ensures), refused (c .if2 .taken) (c .before .is-natural-at .ensures))
-
-natural-at-requires : tie.Need-natural-at-requires
-natural-at-requires c κs = search needs
+returns-2 c = rw (
+  passed (c .before .before .if1 .left) (c .before .before .before .shaped .ensures),
+  lt-leb 1 _ (rw (c .before .natural-at .ensures) at (c .if2 .taken)),
+)
 
 returns-3 : tie.Need-returns-3
 unfolding sizeLine
 returns-3 c = rw (
-  passed (c .before .before .before .before .if1 .left) (c .before .before .before .before .before .shaped .ensures),
-  passed (c .before .before .if2 .left) (c .before .before .before .is-natural-at .ensures),
-  lt-leb 1 _ (rw (c .before .natural-at .ensures) at (c .if3 .taken)),
-)
-
-returns-4 : tie.Need-returns-4
-unfolding sizeLine
-returns-4 c = rw (
-  passed (c .before .before .before .before .before .if1 .left) (c .before .before .before .before .before .before .shaped .ensures),
-  passed (c .before .before .before .if2 .left) (c .before .before .before .before .is-natural-at .ensures),
-  le-leb 1 _ (rw (c .before .before .natural-at .ensures) at (c .before .if3 .left)),
-  lt-leb _ 16 (rw (c .before .before .natural-at .ensures) at (c .if4 .taken)),
+  passed (c .before .before .before .if1 .left) (c .before .before .before .before .shaped .ensures),
+  le-leb 1 _ (rw (c .before .before .natural-at .ensures) at (c .before .if2 .left)),
+  lt-leb _ 16 (rw (c .before .before .natural-at .ensures) at (c .if3 .taken)),
 )
 
 cast-t5 : tie.Need-cast-t5
 cast-t5 c = search needs
 
-returns-5 : tie.Need-returns-5
+returns-4 : tie.Need-returns-4
 unfolding sizeLine
-returns-5 c = rw (
-  passed (c .before .before .before .before .before .if1 .left) (c .before .before .before .before .before .before .shaped .ensures),
-  passed (c .before .before .before .if2 .left) (c .before .before .before .before .is-natural-at .ensures),
-  le-leb 1 _ (rw (c .before .before .natural-at .ensures) at (c .before .if3 .left)),
-  le-leb _ 16 (rw (c .before .before .natural-at .ensures) at (c .if4 .left)),
+returns-4 c = rw (
+  passed (c .before .before .before .if1 .left) (c .before .before .before .before .shaped .ensures),
+  le-leb 1 _ (rw (c .before .before .natural-at .ensures) at (c .before .if2 .left)),
+  le-leb _ 16 (rw (c .before .before .natural-at .ensures) at (c .if3 .left)),
   c .before .before .natural-at .ensures,
 )
 
 pub size-line-spec : {M : Type 1} → statement M
 size-line-spec =
     tie.close
-    (tie.spec
-    shaped-requires
-    returns
-    is-natural-at-requires
-    returns-2
-    natural-at-requires
-    returns-3
-    returns-4
-    cast-t5
-    returns-5)
+    (tie.spec shaped-requires returns natural-at-requires returns-2 returns-3 cast-t5 returns-4)

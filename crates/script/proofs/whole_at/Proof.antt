@@ -1,7 +1,7 @@
--- `script::whole_at` asks of field k, whose number has at most nine digits.
+-- `script::whole_at` goes by what was read; the number has at most nine digits.
+use mathlib.Core.Path.{ap, sym, _∙_}
 use mir.Syntax.{w32}
 use mir.ValLaws.{toZ-ofZ}
-use mathlib.Core.Path.{ap, _∙_}
 use Rattle.script.specs.Line.{wholeOf}
 use Rattle.script.proofs.Values.{field-nine}
 use borrow.Author.Needs.{needs}
@@ -11,11 +11,47 @@ use Rattle.script.proofs.whole_at.Tie as tie
 field-requires : tie.Need-field-requires
 field-requires c κs = search needs
 
-whole-requires : tie.Need-whole-requires
-whole-requires c κs = rw (c .field .ensures) (field-nine _ _)
+enum-known-reading : tie.Need-enum-known-reading
+enum-known-reading c = search needs
+
+signed-requires : tie.Need-signed-requires
+signed-requires c κs = field-nine _ _ _ _ (sym (c .before .before .before .field .ensures) ∙ c .before .reading .given .1)
+
+enum-told : tie.Need-enum-told
+enum-told c = search needs
+
+enum-told-2 : tie.Need-enum-told-2
+enum-told-2 c = search needs
+
+enum-told-3 : tie.Need-enum-told-3
+enum-told-3 c = search needs
 
 returns : tie.Need-returns
-returns c = toZ-ofZ w32 (c .whole .result) (record { sfits = c .whole .ok }) ∙ c .whole .ensures ∙ ap wholeOf (c .before .field .ensures)
+returns c =
+    toZ-ofZ w32 (c .signed .result) (record { sfits = c .signed .ok })
+    ∙ c .signed .ensures
+    ∙ sym (ap wholeOf (sym (c .before .before .before .before .field .ensures) ∙ c .before .before .reading .given .1))
+
+returns-2 : tie.Need-returns-2
+returns-2 c = sym (ap wholeOf (sym (c .before .before .field .ensures) ∙ c .enum-told .given .1))
+
+returns-3 : tie.Need-returns-3
+returns-3 c = sym (ap wholeOf (sym (c .before .before .field .ensures) ∙ c .enum-told2 .given .1))
+
+returns-4 : tie.Need-returns-4
+returns-4 c = sym (ap wholeOf (sym (c .before .before .field .ensures) ∙ c .enum-told3 .given .1))
 
 pub whole-at-spec : {M : Type 1} → statement M
-whole-at-spec = tie.close (tie.spec field-requires whole-requires returns)
+whole-at-spec =
+    tie.close
+    (tie.spec
+    field-requires
+    enum-known-reading
+    signed-requires
+    enum-told
+    enum-told-2
+    enum-told-3
+    returns
+    returns-2
+    returns-3
+    returns-4)
