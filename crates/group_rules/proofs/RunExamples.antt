@@ -1,19 +1,17 @@
 -- Runs of two and three stations, computed. They show that demand 3 is not empty: edits are taken, aired and ended at every station.
-use Prim.Native.Nat.{ℕ, suc}
-use mathlib.Core.Bool.{cond}
-use mathlib.Core.List.{List, [], _∷_, _++_, map}
+use Prim.Native.Nat.{suc}
+use mathlib.Core.List.{[], _∷_}
 use mathlib.Core.Path.{_≡_, refl}
 use lib.IntN.{pos}
-use lib.ListN.{getD, take, replicate}
+use lib.ListN.{replicate}
 use Rattle.kinds.specs.declared.Body.{Body}
-use Rattle.kinds.specs.declared.Body.the-variants.{Empty, Neutral, Insert, Drop}
+use Rattle.kinds.specs.declared.Body.the-variants.{Empty, Neutral, Insert}
 use Rattle.kinds.specs.Limits.{isEdit, bodyInside, numbersInside}
 use Rattle.links.specs.Log.{bit, hearsIn}
 use Rattle.places.specs.Places.{allBelow, anyBelow, fill, gather, tabulate}
 use Rattle.frame_rules.specs.Record.{framed}
 use Rattle.frame_rules.specs.Calls.{tableRecords}
 use Rattle.labels.specs.Newer.{isNewer}
-use Rattle.station_rules.specs.declared.Taking.{Taking}
 use Rattle.lanes.specs.Lane.{laneOf, bodies}
 use Rattle.lanes.specs.Queue.{noneWaiting, queued, unqueued, oldest}
 use Rattle.station_rules.specs.State.{sentRecords, freshStation}
@@ -21,11 +19,10 @@ use Rattle.station_rules.specs.Limits.{laneInside, queueInside, recordInside, p
 use Rattle.station_rules.specs.Hearing.{replaced, heardNewer, hearRecord, hearRecords}
 use Rattle.station_rules.specs.Turn.{airs, rowOf, lanesAfter, ends, startedBody, passed, ownRecord, rewritten, afterTurn, turnReport}
 use Rattle.station_rules.specs.Calls.{posted, noTurn}
-use Rattle.group_rules.specs.declared.Report.{Report}
 use Rattle.group_rules.specs.State.{groupInside, freshGroup}
 use Rattle.group_rules.specs.Calls.{groupPostRefusal, postCall, hearing, noReport, reportOf, roundRefusal, afterRound, roundCall}
-use Rattle.group_rules.specs.History.{History, Call.post, Call.round, next, begun, continued, historyOf, noRound, reportIn, unlessEmpty, editsOf, collect, started, takingsOf, takenFrom, airedList, endsAt}
-use Rattle.group_rules.proofs.RunLines.{taken, aired, ended, linesOf, linesIn, edit, edits, run, Mesh}
+use Rattle.group_rules.specs.History.{History, Call.post, Call.round, next, begun, continued, historyOf, editsOf, collect, airedList, endsAt}
+use Rattle.group_rules.proofs.RunLines.{taken, aired, ended, linesOf, linesIn, edit, edits, run, seen, mesh}
 
 unfoldable pub seven : Body
 seven = Insert 7 (pos 100)
@@ -45,22 +42,22 @@ pub record Runs : Type 0 where
   pub listing-three :
       tabulate 2 (linesIn 2 listing 2) ≡ (taken 1 Neutral ∷ aired 0 seven ∷ []) ∷ (taken 0 seven ∷ aired 0 seven ∷ []) ∷ []
   -- everyone hears everyone
-  pub two : Mesh 2 (2 ∷ 1 ∷ [])
-  pub three : Mesh 3 (6 ∷ 5 ∷ 3 ∷ [])
+  pub two : seen 2 (run 2 4 (2 ∷ 1 ∷ [])) ≡ mesh 2
+  pub three : seen 3 (run 3 4 (6 ∷ 5 ∷ 3 ∷ [])) ≡ mesh 3
   -- the chain: the two ends, two links from each other, need four rounds for a broadcast and the middle two; the same is aired everywhere
   pub chain-airs : tabulate 3 (airedList 3 chain) ≡ replicate 3 (edits 3)
   pub chain-ends : tabulate 3 (λ s. gather 8 (λ u. endsAt chain s (suc u)) suc) ≡ (4 ∷ 8 ∷ []) ∷ (2 ∷ 4 ∷ 6 ∷ 8 ∷ []) ∷ (4 ∷ 8 ∷ []) ∷ []
 
 -- all by computation
 pub runs : Runs
-unfolding seven listing linesOf linesIn isEdit bodyInside numbersInside bit hearsIn allBelow anyBelow fill gather framed isNewer laneOf bodies noneWaiting queued unqueued oldest sentRecords tableRecords freshStation laneInside queueInside recordInside placeInside stationInside replaced heardNewer hearRecord hearRecords airs rowOf lanesAfter ends startedBody passed ownRecord rewritten afterTurn turnReport posted noTurn groupInside freshGroup groupPostRefusal postCall hearing noReport reportOf roundRefusal afterRound roundCall next begun continued editsOf edit run tabulate takenFrom takingsOf airedList started collect endsAt
+unfolding seven listing linesOf linesIn isEdit bodyInside numbersInside bit hearsIn allBelow anyBelow fill gather framed isNewer laneOf bodies noneWaiting queued unqueued oldest sentRecords tableRecords freshStation laneInside queueInside recordInside placeInside stationInside replaced heardNewer hearRecord hearRecords airs rowOf lanesAfter ends startedBody passed ownRecord rewritten afterTurn turnReport posted noTurn groupInside freshGroup groupPostRefusal postCall hearing noReport reportOf roundRefusal afterRound roundCall next begun continued editsOf edit run tabulate airedList collect endsAt
 runs =
     record {
       listing-one = refl;
       listing-two = refl;
       listing-three = refl;
-      two = record { starts = refl; takes = refl; ends = refl; airs = refl };
-      three = record { starts = refl; takes = refl; ends = refl; airs = refl };
+      two = refl;
+      three = refl;
       chain-airs = refl;
       chain-ends = refl;
     }

@@ -2,16 +2,14 @@
 use Prim.Native.Nat.{ℕ, suc}
 use mathlib.Core.Bool.{cond, not}
 use lib.Dec.{eqb}
-use mathlib.Core.Path.{_≡_}
 use mathlib.Core.List.{List, [], _∷_, _++_, map}
-use lib.IntN.{pos}
 use lib.ListN.{getD, take, replicate}
 use Rattle.kinds.specs.declared.Body.{Body}
-use Rattle.kinds.specs.declared.Body.the-variants.{Empty, Neutral, Insert, Drop}
+use Rattle.kinds.specs.declared.Body.the-variants.{Empty, Neutral, Drop}
 use Rattle.places.specs.Places.{gather, tabulate}
 use Rattle.station_rules.specs.declared.Taking.{Taking}
 use Rattle.group_rules.specs.declared.Report.{Report}
-use Rattle.group_rules.specs.History.{History, Call.post, Call.round, next, begun, continued, historyOf, noRound, reportIn, unlessEmpty, editsOf, collect, started, takingsOf, takenFrom, airedList, endsAt}
+use Rattle.group_rules.specs.History.{History, Call.post, Call.round, historyOf, noRound, reportIn, unlessEmpty, editsOf, airedList}
 
 -- a line of the listing: a body taken, aired or ended, with its source
 pub data Line : Type 0 where
@@ -41,18 +39,29 @@ edits n = tabulate n (λ k. record { source = k; body = edit k })
 unfoldable pub run : ℕ → ℕ → List ℕ → History
 run n rounds masks = historyOf n (tabulate n (λ k. post k (edit k)) ++ replicate rounds (round masks))
 
--- of station p among n, where everyone hears everyone: round 2 ends Empty and starts the edits, round 3 takes and airs them, round 4 ends them
-abbrev pub meshStarts : ℕ → List Line
-meshStarts p = ended p Empty ∷ taken p (edit p) ∷ []
+-- what is read off a run in which everyone hears everyone: the lines of rounds 2 to 4 and what is aired, station by station. One value, so that a run
+-- is computed once
+pub record Seen : Type 0 where
+  pub second : List (List Line)
+  pub third : List (List Line)
+  pub fourth : List (List Line)
+  pub airs : List (List Taking)
 
-abbrev pub meshTakes : ℕ → ℕ → List Line
-meshTakes n p = gather n (λ k. not (eqb k p)) (λ k. taken k (edit k)) ++ tabulate n (λ k. aired k (edit k))
+abbrev pub seen : ℕ → History → Seen
+seen n H =
+    record {
+      second = tabulate n (linesIn n H 1);
+      third = tabulate n (linesIn n H 2);
+      fourth = tabulate n (linesIn n H 3);
+      airs = tabulate n (airedList n H);
+    }
 
-abbrev pub meshEnds : ℕ → List Line
-meshEnds p = ended p (edit p) ∷ taken p Neutral ∷ []
-
-pub record Mesh (n : ℕ) (masks : List ℕ) : Type 0 where
-  pub starts : tabulate n (linesIn n (run n 4 masks) 1) ≡ tabulate n meshStarts
-  pub takes : tabulate n (linesIn n (run n 4 masks) 2) ≡ tabulate n (meshTakes n)
-  pub ends : tabulate n (linesIn n (run n 4 masks) 3) ≡ tabulate n meshEnds
-  pub airs : tabulate n (airedList n (run n 4 masks)) ≡ replicate n (edits n)
+-- with one edit of each of n stations: round 2 ends Empty and starts the edits, round 3 takes those of the others and airs all, round 4 ends them
+abbrev pub mesh : ℕ → Seen
+mesh n =
+    record {
+      second = tabulate n (λ p. ended p Empty ∷ taken p (edit p) ∷ []);
+      third = tabulate n (λ p. gather n (λ k. not (eqb k p)) (λ k. taken k (edit k)) ++ tabulate n (λ k. aired k (edit k)));
+      fourth = tabulate n (λ p. ended p (edit p) ∷ taken p Neutral ∷ []);
+      airs = replicate n (edits n);
+    }

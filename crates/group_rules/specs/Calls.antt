@@ -1,11 +1,10 @@
 -- Document 01, "A group and its rounds" and "Turned down": group fresh, group post and round, each with its refusals in their order.
 use Prim.Native.Nat.{ℕ, zero, suc, _-_}
-use mathlib.Core.Bool.{Bool, false, cond, not, _&&_}
+use mathlib.Core.Bool.{cond, not, _&&_}
 use mathlib.Core.List.{List, _++_}
 use lib.ListN.{set, replicate, length}
 use lib.Dec.{leb, ltb, eqb}
 use Rattle.kinds.specs.declared.Body.{Body}
-use Rattle.kinds.specs.declared.Body.the-variants.{Empty}
 use Rattle.kinds.specs.Refusals.{done, badNumber, outsideLimits, laneFull, countTooHigh, refuse}
 use Rattle.links.specs.Log.{hearsIn}
 use Rattle.places.specs.Places.{anyBelow, fill}
