@@ -13,7 +13,7 @@ use lib.Dec.{leb, ltb}
 use Rattle.links.specs.Log.{hearsIn}
 use Rattle.links.specs.Relay.{Links}
 use Rattle.links.specs.Clock.{latest, news}
-use Rattle.links.specs.Number.{numOf, got, fresh}
+use Rattle.links.specs.Number.{numOf, got, counted}
 use Rattle.links.proofs.Clock.{news-own, news-limit, news-step}
 use Rattle.links.proofs.Got.{got-numOf, version}
 use Rattle.frame_rules.specs.declared.Record.{Record}
@@ -42,13 +42,13 @@ module _ (R : Run) where
   pub record After (u p : ℕ) (s : Station) : Type 0 where
     pub formed : Formed R p s
     pub body : s .body ≡ shown R p (suc u)
-    pub count : s .count ≡ fresh L u p
+    pub count : s .count ≡ counted L u p
     pub cells :
         (q : ℕ) → q < R .n → CellAt R u p q (news L u p q) s
 
   -- it has heard nothing yet
   standing-silent : (u p : ℕ) (s : Station) → p < R .n → After u p s → Standing R u p s (silent s) (λ q. news L u p q)
-  unfolding takingsOf fresh got
+  unfolding takingsOf counted got
   standing-silent u p s lp a =
       record {
         formed = a .formed;

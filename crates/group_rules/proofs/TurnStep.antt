@@ -1,6 +1,6 @@
 -- The turn of a round: a station whose cells stand for the clocks of the round ends its broadcast exactly if the clocks say so, and is afterwards as the
 -- round leaves it, its own record being the newest version of itself.
-use Prim.Native.Nat.{ℕ, zero, suc, _%_, _<_}
+use Prim.Native.Nat.{ℕ, suc, _%_, _<_}
 use mathlib.Core.Bool.{Bool, true, false, cond, _||_}
 use mathlib.Core.Logic.{⊎-elim}
 use mathlib.Core.Path.{_≡_, refl, sym, ap, _∙_, subst}
@@ -13,7 +13,7 @@ use Rattle.labels.specs.Label.{successor}
 use Rattle.links.specs.Relay.{Links}
 use Rattle.links.specs.Clock.{news}
 use Rattle.links.specs.Number as number
-use Rattle.links.specs.Number.{start, num, numOf, got, gotOf, every, fresh}
+use Rattle.links.specs.Number.{start, num, numOf, got, gotOf, counted}
 use Rattle.links.proofs.Clock.{news-own}
 use Rattle.links.proofs.Number.{step}
 use Rattle.links.proofs.Got.{got-numOf, got-own, numOf-some}
@@ -22,6 +22,7 @@ use Rattle.links.proofs.Version.{gotOf-limit, ends-numbers}
 use Rattle.links.proofs.Tally.{tally-same, tally-limit}
 use Rattle.frame_rules.specs.declared.Record.{Record}
 use Rattle.places.specs.Places.{allBelow}
+use Rattle.places.proofs.Laws.{allBelow-ext}
 use Rattle.station_rules.specs.declared.Station.{Station}
 use Rattle.station_rules.specs.State.{labelOf, ackedOf, heldOf, recordOf}
 use Rattle.station_rules.specs.Hearing.{Hearing}
@@ -36,19 +37,14 @@ use Rattle.group_rules.proofs.Standing.{Formed, Standing}
 use Rattle.group_rules.proofs.HearParts.{label-step}
 use Rattle.group_rules.proofs.RoundHeard.{After}
 
-allBelow-every : (n : ℕ) (f g : ℕ → Bool) → ((k : ℕ) → k < n → f k ≡ g k) → allBelow n f ≡ every n g
-unfolding allBelow every
-allBelow-every zero f g h = refl
-allBelow-every (suc n) f g h = rw (allBelow-every n f g (λ k l. h k (omega arith)), h n (omega arith))
-
 module _ (R : Run) where
   abbrev L : Links
   L = linksOf R
 
   -- a broadcast that has just begun has counted nothing
-  pub fresh-start : (u p : ℕ) → p < R .n → start L u p ≡ u → fresh L u p ≡ 0
-  unfolding fresh
-  fresh-start u p lp e =
+  pub counted-start : (u p : ℕ) → p < R .n → start L u p ≡ u → counted L u p ≡ 0
+  unfolding counted
+  counted-start u p lp e =
       omega (
         arith,
         tally-limit 0 p (R .n) (λ q. got L u p q) (λ q. got L (start L u p) p q) lp
@@ -73,7 +69,7 @@ module _ (R : Run) where
       ends-agree =
           ends-each s
           ∙ ap (λ (m : ℕ). allBelow m (ackedOf s)) (c .formed .size)
-          ∙ allBelow-every (R .n) (ackedOf s)
+          ∙ allBelow-ext (R .n) (ackedOf s)
           (λ q. eqb q p || eqb (gotOf L q p (news L (suc u) p q)) (num L u p)) (λ q l. one q l (ℕ-discrete q p))
           ∙ sym (ends-numbers L u p)
         where
@@ -119,15 +115,15 @@ module _ (R : Run) where
           (b : Bool) (ended : turn.ends s ≡ b) (start-now : start L (suc u) p ≡ cond b (suc u) (start L u p))
           (num-now : num L (suc u) p ≡ cond b (suc (num L u p)) (num L u p))
           (began : first .body ≡ shown R p (suc u)) (after : stationAt (R .after (suc u)) p ≡ afterTurn s) where
-        count-turn : (afterTurn s) .count ≡ fresh L (suc u) p
-        unfolding fresh
+        count-turn : (afterTurn s) .count ≡ counted L (suc u) p
+        unfolding counted
         count-turn =
             TurnCells.turn-count s ∙ ap (λ (x : Bool). cond x 0 (s .count)) ended ∙ go b start-now
           where
             go :
                 (x : Bool) → start L (suc u) p ≡ cond x (suc u) (start L u p) →
-                cond x 0 (s .count) ≡ fresh L (suc u) p
-            go true e = sym (fresh-start (suc u) p lp e)
+                cond x 0 (s .count) ≡ counted L (suc u) p
+            go true e = sym (counted-start (suc u) p lp e)
             go false e =
                 c .count
                 ∙ tally-same p (R .n) (λ q. numOf L q (vs q)) (λ q. got L (suc u) p q)

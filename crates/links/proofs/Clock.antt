@@ -53,7 +53,7 @@ module _ (heard : ℕ → Bool) (f : ℕ → ℕ) (x : ℕ) where
       go false e before = wider (latest n heard f x) before
 
 module _ (L : Links) where
-  -- F1: of itself a station knows how the present round leaves it; of another at most how the round before left it.
+  -- Of itself a station knows how the present round leaves it; of another at most how the round before left it.
   pub news-own : (u p : ℕ) → news L u p p ≡ suc u
   unfolding news
   news-own zero p = rw (eq-eqb p p refl)
@@ -89,7 +89,7 @@ module _ (L : Links) where
   pub news-limit : (u p q : ℕ) → news L u p q ≤ suc u
   news-limit u p q = elim (ℕ-discrete p q) [ yes e ↦ rw e (omega (arith, news-own u q)) | no d ↦ omega (arith, news-other u p q d) ]
 
-  -- F2: news is kept.
+  -- News is kept.
   pub news-keeps : (u p q : ℕ) → news L u p q ≤ news L (suc u) p q
   news-keeps u p q =
       elim (ℕ-discrete p q) [
@@ -113,7 +113,7 @@ module _ (L : Links) where
   pub news-mono : (u w p q : ℕ) → u ≤ w → news L u p q ≤ news L w p q
   news-mono u w p q h = let e : w - u + u ≡ w = omega arith in rw e at (news-later (w - u) u p q)
 
-  -- F3: who has news of s has all that s had then.
+  -- Who has news of s has all that s had then.
   pub news-carries : (u p s q w : ℕ) → news L u p s ≡ suc w → news L w s q ≤ news L u p q
   news-carries zero p s q w h =
       elim (ℕ-discrete p s) [
@@ -138,7 +138,7 @@ module _ (L : Links) where
       let e : news L u p s ≡ suc (news L u p s - 1) = omega arith in
       omega (arith, news-carries u p s q (news L u p s - 1) e, news-mono w (news L u p s - 1) s q (omega arith))
 
-  -- F4: news of s from after round t is what a relay brings.
+  -- News of s from after round t is what a relay brings.
   pub relay-news : {s t r k : ℕ} → Relay L s t r k → t < news L k r s
   relay-news {s} {t} {r} {k} (direct l h) = go k l h
     where
