@@ -16,7 +16,7 @@ use Rattle.kinds.specs.declared.Body.{Body}
 use Rattle.kinds.specs.declared.Body.the-variants.{Empty}
 use Rattle.kinds.specs.Limits.{isEdit}
 use Rattle.links.specs.Relay.{Links}
-use Rattle.links.specs.Clock.{news}
+use Rattle.links.proofs.Clock.{news}
 use Rattle.places.specs.Places.{gather}
 use Rattle.places.proofs.Laws.{allBelow-at, gather-ext}
 use Rattle.lanes.specs.declared.Slot.{Slot}

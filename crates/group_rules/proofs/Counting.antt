@@ -11,8 +11,7 @@ use native.Mathlib.Omega.{arith}
 use borrow.Author.Tests.{ltb-true, ltb-false}
 use lib.Dec.{ltb}
 use Rattle.links.specs.Relay.{Links}
-use Rattle.links.specs.Clock.{news}
-use Rattle.links.proofs.Clock.{news-own, news-other, news-limit, news-keeps, news-carries}
+use Rattle.links.proofs.Clock.{news, news-own, news-other, news-limit, news-keeps, news-carries}
 use Rattle.places.specs.Places.{allBelow}
 use Rattle.places.proofs.Laws.{allBelow-at, allBelow-not}
 

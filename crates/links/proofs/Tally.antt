@@ -6,7 +6,13 @@ use native.Mathlib.Decide.{ℕ-discrete}
 use native.Mathlib.Nat.{mul-suc}
 use native.Mathlib.Omega.{arith}
 use borrow.Author.Tests.{eq-eqb, ne-eqb}
-use Rattle.links.specs.Number.{tally}
+use mathlib.Core.Bool.{cond}
+use lib.Dec.{eqb}
+
+-- How much has been added since, at the first n stations but p.
+unfoldable pub tally : ℕ → ℕ → (ℕ → ℕ) → (ℕ → ℕ) → ℕ
+tally zero p now before = 0
+tally (suc n) p now before = tally n p now before + cond (eqb n p) 0 (now n - before n)
 
 tally-zero : (p : ℕ) (now before : ℕ → ℕ) → tally 0 p now before ≡ 0
 unfolding tally

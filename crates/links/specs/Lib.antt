@@ -1,6 +1,3 @@
 pub mod Log
 pub mod Relay
 pub mod EndRule
-pub mod Clock
-pub mod Number
-pub mod Examples
