@@ -40,13 +40,6 @@ tally-same p (suc n) now now′ before before′ h =
           (let g = h n (omega arith) d in omega (arith, tally-other p n now before d, tally-other p n now′ before′ d, g .0, g .1))
     ]
 
--- Nothing was added since now.
-pub tally-none : (p n : ℕ) (now : ℕ → ℕ) → tally n p now now ≡ 0
-tally-none p zero now = tally-zero p now now
-tally-none p (suc n) now =
-    let k = tally-none p n now in
-    elim (ℕ-discrete n p) [ yes e ↦ omega (arith, tally-self p n now now e) | no d ↦ omega (arith, tally-other p n now now d) ]
-
 -- The sum does not fall where no part does.
 pub tally-mono : (p n : ℕ) (now now′ before : ℕ → ℕ)
     → ((r : ℕ) → r < n → (r ≡ p → ⊥) → now r ≤ now′ r)
