@@ -5,7 +5,7 @@ import tempfile
 import unittest
 from unittest import mock
 
-from doubt import frames
+from drawn import frames
 from model import listing
 from model.malformed import GOOD_ROUND, N2
 from program import compare, small

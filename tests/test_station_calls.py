@@ -1,18 +1,17 @@
 """The calls that crates/station_calls makes: the file that its output is compared with is what the model prints."""
 
 import os
-import subprocess
-import sys
 import unittest
 
-HERE = os.path.dirname(os.path.abspath(__file__))
+import model_calls
+
+STORED = os.path.join(os.path.dirname(os.path.abspath(__file__)), "..", "crates", "station_calls", "stdout")
 
 
 class StationCalls(unittest.TestCase):
     def test_stored_output(self):
-        printed = subprocess.run([sys.executable, os.path.join(HERE, "station_calls.py")], capture_output=True, check=True).stdout
-        with open(os.path.join(HERE, "..", "crates", "station_calls", "stdout"), "rb") as stored:
-            self.assertEqual(stored.read(), printed)
+        with open(STORED, encoding="ascii") as stored:
+            self.assertEqual(stored.read(), model_calls.listing())
 
 
 if __name__ == "__main__":

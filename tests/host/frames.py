@@ -27,7 +27,7 @@ def full_frame(rng, n):
             return sender, data
 
 
-def owns(n, sender):
+def owns(n):
     """Every own number below n, one that is not, and a large one."""
     return [*range(n), n, 2 ** 32 - 1]
 
@@ -35,8 +35,8 @@ def owns(n, sender):
 def valid_cases(rng):
     for _ in range(300):
         n = rng.randint(1, 16)
-        sender, data = valid_frame(rng, n)
-        for own in owns(n, sender):
+        _, data = valid_frame(rng, n)
+        for own in owns(n):
             yield data, n, own
         for other in (0, n - 1, n + 1, 17, 256, 256 + n, 2 ** 32 - 1):
             yield data, other, rng.randrange(n)

@@ -35,8 +35,8 @@ def put_last(queue, body):
 
 
 def without_oldest(queue):
-    """Every place moves up by one, and the last becomes Empty."""
-    return Queue(queue.length - 1, queue.slots[1:] + (EMPTY,))
+    """The others move up by one place, and the place that becomes free holds Empty."""
+    return Queue(queue.length - 1, queue.slots[1:queue.length] + (EMPTY,) + queue.slots[queue.length:])
 
 
 # A lane that is changed has Empty in its unused places.

@@ -1,9 +1,11 @@
-"""Prints what crates/station_calls must print, by the model: the same calls, each answer with a digest of the whole station."""
+#!/usr/bin/env python3
+"""Prints from the model what the program crates/station_calls writes: the same calls, each answer with a digest of the whole station.
 
-import os
-import sys
+usage: tests/model_calls.py > crates/station_calls/stdout
+"""
 
-sys.path.insert(0, os.path.dirname(os.path.abspath(__file__)))
+import contextlib
+import io
 
 from model import hearing, station as calls, turns
 from model.bodies import DROP, EMPTY, INSERT, NEUTRAL, SHIFT, Body
@@ -148,10 +150,12 @@ def refused_calls():
     write(s._replace(table=(own,) + s.table[1:]))
 
 
+def listing():
+    with contextlib.redirect_stdout(io.StringIO()) as printed:
+        for calls_of in (fresh_calls, post_calls, turn_calls, rounds, hear_calls, refused_calls):
+            calls_of()
+    return printed.getvalue()
+
+
 if __name__ == "__main__":
-    fresh_calls()
-    post_calls()
-    turn_calls()
-    rounds()
-    hear_calls()
-    refused_calls()
+    print(listing(), end="")

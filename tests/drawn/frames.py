@@ -121,7 +121,7 @@ def compile_driver(driver, *sources):
 def compile_false(fault, folder):
     """An object with a false frame check, built as an archive would be: without AddressSanitizer."""
     made = []
-    for source in (ROOT / "tests" / "doubt" / "false.c", ROOT / "bench" / "frame_check_peer.c"):
+    for source in (ROOT / "tests" / "drawn" / "false.c", ROOT / "bench" / "frame_check_peer.c"):
         made.append(pathlib.Path(folder, f"{source.stem}-{fault}.o"))
         subprocess.run([*shlex.split(os.environ.get("CC", "gcc")), "-std=c11", "-O2", "-Wno-array-bounds", f"-DFAULT={fault}", f"-I{ROOT / 'include'}",
                         f"-I{ROOT / 'bench'}", "-c", source, "-o", made[-1]], check=True)
