@@ -50,14 +50,18 @@ module _ (R : Run) where
             record {
               size = sym (e .n) ∙ a .formed .size;
               own = sym (e .own) ∙ a .formed .own;
-              acked = ap length (sym (e .acked)) ∙ a .formed .acked;
-              labels = ap length (sym (e .labels)) ∙ a .formed .labels;
-              held = ap length (sym (e .held)) ∙ a .formed .held;
-              table = ap length (sym (e .table)) ∙ a .formed .table;
-              lanes = ap length (sym (e .lanes)) ∙ a .formed .lanes;
-              record-labels =
-                  λ q l.
-                  ap (λ (x : List Record). length ((getD x q noRecord) .labels)) (sym (e .table)) ∙ a .formed .record-labels q l;
+              shape =
+                  (let c = a .formed .shape in
+                  record {
+                    acked = ap length (sym (e .acked)) ∙ c .acked;
+                    labels = ap length (sym (e .labels)) ∙ c .labels;
+                    held = ap length (sym (e .held)) ∙ c .held;
+                    table = ap length (sym (e .table)) ∙ c .table;
+                    lanes = ap length (sym (e .lanes)) ∙ c .lanes;
+                    slots = sym (e .slots) ∙ c .slots;
+                    record-labels =
+                        λ q l. ap (λ (x : List Record). length ((getD x q noRecord) .labels)) (sym (e .table)) ∙ c .record-labels q l;
+                  });
             };
         body = sym (e .body) ∙ a .body;
         count = sym (e .count) ∙ a .count;
@@ -127,19 +131,7 @@ module _ (R : Run) where
 
     fresh-formed : Formed R p (freshStation (R .n) p)
     unfolding freshStation
-    fresh-formed =
-        let c = fresh-shaped (R .n) p in
-        let high = R .high in
-        record {
-          size = refl;
-          own = refl;
-          acked = c .acked;
-          labels = c .labels;
-          held = c .held;
-          table = c .table;
-          lanes = c .lanes;
-          record-labels = λ q l. c .record-labels q (omega arith);
-        }
+    fresh-formed = record { size = refl; own = refl; shape = fresh-shaped (R .n) p }
 
     fresh-after : After R 0 p (stationAt (R .after 0) p)
     unfolding freshStation

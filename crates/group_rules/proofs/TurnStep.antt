@@ -18,7 +18,6 @@ use Rattle.links.proofs.Got.{numOf, got, gotOf, got-numOf, got-own, numOf-some}
 use Rattle.links.proofs.Bounds.{counted, gotOf-some}
 use Rattle.links.proofs.Version.{gotOf-limit, ends-numbers}
 use Rattle.links.proofs.Tally.{tally-same, tally-limit}
-use Rattle.frame_rules.specs.declared.Record.{Record}
 use Rattle.places.specs.Places.{allBelow}
 use Rattle.places.proofs.Laws.{allBelow-ext}
 use Rattle.station_rules.specs.declared.Station.{Station}
@@ -28,6 +27,7 @@ use Rattle.station_rules.specs.Turn as turn
 use Rattle.station_rules.specs.Turn.{passed, ownRecord, afterTurn, startedBody}
 use Rattle.station_rules.proofs.TurnParts.{ends-each}
 use Rattle.station_rules.proofs.TurnCells
+use Rattle.station_rules.proofs.Shape.{afterTurn-shaped}
 use Rattle.group_rules.specs.State.{stationAt}
 use Rattle.group_rules.proofs.Run.{Run, linksOf}
 use Rattle.group_rules.proofs.Version.{Stands, shown}
@@ -86,27 +86,12 @@ module _ (R : Run) where
       formed-turn : Formed R p (afterTurn s)
       formed-turn =
           let f = c .formed in
+          let high = R .high in
           record {
             size = TurnCells.turn-n s ∙ f .size;
             own = TurnCells.turn-own s ∙ f .own;
-            acked = TurnCells.turn-acked-length s ∙ f .acked;
-            labels = TurnCells.turn-labels-length s ∙ f .labels;
-            held = TurnCells.turn-held-length s ∙ f .held;
-            table = TurnCells.turn-table-length s ∙ f .table;
-            lanes = TurnCells.turn-lanes-length s ∙ f .lanes;
-            record-labels = λ q l. one q l (ℕ-discrete q (s .own));
+            shape = afterTurn-shaped s (omega (arith, f .own)) (f .shape);
           }
-        where
-          one : (q : ℕ) → q < R .n → Dec (q ≡ s .own) → length ((recordOf (afterTurn s) q) .labels) ≡ 16
-          one q l (yes e) =
-              let high = R .high in
-              ap (λ (i : ℕ). length ((recordOf (afterTurn s) i) .labels)) e
-              ∙ ap (λ (x : Record). length (x .labels)) (TurnCells.turn-record-own s (omega (arith, c .formed .own, c .formed .table)))
-              ∙ TurnCells.own-length s
-              ∙ ap (λ (i : ℕ). length ((recordOf s i) .labels)) (sym e)
-              ∙ c .formed .record-labels q l
-          one q l (no d) =
-              ap (λ (x : Record). length (x .labels)) (TurnCells.turn-record-other s q d) ∙ c .formed .record-labels q l
 
       -- b says whether the broadcast ends
       module _
@@ -150,7 +135,7 @@ module _ (R : Run) where
         own-label-now =
             let high = R .high in
             subst (λ i. labelOf (afterTurn s) i ≡ num L (suc u) p % 3) (c .formed .own)
-            (TurnCells.turn-label-own s (omega (arith, c .formed .own, c .formed .labels))
+            (TurnCells.turn-label-own s (omega (arith, c .formed .own, c .formed .shape .labels))
             ∙ ap
             (λ (x : Bool). cond x (successor (labelOf s (s .own))) (labelOf s (s .own)))
             ended
@@ -183,7 +168,7 @@ module _ (R : Run) where
                   TurnCells.own-label s k (omega (arith, c .formed .size))
                   (omega (
                     arith,
-                    ap (λ (i : ℕ). length ((recordOf s i) .labels)) (c .formed .own) ∙ c .formed .record-labels p lp,
+                    ap (λ (i : ℕ). length ((recordOf s i) .labels)) (c .formed .own) ∙ c .formed .shape .record-labels p (omega (arith, R .high)),
                   ))
                   ∙ label-now k l (ℕ-discrete k p);
             }
@@ -191,7 +176,7 @@ module _ (R : Run) where
         acked-turn : (q : ℕ) → q < R .n → ackedOf (afterTurn s) q ≡ cond b (eqb q p) (ackedOf s q)
         acked-turn q l =
             let high = R .high in
-            TurnCells.turn-acked s q (omega (arith, c .formed .size)) (omega (arith, c .formed .acked))
+            TurnCells.turn-acked s q (omega (arith, c .formed .size)) (omega (arith, c .formed .shape .acked))
             ∙ ap (λ (x : Bool). cond x (eqb q (s .own)) (ackedOf s q)) ended
             ∙ ap (λ (i : ℕ). cond b (eqb q i) (ackedOf s q)) (c .formed .own)
 
@@ -251,7 +236,7 @@ module _ (R : Run) where
             (subst (λ x. Stands R x p (suc u))
             (sym
             (ap (λ (i : ℕ). recordOf (afterTurn s) i) (sym (c .formed .own))
-            ∙ TurnCells.turn-record-own s (omega (arith, c .formed .own, c .formed .table))))
+            ∙ TurnCells.turn-record-own s (omega (arith, c .formed .own, c .formed .shape .table))))
             own-stands))
         stands-now q l (no d) w f =
             subst (λ x. Stands R x q w) (sym (TurnCells.turn-record-other s q (λ e. d (e ∙ c .formed .own))))
