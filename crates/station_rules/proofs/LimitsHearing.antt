@@ -18,7 +18,8 @@ use Rattle.station_rules.specs.Limits.{stationInside}
 use Rattle.station_rules.specs.Hearing.{Hearing, silent, heeds, takes, heardNewer, hearRecord, hearRecords}
 use Rattle.station_rules.proofs.HearRecord.{heardOne, hearRecord-heeds, hearRecord-skips}
 use Rattle.station_rules.proofs.Shape.{Shaped, heardNewer-shaped}
-use Rattle.station_rules.proofs.LimitsLane.{pushed-len, lane-most}
+use Rattle.lanes.proofs.LaneLaws.{len-pushed}
+use Rattle.station_rules.proofs.LimitsLane.{lane-most}
 use Rattle.station_rules.proofs.StationLimits.{Inside, inside-open, inside-make}
 use Rattle.station_rules.proofs.Cells.{heard-n, heard-own, heard-waiting, heard-body, lane-here, lane-other}
 use Rattle.station_rules.proofs.LimitsHear.{Carried, heeds-other, heard-holds}
@@ -69,7 +70,7 @@ module _ (s : Station) (r : Record) (other : r .station ≡ s .own → ⊥) wher
   otherLens-raised l b e room =
       rw (heard-n s r)
       (total-raised (s .n) (otherLen s) (otherLen (heardNewer s r)) (r .station) l
-      (rw (heard-own s r, ne-eqb (r .station) (s .own) other, lane-here s r b, e) (pushed-len (laneAt s (r .station)) (r .body) room))
+      (rw (heard-own s r, ne-eqb (r .station) (s .own) other, lane-here s r b, e) (len-pushed (laneAt s (r .station)) (r .body) room))
       (λ k m ne. otherLen-same k ne))
 
 -- what holds of a hearing h that began as a
