@@ -3,11 +3,12 @@
 use mathlib.Core.Bool.{Bool, true, false, cond, false≢true}
 use mathlib.Core.Logic.{_⊎_, inl, inr}
 use mathlib.Core.Path.{_≡_, refl, sym, _∙_, ap}
-use Prim.Native.Nat.{ℕ, zero, suc, max, _+_, _-_, _<_, _≤_}
+use Prim.Native.Nat.{ℕ, zero, suc, max, _-_, _<_, _≤_}
 use native.Mathlib.Decide.{ℕ-discrete, decLe}
-use native.Mathlib.Nat.{le-refl, zero-add, suc-add}
+use native.Mathlib.Nat.{le-refl}
 use native.Mathlib.Omega.{arith}
 use borrow.Author.Tests.{eq-eqb, ne-eqb}
+use Rattle.places.proofs.Later.{from-on}
 use Rattle.links.specs.Relay.{Links, Relay, direct, onward}
 use Rattle.links.specs.EndRule.{RelayBy}
 use lib.Dec.{eqb}
@@ -117,12 +118,9 @@ module _ (L : Links) where
             (latest-hears (λ i. L .hears (suc u) p i) (λ i. news L u i q) (news L u p q) (L .size) j (L .inside (suc u) p j h .1) h)
       ]
 
-  news-later : (d u p q : ℕ) → news L u p q ≤ news L (d + u) p q
-  news-later zero u p q = rw (zero-add u) (le-refl (news L u p q))
-  news-later (suc d) u p q = rw (suc-add d u) (omega (arith, news-later d u p q, news-keeps (d + u) p q))
-
   pub news-mono : (u w p q : ℕ) → u ≤ w → news L u p q ≤ news L w p q
-  news-mono u w p q h = let e : w - u + u ≡ w = omega arith in rw e at (news-later (w - u) u p q)
+  news-mono u w p q =
+      from-on (λ v. news L u p q ≤ news L v p q) u (le-refl (news L u p q)) (λ v l h. omega (arith, news-keeps v p q)) w
 
   -- Who has news of s has all that s had then.
   pub news-carries : (u p s q w : ℕ) → news L u p s ≡ suc w → news L w s q ≤ news L u p q

@@ -3,13 +3,14 @@
 use mathlib.Core.Bool.{Bool, true, false, _||_, false≢true, cond}
 use mathlib.Core.Logic.{_⊎_, inl, inr, ⊎-elim}
 use mathlib.Core.Path.{_≡_, refl}
-use Prim.Native.Nat.{ℕ, zero, suc, _+_, _-_, _<_, _≤_}
+use Prim.Native.Nat.{ℕ, zero, suc, _-_, _<_, _≤_}
 use native.Mathlib.Decide.{ℕ-discrete, decLe}
-use native.Mathlib.Nat.{le-refl, zero-add, suc-add}
+use native.Mathlib.Nat.{le-refl}
 use native.Mathlib.Omega.{arith}
 use borrow.Author.Tests.{eq-eqb, ne-eqb, leb-true, le-leb}
 use lib.Dec.{eqb, leb}
 use Rattle.places.proofs.Laws.{allBelow-at, allBelow-make}
+use Rattle.places.proofs.Later.{from-on}
 use Rattle.links.specs.Relay.{Links}
 use Rattle.links.proofs.Clock.{news}
 use Rattle.places.specs.Places.{allBelow}
@@ -116,13 +117,9 @@ module _ (L : Links) where
   start-limit zero s = omega (arith, start-zero s)
   start-limit (suc u) s = ⊎-elim (λ e. omega arith) (λ e. omega (arith, start-limit u s)) (step u s)
 
-  num-later : (d u s : ℕ) → num L u s ≤ num L (d + u) s
-  num-later zero u s = rw (zero-add u) (le-refl (num L u s))
-  num-later (suc d) u s =
-      rw (suc-add d u) (⊎-elim (λ e. omega (arith, num-later d u s)) (λ e. omega (arith, num-later d u s)) (step (d + u) s))
-
   pub num-mono : (u w s : ℕ) → u ≤ w → num L u s ≤ num L w s
-  num-mono u w s h = let e : w - u + u ≡ w = omega arith in rw e at (num-later (w - u) u s)
+  num-mono u w s =
+      from-on (λ v. num L u s ≤ num L v s) u (le-refl (num L u s)) (λ v l h. ⊎-elim (λ e. omega arith) (λ e. omega arith) (step v s)) w
 
   pub num-positive : (u s : ℕ) → 1 ≤ num L u s
   num-positive u s = omega (arith, num-zero s, num-mono 0 u s (omega arith))
