@@ -29,14 +29,14 @@ class Cited(unittest.TestCase):
             for names, crate, file in re.findall(NAMES + r",? \(?" + FILE, text):
                 for name in re.findall(r"`([\w-]+)`", names):
                     found += 1
-                    self.assertRegex(text_of(crate, file), rf"(?m)^\s*(?:\w+ )*{re.escape(name)} :", f"{document}: {name} of {crate}/{file}")
+                    self.assertTrue(re.search(rf"(?m)^\s*(?:\w+ )*{name} :", text_of(crate, file)), f"{document}: {name} of {crate}/{file}")
         self.assertGreater(found, 15)
 
     def test_functions(self):
         for document, text in DOCUMENTS.items():
             for crate, name in re.findall(r"`([a-z_]+)::([a-z_]+)`", text):
                 code = "".join(path.read_text(encoding="utf-8") for path in (ROOT / "crates" / crate / "src").glob("*.rt"))
-                self.assertRegex(code, rf"\bfn {name}\(", f"{document}: {crate}::{name}")
+                self.assertTrue(re.search(rf"\bfn {name}\(", code), f"{document}: {crate}::{name}")
 
 
 if __name__ == "__main__":
