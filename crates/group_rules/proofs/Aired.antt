@@ -17,7 +17,7 @@ use Rattle.kinds.specs.declared.Body.the-variants.{Empty}
 use Rattle.kinds.specs.Limits.{isEdit}
 use Rattle.places.proofs.Later.{from-on}
 use Rattle.links.specs.Relay.{Links}
-use Rattle.links.proofs.Clock.{news}
+use Rattle.links.specs.Clock.{news}
 use Rattle.places.specs.Places.{gather}
 use Rattle.places.proofs.Laws.{allBelow-at, gather-ext}
 use Rattle.lanes.specs.declared.Slot.{Slot}

@@ -12,7 +12,8 @@ use borrow.Author.Tests.{ltb-true, ltb-false}
 use lib.Dec.{ltb}
 use Rattle.places.proofs.Later.{from-on}
 use Rattle.links.specs.Relay.{Links}
-use Rattle.links.proofs.Clock.{news, news-own, news-other, news-limit, news-keeps, news-carries}
+use Rattle.links.specs.Clock.{news}
+use Rattle.links.proofs.Clock.{news-own, news-other, news-limit, news-keeps, news-carries}
 use Rattle.places.specs.Places.{allBelow}
 use Rattle.places.proofs.Laws.{allBelow-at, allBelow-not}
 

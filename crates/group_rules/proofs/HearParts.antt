@@ -13,7 +13,7 @@ use Rattle.kinds.specs.declared.Body.{Body}
 use Rattle.kinds.specs.Body.{kindOf}
 use Rattle.labels.specs.Label.{successor}
 use Rattle.links.specs.Relay.{Links}
-use Rattle.links.proofs.Got.{numOf, got}
+use Rattle.links.specs.Number.{numOf, got}
 use Rattle.frame_rules.specs.declared.Record.{Record}
 use Rattle.lanes.specs.declared.Lane.{Lane}
 use Rattle.places.proofs.Laws.{cond-not}

@@ -13,12 +13,14 @@ use Rattle.kinds.specs.declared.Body.{Body}
 use Rattle.kinds.specs.Body.{kindOf}
 use Rattle.labels.specs.Label.{successor}
 use Rattle.links.specs.Relay.{Links}
-use Rattle.links.proofs.Clock.{news, news-limit}
-use Rattle.links.proofs.Number.{start, num, start-limit}
-use Rattle.links.proofs.Got.{numOf, got, gotOf, got-numOf, numOf-some, numOf-mono, got-mono, num-limit}
-use Rattle.links.proofs.Tally.{tally, tally-same, tally-rises}
+use Rattle.links.specs.Clock.{news}
+use Rattle.links.specs.Number.{start, num, numOf, got, gotOf, tally}
+use Rattle.links.proofs.Clock.{news-limit}
+use Rattle.links.proofs.Number.{start-limit}
+use Rattle.links.proofs.Got.{got-numOf, numOf-some, numOf-mono, got-mono, num-limit}
 use Rattle.links.proofs.Bounds.{gotOf-some}
 use Rattle.links.proofs.Version.{gotOf-mono, gotOf-limit, gotOf-close, numOf-limit}
+use Rattle.links.proofs.Tally.{tally-same, tally-rises}
 use Rattle.frame_rules.specs.declared.Record.{Record}
 use Rattle.places.specs.Places.{anyBelow}
 use Rattle.places.proofs.Laws.{anyBelow-ext, anyBelow-add}

@@ -14,7 +14,8 @@ use lib.Seq.{drop-drop, drop-append-le}
 use Rattle.kinds.specs.declared.Body.{Body}
 use Rattle.kinds.specs.Body.{kindOf}
 use Rattle.links.specs.Relay.{Links}
-use Rattle.links.proofs.Clock.{news, news-own, news-other, news-start}
+use Rattle.links.specs.Clock.{news}
+use Rattle.links.proofs.Clock.{news-own, news-other, news-start}
 use Rattle.places.specs.Places.{allBelow}
 use Rattle.places.proofs.Laws.{allBelow-ext, anyBelow-none}
 use Rattle.lanes.specs.declared.Lane.{Lane}

@@ -12,11 +12,12 @@ use Rattle.labels.specs.Label.{successor}
 use Rattle.labels.specs.Newer.{isNewer}
 use Rattle.labels.proofs.NewerLaws.{newer-next, newer-same, newer-past, newer-none}
 use Rattle.links.specs.Relay.{Links}
-use Rattle.links.proofs.Clock.{news, news-limit}
-use Rattle.links.proofs.Number.{num, num-positive, num-mono}
-use Rattle.links.proofs.Got.{numOf, numOf-none, numOf-some, got-own}
-use Rattle.links.proofs.Bounds.{counted}
+use Rattle.links.specs.Clock.{news}
+use Rattle.links.specs.Number.{num, numOf, counted}
+use Rattle.links.proofs.Number.{num-positive, num-mono}
+use Rattle.links.proofs.Got.{numOf-none, numOf-some, got-own}
 use Rattle.links.proofs.Version.{numOf-close, counted-mono}
+use Rattle.links.proofs.Clock.{news-limit}
 use Rattle.frame_rules.specs.declared.Record.{Record}
 use Rattle.station_rules.specs.declared.Station.{Station}
 use Rattle.station_rules.specs.State.{labelOf, heldOf, recordOf, recordLabel}

@@ -12,9 +12,10 @@ use borrow.Author.Tests.{lt-ltb, le-ltb, ltb-true, ltb-false}
 use lib.Dec.{leb, ltb}
 use Rattle.links.specs.Log.{hearsIn}
 use Rattle.links.specs.Relay.{Links}
-use Rattle.links.proofs.Clock.{latest, news, news-own, news-limit, news-step}
-use Rattle.links.proofs.Got.{numOf, got, got-numOf, version}
-use Rattle.links.proofs.Bounds.{counted}
+use Rattle.links.specs.Clock.{latest, news}
+use Rattle.links.specs.Number.{numOf, got, counted}
+use Rattle.links.proofs.Clock.{news-own, news-limit, news-step}
+use Rattle.links.proofs.Got.{got-numOf, version}
 use Rattle.frame_rules.specs.declared.Record.{Record}
 use Rattle.frame_rules.specs.Record.{framed}
 use Rattle.places.specs.Places.{gather}

@@ -11,9 +11,11 @@ use lib.ListN.{getD, set, length, replicate, getD-replicate}
 use lib.Seq.{getD-set-same, getD-set-other}
 use lib.Dec.{eqb}
 use Rattle.links.specs.Relay.{Links}
-use Rattle.links.proofs.Clock.{news, news-own, news-start}
-use Rattle.links.proofs.Number.{num, num-zero, start-zero}
-use Rattle.links.proofs.Got.{numOf, got, gotOf, got-none, got-own}
+use Rattle.links.specs.Clock.{news}
+use Rattle.links.specs.Number.{num, numOf, got, gotOf}
+use Rattle.links.proofs.Clock.{news-own, news-start}
+use Rattle.links.proofs.Number.{num-zero, start-zero}
+use Rattle.links.proofs.Got.{got-none, got-own}
 use Rattle.frame_rules.specs.declared.Record.{Record}
 use Rattle.station_rules.specs.declared.Station.{Station}
 use Rattle.frame_rules.specs.Record.{noRecord, zeroRecord}

@@ -9,9 +9,8 @@ use lib.Dec.{ltb, leb, eqb}
 use Rattle.kinds.specs.declared.Body.{Body}
 use Rattle.kinds.specs.Body.{kindOf}
 use Rattle.links.specs.Relay.{Links, ofMasks}
-use Rattle.links.proofs.Clock.{news}
-use Rattle.links.proofs.Number as number
-use Rattle.links.proofs.Got.{got}
+use Rattle.links.specs.Clock.{news}
+use Rattle.links.specs.Number as number
 use Rattle.places.specs.Places.{anyBelow}
 use Rattle.station_rules.specs.declared.Station.{Station}
 use Rattle.lanes.specs.Lane.{pushed}
@@ -63,7 +62,7 @@ bodyAt R s v = (stationAt (R .after (pred v)) s) .body
 
 -- in round u + 1 the number that p has of s rises
 abbrev pub rises : Run → ℕ → ℕ → ℕ → Bool
-rises R u p s = ltb (got (linksOf R) u p s) (got (linksOf R) (suc u) p s)
+rises R u p s = ltb (number.got (linksOf R) u p s) (number.got (linksOf R) (suc u) p s)
 
 -- and a body other than Empty comes with it
 abbrev pub comes : Run → ℕ → ℕ → ℕ → Bool

@@ -11,11 +11,13 @@ use lib.Dec.{ltb, leb, eqb}
 use Rattle.kinds.specs.declared.Body.{Body}
 use Rattle.kinds.specs.Body.{kindOf}
 use Rattle.links.specs.Relay.{Links}
-use Rattle.links.proofs.Clock.{news, news-own}
-use Rattle.links.proofs.Number as number
-use Rattle.links.proofs.Number.{num}
-use Rattle.links.proofs.Got.{numOf, got, got-numOf, got-own, numOf-some}
-use Rattle.links.proofs.Bounds.{counted, counted-limit}
+use Rattle.links.specs.Clock.{news}
+use Rattle.links.specs.Number as number
+use Rattle.links.specs.Number.{num, numOf, got, gotOf, counted}
+use Rattle.links.proofs.Clock.{news-own}
+use Rattle.links.proofs.Got.{got-numOf, got-own, numOf-some}
+use Rattle.links.proofs.Bounds.{counted-limit}
+use Rattle.frame_rules.specs.declared.Record.{Record}
 use Rattle.places.proofs.Laws.{anyBelow-ext}
 use Rattle.lanes.specs.Lane.{pushed}
 use Rattle.station_rules.specs.State.{labelOf, heldOf, recordOf, laneAt}

@@ -7,12 +7,12 @@ use mathlib.Core.Path.{_≡_, refl, sym, _∙_, subst}
 use native.Mathlib.Omega.{arith}
 use lib.Dec.{leb}
 use Rattle.links.specs.Relay.{Links}
-use Rattle.links.proofs.Clock.{news}
-use Rattle.links.proofs.Number.{start}
-use Rattle.links.proofs.Got.{numOf, got, num-limit}
-use Rattle.links.proofs.Tally.{tally, tally-same, tally-limit}
+use Rattle.links.specs.Clock.{news}
+use Rattle.links.specs.Number.{start, numOf, got, tally}
+use Rattle.links.proofs.Got.{num-limit}
 use Rattle.links.proofs.Bounds.{within}
 use Rattle.links.proofs.Version.{numOf-limit}
+use Rattle.links.proofs.Tally.{tally-same, tally-limit}
 use Rattle.places.specs.Places.{anyBelow}
 use Rattle.places.proofs.Laws.{anyBelow-ext}
 use Rattle.station_rules.specs.declared.Station.{Station}

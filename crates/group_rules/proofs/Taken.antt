@@ -15,10 +15,12 @@ use Rattle.kinds.specs.declared.Body.{Body}
 use Rattle.kinds.specs.declared.Body.the-variants.{Empty}
 use Rattle.places.proofs.Later.{from-on}
 use Rattle.links.specs.Relay.{Links}
-use Rattle.links.proofs.Clock.{news, news-own, news-start, news-limit, news-keeps}
+use Rattle.links.specs.Clock.{news}
+use Rattle.links.specs.Number.{numOf, got}
+use Rattle.links.specs.Number as number
+use Rattle.links.proofs.Clock.{news-own, news-start, news-limit, news-keeps}
 use Rattle.links.proofs.Number.{step, num-zero}
-use Rattle.links.proofs.Got.{numOf, got, numOf-none, numOf-some, numOf-mono, got-numOf, got-step}
-use Rattle.links.proofs.Number as number
+use Rattle.links.proofs.Got.{numOf-none, numOf-some, numOf-mono, got-numOf, got-step}
 use Rattle.station_rules.specs.declared.Station.{Station}
 use Rattle.station_rules.specs.State.{freshStation}
 use Rattle.station_rules.specs.Turn.{startedBody}

@@ -11,11 +11,13 @@ use lib.ListN.{length}
 use lib.Dec.{ltb, eqb}
 use Rattle.labels.specs.Label.{successor}
 use Rattle.links.specs.Relay.{Links}
-use Rattle.links.proofs.Clock.{news, news-own}
-use Rattle.links.proofs.Number as number
-use Rattle.links.proofs.Number.{start, num, step}
-use Rattle.links.proofs.Got.{numOf, got, gotOf, got-numOf, got-own, numOf-some}
-use Rattle.links.proofs.Bounds.{counted, gotOf-some}
+use Rattle.links.specs.Clock.{news}
+use Rattle.links.specs.Number as number
+use Rattle.links.specs.Number.{start, num, numOf, got, gotOf, counted}
+use Rattle.links.proofs.Clock.{news-own}
+use Rattle.links.proofs.Number.{step}
+use Rattle.links.proofs.Got.{got-numOf, got-own, numOf-some}
+use Rattle.links.proofs.Bounds.{gotOf-some}
 use Rattle.links.proofs.Version.{gotOf-limit, ends-numbers}
 use Rattle.links.proofs.Tally.{tally-same, tally-limit}
 use Rattle.places.specs.Places.{allBelow}

@@ -13,9 +13,10 @@ use lib.Dec.{ltb, eqb}
 use Rattle.kinds.specs.declared.Body.{Body}
 use Rattle.kinds.specs.Body.{kindOf}
 use Rattle.links.specs.Relay.{Links}
-use Rattle.links.proofs.Number.{start, num, num-positive, same-start}
-use Rattle.links.proofs.Got.{numOf, got, gotOf, numOf-none, numOf-some, got-own}
-use Rattle.links.proofs.Bounds.{counted, gotOf-some}
+use Rattle.links.specs.Number.{start, num, numOf, got, gotOf, counted}
+use Rattle.links.proofs.Number.{num-positive, same-start}
+use Rattle.links.proofs.Got.{numOf-none, numOf-some, got-own}
+use Rattle.links.proofs.Bounds.{gotOf-some}
 use Rattle.links.proofs.Version.{counted-pins}
 use Rattle.frame_rules.specs.declared.Record.{Record}
 use Rattle.lanes.specs.declared.Lane.{Lane}

@@ -8,14 +8,12 @@ use Prim.Native.Nat.{ℕ, zero, suc, _+_, _-_, _*_, _<_, _≤_}
 use native.Mathlib.Decide.{ℕ-discrete, decLe}
 use native.Mathlib.Omega.{arith}
 use Rattle.links.specs.Relay.{Links}
-use Rattle.links.proofs.Clock.{news, news-own, news-mono, news-carries-earlier}
-use Rattle.links.proofs.Number.{full, start, num, Answer, full-answer, answer-full, step, start-limit, num-start, ends-full}
-use Rattle.links.proofs.Got.{got, gotOf, version, got-none, got-some, got-mono, got-news, began, first-number, previous}
-use Rattle.links.proofs.Tally.{tally-limit, tally}
-
--- How many broadcasts of other stations came to p within the present broadcast of p, up to round u: what document 01 has p keep as its count.
-unfoldable pub counted : Links → ℕ → ℕ → ℕ
-counted L u p = tally (L .size) p (λ r. got L u p r) (λ r. got L (start L u p) p r)
+use Rattle.links.specs.Clock.{news}
+use Rattle.links.specs.Number.{full, start, num, got, gotOf, counted}
+use Rattle.links.proofs.Clock.{news-own, news-mono, news-carries-earlier}
+use Rattle.links.proofs.Number.{Answer, full-answer, answer-full, step, start-limit, num-start, ends-full}
+use Rattle.links.proofs.Got.{version, got-none, got-some, got-mono, got-news, began, first-number, previous}
+use Rattle.links.proofs.Tally.{tally-limit}
 
 module _ (L : Links) where
   pub gotOf-some : (q s v w : ℕ) → v ≡ suc w → gotOf L q s v ≡ got L w q s

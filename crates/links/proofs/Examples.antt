@@ -11,40 +11,16 @@ use lib.Dec.{lit<}
 use lib.ListN.{getD}
 use Rattle.places.specs.Places.{allBelow}
 use Rattle.links.specs.Log.{bit, hearsIn, masksIn}
-use Rattle.links.specs.Relay.{Links, Relay, direct, onward, ofLog, ofMasks}
+use Rattle.links.specs.Relay.{Links, Relay, direct, onward, ofLog}
 use Rattle.links.specs.EndRule.{RelayBy, Returned, EndsIn, Starts, at-first, after}
-use Rattle.links.proofs.Clock.{latest, news, relay-news, news-mono}
-use Rattle.links.proofs.Number.{answers, full, start, ends, num, step, num-zero}
-use Rattle.links.proofs.Got.{numOf, got}
+use Rattle.links.specs.Clock.{latest, news}
+use Rattle.links.specs.Number.{answers, full, start, ends, num, numOf, got}
+use Rattle.links.specs.Examples.{all-five, mesh, two-rounds, one-round, one-way, listing, listing-sixteen}
+use Rattle.links.proofs.Clock.{relay-news, news-mono}
 use Rattle.links.proofs.EndRule.{alone, num-starts, ends-rule, ends-once, never-ends}
 use Rattle.links.proofs.Log.{hearsIn-bit, hearsIn-silent, relay-in-log}
+use Rattle.links.proofs.Number.{step, num-zero}
 use Rattle.links.proofs.Relay.{relay-after, relay-heard}
-
--- Five stations, each hearing all others in every round.
-abbrev all-five : List ℕ
-all-five = 31 ∷ 31 ∷ 31 ∷ 31 ∷ 31 ∷ []
-
-abbrev mesh : Links
-mesh = ofMasks 5 (λ u. all-five)
-
--- Three stations: 1 hears 0 in round 1, and 2 hears 1 in round 2.
-abbrev two-rounds : Links
-two-rounds = ofLog 3 ((0 ∷ 1 ∷ 0 ∷ []) ∷ (0 ∷ 0 ∷ 2 ∷ []) ∷ [])
-
--- The same two hearings in one round.
-abbrev one-round : Links
-one-round = ofLog 3 ((0 ∷ 1 ∷ 2 ∷ []) ∷ [])
-
--- Two stations: in every round 1 hears 0, and 0 hears nobody.
-abbrev one-way : Links
-one-way = ofMasks 2 (λ u. 0 ∷ 1 ∷ [])
-
--- The three rounds of document 01's listing: two stations that hear each other, the masks as a script has them, and as a round call is given them.
-abbrev listing : Links
-listing = ofLog 2 ((2 ∷ 1 ∷ []) ∷ (2 ∷ 1 ∷ []) ∷ (2 ∷ 1 ∷ []) ∷ [])
-
-abbrev listing-sixteen : List ℕ
-listing-sixteen = 2 ∷ 1 ∷ 9 ∷ 9 ∷ 9 ∷ 9 ∷ 9 ∷ 9 ∷ 9 ∷ 9 ∷ 9 ∷ 9 ∷ 9 ∷ 9 ∷ 9 ∷ 9 ∷ []
 
 -- A single station starts a broadcast in every round, whatever its masks are.
 single-starts : (log : List (List ℕ)) (k : ℕ) → Starts (ofLog 1 log) 0 (suc k) k

@@ -8,22 +8,10 @@ use Prim.Native.Nat.{ℕ, zero, suc, _+_, _-_, _<_, _≤_}
 use native.Mathlib.Decide.{ℕ-discrete, decLe}
 use native.Mathlib.Omega.{arith}
 use Rattle.links.specs.Relay.{Links}
-use Rattle.links.proofs.Clock.{news, news-own, news-other, news-limit, news-mono}
-use Rattle.links.proofs.Number.{full, start, num, full-answer, step, start-limit, num-mono, num-positive, num-start, num-before, start-start, ends-full, num-zero}
-
--- The number that version v of s shows: 0 for none.
-unfoldable pub numOf : Links → ℕ → ℕ → ℕ
-numOf L s zero = 0
-numOf L s (suc w) = num L w s
-
--- The number of the last broadcast of s that r has after round u; 0 for none.
-unfoldable pub got : Links → ℕ → ℕ → ℕ → ℕ
-got L u r s = numOf L s (news L u r s)
-
--- What version v of q had of s: 0 for none.
-unfoldable pub gotOf : Links → ℕ → ℕ → ℕ → ℕ
-gotOf L q s zero = 0
-gotOf L q s (suc w) = got L w q s
+use Rattle.links.specs.Clock.{news}
+use Rattle.links.specs.Number.{full, start, num, numOf, got}
+use Rattle.links.proofs.Clock.{news-own, news-other, news-limit, news-mono}
+use Rattle.links.proofs.Number.{full-answer, step, start-limit, num-mono, num-positive, num-start, num-before, start-start, ends-full, num-zero}
 
 -- A version: none, or the state of a round.
 abbrev Version : ℕ → Type 0

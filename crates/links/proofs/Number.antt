@@ -1,6 +1,7 @@
 -- Broadcast numbers and starts. A number rises by one exactly where a broadcast ends, and the start is the round of the last rise; so a state of s has
--- the present number exactly from the present start on. These numbers, like the clocks, are a means of proof.
-use mathlib.Core.Bool.{Bool, true, false, _||_, false≢true, cond}
+-- the present number exactly from the present start on. When s went to its present number each other station had answered the one before, so everybody
+-- holds the present or the previous broadcast of everybody.
+use mathlib.Core.Bool.{Bool, true, false, _||_, false≢true}
 use mathlib.Core.Logic.{_⊎_, inl, inr, ⊎-elim}
 use mathlib.Core.Path.{_≡_, refl}
 use Prim.Native.Nat.{ℕ, zero, suc, _-_, _<_, _≤_}
@@ -8,36 +9,12 @@ use native.Mathlib.Decide.{ℕ-discrete, decLe}
 use native.Mathlib.Nat.{le-refl}
 use native.Mathlib.Omega.{arith}
 use borrow.Author.Tests.{eq-eqb, ne-eqb, leb-true, le-leb}
-use lib.Dec.{eqb, leb}
+use lib.Dec.{eqb}
 use Rattle.places.proofs.Laws.{allBelow-at, allBelow-make}
 use Rattle.places.proofs.Later.{from-on}
 use Rattle.links.specs.Relay.{Links}
-use Rattle.links.proofs.Clock.{news}
-use Rattle.places.specs.Places.{allBelow}
-
--- Is the version v of r, 0 for none and w + 1 for r as round w left it, one in which r has news of s from after round t?
-unfoldable pub answers : Links → ℕ → ℕ → ℕ → ℕ → Bool
-answers L s t r zero = false
-answers L s t r (suc w) = leb (suc t) (news L w r s)
-
--- After round u s has an answer of each other station to what it started in round t.
-unfoldable pub full : Links → ℕ → ℕ → ℕ → Bool
-full L u s t = allBelow (L .size) (λ r. eqb r s || answers L s t r (news L u s r))
-
--- The round in which the broadcast that s has after round u started.
-unfoldable pub start : Links → ℕ → ℕ → ℕ
-start L zero s = 0
-start L (suc u) s = cond (full L (suc u) s (start L u s)) (suc u) (start L u s)
-
--- In round u s ends a broadcast and starts the next.
-unfoldable pub ends : Links → ℕ → ℕ → Bool
-ends L zero s = false
-ends L (suc u) s = full L (suc u) s (start L u s)
-
--- The number of the broadcast that s has after round u; its first is number 1.
-unfoldable pub num : Links → ℕ → ℕ → ℕ
-num L zero s = 1
-num L (suc u) s = cond (ends L (suc u) s) (suc (num L u s)) (num L u s)
+use Rattle.links.specs.Clock.{news}
+use Rattle.links.specs.Number.{answers, full, start, ends, num}
 
 module _ (L : Links) where
   -- An answer is news of a station in which it has news of s from after round t.

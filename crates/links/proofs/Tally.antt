@@ -1,22 +1,14 @@
 -- Sums over all stations but one of what was added since: they go up with their parts, by as much; where two such sums are equal, and no part fell, no
 -- part changed. Each is a law of totals, with nothing to add at the station that is left out.
-use mathlib.Core.Bool.{cond}
 use mathlib.Core.Path.{_≡_, refl, sym, _∙_}
 use Prim.Native.Nat.{ℕ, zero, suc, _+_, _-_, _*_, _<_, _≤_}
 use native.Mathlib.Decide.{ℕ-discrete}
 use native.Mathlib.Nat.{mul-comm}
 use native.Mathlib.Omega.{arith}
 use borrow.Author.Tests.{eq-eqb, ne-eqb}
-use lib.Dec.{eqb}
-use Rattle.places.proofs.Total.{total, total-ext, total-mono, total-pins, total-gap, total-raised}
-
--- What r added: nothing where it is p.
-unfoldable pub added : ℕ → (ℕ → ℕ) → (ℕ → ℕ) → ℕ → ℕ
-added p now before r = cond (eqb r p) 0 (now r - before r)
-
--- How much has been added since, at the first n stations but p.
-unfoldable pub tally : ℕ → ℕ → (ℕ → ℕ) → (ℕ → ℕ) → ℕ
-tally n p now before = total n (added p now before)
+use Rattle.places.specs.Places.{total}
+use Rattle.places.proofs.Total.{total-ext, total-mono, total-pins, total-gap, total-raised}
+use Rattle.links.specs.Number.{added, tally}
 
 added-own : (p : ℕ) (now before : ℕ → ℕ) (r : ℕ) → r ≡ p → added p now before r ≡ 0
 unfolding added

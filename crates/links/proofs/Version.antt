@@ -11,10 +11,12 @@ use lib.Dec.{eqb}
 use Rattle.places.specs.Places.{allBelow}
 use Rattle.places.proofs.Laws.{allBelow-ext}
 use Rattle.links.specs.Relay.{Links}
-use Rattle.links.proofs.Clock.{news, news-other}
-use Rattle.links.proofs.Number.{answers, full, start, ends, num, ends-full, num-mono, num-positive, same-start, start-limit}
-use Rattle.links.proofs.Got.{numOf, got, gotOf, got-numOf, numOf-some, numOf-mono, got-mono, got-start, got-limit, num-limit}
-use Rattle.links.proofs.Bounds.{counted, behind, gotOf-some, gotOf-news}
+use Rattle.links.specs.Clock.{news}
+use Rattle.links.specs.Number.{answers, full, start, ends, num, numOf, got, gotOf, counted}
+use Rattle.links.proofs.Bounds.{behind, gotOf-some, gotOf-news}
+use Rattle.links.proofs.Clock.{news-other}
+use Rattle.links.proofs.Got.{got-numOf, numOf-some, numOf-mono, got-mono, got-start, got-limit, num-limit}
+use Rattle.links.proofs.Number.{ends-full, num-mono, num-positive, same-start, start-limit}
 use Rattle.links.proofs.Tally.{tally-mono, tally-pins}
 
 module _ (L : Links) where

@@ -1,3 +1,6 @@
 pub mod Log
 pub mod Relay
 pub mod EndRule
+pub mod Clock
+pub mod Number
+pub mod Examples
