@@ -9,10 +9,10 @@ use native.Mathlib.Decide.{ℕ-discrete, decLe}
 use native.Mathlib.Omega.{arith}
 use Rattle.links.specs.Relay.{Links}
 use Rattle.links.specs.Clock.{news}
-use Rattle.links.specs.Number.{full, start, num, got, gotOf, counted}
+use Rattle.links.specs.Number.{full, start, num, got, gotOf, tally, counted}
 use Rattle.links.proofs.Clock.{news-own, news-mono, news-carries-earlier}
 use Rattle.links.proofs.Number.{Answer, full-answer, answer-full, step, start-limit, num-start, ends-full}
-use Rattle.links.proofs.Got.{version, got-none, got-some, got-mono, got-news, began, first-number, previous}
+use Rattle.links.proofs.Got.{version, got-none, got-some, got-mono, got-news, began, first-number, previous, got-step}
 use Rattle.links.proofs.Tally.{tally-limit}
 
 module _ (L : Links) where
@@ -136,8 +136,14 @@ module _ (L : Links) where
           (version (start L (f .0) r)))
           (version (start L w r))
 
-  -- So at most two for each other station in all.
+  -- So at most two for each other station in all, and at most three while the next round is heard.
   pub counted-limit : (u p : ℕ) → p < L .size → counted L u p ≤ 2 * (L .size - 1)
   unfolding counted
   counted-limit u p l =
       tally-limit 2 p (L .size) (λ r. got L u p r) (λ r. got L (start L u p) p r) l (λ r lr d. within u p r l lr d)
+
+  pub counted-hearing-limit : (u p : ℕ) → p < L .size
+      → tally (L .size) p (λ r. got L (suc u) p r) (λ r. got L (start L u p) p r) ≤ 3 * (L .size - 1)
+  counted-hearing-limit u p l =
+      tally-limit 3 p (L .size) (λ r. got L (suc u) p r) (λ r. got L (start L u p) p r) l
+      (λ r lr d. omega (arith, within u p r l lr d, got-step L u p r l))

@@ -1,7 +1,7 @@
 -- The end rule of relays is what the clocks decide. An answer that the clocks show is a relay out and a relay back, turning in the round that the answer
 -- tells of; so a round by which all have returned is a round in which the clocks are full. A broadcast's round of end is then the first such round
 -- because the start stays where it is until a round is full.
-use mathlib.Core.Bool.{Bool, true, false, true≢false}
+use mathlib.Core.Bool.{Bool, true, false, true≢false, false≢true}
 use mathlib.Core.Logic.{_⊎_, inl, inr, ⊎-elim, _↔_}
 use mathlib.Core.Path.{_≡_, refl, sym, _∙_, ap}
 use Prim.Native.Nat.{ℕ, zero, suc, _+_, _-_, _*_, _<_, _≤_}
@@ -10,11 +10,11 @@ use native.Mathlib.Nat.{le-refl}
 use native.Mathlib.Omega.{arith}
 use Rattle.places.proofs.Later.{from-on}
 use Rattle.links.specs.Relay.{Links}
-use Rattle.links.specs.EndRule.{RelayBy, Returned, AllReturned, EndsIn, Starts, at-first, after}
+use Rattle.links.specs.EndRule.{RelayBy, Returned, AllReturned, EndsIn, Starts, at-first, after, Ended}
 use Rattle.links.specs.Clock.{news}
 use Rattle.links.specs.Number.{full, start, ends, num}
 use Rattle.links.proofs.Clock.{news-mono, news-relay, relayBy-news}
-use Rattle.links.proofs.Number.{Answer, full-answer, answer-full, step, start-limit, ends-full, num-zero, start-zero, same-start, start-ends, num-ends}
+use Rattle.links.proofs.Number.{Answer, full-answer, answer-full, step, start-limit, ends-full, num-zero, start-zero, same-start, start-ends, num-ends, ends-zero}
 use Rattle.links.proofs.Bounds.{not-full}
 
 module _ (L : Links) where
@@ -43,6 +43,10 @@ module _ (L : Links) where
             known = omega arith;
             had = omega (arith, news-mono L (k .turning) (news L u s r - 1) r s (omega arith));
           }
+
+  -- All have returned by round u exactly where the clocks say so.
+  pub all-returned : (u s t : ℕ) → AllReturned L s t u ↔ (full L u s t ≡ true)
+  all-returned u s t = (returned-full u s t, full-returned u s t)
 
   -- From its start on a broadcast that goes on has not been answered by all in any round.
   not-full-since : (u s v : ℕ) → start L u s < v → v ≤ u → full L v s (start L u s) ≡ true → ⊥
@@ -122,6 +126,15 @@ module _ (L : Links) where
           more (inl w) = inl (w .0, w .1, omega (arith, w .2))
           more (inr none) = here none (full L (suc n) s t) refl (decLe (suc t) (suc n))
 
+  -- The numbers and starts of the clocks are those of the end rule.
+  pub starts-num : (u s : ℕ) → Starts L s (num L u s) (start L u s)
+  starts-num zero s = rw (num-zero L s, start-zero L s) at-first
+  starts-num (suc u) s =
+      ⊎-elim
+      (λ c. rw (c .1, c .2) (after (starts-num u s) (ends-rule u s .0 (c .0))))
+      (λ c. rw (c .1, c .2) (starts-num u s))
+      (step L u s)
+
   -- A broadcast goes on until the round in which it ends.
   goes-on : (s t v : ℕ) → start L t s ≡ t → ((w : ℕ) → t < w → w ≤ v → AllReturned L s t w → ⊥) → t ≤ v → (start L v s ≡ t) × (num L v s ≡ num L t s)
   goes-on s t v e none l =
@@ -157,6 +170,20 @@ module _ (L : Links) where
           let g = still s j b t before e h in
           let f = still-ends s b t e (g .0) in
           (num-ends L t s f ∙ ap suc (g .1), start-ends L t s f)
+
+  -- With the start left open: a round is one of end by the clocks exactly if by the end rule a broadcast ends in it.
+  pub ends-ended : (u s : ℕ) → (ends L u s ≡ true) ↔ Ended L s u
+  ends-ended u s = (there u, back u)
+    where
+      there : (u : ℕ) → ends L u s ≡ true → Ended L s u
+      there zero e = absurd (false≢true (sym (ends-zero L s) ∙ e))
+      there (suc u) e = record { number = num L u s; started = start L u s; starts = starts-num u s; endsIn = ends-rule u s .0 e }
+
+      back : (u : ℕ) → Ended L s u → ends L u s ≡ true
+      back zero k = absurd (omega (arith, k .endsIn .later))
+      back (suc u) k =
+          still-ends s (k .started) u (k .endsIn)
+          (still s (k .number) (k .started) u (k .starts) (k .endsIn) (num-starts s (k .number) (k .started) (k .starts)) .0)
 
   -- Without such a round it does not end: its sender keeps it for good.
   pub never-ends : (u s : ℕ) → ((v : ℕ) → EndsIn L s (start L u s) v → ⊥) → (w : ℕ) → u ≤ w → num L w s ≡ num L u s

@@ -10,7 +10,7 @@ use native.Mathlib.Omega.{arith}
 use lib.Dec.{lit<}
 use lib.ListN.{getD}
 use Rattle.places.specs.Places.{allBelow}
-use Rattle.links.specs.Log.{bit, hearsIn, masksIn}
+use Rattle.links.specs.Log.{bit, hearsIn, masksIn, cut}
 use Rattle.links.specs.Relay.{Links, Relay, direct, onward, ofLog}
 use Rattle.links.specs.EndRule.{RelayBy, Returned, EndsIn, Starts, at-first, after}
 use Rattle.links.specs.Clock.{latest, news}
@@ -140,3 +140,7 @@ listing-ends = (refl, refl, refl, refl, refl)
 pub listing-round : (hearsIn 2 listing-sixteen 0 1 ≡ true) × (hearsIn 2 (3 ∷ 7 ∷ []) 0 0 ≡ false) × (hearsIn 2 (3 ∷ 7 ∷ []) 1 2 ≡ false) × (hearsIn 2 listing-sixteen 3 0 ≡ false)
 unfolding hearsIn bit
 listing-round = (refl, refl, refl, refl)
+
+pub listing-cut : cut 2 3 (2 ∷ 1 ∷ 2 ∷ 1 ∷ 2 ∷ 1 ∷ []) ≡ (2 ∷ 1 ∷ []) ∷ (2 ∷ 1 ∷ []) ∷ (2 ∷ 1 ∷ []) ∷ []
+unfolding cut
+listing-cut = refl

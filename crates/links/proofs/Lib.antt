@@ -1,5 +1,6 @@
--- First relays and clocks (Relay, Clock), then broadcast numbers (Number, Got, Tally, Bounds), then the end rule (EndRule: `ends-rule` is what demand 3
--- rests on); Version says the same of what is in flight within a round. Log is about logs as lists, and Examples tries the definitions on small links.
+-- Facts is what is claimed, and Examples what it comes to on small links. The others are why: first relays and clocks (Relay, Clock), then broadcast
+-- numbers (Number, Got, Tally, Bounds), then the end rule (EndRule); Version and Hearing say the same for what is in flight within a round; Prefix
+-- and Log are about logs as lists.
 pub mod Clock
 pub mod Number
 pub mod Got
@@ -8,5 +9,8 @@ pub mod Bounds
 pub mod Relay
 pub mod EndRule
 pub mod Version
+pub mod Hearing
+pub mod Prefix
 pub mod Log
 pub mod Examples
+pub mod Facts

@@ -1,16 +1,18 @@
--- Logs as lists: a mask that is not there hears nobody, so nothing is heard past the end of a log and no relay arrives there.
+-- Logs as lists: a mask that is not there hears nobody, so nothing is heard past the end of a log and no relay arrives there; and the masks of a log
+-- that was cut from one list are found by counting.
 use mathlib.Core.Bool.{false, not, false≢true, and-false}
 use mathlib.Core.List.{List, []}
-use mathlib.Core.Path.{_≡_, refl, sym, _∙_}
-use Prim.Native.Nat.{ℕ, zero, suc, _/_, _^_, _<_, _≤_}
+use mathlib.Core.Path.{_≡_, refl, sym, _∙_, ap}
+use Prim.Native.Nat.{ℕ, zero, suc, _+_, _*_, _/_, _^_, _<_, _≤_}
 use native.Mathlib.Decide.{decLe}
-use native.Mathlib.Nat.{zero-div, one-mul, pow-le-pow-right, div-lt-iff-lt-mul}
+use native.Mathlib.Nat.{zero-div, zero-mul, one-mul, suc-mul, zero-add, pow-le-pow-right, div-lt-iff-lt-mul}
 use native.Mathlib.Omega.{arith}
 use borrow.Author.Tests.{lt-ltb, le-ltb, eq-eqb, ne-eqb}
 use lib.Dec.{eqb, ltb}
 use lib.Pow.{pow-pos}
-use lib.ListN.{length, getD, List·getD-eq-default}
-use Rattle.links.specs.Log.{bit, hearsIn, masksIn}
+use lib.ListN.{length, getD, drop, List·getD-eq-default}
+use lib.Seq.{getD-take, getD-drop}
+use Rattle.links.specs.Log.{bit, hearsIn, masksIn, cut}
 use Rattle.links.specs.Relay.{Relay, ofLog}
 use Rattle.links.proofs.Relay.{relay-heard}
 
@@ -68,3 +70,19 @@ relay-in-log n log {b = b} {k = k} r =
       | yes l ↦ l
       | no l ↦ absurd (false≢true (sym (hears-past n log k b (relay-heard r .0) (omega arith)) ∙ relay-heard r .1))
     ]
+
+-- In a log cut from one list, the mask of station i in round u + 1 stands at place u × n + i.
+pub cut-mask : (n rounds : ℕ) (masks : List ℕ) (u i : ℕ) → u < rounds → i < n
+    → getD (masksIn (cut n rounds masks) (suc u)) i 0 ≡ getD masks (u * n + i) 0
+unfolding cut masksIn
+cut-mask n zero masks u i lu li = absurd (omega arith)
+cut-mask n (suc rounds) masks zero i lu li = rw (zero-mul n, zero-add i) (getD-take n masks i 0 li)
+cut-mask n (suc rounds) masks (suc u) i lu li =
+    cut-mask n rounds (drop n masks) u i (omega arith) li
+    ∙ getD-drop n masks (u * n + i) 0
+    ∙ ap (λ (k : ℕ). getD masks k 0) (let e : suc u * n ≡ u * n + n = suc-mul u n in omega arith)
+
+pub cut-length : (n rounds : ℕ) (masks : List ℕ) → length (cut n rounds masks) ≡ rounds
+unfolding cut
+cut-length n zero masks = refl
+cut-length n (suc rounds) masks = ap suc (cut-length n rounds (drop n masks))

@@ -68,6 +68,10 @@ module _ (L : Links) where
   unfolding ends
   ends-full u s = refl
 
+  pub ends-zero : (s : ℕ) → ends L 0 s ≡ false
+  unfolding ends
+  ends-zero s = refl
+
   pub num-zero : (s : ℕ) → num L 0 s ≡ 1
   unfolding num
   num-zero s = refl

@@ -7,7 +7,7 @@ use native.Mathlib.Nat.{mul-comm}
 use native.Mathlib.Omega.{arith}
 use borrow.Author.Tests.{eq-eqb, ne-eqb}
 use Rattle.places.specs.Places.{total}
-use Rattle.places.proofs.Total.{total-ext, total-mono, total-pins, total-gap, total-raised}
+use Rattle.places.proofs.Total.{total-ext, total-most, total-mono, total-pins, total-gap, total-raised}
 use Rattle.links.specs.Number.{added, tally}
 
 added-own : (p : ℕ) (now before : ℕ → ℕ) (r : ℕ) → r ≡ p → added p now before r ≡ 0
@@ -30,6 +30,20 @@ tally-same p n now now′ before before′ h =
       | yes e ↦ added-own p now before r e ∙ sym (added-own p now′ before′ r e)
       | no d ↦ (let g = h r l d in omega (arith, added-other p now before r d, added-other p now′ before′ r d, g .0, g .1))
     ])
+
+-- Where nothing was added the sum is 0.
+pub tally-none : (p n : ℕ) (now : ℕ → ℕ) → tally n p now now ≡ 0
+unfolding tally
+tally-none p n now =
+    omega (
+      arith,
+      total-most n 0 (added p now now)
+          (λ r l.
+          elim (ℕ-discrete r p) [
+            | yes e ↦ omega (arith, added-own p now now r e)
+            | no d ↦ omega (arith, added-other p now now r d)
+          ]),
+    )
 
 no-less : (p : ℕ) (now now′ before : ℕ → ℕ) (r : ℕ) → ((r ≡ p → ⊥) → now r ≤ now′ r) → added p now before r ≤ added p now′ before r
 no-less p now now′ before r h =

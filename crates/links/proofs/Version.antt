@@ -2,6 +2,7 @@
 -- everything in flight is a version of at most u + 1, and whatever p holds is at least what it had after round u; between these two bounds numbers are
 -- at most one apart and answers at most two behind. So an answer to the present broadcast is one with the present number.
 use mathlib.Core.Bool.{Bool, _||_}
+use mathlib.Core.Logic.{⊎-elim, _↔_}
 use mathlib.Core.Path.{_≡_, refl, sym, _∙_, ap}
 use Prim.Native.Nat.{ℕ, zero, suc, _+_, _<_, _≤_}
 use native.Mathlib.Decide.{ℕ-discrete, decLe}
@@ -11,12 +12,14 @@ use lib.Dec.{eqb}
 use Rattle.places.specs.Places.{allBelow}
 use Rattle.places.proofs.Laws.{allBelow-ext}
 use Rattle.links.specs.Relay.{Links}
+use Rattle.links.specs.EndRule.{RelayBy, Starts}
 use Rattle.links.specs.Clock.{news}
 use Rattle.links.specs.Number.{answers, full, start, ends, num, numOf, got, gotOf, counted}
 use Rattle.links.proofs.Bounds.{behind, gotOf-some, gotOf-news}
-use Rattle.links.proofs.Clock.{news-other}
-use Rattle.links.proofs.Got.{got-numOf, numOf-some, numOf-mono, got-mono, got-start, got-limit, num-limit}
-use Rattle.links.proofs.Number.{ends-full, num-mono, num-positive, same-start, start-limit}
+use Rattle.links.proofs.Clock.{news-other, news-carries-earlier, news-relay, relayBy-news}
+use Rattle.links.proofs.EndRule.{num-starts}
+use Rattle.links.proofs.Got.{got-numOf, version, numOf-some, numOf-mono, got-none, got-some, got-mono, got-news, got-start, got-limit, num-limit}
+use Rattle.links.proofs.Number.{ends-full, num-mono, num-positive, num-before, same-start, start-limit}
 use Rattle.links.proofs.Tally.{tally-mono, tally-pins}
 
 module _ (L : Links) where
@@ -100,6 +103,38 @@ module _ (L : Links) where
                 (λ (b : Bool). eqb r s || b)
                 (answers-number u s r (news L (suc u) s r) (news-other L (suc u) s r (λ e. d (sym e))))
           ]
+
+  -- Who has news of s has of each q at least what s had then.
+  pub got-carries : (u p s q w : ℕ) → w < news L u p s → got L w s q ≤ got L u p q
+  got-carries u p s q w h =
+      omega (
+        arith,
+        got-numOf L w s q,
+        got-numOf L u p q,
+        numOf-mono L q (news L w s q) (news L u p q) (news-carries-earlier L u p s q w h),
+      )
+
+  -- A station r has broadcast number k of s exactly if a relay from s after its start has reached it.
+  pub got-relay : (u r s k t : ℕ) → (r ≡ s → ⊥) → Starts L s k t → (k ≤ got L u r s) ↔ RelayBy L s t r u
+  got-relay u r s k t d b = (there, back)
+    where
+      there : k ≤ got L u r s → RelayBy L s t r u
+      there h =
+          let e = num-starts L s k t b in
+          news-relay L u s t r d
+          (⊎-elim
+          (λ (z : news L u r s ≡ 0). absurd (omega (arith, got-none L u r s z, num-positive L t s, e .0)))
+          (λ (z : (w : ℕ) × (news L u r s ≡ suc w)).
+          elim (decLe t (z .0)) [
+            | yes l ↦ omega (arith, z .1)
+            | no l ↦
+                absurd
+                (omega (arith, got-some L u r s (z .0) (z .1), num-before L t (z .0) s (omega (arith, e .1)), e .0))
+          ])
+          (version (news L u r s)))
+
+      back : RelayBy L s t r u → k ≤ got L u r s
+      back h = omega (arith, num-starts L s k t b .0, got-news L u r s t (relayBy-news L u s t r h))
 
   -- The count never falls within one broadcast, and where it is the same nothing new came.
   pub counted-mono : (u w p : ℕ) → u ≤ w → num L u p ≡ num L w p → counted L u p ≤ counted L w p
