@@ -18,7 +18,7 @@ use Rattle.frame_rules.specs.Record.{recordOf, recordBytes, framed, noRe
 use Rattle.frame_rules.specs.Frame.{part, stationAt, shapeWrong, addressWrong, recordsInside, frameRefusal, recordsOf, recordsBytes, frameBytes, recordsFit}
 use Rattle.frame_rules.proofs.Bytes.{length-record, length-frame, records-append}
 use Rattle.frame_rules.proofs.Check.{by-length, by-sender, accepted, Accepted, accepted-frame, Shape, shape}
-use Rattle.frame_rules.proofs.RecordTrip.{fits-station, record-read, record-accepted, bytes-written}
+use Rattle.frame_rules.proofs.RecordTrip.{fits-station, record-read, record-accepted, held-fits, held-zeros, bytes-written}
 
 -- ---- a frame that is written and read
 
@@ -159,6 +159,13 @@ module _ (bytes : List ℕ) (n own : ℕ) (h : frameRefusal bytes n own ≡ done
 
   part-length : (k : ℕ) → k < count → length (part bytes k) ≡ 16
   part-length k l = length-take-le 16 (drop (4 + 16 * k) bytes) (rw length-drop (omega (arith, form .long)))
+
+  -- the records of an accepted frame are inside their limits, and their labels from n up are 0
+  pub accepted-fits : (k : ℕ) → k < count → recordFits n (recordOf (part bytes k)) ≡ true
+  accepted-fits k l = held-fits n (part bytes k) (part-inside k l)
+
+  pub accepted-zeros : (k : ℕ) → k < count → (j : ℕ) → n ≤ j → getD ((recordOf (part bytes k)) .labels) j 0 ≡ 0
+  accepted-zeros k l = held-zeros n (part bytes k) (part-inside k l)
 
   bytes-are : bytes ≡ getD bytes 0 0 ∷ getD bytes 1 0 ∷ getD bytes 2 0 ∷ getD bytes 3 0 ∷ drop 4 bytes
   bytes-are =

@@ -3,7 +3,7 @@
 use mathlib.Core.Path.{_≡_, refl, sym, ap, _∙_}
 use mathlib.Core.Bool.{true, _&&_, false≢true}
 use mathlib.Core.List.{List, [], _∷_, _++_}
-use Prim.Native.Nat.{ℕ, _+_, _-_, _≤_, _<_}
+use Prim.Native.Nat.{ℕ, zero, suc, _+_, _-_, _≤_, _<_}
 use native.Mathlib.Omega.{arith}
 use lib.Dec.{ltb, leb, eqb}
 use lib.Signed.{leZ}
@@ -18,8 +18,8 @@ use Rattle.kinds.specs.declared.Body.the-variants.{Empty, Neutral, Insert, Drop
 use Rattle.kinds.specs.Body.{kindOf, eventOf, argumentOf, bodyOf}
 use Rattle.kinds.specs.Limits.{numbersInside, bodyInside}
 use Rattle.kinds.proofs.Laws.{body-back, kind-back, event-back, argument-back, inside-back}
-use Rattle.labels.specs.Packing.{packed, unpacked, allLabels, wordInside}
-use Rattle.labels.proofs.Laws.{all-at, at-all, unpack-pack-take, packed-inside, packed-fits, pack-unpack, inside-labels}
+use Rattle.labels.specs.Packing.{packed, unpacked, allLabels, allZero, wordInside}
+use Rattle.labels.proofs.Laws.{all-at, at-all, unpack-pack-take, packed-inside, packed-fits, pack-unpack, inside-labels, inside-zeros}
 use Rattle.places.specs.Places.{fill}
 use Rattle.places.proofs.Laws.{and-both, and-left, and-right, length-fill, fill-below, fill-above}
 use Rattle.frame_rules.specs.declared.Record.{Record}
@@ -207,6 +207,12 @@ inside n p h =
       labels-inside = and-right c (wordInside n (wordAt p 12)) h;
     }
 
+zero-at : (l : List ℕ) → allZero l ≡ true → (i : ℕ) → getD l i 0 ≡ 0
+unfolding allZero
+zero-at [] h i = refl
+zero-at (x ∷ l) h zero = eqb-true x 0 (and-left (eqb x 0) (allZero l) h)
+zero-at (x ∷ l) h (suc i) = zero-at l (and-right (eqb x 0) (allZero l) h) i
+
 -- such bytes hold a record inside its limits, whose labels from n up are 0
 module _ (n : ℕ) (p : List ℕ) (h : bytesInside n p ≡ true) where
   pub held-fits : recordFits n (recordOf p) ≡ true
@@ -219,6 +225,15 @@ module _ (n : ℕ) (p : List ℕ) (h : bytesInside n p ≡ true) where
       and-both
       (and-both (and-left a numbers h₁) (inside-back (getD p 2 0) (wordAt p 4) (signed (wordAt p 8)) (f .numbers-inside)))
       (inside-labels n (wordAt p 12) (f .labels-inside))
+
+  pub held-zeros : (k : ℕ) → n ≤ k → getD ((recordOf p) .labels) k 0 ≡ 0
+  unfolding recordOf
+  held-zeros k l =
+      let labels = unpacked 16 (wordAt p 12) in
+      let e : n + (k - n) ≡ k = omega arith in
+      ap (λ (j : ℕ). getD labels j 0) (sym e)
+      ∙ sym (getD-drop n labels (k - n) 0)
+      ∙ zero-at (drop n labels) (inside-zeros n (wordAt p 12) ((inside n p h) .labels-inside)) (k - n)
 
 module _ (p : List ℕ) (small : (i : ℕ) → getD p i 0 < 256) where
   word-small : (at : ℕ) → wordAt p at < 4_294_967_296

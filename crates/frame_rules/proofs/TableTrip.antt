@@ -4,15 +4,15 @@ use mathlib.Core.Path.{_≡_, refl, sym, _∙_}
 use mathlib.Core.Bool.{Bool, true, false, cond, _&&_, _||_}
 use mathlib.Core.List.{List, [], _∷_, _++_, append-nil}
 use Prim.Native.Nat.{ℕ, zero, suc, pred, _+_, _≤_, _<_}
-use native.Mathlib.Decide.{ℕ-discrete}
+use native.Mathlib.Decide.{ℕ-discrete, decLt}
 use native.Mathlib.Omega.{arith}
 use lib.Dec.{ltb, eqb}
-use lib.ListN.{getD, length, replicate, length-append, length-replicate, List·getD-append}
-use lib.Seq.{getD-at}
+use lib.ListN.{getD, length, replicate, length-append, length-replicate, getD-replicate, List·getD-append}
+use lib.Seq.{getD-at, ext-getD}
 use borrow.Author.Tests.{lt-ltb, eq-eqb, ne-eqb}
 use Rattle.kinds.specs.Refusals.{done}
 use Rattle.places.specs.Places.{anyBelow, fill, gather}
-use Rattle.places.proofs.Laws.{and-both, allBelow-make, anyBelow-hit, fill-below, fill-ext, gather-ext, map-gather}
+use Rattle.places.proofs.Laws.{and-both, allBelow-make, anyBelow-hit, length-fill, fill-below, fill-above, fill-ext, gather-ext, map-gather}
 use Rattle.frame_rules.specs.declared.Record.{Record}
 use Rattle.frame_rules.specs.Record.{framed, noRecord, recordFits}
 use Rattle.frame_rules.specs.Frame.{frameRefusal, recordsOf, frameBytes, recordsFit}
@@ -30,6 +30,24 @@ framed-twice n r few =
     fill-ext n (λ k. getD (fill n label zeros) k 0) label zeros
     (λ k h. fill-below n label zeros k 0 h (omega (arith, length-replicate {A = ℕ} 16 0))) in
     (λ i. record { station = r .station; count = r .count; body = r .body; labels = again i })
+
+-- it is the whole record where the labels from n up are 0
+pub framed-whole :
+    (n : ℕ) (r : Record) → length (r .labels) ≡ 16 → ((k : ℕ) → n ≤ k → getD (r .labels) k 0 ≡ 0) → framed n r ≡ r
+unfolding framed
+framed-whole n r long rest =
+    let label : ℕ → ℕ = λ k. getD (r .labels) k 0 in
+    let zeros : List ℕ = replicate 16 0 in
+    let filled : length (fill n label zeros) ≡ 16 = length-fill n label zeros in
+    let same : fill n label zeros ≡ r .labels =
+    ext-getD 0 (fill n label zeros) (r .labels) (filled ∙ sym long)
+    (λ k l.
+    elim (decLt k n) [
+      | yes b ↦ fill-below n label zeros k 0 b (omega (arith, filled))
+      | no b ↦
+          fill-above n label zeros k 0 (omega arith) ∙ getD-replicate 16 k 0 0 (omega (arith, filled)) ∙ sym (rest k (omega arith))
+    ]) in
+    (λ i. record { station = r .station; count = r .count; body = r .body; labels = same i })
 
 -- records in order: each inside its limits, of stations strictly ascending and below k
 record Sorted (n k : ℕ) (rs : List Record) : Type 0 where

@@ -188,3 +188,11 @@ module _ (L : Links) (made rows : ℕ → ℕ → ℕ) (last : ℕ) (C : Countin
       other zero (suc w) l e b = absurd (omega arith)
       other (suc u) (suc w) l e b =
           omega (arith, shown-some s (news L (suc u) p s) w e, heard-ahead u p s w (omega arith) lp ls (omega arith) e)
+
+  -- And not more than two while it hears, before the turn.
+  pub hearing-ahead : (u p s : ℕ) → u < last → p < L .size → s < L .size → reached L made u p s ≤ rows u p + 2
+  hearing-ahead u p s l lp ls =
+      ⊎-elim
+      (λ e. omega (arith, e .0, reached-limit u p s l lp ls, ahead (suc u) p s (omega arith) lp ls))
+      (λ e. omega (arith, e .0, reached-limit u p s l lp ls, ahead (suc u) p s (omega arith) lp ls))
+      (rows-cases u p l lp)

@@ -1,5 +1,5 @@
 -- The lanes of a run: a lane holds what was taken beyond the rows aired, round after round. The counts of bodies and rows then follow the two rules of
--- counting, so no lane has more than one body after a round, and none is ever overfull.
+-- counting, so no lane has more than one body after a round or two while hearing, and none is ever overfull.
 use mathlib.Core.Bool.{Bool, true, false, cond, not, _&&_, true≢false}
 use mathlib.Core.Logic.{_⊎_, inl, inr}
 use mathlib.Core.List.{List, [], _∷_, _++_, append-nil}
@@ -31,9 +31,9 @@ use Rattle.group_rules.proofs.Run.{Run, linksOf, hearingIn, bodyAt, ris
 use Rattle.group_rules.proofs.Simulation.{simulated, heard-standing}
 use Rattle.group_rules.proofs.Standing.{Formed}
 use Rattle.group_rules.proofs.Rounds.{first-at, after-at}
-use Rattle.group_rules.proofs.Lists.{startedBy, rowsBy, madeBy, startedAt}
-use Rattle.group_rules.proofs.Taken.{startedBy-step, version-step, length-version, startedAt-some, startedAt-none, startedBy-none}
-use Rattle.group_rules.proofs.Counting.{Counting, reached, airsRow, ahead, rows-limit, rows-reached, made-ahead, rows-keeps}
+use Rattle.group_rules.proofs.Lists.{startedBy, takenBy, rowsBy, madeBy, startedAt}
+use Rattle.group_rules.proofs.Taken.{startedBy-step, version-step, taken-version, length-version, startedAt-some, startedAt-none, startedBy-none}
+use Rattle.group_rules.proofs.Counting.{Counting, reached, airsRow, ahead, rows-limit, rows-reached, made-ahead, rows-keeps, hearing-ahead}
 
 -- A lane that holds all of a list but its first k, and may get one more body, or Empty.
 grown : (l : Lane) (k : ℕ) (xs : List Body) (b : Body) (more empty : Bool)
@@ -308,11 +308,15 @@ module _ (R : Run) where
   pub counting : (u : ℕ) → Counting L (madeBy R) (rowsBy R) u
   counting u = (carried u) .counting
 
+  -- A lane holds what was taken beyond the rows aired, after a round and while hearing.
+  pub lane-holds : (u p s : ℕ) → p < R .n → s < R .n → Holds (laneAt (stationAt (R .after u) p) s) (drop (rowsBy R u p) (takenBy R u p s))
+  lane-holds u p s lp ls = rw (taken-version R u p s lp ls) ((carried u) .lanes p s lp ls)
+
   pub hearing-holds : (u p s : ℕ) → p < R .n → s < R .n
       → Holds (laneAt ((hearingIn R u p) .station) s) (drop (rowsBy R u p) (startedAt R s (min (suc u) (news L (suc u) p s))))
   hearing-holds u p s lp ls = has-heard u p s lp ls (carried u)
 
-  -- A lane has at most one body after a round.
+  -- A lane has at most one body after a round, and at most two while hearing.
   pub lane-limit : (u p s : ℕ) → p < R .n → s < R .n → (laneAt (stationAt (R .after u) p) s) .len ≤ 1
   lane-limit u p s lp ls =
       omega (
@@ -325,6 +329,16 @@ module _ (R : Run) where
 
   pub ready-limit : (u p s : ℕ) → p < R .n → s < R .n → (laneAt (stationAt (R .ready u) p) s) .len ≤ 1
   ready-limit u p s lp ls = rw (ready-lane u p s) (lane-limit u p s lp ls)
+
+  pub hearing-limit : (u p s : ℕ) → p < R .n → s < R .n → (laneAt ((hearingIn R u p) .station) s) .len ≤ 2
+  hearing-limit u p s lp ls =
+      omega (
+        arith,
+        hearing-holds u p s lp ls .many,
+        length-drop (rowsBy R u p) (hasHeard u p s),
+        length-version R s (min (suc u) (news L (suc u) p s)),
+        hearing-ahead L (madeBy R) (rowsBy R) (suc u) (counting (suc u)) u p s (omega arith) lp ls,
+      )
 
   -- So no lane that holds two gets a third.
   pub never-overfull : (u p : ℕ) → p < R .n → (hearingIn R u p) .overfull ≡ false

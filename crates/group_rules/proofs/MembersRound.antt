@@ -19,7 +19,7 @@ use Rattle.station_rules.specs.Calls.{ownCountInside}
 use Rattle.station_rules.specs.Hearing.{silent, hearRecords}
 use Rattle.station_rules.specs.Turn.{afterTurn}
 use Rattle.station_rules.proofs.Shape.{Shaped, afterTurn-shaped}
-use Rattle.station_rules.proofs.LimitsHearing.{Hears, AllCarried, hears-none, hears-records}
+use Rattle.station_rules.proofs.LimitsHearing.{Hears, AllCarried, hears-none, hears-records, takings-bounded}
 use Rattle.station_rules.proofs.LimitsSent.{sent-carried}
 use Rattle.station_rules.proofs.LimitsTurn.{turn-holds}
 use Rattle.station_rules.proofs.TurnCells.{turn-n, turn-own}
@@ -96,6 +96,10 @@ module _ (n : ℕ) (g : List Station) (c : Members n g) (masks : List ℕ) (run 
 
   pub run-room : (i : ℕ) → i < n → (heard g masks i) .overfull ≡ false
   run-room i l = run .room i (omega (arith, c .size))
+
+  -- a round reports at most 30 takings of a station
+  pub run-takings : (i : ℕ) → i < n → length ((heard g masks i) .takings) ≤ 30
+  run-takings i l = takings-bounded (stationAt g i) (heard g masks i) (run-hears i l) (run-room i l)
 
   pub after-at : (i : ℕ) → i < n → stationAt (afterRound g masks) i ≡ afterTurn ((heard g masks i) .station)
   after-at i l = round-at g masks i (omega (arith, c .size)) (rw (c .shape .places) (omega (arith, c .high)))

@@ -15,6 +15,7 @@ use Rattle.links.specs.Clock.{news}
 use Rattle.links.specs.Number.{num, numOf, got, gotOf}
 use Rattle.links.proofs.Clock.{news-own, news-start}
 use Rattle.links.proofs.Number.{num-zero, start-zero}
+use Rattle.links.proofs.Hearing.{counted-zero}
 use Rattle.links.proofs.Got.{got-none, got-own}
 use Rattle.frame_rules.specs.declared.Record.{Record}
 use Rattle.station_rules.specs.declared.Station.{Station}
@@ -30,7 +31,7 @@ use Rattle.group_rules.proofs.Version.{Stands, CellAt}
 use Rattle.group_rules.proofs.Standing.{Formed}
 use Rattle.group_rules.proofs.HearParts.{cell-move}
 use Rattle.group_rules.proofs.RoundHeard.{After, hear-round, heard-version}
-use Rattle.group_rules.proofs.TurnStep.{counted-start, turn-step}
+use Rattle.group_rules.proofs.TurnStep.{turn-step}
 
 -- a list of sixteen of which one entry is another
 module _ {A : Type 0} (a b d : A) (p : ℕ) (lp : p < 16) where
@@ -112,7 +113,7 @@ module _ (R : Run) where
               (subst (λ r. Stands R r p 0) (sym (one-here zeroRecord _ noRecord p (omega arith)))
               (record {
                 station = refl;
-                count = sym (counted-start R 0 p lp (start-zero L p));
+                count = sym (counted-zero L p);
                 body =
                     ap (λ (s : Station). s .body) (sym first-at)
                     ∙ ap (λ (t : ℕ). (stationAt (R .after t) p) .body) (sym (start-zero L p));
@@ -141,7 +142,7 @@ module _ (R : Run) where
         record {
           formed = subst (λ s. Formed R p s) (sym first-at) fresh-formed;
           body = ap (λ (t : ℕ). (stationAt (R .after t) p) .body) (sym (start-zero L p));
-          count = ap (λ (s : Station). s .count) first-at ∙ sym (counted-start R 0 p lp (start-zero L p));
+          count = ap (λ (s : Station). s .count) first-at ∙ sym (counted-zero L p);
           cells =
               λ q l.
               subst (λ s. CellAt R 0 p q (news L 0 p q) s) (sym first-at)

@@ -1,12 +1,12 @@
--- The simulation: what the rounds of a run do is what the clocks and the broadcast numbers say. The invariant of all rounds gives the labels, the
--- counts and the bodies; the hearing of each round gives the takings, the lanes and the overflow, and its turn the ends.
+-- The simulation: what the rounds of a run do is what the clocks and the broadcast numbers say. The invariant of all rounds gives the table, the labels,
+-- the acknowledgements and the counts; the hearing of each round gives the takings, the lanes and the overflow, and its turn the ends.
 use Prim.Native.Nat.{ℕ, suc, pred, _*_, _-_, _%_, _≤_, _<_}
 use mathlib.Core.Bool.{Bool, true, false, cond, not, _&&_}
 use mathlib.Core.List.{[]}
 use mathlib.Core.Path.{_≡_, refl, sym, ap, ap₂, _∙_, subst}
 use native.Mathlib.Decide.{ℕ-discrete}
 use native.Mathlib.Omega.{arith}
-use borrow.Author.Tests.{le-ltb, le-leb, ltb-true, eq-eqb, ne-eqb}
+use borrow.Author.Tests.{lt-ltb, le-ltb, le-leb, ltb-true, eq-eqb, ne-eqb}
 use lib.Dec.{ltb, leb, eqb}
 use Rattle.kinds.specs.declared.Body.{Body}
 use Rattle.kinds.specs.Body.{kindOf}
@@ -20,7 +20,7 @@ use Rattle.links.proofs.Bounds.{counted-limit}
 use Rattle.frame_rules.specs.declared.Record.{Record}
 use Rattle.places.proofs.Laws.{anyBelow-ext}
 use Rattle.lanes.specs.Lane.{pushed}
-use Rattle.station_rules.specs.State.{labelOf, heldOf, recordOf, laneAt}
+use Rattle.station_rules.specs.State.{labelOf, ackedOf, heldOf, recordOf, recordLabel, laneAt}
 use Rattle.station_rules.specs.Calls.{ownCountInside}
 use Rattle.station_rules.specs.Turn as turn
 use Rattle.group_rules.specs.State.{stationAt}
@@ -32,16 +32,50 @@ use Rattle.group_rules.proofs.RoundHeard.{heardVersion, hear-round, hea
 use Rattle.group_rules.proofs.TurnStep.{ends-agree}
 use Rattle.group_rules.proofs.Rounds.{after-all, ready-all}
 
+-- two records that agree in all that is part of a record among n stations
+pub record Agree (n : ℕ) (r r′ : Record) : Type 0 where
+  pub station : r .station ≡ r′ .station
+  pub count : r .count ≡ r′ .count
+  pub body : r .body ≡ r′ .body
+  pub labels : (k : ℕ) → k < n → recordLabel r k ≡ recordLabel r′ k
+
 module _ (R : Run) where
   abbrev L : Links
   L = linksOf R
 
+  stands-agree : (r r′ : Record) (q w : ℕ) → Stands R r q w → Stands R r′ q w → Agree (R .n) r r′
+  stands-agree r r′ q w a b =
+      record {
+        station = a .station ∙ sym (b .station);
+        count = a .count ∙ sym (b .count);
+        body = a .body ∙ sym (b .body);
+        labels = λ k l. a .labels k l ∙ sym (b .labels k l);
+      }
+
   module _ (u p : ℕ) (lp : p < R .n) where
+    -- the static part
+    pub after-formed : Formed R p (stationAt (R .after u) p)
+    after-formed = after-all R u p lp .formed
+
     pub ready-formed : Formed R p (stationAt (R .ready u) p)
     ready-formed = ready-all R u p lp .formed
 
+    -- the table: nothing is held of a station of which there is no news, and else that station's own record as the round of the news left it
+    pub table-none : (q : ℕ) → q < R .n → news L u p q ≡ 0 → heldOf (stationAt (R .after u) p) q ≡ false
+    table-none q l e = after-all R u p lp .cells q l .is-held ∙ le-ltb 0 (news L u p q) (omega arith)
+
+    pub table-held : (q w : ℕ) → q < R .n → news L u p q ≡ suc w → heldOf (stationAt (R .after u) p) q ≡ true
+    table-held q w l e = after-all R u p lp .cells q l .is-held ∙ lt-ltb 0 (news L u p q) (omega arith)
+
     pub table-stands : (q w : ℕ) → q < R .n → news L u p q ≡ suc w → Stands R (recordOf (stationAt (R .after u) p) q) q w
     table-stands q w l e = after-all R u p lp .cells q l .stands w e
+
+    pub table-some :
+        (q w : ℕ) → q < R .n → news L u p q ≡ suc w →
+        Agree (R .n) (recordOf (stationAt (R .after u) p) q) (recordOf (stationAt (R .after w) q) q)
+    table-some q w l e =
+        stands-agree (recordOf (stationAt (R .after u) p) q) (recordOf (stationAt (R .after w) q) q) q w (table-stands q w l e)
+        (after-all R w q l .cells q l .stands w (news-own L w q))
 
     -- the labels
     pub labels-got : (q : ℕ) → q < R .n → labelOf (stationAt (R .after u) p) q ≡ got L u p q % 3
@@ -50,6 +84,12 @@ module _ (R : Run) where
 
     pub own-label : labelOf (stationAt (R .after u) p) p ≡ num L u p % 3
     own-label = labels-got p lp ∙ ap (λ (i : ℕ). i % 3) (got-own L u p)
+
+    -- the acknowledgements
+    pub acked-number :
+        (q : ℕ) → q < R .n →
+        ackedOf (stationAt (R .after u) p) q ≡ eqb (gotOf L q p (news L u p q)) (num L u p)
+    acked-number q l = after-all R u p lp .cells q l .is-acked
 
     -- the count
     pub count-is : (stationAt (R .after u) p) .count ≡ counted L u p

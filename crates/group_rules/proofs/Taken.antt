@@ -2,17 +2,18 @@
 -- one whose number is at most one higher, at most one body comes: that of the later version.
 use mathlib.Core.Bool.{Bool, true, false, cond}
 use mathlib.Core.Logic.{_⊎_, inl, inr, ⊎-elim}
-use mathlib.Core.List.{List, [], _++_, append-nil}
+use mathlib.Core.List.{List, [], _∷_, _++_, append-nil}
 use mathlib.Core.Path.{_≡_, refl, sym, ap, _∙_}
 use Prim.Native.Nat.{ℕ, zero, suc, pred, _+_, _-_, _≤_, _<_}
 use native.Mathlib.Decide.{ℕ-discrete}
 use native.Mathlib.Nat.{zero-add, suc-add}
 use native.Mathlib.Omega.{arith}
 use borrow.Author.Tests.{eq-eqb, ne-eqb, lt-ltb, le-ltb}
-use lib.Dec.{ltb}
+use lib.Dec.{eqb, ltb}
 use lib.ListN.{length}
 use Rattle.kinds.specs.declared.Body.{Body}
 use Rattle.kinds.specs.declared.Body.the-variants.{Empty}
+use Rattle.kinds.specs.Body.{kindOf}
 use Rattle.places.proofs.Later.{from-on}
 use Rattle.links.specs.Relay.{Links}
 use Rattle.links.specs.Clock.{news}
@@ -203,6 +204,18 @@ module _ (R : Run) where
   -- What is taken is a beginning of what was started.
   pub taken-begins-started : (u p s : ℕ) → p < R .n → s < R .n → Begins (takenBy R u p s) (startedBy R u s)
   taken-begins-started u p s lp ls = rw (taken-version u p s lp ls) (version-begins (news L u p s) u s (news-limit L u p s))
+
+  -- At most one body of a station is taken in a round.
+  pub taken-one : (u p s : ℕ) → p < R .n → s < R .n → (p ≡ s → ⊥) → length (takingsOf s ((hearingIn R u p) .takings)) ≤ 1
+  taken-one u p s lp ls d = rw (simulated R .takings u p s lp ls d) (go (rises R u p s) (bodyAt R s (news L (suc u) p s)))
+    where
+      one : (b : Bool) (x : Body) → length (cond b [] (x ∷ [])) ≤ 1
+      one true x = omega arith
+      one false x = omega arith
+
+      go : (b : Bool) (x : Body) → length (cond b (unlessEmpty x) []) ≤ 1
+      go true x = one (eqb (kindOf x) 0) x
+      go false x = omega arith
 
   -- How many bodies a version shows.
   pub length-version : (s v : ℕ) → length (startedAt R s v) ≡ shown (madeBy R) s v

@@ -19,7 +19,8 @@ use Rattle.links.proofs.Number.{step}
 use Rattle.links.proofs.Got.{got-numOf, got-own, numOf-some}
 use Rattle.links.proofs.Bounds.{gotOf-some}
 use Rattle.links.proofs.Version.{gotOf-limit, ends-numbers}
-use Rattle.links.proofs.Tally.{tally-same, tally-limit}
+use Rattle.links.proofs.Tally.{tally-same}
+use Rattle.links.proofs.Hearing.{counted-start}
 use Rattle.places.specs.Places.{allBelow}
 use Rattle.places.proofs.Laws.{allBelow-ext}
 use Rattle.station_rules.specs.declared.Station.{Station}
@@ -40,16 +41,6 @@ use Rattle.group_rules.proofs.RoundHeard.{After}
 module _ (R : Run) where
   abbrev L : Links
   L = linksOf R
-
-  -- a broadcast that has just begun has counted nothing
-  pub counted-start : (u p : ℕ) → p < R .n → start L u p ≡ u → counted L u p ≡ 0
-  unfolding counted
-  counted-start u p lp e =
-      omega (
-        arith,
-        tally-limit 0 p (R .n) (λ q. got L u p q) (λ q. got L (start L u p) p q) lp
-            (λ q l d. rw e (omega arith)),
-      )
 
   module _ (h : Hearing) where
     abbrev s : Station
@@ -108,7 +99,7 @@ module _ (R : Run) where
             go :
                 (x : Bool) → start L (suc u) p ≡ cond x (suc u) (start L u p) →
                 cond x 0 (s .count) ≡ counted L (suc u) p
-            go true e = sym (counted-start (suc u) p lp e)
+            go true e = sym (counted-start L (suc u) p e)
             go false e =
                 c .count
                 ∙ tally-same p (R .n) (λ q. numOf L q (vs q)) (λ q. got L (suc u) p q)

@@ -6,7 +6,6 @@ use native.Mathlib.Decide.{ℕ-discrete}
 use native.Mathlib.Nat.{mul-comm}
 use native.Mathlib.Omega.{arith}
 use borrow.Author.Tests.{eq-eqb, ne-eqb}
-use Rattle.places.specs.Places.{total}
 use Rattle.places.proofs.Total.{total-ext, total-most, total-mono, total-pins, total-gap, total-raised}
 use Rattle.links.specs.Number.{added, tally}
 

@@ -170,9 +170,32 @@ module _ (a : Hearing) (c : Inside (a .station)) where
   hears-records h [] hs all = hs
   hears-records h (r ∷ rs) hs all = hears-records (hearRecord h r) rs (hears-record h r hs (all .0)) (all .1)
 
+-- the shape is kept whether or not the station is inside its limits
+pub hearRecord-shaped : (h : Hearing) (r : Record) → r .station < 16 → Shaped (h .station) → Shaped ((hearRecord h r) .station)
+unfolding heardOne
+hearRecord-shaped h r b c = go (heeds (h .station) r) refl
+  where
+    go : (t : Bool) → heeds (h .station) r ≡ t → Shaped ((hearRecord h r) .station)
+    go true e = rw (hearRecord-heeds h r e) (heardNewer-shaped (h .station) r b c)
+    go false e = rw (hearRecord-skips h r e) c
+
+pub hearRecords-shaped :
+    (n : ℕ) → n ≤ 16 → (h : Hearing) (rs : List Record) → AllCarried n rs → Shaped (h .station) → Shaped ((hearRecords h rs) .station)
+unfolding hearRecords
+hearRecords-shaped n high h [] all shape = shape
+hearRecords-shaped n high h (r ∷ rs) all shape =
+    hearRecords-shaped n high (hearRecord h r) rs (all .1) (hearRecord-shaped h r (omega (arith, all .0 .station)) shape)
+
 -- at most two in the lane of each of at most fifteen others
 pub takings-bounded : (s : Station) (h : Hearing) → Hears (silent s) h → h .overfull ≡ false → length (h .takings) ≤ 30
 takings-bounded s h hs f = omega (arith, hs .takings f, otherLens-most (h .station) (hs .inside f))
+
+pub hearRecord-inside :
+    (h : Hearing) (r : Record) → Shaped (h .station) → stationInside (h .station) ≡ true → Carried (h .station .n) r →
+    (hearRecord h r) .overfull ≡ false → stationInside ((hearRecord h r) .station) ≡ true
+hearRecord-inside h r shape i carry f =
+    let c = inside-open (h .station) i in
+    inside-make ((hearRecord h r) .station) (hears-record h c h r (hears-none h c shape) carry .inside f)
 
 pub hearRecords-inside :
     (h : Hearing) (rs : List Record) → Shaped (h .station) → stationInside (h .station) ≡ true → AllCarried (h .station .n) rs →
@@ -180,3 +203,11 @@ pub hearRecords-inside :
 hearRecords-inside h rs shape i all f =
     let c = inside-open (h .station) i in
     inside-make ((hearRecords h rs) .station) (hears-records h c h rs (hears-none h c shape) all .inside f)
+
+-- the takings of one frame
+pub frame-takings-bounded :
+    (s : Station) (rs : List Record) → Shaped s → stationInside s ≡ true → AllCarried (s .n) rs →
+    (hearRecords (silent s) rs) .overfull ≡ false → length ((hearRecords (silent s) rs) .takings) ≤ 30
+frame-takings-bounded s rs shape i all f =
+    let c = inside-open s i in
+    takings-bounded s (hearRecords (silent s) rs) (hears-records (silent s) c (silent s) rs (hears-none (silent s) c shape) all) f
