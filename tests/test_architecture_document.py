@@ -39,13 +39,10 @@ class Architecture(unittest.TestCase):
             self.assertRegex(DOCUMENT, rf"(?m)^    .*\b{name}\b")
 
     def test_named_files(self):
-        """Files of tests, docs, include and tools are there, and so are those of the crates that are."""
+        """Every file that is named is there: in the repository, in a crate, or in some crate where the name begins with src, specs or proofs."""
         for name in re.findall(r"`?([a-z_]+/[\w./]+\.(?:antt|rt|py|md|c))\b", DOCUMENT):
-            folder = name.split("/")[0]
-            if (ROOT / "crates" / folder).is_dir():
-                self.assertTrue((ROOT / "crates" / name).is_file(), name)
-            elif (ROOT / folder).is_dir():
-                self.assertTrue((ROOT / name).is_file(), name)
+            places = [ROOT / name, ROOT / "crates" / name, *ROOT.glob(f"crates/*/{name}")]
+            self.assertTrue(any(place.is_file() for place in places), name)
 
 
 if __name__ == "__main__":

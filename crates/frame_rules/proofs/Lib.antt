@@ -1,9 +1,11 @@
-pub mod Examples
-pub mod Check
-pub mod Entries
-pub mod Bytes
+-- bytes, and the check test by test
 pub mod Spelled
+pub mod Bytes
+pub mod Entries
+pub mod Check
+-- there and back: a record, a frame, the frame of a table
 pub mod RecordTrip
 pub mod FrameTrip
 pub mod TableTrip
 pub mod Fitting
+pub mod Examples

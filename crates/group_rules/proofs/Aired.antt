@@ -6,7 +6,7 @@ use mathlib.Core.List.{List, [], _++_, append-nil}
 use mathlib.Core.Path.{_≡_, refl, sym, ap, _∙_}
 use Prim.Native.Nat.{ℕ, zero, suc, min, _+_, _-_, _≤_, _<_}
 use native.Mathlib.Decide.{decLe}
-use native.Mathlib.Nat.{zero-add, suc-add, add-zero}
+use native.Mathlib.Nat.{add-zero}
 use native.Mathlib.Omega.{arith}
 use borrow.Author.Tests.{ltb-true}
 use lib.Dec.{ltb}
@@ -15,6 +15,7 @@ use lib.Seq.{getD-drop}
 use Rattle.kinds.specs.declared.Body.{Body}
 use Rattle.kinds.specs.declared.Body.the-variants.{Empty}
 use Rattle.kinds.specs.Limits.{isEdit}
+use Rattle.places.proofs.Later.{from-on}
 use Rattle.links.specs.Relay.{Links}
 use Rattle.links.specs.Clock.{news}
 use Rattle.places.specs.Places.{gather}
@@ -126,20 +127,12 @@ module _ (R : Run) where
       go false e a before = rw (a, e, before) (append-nil (rowsOf R v (rowsBy R u p)))
 
   -- fewer rows are a beginning of more
-  rows-later : (d k v : ℕ) → Begins (rowsOf R v k) (rowsOf R v (d + k))
-  unfolding rowsOf
-  rows-later zero k v = rw (zero-add k) (begins-refl (rowsOf R v k))
-  rows-later (suc d) k v =
-      rw (suc-add d k)
-      (begins-trans
-      (rowsOf R v k)
-      (rowsOf R v (d + k))
-      (rowsOf R v (d + k) ++ rowBy R v (d + k))
-      (rows-later d k v)
-      (begins-append (rowsOf R v (d + k)) (rowBy R v (d + k))))
-
   pub rows-begin : (k m v : ℕ) → k ≤ m → Begins (rowsOf R v k) (rowsOf R v m)
-  rows-begin k m v h = let e : m - k + k ≡ m = omega arith in rw e at (rows-later (m - k) k v)
+  unfolding rowsOf
+  rows-begin k m v =
+      from-on (λ j. Begins (rowsOf R v k) (rowsOf R v j)) k (begins-refl (rowsOf R v k))
+      (λ j l h. begins-trans (rowsOf R v k) (rowsOf R v j) (rowsOf R v j ++ rowBy R v j) h (begins-append (rowsOf R v j) (rowBy R v j)))
+      m
 
   -- Of two aired lists one is a beginning of the other.
   pub aired-lists-agree : (u p q : ℕ) → p < R .n → q < R .n

@@ -2,7 +2,7 @@
 -- or refused, changes waiting edits only.
 use mathlib.Core.Bool.{Bool, true, false, cond}
 use mathlib.Core.List.{List, [], _∷_}
-use mathlib.Core.Path.{_≡_, refl, _∙_}
+use mathlib.Core.Path.{_≡_, refl, sym, _∙_}
 use Prim.Native.Nat.{ℕ, zero, suc, _≤_}
 use native.Mathlib.Decide.{ℕ-discrete, decLe}
 use native.Mathlib.Omega.{arith}
@@ -13,6 +13,7 @@ use Rattle.kinds.specs.declared.Body.{Body}
 use Rattle.kinds.specs.Refusals.{done}
 use Rattle.station_rules.specs.declared.Station.{Station}
 use Rattle.station_rules.specs.Calls.{posted}
+use Rattle.station_rules.proofs.Shape.{queued-slots}
 use Rattle.group_rules.specs.State.{noStation, stationAt, freshGroup}
 use Rattle.group_rules.specs.Calls.{groupPostRefusal, postCall, afterRound}
 use Rattle.group_rules.specs.History.{Call, post, round}
@@ -20,7 +21,7 @@ use Rattle.group_rules.proofs.Run.{Run, SameButWaiting}
 
 same-refl : (s : Station) → SameButWaiting s s
 same-refl s =
-    record { n = refl; own = refl; acked = refl; body = refl; count = refl; labels = refl; held = refl; table = refl; lanes = refl }
+    record { n = refl; own = refl; acked = refl; body = refl; count = refl; labels = refl; held = refl; table = refl; lanes = refl; slots = refl }
 
 same-trans : (s t r : Station) → SameButWaiting s t → SameButWaiting t r → SameButWaiting s r
 same-trans s t r a b =
@@ -34,12 +35,24 @@ same-trans s t r a b =
       held = a .held ∙ b .held;
       table = a .table ∙ b .table;
       lanes = a .lanes ∙ b .lanes;
+      slots = a .slots ∙ b .slots;
     }
 
 posted-same : (s : Station) (b : Body) → SameButWaiting s (posted s b)
 unfolding posted
 posted-same s b =
-    record { n = refl; own = refl; acked = refl; body = refl; count = refl; labels = refl; held = refl; table = refl; lanes = refl }
+    record {
+      n = refl;
+      own = refl;
+      acked = refl;
+      body = refl;
+      count = refl;
+      labels = refl;
+      held = refl;
+      table = refl;
+      lanes = refl;
+      slots = sym (queued-slots (s .waiting) b);
+    }
 
 set-same : (g : List Station) (k : ℕ) (b : Body) (i : ℕ) → SameButWaiting (stationAt g i) (stationAt (set g k (posted (stationAt g k) b)) i)
 set-same g k b i = elim (ℕ-discrete i k) [ yes e ↦ here e | no d ↦ there d ]

@@ -6,10 +6,11 @@ use mathlib.Core.Logic.{_⊎_, inl, inr, ⊎-elim}
 use mathlib.Core.Path.{_≡_, refl}
 use Prim.Native.Nat.{ℕ, zero, suc, min, _+_, _-_, _≤_, _<_}
 use native.Mathlib.Decide.{ℕ-discrete}
-use native.Mathlib.Nat.{zero-add, suc-add, le-refl}
+use native.Mathlib.Nat.{le-refl}
 use native.Mathlib.Omega.{arith}
 use borrow.Author.Tests.{ltb-true, ltb-false}
 use lib.Dec.{ltb}
+use Rattle.places.proofs.Later.{from-on}
 use Rattle.links.specs.Relay.{Links}
 use Rattle.links.specs.Clock.{news}
 use Rattle.links.proofs.Clock.{news-own, news-other, news-limit, news-keeps, news-carries}
@@ -52,13 +53,11 @@ module _ (L : Links) (made rows : ℕ → ℕ → ℕ) (last : ℕ) (C : Countin
   pub made-keeps : (u s : ℕ) → u < last → s < L .size → made u s ≤ made (suc u) s
   made-keeps u s l ls = ⊎-elim (λ e. omega arith) (λ e. omega arith) (C .made-step u s l ls)
 
-  made-later : (d u s : ℕ) → d + u ≤ last → s < L .size → made u s ≤ made (d + u) s
-  made-later zero u s l ls = rw (zero-add u) (le-refl (made u s))
-  made-later (suc d) u s l ls =
-      rw (suc-add d u) (omega (arith, made-later d u s (omega arith) ls, made-keeps (d + u) s (omega arith) ls))
-
   pub made-mono : (u w s : ℕ) → u ≤ w → w ≤ last → s < L .size → made u s ≤ made w s
-  made-mono u w s h l ls = let e : w - u + u ≡ w = omega arith in rw e at (made-later (w - u) u s (omega arith) ls)
+  made-mono u w s h l ls =
+      from-on (λ v. v ≤ last → made u s ≤ made v s) u (λ m. le-refl (made u s))
+      (λ v k before m. let b = before (omega arith) in omega (arith, b, made-keeps v s m ls))
+      w h l
 
   -- a later version shows no less
   pub shown-mono : (v v′ s : ℕ) → v ≤ v′ → v′ ≤ suc last → s < L .size → shown made s v ≤ shown made s v′

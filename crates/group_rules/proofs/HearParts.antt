@@ -19,9 +19,9 @@ use Rattle.lanes.specs.declared.Lane.{Lane}
 use Rattle.places.proofs.Laws.{cond-not}
 use Rattle.station_rules.specs.declared.Station.{Station}
 use Rattle.lanes.specs.Lane.{pushed}
-use Rattle.station_rules.specs.State.{recordOf}
 use Rattle.station_rules.specs.Hearing.{raised, replaced, heardNewer}
 use Rattle.station_rules.proofs.Cells
+use Rattle.station_rules.proofs.Shape.{heardNewer-shaped}
 use Rattle.group_rules.proofs.Run.{Run, linksOf}
 use Rattle.group_rules.proofs.Version.{Stands, Cell, Caught, shown, caught-same}
 use Rattle.group_rules.proofs.Standing.{Formed}
@@ -110,22 +110,9 @@ module _ (R : Run) where
 
   pub formed-heard : (p : ℕ) (s : Station) (r : Record) → r .station < R .n → Formed R p s → Formed R p (heardNewer s r)
   formed-heard p s r lk f =
+      let high = R .high in
       record {
         size = Cells.heard-n s r ∙ f .size;
         own = Cells.heard-own s r ∙ f .own;
-        acked = Cells.heard-acked s r ∙ f .acked;
-        labels = Cells.heard-labels s r ∙ f .labels;
-        held = Cells.heard-held s r ∙ f .held;
-        table = Cells.heard-table s r ∙ f .table;
-        lanes = Cells.heard-lanes s r ∙ f .lanes;
-        record-labels = λ q l. one q l (ℕ-discrete q (r .station));
+        shape = heardNewer-shaped s r (omega arith) (f .shape);
       }
-    where
-      one : (q : ℕ) → q < R .n → Dec (q ≡ r .station) → length ((recordOf (heardNewer s r) q) .labels) ≡ 16
-      one q l (yes e) =
-          let high = R .high in
-          subst (λ i. length ((recordOf (heardNewer s r) i) .labels) ≡ 16) (sym e)
-          (ap (λ (x : Record). length (x .labels)) (Cells.record-here s r (omega (arith, f .table)))
-          ∙ Cells.replaced-length (s .n) (recordOf s (r .station)) r
-          ∙ f .record-labels (r .station) lk)
-      one q l (no d) = ap (λ (x : Record). length (x .labels)) (Cells.record-other s r q d) ∙ f .record-labels q l

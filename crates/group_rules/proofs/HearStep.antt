@@ -104,19 +104,19 @@ module _ (R : Run) where
             let f = c .formed in
             let high = R .high in
             record {
-              is-held = Cells.held-here s r (omega (arith, f .held)) ∙ sym (lt-ltb 0 (suc w) (omega arith));
-              is-acked = Cells.acked-here s r (omega (arith, f .acked)) ∙ ack;
+              is-held = Cells.held-here s r (omega (arith, f .shape .held)) ∙ sym (lt-ltb 0 (suc w) (omega arith));
+              is-acked = Cells.acked-here s r (omega (arith, f .shape .acked)) ∙ ack;
               is-label =
-                  Cells.label-here s r (omega (arith, f .labels))
+                  Cells.label-here s r (omega (arith, f .shape .labels))
                   ∙ ap (λ (x : Bool). cond x (successor (labelOf s k)) (labelOf s k)) adv
                   ∙ label-step b (labelOf s k) (numOf L k (vs k))
                   (numOf L k (suc w)) (c .cells k lk .is-label) number;
               stands =
                   λ x e.
                   subst (λ i. Stands R (recordOf s′ k) k i) (omega (arith, e))
-                  (subst (λ i. Stands R i k w) (sym (Cells.record-here s r (omega (arith, f .table))))
+                  (subst (λ i. Stands R i k w) (sym (Cells.record-here s r (omega (arith, f .shape .table))))
                   (stands-replaced R (s .n) (recordOf s k) r k w (f .size)
-                  (f .record-labels k lk) t));
+                  (f .shape .record-labels k (omega arith)) t));
             }
 
         cells-after :
@@ -146,7 +146,7 @@ module _ (R : Run) where
             (takingsOf k (h .takings ++ taking)))
             (sym here)
             (caught-move R
-            (Cells.lane-here s r (omega (arith, c .formed .lanes))
+            (Cells.lane-here s r (omega (arith, c .formed .shape .lanes))
             ∙ ap
             (λ (x : Bool). cond x (pushed (laneAt s k) (r .body)) (laneAt s k))
             takes-is)

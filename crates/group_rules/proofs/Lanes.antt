@@ -162,7 +162,7 @@ module _ (R : Run) where
   has-aired u p s lp ls c =
       let t = (hearingIn R u p) .station in
       let m = heard-standing R u p lp .formed in
-      rw (rowsBy-step u p, lanesAfter-at t s (omega (arith, m .size)) (omega (arith, m .lanes, R .high)))
+      rw (rowsBy-step u p, lanesAfter-at t s (omega (arith, m .size)) (omega (arith, m .shape .lanes, R .high)))
       (lowered (heardLane u p s) (rowsBy R u p) (hasHeard u p s) (airs t) (has-heard u p s lp ls c))
 
   -- of itself a station has, until it starts a body, what it had started
@@ -258,7 +258,7 @@ module _ (R : Run) where
           laneAt (afterTurn t) k
           ≡ cond (not (eqb (kindOf b) 0)) (pushed (getD (lanesAfter t) k noLane) b) (getD (lanesAfter t) k noLane))
           (m .own)
-          (lane-own t (omega (arith, m .own, m .lanes, R .high))) in
+          (lane-own t (omega (arith, m .own, m .shape .lanes, R .high))) in
           rw (← e, v, l)
           (grown
           (airedLane u p p)

@@ -1,11 +1,16 @@
+-- The way to demand 3, in the order in which it is best read.
+
+-- every call leaves a group inside its limits
 pub mod Members
 pub mod MembersPost
 pub mod MembersRound
-pub mod Run
 pub mod HistoryInside
+-- accepted posts: in a turn, and over a list of calls
 pub mod Takings
 pub mod TurnAccount
 pub mod PostsAccounted
+-- the simulation: what a record stands for, one record heard, a round heard, a turn, all rounds of a run
+pub mod Run
 pub mod Version
 pub mod Outcome
 pub mod Standing
@@ -15,17 +20,20 @@ pub mod RoundHeard
 pub mod TurnStep
 pub mod Rounds
 pub mod Simulation
-pub mod Counting
+-- what a run takes and airs
 pub mod Begin
 pub mod Lists
 pub mod Taken
+pub mod Counting
 pub mod Lanes
 pub mod Aired
+-- the run of a list of calls, and demand 3
 pub mod CallRun
 pub mod HistoryRun
 pub mod HistoryLists
 pub mod FromRun
 pub mod DemandThree
+-- examples
 pub mod Marked
 pub mod RunLines
 pub mod RunExamples

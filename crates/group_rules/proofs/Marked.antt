@@ -27,8 +27,7 @@ use Rattle.station_rules.specs.Limits.{stationInside, queueInside, placeInside,
 use Rattle.places.specs.Places.{allBelow, anyBelow, fill}
 use Rattle.links.specs.Log.{hearsIn}
 use Rattle.group_rules.specs.State.{stationAt, freshGroup, groupInside}
-use Rattle.group_rules.specs.Calls.{groupPostRefusal, roundRefusal, hearing, afterRound, reportOf, roundCall}
-use Rattle.group_rules.specs.Calls.{postCall as groupPost}
+use Rattle.group_rules.specs.Calls.{groupPostRefusal, roundRefusal, hearing, afterRound, reportOf, roundCall, postCall as groupPost}
 use Rattle.group_rules.specs.History.{History, Call.post, Call.round, next, begun, continued}
 use Rattle.group_rules.specs.Marked.{Marked, oneStation, turnIn}
 

@@ -33,18 +33,15 @@ pub accepted : (g : List Station) (k : ℕ) (b : Body) → eqb (groupPostRefusal
 unfolding groupPostRefusal
 accepted g k b h = go (groupInside g) (ltb k (sizeOf g)) (isEdit b) (leb 32 (stationAt g k .waiting .len)) refl refl refl refl h
   where
-    never : {A : Type 0} → false ≡ true → A
-    never e = absurd (false≢true e)
-
     go :
         (a c d e : Bool) → groupInside g ≡ a → ltb k (sizeOf g) ≡ c → isEdit b ≡ d → leb 32 (stationAt g k .waiting .len) ≡ e →
         eqb (cond (not a) 2 (cond (not c) 1 (cond (not d) 4 (cond e 3 0)))) 0 ≡ true → Accepted g k b
     go true true true false p q r s z =
         record { inside = p; below = ltb-true k (sizeOf g) q; edit = r; room = leb-false 32 (stationAt g k .waiting .len) s }
-    go true true true true p q r s z = never z
-    go true true false e p q r s z = never z
-    go true false d e p q r s z = never z
-    go false c d e p q r s z = never z
+    go true true true true p q r s z = absurd (false≢true z)
+    go true true false e p q r s z = absurd (false≢true z)
+    go true false d e p q r s z = absurd (false≢true z)
+    go false c d e p q r s z = absurd (false≢true z)
 
 pub post-accepted :
     (g : List Station) (k : ℕ) (b : Body) → eqb ((postCall g k b) .refusal) done ≡ true →

@@ -50,9 +50,6 @@ runs g masks h =
     go (groupInside g) (anyBelow (sizeOf g) (λ k. not (ownCountInside (stationAt g k)))) (anyBelow (sizeOf g) (λ i. (heard g masks i) .overfull))
     refl refl refl h
   where
-    never : {A : Type 0} → false ≡ true → A
-    never e = absurd (false≢true e)
-
     go :
         (a b c : Bool) → groupInside g ≡ a → anyBelow (sizeOf g) (λ k. not (ownCountInside (stationAt g k))) ≡ b →
         anyBelow (sizeOf g) (λ i. (heard g masks i) .overfull) ≡ c →
@@ -64,9 +61,9 @@ runs g masks h =
               λ k l. not-false (ownCountInside (stationAt g k)) (anyBelow-at (sizeOf g) (λ k. not (ownCountInside (stationAt g k))) q k l);
           room = anyBelow-at (sizeOf g) (λ i. (heard g masks i) .overfull) r;
         }
-    go true false true p q r z = never z
-    go true true c p q r z = never z
-    go false b c p q r z = never z
+    go true false true p q r z = absurd (false≢true z)
+    go true true c p q r z = absurd (false≢true z)
+    go false b c p q r z = absurd (false≢true z)
 
 module _ (n : ℕ) (g : List Station) (c : Members n g) (masks : List ℕ) (counts : (k : ℕ) → k < n → ownCountInside (stationAt g k) ≡ true) where
   carried : (i j : ℕ) → i < n → j < n → AllCarried (stationAt g i .n) (sentRecords (stationAt g j))

@@ -13,10 +13,10 @@ use Rattle.labels.specs.Newer.{isNewer}
 use Rattle.labels.proofs.NewerLaws.{newer-next, newer-same, newer-past, newer-none}
 use Rattle.links.specs.Relay.{Links}
 use Rattle.links.specs.Clock.{news}
-use Rattle.links.specs.Number.{num, numOf, fresh}
+use Rattle.links.specs.Number.{num, numOf, counted}
 use Rattle.links.proofs.Number.{num-positive, num-mono}
 use Rattle.links.proofs.Got.{numOf-none, numOf-some, got-own}
-use Rattle.links.proofs.Version.{numOf-close, fresh-mono}
+use Rattle.links.proofs.Version.{numOf-close, counted-mono}
 use Rattle.links.proofs.Clock.{news-limit}
 use Rattle.frame_rules.specs.declared.Record.{Record}
 use Rattle.station_rules.specs.declared.Station.{Station}
@@ -66,8 +66,8 @@ module _ (R : Run) where
 
       newer-held :
           (x w : ℕ) → heldOf s k ≡ true → Stands R (recordOf s k) k x → Stands R r k w →
-          heeds s r ≡ isNewer true (num L x k % 3) (fresh L x k) (num L w k % 3)
-          (fresh L w k)
+          heeds s r ≡ isNewer true (num L x k % 3) (counted L x k) (num L w k % 3)
+          (counted L w k)
       newer-held x w e a b =
           heeds-newer s r away ∙ newer-at e (label-number (recordOf s k) x a) (a .count) (label-number r w b) (b .count)
 
@@ -110,31 +110,31 @@ module _ (R : Run) where
                   | yes e ↦
                       skipped
                       (newer-held x w held cx t
-                      ∙ newer-same (num L x k) (num L w k) (fresh L x k) (fresh L w k) e
-                      ∙ le-ltb (fresh L x k) (fresh L w k) (fresh-mono L w x k (omega arith) e))
+                      ∙ newer-same (num L x k) (num L w k) (counted L x k) (counted L w k) e
+                      ∙ le-ltb (counted L x k) (counted L w k) (counted-mono L w x k (omega arith) e))
                       (inl (omega arith))
                   | no d ↦
                       skipped
                       (newer-held x w held cx t
-                      ∙ newer-past (num L x k) (num L w k) (fresh L x k) (fresh L w k) (omega arith))
+                      ∙ newer-past (num L x k) (num L w k) (counted L x k) (counted L w k) (omega arith))
                       (inl (omega arith))
                 ])
             | no l ↦
                 (let m = num-mono L x w k (omega arith) in
                 elim (ℕ-discrete (num L w k) (num L x k)) [
                   | yes e ↦
-                      (let f = fresh-mono L x w k (omega arith) (sym e) in
+                      (let f = counted-mono L x w k (omega arith) (sym e) in
                       let n =
                       newer-held x w held cx t
-                      ∙ newer-same (num L x k) (num L w k) (fresh L x k) (fresh L w k) e in
-                      elim (ℕ-discrete (fresh L x k) (fresh L w k)) [
+                      ∙ newer-same (num L x k) (num L w k) (counted L x k) (counted L w k) e in
+                      elim (ℕ-discrete (counted L x k) (counted L w k)) [
                         | yes i ↦
                             skipped
-                            (n ∙ le-ltb (fresh L x k) (fresh L w k) (omega arith))
+                            (n ∙ le-ltb (counted L x k) (counted L w k) (omega arith))
                             (inr (x, w, refl, omega arith, omega arith, sym e, i))
                         | no i ↦
                             renewed
-                            (n ∙ lt-ltb (fresh L x k) (fresh L w k) (omega arith))
+                            (n ∙ lt-ltb (counted L x k) (counted L w k) (omega arith))
                             (advances-same w (num L x k) t label e)
                             (omega arith)
                             (omega arith)
@@ -142,7 +142,7 @@ module _ (R : Run) where
                   | no d ↦
                       advanced
                       (newer-held x w held cx t
-                      ∙ newer-next (num L x k) (num L w k) (fresh L x k) (fresh L w k) (omega arith))
+                      ∙ newer-next (num L x k) (num L w k) (counted L x k) (counted L w k) (omega arith))
                       (advances-next w (num L x k) t label (omega arith))
                       (omega arith)
                       (omega arith)

@@ -12,9 +12,11 @@ use borrow.Author.Tests.{lt-ltb, le-ltb, ltb-true, ltb-false}
 use lib.Dec.{leb, ltb}
 use Rattle.links.specs.Log.{hearsIn}
 use Rattle.links.specs.Relay.{Links}
+use Rattle.links.specs.Clock as clock
 use Rattle.links.specs.Clock.{latest, news}
-use Rattle.links.specs.Number.{numOf, got, fresh}
-use Rattle.links.proofs.Clock.{news-own, news-limit, news-step}
+use Rattle.links.specs.Number.{numOf, got, counted}
+use Rattle.links.proofs.Clock.{news-own, news-limit}
+use Rattle.links.proofs.Hearing.{hearing-all}
 use Rattle.links.proofs.Got.{got-numOf, version}
 use Rattle.frame_rules.specs.declared.Record.{Record}
 use Rattle.frame_rules.specs.Record.{framed}
@@ -42,13 +44,13 @@ module _ (R : Run) where
   pub record After (u p : ℕ) (s : Station) : Type 0 where
     pub formed : Formed R p s
     pub body : s .body ≡ shown R p (suc u)
-    pub count : s .count ≡ fresh L u p
+    pub count : s .count ≡ counted L u p
     pub cells :
         (q : ℕ) → q < R .n → CellAt R u p q (news L u p q) s
 
   -- it has heard nothing yet
   standing-silent : (u p : ℕ) (s : Station) → p < R .n → After u p s → Standing R u p s (silent s) (λ q. news L u p q)
-  unfolding takingsOf fresh got
+  unfolding takingsOf counted got
   standing-silent u p s lp a =
       record {
         formed = a .formed;
@@ -183,7 +185,7 @@ module _ (R : Run) where
 
   -- the version of q that p has in round u + 1 once it has heard the senders below k
   abbrev pub heardVersion : ℕ → ℕ → ℕ → ℕ → ℕ
-  heardVersion u p k q = latest k (λ j. L .hears (suc u) p j) (λ j. news L u j q) (news L u p q)
+  heardVersion u p k q = clock.hearing L u p q k
 
   -- p hears the frames of its mask; all are of the group before any hearing
   module _ (u p : ℕ) (lp : p < R .n) (all : (j : ℕ) → j < R .n → After u j (stationAt (R .ready u) j)) where
@@ -193,7 +195,7 @@ module _ (R : Run) where
     hear-senders :
         (k : ℕ) → k ≤ R .n →
         Standing R u p (stationAt (R .ready u) p) (hearing (R .ready u) (R .masks (suc u)) p k) (λ q. heardVersion u p k q)
-    unfolding hearing latest
+    unfolding hearing clock.hearing latest
     hear-senders zero l = standing-silent u p (stationAt (R .ready u) p) lp (all p lp)
     hear-senders (suc k) l =
         subst (λ b. Standing R u p (stationAt (R .ready u) p)
@@ -225,4 +227,4 @@ module _ (R : Run) where
 
     -- of another station that is the clock of the round
     pub heard-version : (q : ℕ) → (p ≡ q → ⊥) → heardVersion u p (R .n) q ≡ news L (suc u) p q
-    heard-version q d = sym (news-step L u p q d)
+    heard-version = hearing-all L u p

@@ -15,6 +15,7 @@ use Rattle.links.specs.Clock.{news}
 use Rattle.links.specs.Number.{num, numOf, got, gotOf}
 use Rattle.links.proofs.Clock.{news-own, news-start}
 use Rattle.links.proofs.Number.{num-zero, start-zero}
+use Rattle.links.proofs.Hearing.{counted-zero}
 use Rattle.links.proofs.Got.{got-none, got-own}
 use Rattle.frame_rules.specs.declared.Record.{Record}
 use Rattle.station_rules.specs.declared.Station.{Station}
@@ -30,7 +31,7 @@ use Rattle.group_rules.proofs.Version.{Stands, CellAt}
 use Rattle.group_rules.proofs.Standing.{Formed}
 use Rattle.group_rules.proofs.HearParts.{cell-move}
 use Rattle.group_rules.proofs.RoundHeard.{After, hear-round, heard-version}
-use Rattle.group_rules.proofs.TurnStep.{fresh-start, turn-step}
+use Rattle.group_rules.proofs.TurnStep.{turn-step}
 
 -- a list of sixteen of which one entry is another
 module _ {A : Type 0} (a b d : A) (p : ℕ) (lp : p < 16) where
@@ -52,14 +53,18 @@ module _ (R : Run) where
             record {
               size = sym (e .n) ∙ a .formed .size;
               own = sym (e .own) ∙ a .formed .own;
-              acked = ap length (sym (e .acked)) ∙ a .formed .acked;
-              labels = ap length (sym (e .labels)) ∙ a .formed .labels;
-              held = ap length (sym (e .held)) ∙ a .formed .held;
-              table = ap length (sym (e .table)) ∙ a .formed .table;
-              lanes = ap length (sym (e .lanes)) ∙ a .formed .lanes;
-              record-labels =
-                  λ q l.
-                  ap (λ (x : List Record). length ((getD x q noRecord) .labels)) (sym (e .table)) ∙ a .formed .record-labels q l;
+              shape =
+                  (let c = a .formed .shape in
+                  record {
+                    acked = ap length (sym (e .acked)) ∙ c .acked;
+                    labels = ap length (sym (e .labels)) ∙ c .labels;
+                    held = ap length (sym (e .held)) ∙ c .held;
+                    table = ap length (sym (e .table)) ∙ c .table;
+                    lanes = ap length (sym (e .lanes)) ∙ c .lanes;
+                    slots = sym (e .slots) ∙ c .slots;
+                    record-labels =
+                        λ q l. ap (λ (x : List Record). length ((getD x q noRecord) .labels)) (sym (e .table)) ∙ c .record-labels q l;
+                  });
             };
         body = sym (e .body) ∙ a .body;
         count = sym (e .count) ∙ a .count;
@@ -108,7 +113,7 @@ module _ (R : Run) where
               (subst (λ r. Stands R r p 0) (sym (one-here zeroRecord _ noRecord p (omega arith)))
               (record {
                 station = refl;
-                count = sym (fresh-start R 0 p lp (start-zero L p));
+                count = sym (counted-zero L p);
                 body =
                     ap (λ (s : Station). s .body) (sym first-at)
                     ∙ ap (λ (t : ℕ). (stationAt (R .after t) p) .body) (sym (start-zero L p));
@@ -129,19 +134,7 @@ module _ (R : Run) where
 
     fresh-formed : Formed R p (freshStation (R .n) p)
     unfolding freshStation
-    fresh-formed =
-        let c = fresh-shaped (R .n) p in
-        let high = R .high in
-        record {
-          size = refl;
-          own = refl;
-          acked = c .acked;
-          labels = c .labels;
-          held = c .held;
-          table = c .table;
-          lanes = c .lanes;
-          record-labels = λ q l. c .record-labels q (omega arith);
-        }
+    fresh-formed = record { size = refl; own = refl; shape = fresh-shaped (R .n) p }
 
     fresh-after : After R 0 p (stationAt (R .after 0) p)
     unfolding freshStation
@@ -149,7 +142,7 @@ module _ (R : Run) where
         record {
           formed = subst (λ s. Formed R p s) (sym first-at) fresh-formed;
           body = ap (λ (t : ℕ). (stationAt (R .after t) p) .body) (sym (start-zero L p));
-          count = ap (λ (s : Station). s .count) first-at ∙ sym (fresh-start R 0 p lp (start-zero L p));
+          count = ap (λ (s : Station). s .count) first-at ∙ sym (counted-zero L p);
           cells =
               λ q l.
               subst (λ s. CellAt R 0 p q (news L 0 p q) s) (sym first-at)

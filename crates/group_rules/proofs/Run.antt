@@ -21,7 +21,7 @@ use Rattle.group_rules.specs.State.{stationAt, freshGroup}
 use Rattle.group_rules.specs.Calls.{heard, afterRound}
 use Rattle.group_rules.specs.History.{takingsOf, unlessEmpty}
 
--- two stations that differ in their waiting edits at most
+-- two stations that differ in their waiting edits at most, with the same number of slots for them
 pub record SameButWaiting (s t : Station) : Type 0 where
   pub n : s .n ≡ t .n
   pub own : s .own ≡ t .own
@@ -32,6 +32,7 @@ pub record SameButWaiting (s t : Station) : Type 0 where
   pub held : s .held ≡ t .held
   pub table : s .table ≡ t .table
   pub lanes : s .lanes ≡ t .lanes
+  pub slots : length (s .waiting .slots) ≡ length (t .waiting .slots)
 
 pub record Run : Type 0 where
   pub n : ℕ

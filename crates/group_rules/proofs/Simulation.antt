@@ -13,10 +13,10 @@ use Rattle.kinds.specs.Body.{kindOf}
 use Rattle.links.specs.Relay.{Links}
 use Rattle.links.specs.Clock.{news}
 use Rattle.links.specs.Number as number
-use Rattle.links.specs.Number.{num, numOf, got, gotOf, fresh}
+use Rattle.links.specs.Number.{num, numOf, got, gotOf, counted}
 use Rattle.links.proofs.Clock.{news-own}
 use Rattle.links.proofs.Got.{got-numOf, got-own, numOf-some}
-use Rattle.links.proofs.Bounds.{fresh-limit}
+use Rattle.links.proofs.Bounds.{counted-limit}
 use Rattle.frame_rules.specs.declared.Record.{Record}
 use Rattle.places.proofs.Laws.{anyBelow-ext}
 use Rattle.lanes.specs.Lane.{pushed}
@@ -92,11 +92,11 @@ module _ (R : Run) where
     acked-number q l = after-all R u p lp .cells q l .is-acked
 
     -- the count
-    pub count-fresh : (stationAt (R .after u) p) .count ≡ fresh L u p
-    count-fresh = after-all R u p lp .count
+    pub count-is : (stationAt (R .after u) p) .count ≡ counted L u p
+    count-is = after-all R u p lp .count
 
     pub count-bounded : (stationAt (R .after u) p) .count ≤ 2 * (R .n - 1)
-    count-bounded = omega (arith, count-fresh, fresh-limit L u p lp)
+    count-bounded = omega (arith, count-is, counted-limit L u p lp)
 
     pub held-count-bounded :
         (q : ℕ) → q < R .n → heldOf (stationAt (R .after u) p) q ≡ true →
@@ -106,20 +106,20 @@ module _ (R : Run) where
         omega (
           arith,
           table-stands q (pred (news L u p q)) l (omega arith) .count,
-          fresh-limit L (pred (news L u p q)) q l,
+          counted-limit L (pred (news L u p q)) q l,
         )
 
     pub own-count-inside : ownCountInside (stationAt (R .ready u) p) ≡ true
     own-count-inside =
         let a = ready-all R u p lp in
-        let e : (recordOf (stationAt (R .ready u) p) ((stationAt (R .ready u) p) .own)) .count ≡ fresh L u p =
+        let e : (recordOf (stationAt (R .ready u) p) ((stationAt (R .ready u) p) .own)) .count ≡ counted L u p =
         ap (λ (i : ℕ). (recordOf (stationAt (R .ready u) p) i) .count) (a .formed .own)
         ∙ a .cells p lp .stands u (news-own L u p) .count in
         le-leb ((recordOf (stationAt (R .ready u) p) ((stationAt (R .ready u) p) .own)) .count)
         (2 * ((stationAt (R .ready u) p) .n - 1))
         (subst (λ m. (recordOf (stationAt (R .ready u) p) ((stationAt (R .ready u) p) .own)) .count ≤ 2 * (m - 1))
         (sym (a .formed .size))
-        (omega (arith, fresh-limit L u p lp)))
+        (omega (arith, counted-limit L u p lp)))
 
     -- the body of a version is that of the broadcast that it shows
     pub body-shown : (v : ℕ) → bodyAt R p v ≡ shown R p v

@@ -5,7 +5,6 @@ use mathlib.Core.Bool.{Bool, _&&_}
 use mathlib.Core.Logic.{inl, inr}
 use mathlib.Core.Path.{_≡_, refl, sym, _∙_, subst}
 use native.Mathlib.Omega.{arith}
-use lib.ListN.{length}
 use lib.Dec.{leb}
 use Rattle.links.specs.Relay.{Links}
 use Rattle.links.specs.Clock.{news}
@@ -17,8 +16,9 @@ use Rattle.links.proofs.Tally.{tally-same, tally-limit}
 use Rattle.places.specs.Places.{anyBelow}
 use Rattle.places.proofs.Laws.{anyBelow-ext}
 use Rattle.station_rules.specs.declared.Station.{Station}
-use Rattle.station_rules.specs.State.{recordOf, laneAt}
+use Rattle.station_rules.specs.State.{laneAt}
 use Rattle.station_rules.specs.Hearing.{Hearing}
+use Rattle.station_rules.proofs.Shape.{Shaped}
 use Rattle.group_rules.specs.History.{takingsOf}
 use Rattle.group_rules.proofs.Run.{Run, linksOf}
 use Rattle.group_rules.proofs.Version.{CellAt, Caught, Alike, gains, shown-same, alike-number, cell-alike, caught-same}
@@ -27,16 +27,11 @@ module _ (R : Run) where
   abbrev L : Links
   L = linksOf R
 
-  -- station p with its numbers and with sixteen places in each array
+  -- station p with its numbers, and with the lengths of its arrays
   pub record Formed (p : ℕ) (s : Station) : Type 0 where
     pub size : s .n ≡ R .n
     pub own : s .own ≡ p
-    pub acked : length (s .acked) ≡ 16
-    pub labels : length (s .labels) ≡ 16
-    pub held : length (s .held) ≡ 16
-    pub table : length (s .table) ≡ 16
-    pub lanes : length (s .lanes) ≡ 16
-    pub record-labels : (q : ℕ) → q < R .n → length ((recordOf s q) .labels) ≡ 16
+    pub shape : Shaped s
 
   -- p in round u + 1, first was the station before it heard anything
   pub record Standing (u p : ℕ) (first : Station) (h : Hearing) (vs : ℕ → ℕ) : Type 0 where

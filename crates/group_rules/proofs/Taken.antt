@@ -14,6 +14,7 @@ use lib.ListN.{length}
 use Rattle.kinds.specs.declared.Body.{Body}
 use Rattle.kinds.specs.declared.Body.the-variants.{Empty}
 use Rattle.kinds.specs.Body.{kindOf}
+use Rattle.places.proofs.Later.{from-on}
 use Rattle.links.specs.Relay.{Links}
 use Rattle.links.specs.Clock.{news}
 use Rattle.links.specs.Number.{numOf, got}
@@ -189,19 +190,12 @@ module _ (R : Run) where
       ]
 
   -- What was started stays at the beginning.
-  started-later : (d u s : ℕ) → Begins (startedBy R u s) (startedBy R (d + u) s)
-  started-later zero u s = rw (zero-add u) (begins-refl (startedBy R u s))
-  started-later (suc d) u s =
-      rw (suc-add d u, startedBy-step (d + u) s)
-      (begins-trans
-      (startedBy R u s)
-      (startedBy R (d + u) s)
-      (startedBy R (d + u) s ++ unlessEmpty (startedBody ((hearingIn R (d + u) s) .station)))
-      (started-later d u s)
-      (begins-append (startedBy R (d + u) s) _))
-
   pub started-begins : (w u s : ℕ) → w ≤ u → Begins (startedBy R w s) (startedBy R u s)
-  started-begins w u s h = let e : u - w + w ≡ u = omega arith in rw e at (started-later (u - w) w s)
+  started-begins w u s =
+      from-on (λ v. Begins (startedBy R w s) (startedBy R v s)) w (begins-refl (startedBy R w s))
+      (λ v l h.
+      rw (startedBy-step v s) (begins-trans (startedBy R w s) (startedBy R v s) _ h (begins-append (startedBy R v s) _)))
+      u
 
   pub version-begins : (v u s : ℕ) → v ≤ suc u → Begins (startedAt R s v) (startedBy R u s)
   version-begins zero u s h = rw (startedAt-none s) (begins-nil (startedBy R u s))

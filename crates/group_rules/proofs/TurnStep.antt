@@ -1,6 +1,6 @@
 -- The turn of a round: a station whose cells stand for the clocks of the round ends its broadcast exactly if the clocks say so, and is afterwards as the
 -- round leaves it, its own record being the newest version of itself.
-use Prim.Native.Nat.{ℕ, zero, suc, _%_, _<_}
+use Prim.Native.Nat.{ℕ, suc, _%_, _<_}
 use mathlib.Core.Bool.{Bool, true, false, cond, _||_}
 use mathlib.Core.Logic.{⊎-elim}
 use mathlib.Core.Path.{_≡_, refl, sym, ap, _∙_, subst}
@@ -13,15 +13,16 @@ use Rattle.labels.specs.Label.{successor}
 use Rattle.links.specs.Relay.{Links}
 use Rattle.links.specs.Clock.{news}
 use Rattle.links.specs.Number as number
-use Rattle.links.specs.Number.{start, num, numOf, got, gotOf, every, fresh}
+use Rattle.links.specs.Number.{start, num, numOf, got, gotOf, counted}
 use Rattle.links.proofs.Clock.{news-own}
 use Rattle.links.proofs.Number.{step}
 use Rattle.links.proofs.Got.{got-numOf, got-own, numOf-some}
 use Rattle.links.proofs.Bounds.{gotOf-some}
 use Rattle.links.proofs.Version.{gotOf-limit, ends-numbers}
-use Rattle.links.proofs.Tally.{tally-same, tally-limit}
-use Rattle.frame_rules.specs.declared.Record.{Record}
+use Rattle.links.proofs.Tally.{tally-same}
+use Rattle.links.proofs.Hearing.{counted-start}
 use Rattle.places.specs.Places.{allBelow}
+use Rattle.places.proofs.Laws.{allBelow-ext}
 use Rattle.station_rules.specs.declared.Station.{Station}
 use Rattle.station_rules.specs.State.{labelOf, ackedOf, heldOf, recordOf}
 use Rattle.station_rules.specs.Hearing.{Hearing}
@@ -29,6 +30,7 @@ use Rattle.station_rules.specs.Turn as turn
 use Rattle.station_rules.specs.Turn.{passed, ownRecord, afterTurn, startedBody}
 use Rattle.station_rules.proofs.TurnParts.{ends-each}
 use Rattle.station_rules.proofs.TurnCells
+use Rattle.station_rules.proofs.Shape.{afterTurn-shaped}
 use Rattle.group_rules.specs.State.{stationAt}
 use Rattle.group_rules.proofs.Run.{Run, linksOf}
 use Rattle.group_rules.proofs.Version.{Stands, shown}
@@ -36,24 +38,9 @@ use Rattle.group_rules.proofs.Standing.{Formed, Standing}
 use Rattle.group_rules.proofs.HearParts.{label-step}
 use Rattle.group_rules.proofs.RoundHeard.{After}
 
-allBelow-every : (n : ℕ) (f g : ℕ → Bool) → ((k : ℕ) → k < n → f k ≡ g k) → allBelow n f ≡ every n g
-unfolding allBelow every
-allBelow-every zero f g h = refl
-allBelow-every (suc n) f g h = rw (allBelow-every n f g (λ k l. h k (omega arith)), h n (omega arith))
-
 module _ (R : Run) where
   abbrev L : Links
   L = linksOf R
-
-  -- a broadcast that has just begun has counted nothing
-  pub fresh-start : (u p : ℕ) → p < R .n → start L u p ≡ u → fresh L u p ≡ 0
-  unfolding fresh
-  fresh-start u p lp e =
-      omega (
-        arith,
-        tally-limit 0 p (R .n) (λ q. got L u p q) (λ q. got L (start L u p) p q) lp
-            (λ q l d. rw e (omega arith)),
-      )
 
   module _ (h : Hearing) where
     abbrev s : Station
@@ -73,7 +60,7 @@ module _ (R : Run) where
       ends-agree =
           ends-each s
           ∙ ap (λ (m : ℕ). allBelow m (ackedOf s)) (c .formed .size)
-          ∙ allBelow-every (R .n) (ackedOf s)
+          ∙ allBelow-ext (R .n) (ackedOf s)
           (λ q. eqb q p || eqb (gotOf L q p (news L (suc u) p q)) (num L u p)) (λ q l. one q l (ℕ-discrete q p))
           ∙ sym (ends-numbers L u p)
         where
@@ -92,42 +79,27 @@ module _ (R : Run) where
       formed-turn : Formed R p (afterTurn s)
       formed-turn =
           let f = c .formed in
+          let high = R .high in
           record {
             size = TurnCells.turn-n s ∙ f .size;
             own = TurnCells.turn-own s ∙ f .own;
-            acked = TurnCells.turn-acked-length s ∙ f .acked;
-            labels = TurnCells.turn-labels-length s ∙ f .labels;
-            held = TurnCells.turn-held-length s ∙ f .held;
-            table = TurnCells.turn-table-length s ∙ f .table;
-            lanes = TurnCells.turn-lanes-length s ∙ f .lanes;
-            record-labels = λ q l. one q l (ℕ-discrete q (s .own));
+            shape = afterTurn-shaped s (omega (arith, f .own)) (f .shape);
           }
-        where
-          one : (q : ℕ) → q < R .n → Dec (q ≡ s .own) → length ((recordOf (afterTurn s) q) .labels) ≡ 16
-          one q l (yes e) =
-              let high = R .high in
-              ap (λ (i : ℕ). length ((recordOf (afterTurn s) i) .labels)) e
-              ∙ ap (λ (x : Record). length (x .labels)) (TurnCells.turn-record-own s (omega (arith, c .formed .own, c .formed .table)))
-              ∙ TurnCells.own-length s
-              ∙ ap (λ (i : ℕ). length ((recordOf s i) .labels)) (sym e)
-              ∙ c .formed .record-labels q l
-          one q l (no d) =
-              ap (λ (x : Record). length (x .labels)) (TurnCells.turn-record-other s q d) ∙ c .formed .record-labels q l
 
       -- b says whether the broadcast ends
       module _
           (b : Bool) (ended : turn.ends s ≡ b) (start-now : start L (suc u) p ≡ cond b (suc u) (start L u p))
           (num-now : num L (suc u) p ≡ cond b (suc (num L u p)) (num L u p))
           (began : first .body ≡ shown R p (suc u)) (after : stationAt (R .after (suc u)) p ≡ afterTurn s) where
-        count-turn : (afterTurn s) .count ≡ fresh L (suc u) p
-        unfolding fresh
+        count-turn : (afterTurn s) .count ≡ counted L (suc u) p
+        unfolding counted
         count-turn =
             TurnCells.turn-count s ∙ ap (λ (x : Bool). cond x 0 (s .count)) ended ∙ go b start-now
           where
             go :
                 (x : Bool) → start L (suc u) p ≡ cond x (suc u) (start L u p) →
-                cond x 0 (s .count) ≡ fresh L (suc u) p
-            go true e = sym (fresh-start (suc u) p lp e)
+                cond x 0 (s .count) ≡ counted L (suc u) p
+            go true e = sym (counted-start L (suc u) p e)
             go false e =
                 c .count
                 ∙ tally-same p (R .n) (λ q. numOf L q (vs q)) (λ q. got L (suc u) p q)
@@ -156,7 +128,7 @@ module _ (R : Run) where
         own-label-now =
             let high = R .high in
             subst (λ i. labelOf (afterTurn s) i ≡ num L (suc u) p % 3) (c .formed .own)
-            (TurnCells.turn-label-own s (omega (arith, c .formed .own, c .formed .labels))
+            (TurnCells.turn-label-own s (omega (arith, c .formed .own, c .formed .shape .labels))
             ∙ ap
             (λ (x : Bool). cond x (successor (labelOf s (s .own))) (labelOf s (s .own)))
             ended
@@ -189,7 +161,7 @@ module _ (R : Run) where
                   TurnCells.own-label s k (omega (arith, c .formed .size))
                   (omega (
                     arith,
-                    ap (λ (i : ℕ). length ((recordOf s i) .labels)) (c .formed .own) ∙ c .formed .record-labels p lp,
+                    ap (λ (i : ℕ). length ((recordOf s i) .labels)) (c .formed .own) ∙ c .formed .shape .record-labels p (omega (arith, R .high)),
                   ))
                   ∙ label-now k l (ℕ-discrete k p);
             }
@@ -197,7 +169,7 @@ module _ (R : Run) where
         acked-turn : (q : ℕ) → q < R .n → ackedOf (afterTurn s) q ≡ cond b (eqb q p) (ackedOf s q)
         acked-turn q l =
             let high = R .high in
-            TurnCells.turn-acked s q (omega (arith, c .formed .size)) (omega (arith, c .formed .acked))
+            TurnCells.turn-acked s q (omega (arith, c .formed .size)) (omega (arith, c .formed .shape .acked))
             ∙ ap (λ (x : Bool). cond x (eqb q (s .own)) (ackedOf s q)) ended
             ∙ ap (λ (i : ℕ). cond b (eqb q i) (ackedOf s q)) (c .formed .own)
 
@@ -257,7 +229,7 @@ module _ (R : Run) where
             (subst (λ x. Stands R x p (suc u))
             (sym
             (ap (λ (i : ℕ). recordOf (afterTurn s) i) (sym (c .formed .own))
-            ∙ TurnCells.turn-record-own s (omega (arith, c .formed .own, c .formed .table))))
+            ∙ TurnCells.turn-record-own s (omega (arith, c .formed .own, c .formed .shape .table))))
             own-stands))
         stands-now q l (no d) w f =
             subst (λ x. Stands R x q w) (sym (TurnCells.turn-record-other s q (λ e. d (e ∙ c .formed .own))))

@@ -13,11 +13,11 @@ use lib.Dec.{ltb, eqb}
 use Rattle.kinds.specs.declared.Body.{Body}
 use Rattle.kinds.specs.Body.{kindOf}
 use Rattle.links.specs.Relay.{Links}
-use Rattle.links.specs.Number.{start, num, numOf, got, gotOf, fresh}
+use Rattle.links.specs.Number.{start, num, numOf, got, gotOf, counted}
 use Rattle.links.proofs.Number.{num-positive, same-start}
 use Rattle.links.proofs.Got.{numOf-none, numOf-some, got-own}
 use Rattle.links.proofs.Bounds.{gotOf-some}
-use Rattle.links.proofs.Version.{fresh-pins}
+use Rattle.links.proofs.Version.{counted-pins}
 use Rattle.frame_rules.specs.declared.Record.{Record}
 use Rattle.lanes.specs.declared.Lane.{Lane}
 use Rattle.station_rules.specs.declared.Station.{Station}
@@ -38,7 +38,7 @@ module _ (R : Run) where
   -- r is q's own record as round w left it; its labels are looked at below n only
   pub record Stands (r : Record) (q w : ℕ) : Type 0 where
     pub station : r .station ≡ q
-    pub count : r .count ≡ fresh L w q
+    pub count : r .count ≡ counted L w q
     pub body : r .body ≡ shown q (suc w)
     pub labels : (k : ℕ) → k < R .n → recordLabel r k ≡ got L w q k % 3
 
@@ -52,7 +52,7 @@ module _ (R : Run) where
       × (v′ ≡ suc w)
       × (x ≤ w)
       × (num L x q ≡ num L w q)
-      × (fresh L x q ≡ fresh L w q))
+      × (counted L x q ≡ counted L w q))
 
   -- the same number: the same body
   pub shown-same : (q v v′ : ℕ) → numOf L q v ≡ numOf L q v′ → shown q v ≡ shown q v′
@@ -66,16 +66,16 @@ module _ (R : Run) where
       (same-start L x w q (sym (numOf-some L q (suc x) x refl) ∙ e ∙ numOf-some L q (suc w) w refl))
 
   pub got-alike :
-      (q x w : ℕ) → x ≤ w → num L x q ≡ num L w q → fresh L x q ≡ fresh L w q →
+      (q x w : ℕ) → x ≤ w → num L x q ≡ num L w q → counted L x q ≡ counted L w q →
       (k : ℕ) → k < R .n → got L x q k ≡ got L w q k
   got-alike q x w l e f k b =
       elim (ℕ-discrete k q) [
         | yes i ↦ rw i (got-own L x q ∙ e ∙ sym (got-own L w q))
-        | no d ↦ fresh-pins L x w q l e f k b d
+        | no d ↦ counted-pins L x w q l e f k b d
       ]
 
   stands-alike :
-      (r : Record) (q x w : ℕ) → x ≤ w → num L x q ≡ num L w q → fresh L x q ≡ fresh L w q →
+      (r : Record) (q x w : ℕ) → x ≤ w → num L x q ≡ num L w q → counted L x q ≡ counted L w q →
       Stands r q x → Stands r q w
   stands-alike r q x w l e f c =
       record {

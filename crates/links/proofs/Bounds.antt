@@ -9,7 +9,7 @@ use native.Mathlib.Decide.{ℕ-discrete, decLe}
 use native.Mathlib.Omega.{arith}
 use Rattle.links.specs.Relay.{Links}
 use Rattle.links.specs.Clock.{news}
-use Rattle.links.specs.Number.{full, start, num, got, gotOf, tally, fresh}
+use Rattle.links.specs.Number.{full, start, num, got, gotOf, tally, counted}
 use Rattle.links.proofs.Clock.{news-own, news-mono, news-carries-earlier}
 use Rattle.links.proofs.Number.{Answer, full-answer, answer-full, step, start-limit, num-start, ends-full}
 use Rattle.links.proofs.Got.{version, got-none, got-some, got-mono, got-news, began, first-number, previous, got-step}
@@ -26,7 +26,7 @@ module _ (L : Links) where
       let e : v ≡ suc (v - 1) = omega arith in
       omega (arith, gotOf-some q s v (v - 1) e, got-mono L w (v - 1) q s (omega arith))
 
-  -- G2: what any p holds of q shows a broadcast of s at most two before the present one.
+  -- What any p holds of q shows a broadcast of s at most two before the present one.
   pub behind : (u p q s : ℕ) → p < L .size → q < L .size → num L u s ≤ gotOf L q s (news L u p q) + 2
   behind u p q s lp lq =
       ⊎-elim
@@ -68,7 +68,7 @@ module _ (L : Links) where
       (λ c. rw (c .1) (sym (ends-full L u s) ∙ c .0))
       (step L u s)
 
-  -- G3: within one broadcast of s at most two new ones of another come to s.
+  -- Within one broadcast of s at most two new ones of another come to s.
   pub within : (u s r : ℕ) → s < L .size → r < L .size → (r ≡ s → ⊥) → got L u s r ≤ got L (start L u s) s r + 2
   within u s r ls lr d =
       elim (decLe (got L u s r) (got L (start L u s) s r + 2)) [
@@ -137,13 +137,13 @@ module _ (L : Links) where
           (version (start L w r))
 
   -- So at most two for each other station in all, and at most three while the next round is heard.
-  pub fresh-limit : (u p : ℕ) → p < L .size → fresh L u p ≤ 2 * (L .size - 1)
-  unfolding fresh
-  fresh-limit u p l =
+  pub counted-limit : (u p : ℕ) → p < L .size → counted L u p ≤ 2 * (L .size - 1)
+  unfolding counted
+  counted-limit u p l =
       tally-limit 2 p (L .size) (λ r. got L u p r) (λ r. got L (start L u p) p r) l (λ r lr d. within u p r l lr d)
 
-  pub fresh-hearing-limit : (u p : ℕ) → p < L .size
+  pub counted-hearing-limit : (u p : ℕ) → p < L .size
       → tally (L .size) p (λ r. got L (suc u) p r) (λ r. got L (start L u p) p r) ≤ 3 * (L .size - 1)
-  fresh-hearing-limit u p l =
+  counted-hearing-limit u p l =
       tally-limit 3 p (L .size) (λ r. got L (suc u) p r) (λ r. got L (start L u p) p r) l
       (λ r lr d. omega (arith, within u p r l lr d, got-step L u p r l))

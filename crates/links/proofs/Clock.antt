@@ -3,11 +3,12 @@
 use mathlib.Core.Bool.{Bool, true, false, cond, false≢true}
 use mathlib.Core.Logic.{_⊎_, inl, inr}
 use mathlib.Core.Path.{_≡_, refl, sym, _∙_, ap}
-use Prim.Native.Nat.{ℕ, zero, suc, max, _+_, _-_, _<_, _≤_}
+use Prim.Native.Nat.{ℕ, zero, suc, max, _-_, _<_, _≤_}
 use native.Mathlib.Decide.{ℕ-discrete, decLe}
-use native.Mathlib.Nat.{le-refl, zero-add, suc-add}
+use native.Mathlib.Nat.{le-refl}
 use native.Mathlib.Omega.{arith}
 use borrow.Author.Tests.{eq-eqb, ne-eqb}
+use Rattle.places.proofs.Later.{from-on}
 use Rattle.links.specs.Relay.{Links, Relay, direct, onward}
 use Rattle.links.specs.EndRule.{RelayBy}
 use Rattle.links.specs.Clock.{latest, news}
@@ -53,7 +54,7 @@ module _ (heard : ℕ → Bool) (f : ℕ → ℕ) (x : ℕ) where
       go false e before = wider (latest n heard f x) before
 
 module _ (L : Links) where
-  -- F1: of itself a station knows how the present round leaves it; of another at most how the round before left it.
+  -- Of itself a station knows how the present round leaves it; of another at most how the round before left it.
   pub news-own : (u p : ℕ) → news L u p p ≡ suc u
   unfolding news
   news-own zero p = rw (eq-eqb p p refl)
@@ -89,7 +90,7 @@ module _ (L : Links) where
   pub news-limit : (u p q : ℕ) → news L u p q ≤ suc u
   news-limit u p q = elim (ℕ-discrete p q) [ yes e ↦ rw e (omega (arith, news-own u q)) | no d ↦ omega (arith, news-other u p q d) ]
 
-  -- F2: news is kept.
+  -- News is kept.
   pub news-keeps : (u p q : ℕ) → news L u p q ≤ news L (suc u) p q
   news-keeps u p q =
       elim (ℕ-discrete p q) [
@@ -106,14 +107,11 @@ module _ (L : Links) where
             (latest-hears (λ i. L .hears (suc u) p i) (λ i. news L u i q) (news L u p q) (L .size) j (L .inside (suc u) p j h .1) h)
       ]
 
-  news-later : (d u p q : ℕ) → news L u p q ≤ news L (d + u) p q
-  news-later zero u p q = rw (zero-add u) (le-refl (news L u p q))
-  news-later (suc d) u p q = rw (suc-add d u) (omega (arith, news-later d u p q, news-keeps (d + u) p q))
-
   pub news-mono : (u w p q : ℕ) → u ≤ w → news L u p q ≤ news L w p q
-  news-mono u w p q h = let e : w - u + u ≡ w = omega arith in rw e at (news-later (w - u) u p q)
+  news-mono u w p q =
+      from-on (λ v. news L u p q ≤ news L v p q) u (le-refl (news L u p q)) (λ v l h. omega (arith, news-keeps v p q)) w
 
-  -- F3: who has news of s has all that s had then.
+  -- Who has news of s has all that s had then.
   pub news-carries : (u p s q w : ℕ) → news L u p s ≡ suc w → news L w s q ≤ news L u p q
   news-carries zero p s q w h =
       elim (ℕ-discrete p s) [
@@ -138,7 +136,7 @@ module _ (L : Links) where
       let e : news L u p s ≡ suc (news L u p s - 1) = omega arith in
       omega (arith, news-carries u p s q (news L u p s - 1) e, news-mono w (news L u p s - 1) s q (omega arith))
 
-  -- F4: news of s from after round t is what a relay brings.
+  -- News of s from after round t is what a relay brings.
   pub relay-news : {s t r k : ℕ} → Relay L s t r k → t < news L k r s
   relay-news {s} {t} {r} {k} (direct l h) = go k l h
     where

@@ -8,6 +8,7 @@ use Prim.Native.Nat.{ℕ, zero, suc, _+_, _-_, _*_, _<_, _≤_}
 use native.Mathlib.Decide.{ℕ-discrete, decLe}
 use native.Mathlib.Nat.{le-refl}
 use native.Mathlib.Omega.{arith}
+use Rattle.places.proofs.Later.{from-on}
 use Rattle.links.specs.Relay.{Links}
 use Rattle.links.specs.EndRule.{RelayBy, Returned, AllReturned, EndsIn, Starts, at-first, after, Ended}
 use Rattle.links.specs.Clock.{news}
@@ -60,7 +61,7 @@ module _ (L : Links) where
             (step L u s)
       ]
 
-  -- G4: the clocks end a broadcast in the round that the end rule gives.
+  -- The clocks end a broadcast in the round that the end rule gives.
   pub ends-rule : (u s : ℕ) → (ends L (suc u) s ≡ true) ↔ EndsIn L s (start L u s) (suc u)
   ends-rule u s = (there, back)
     where
@@ -136,21 +137,19 @@ module _ (L : Links) where
 
   -- A broadcast goes on until the round in which it ends.
   goes-on : (s t v : ℕ) → start L t s ≡ t → ((w : ℕ) → t < w → w ≤ v → AllReturned L s t w → ⊥) → t ≤ v → (start L v s ≡ t) × (num L v s ≡ num L t s)
-  goes-on s t zero e none l = let q : t ≡ 0 = omega arith in rw q (rw q at e, refl)
-  goes-on s t (suc v) e none l =
-      elim (ℕ-discrete t (suc v)) [
-        | yes q ↦ (rw (← q) e, rw (← q))
-        | no d ↦
-            (let h = goes-on s t v e (λ w a b. none w a (omega arith)) (omega arith) in
-            ⊎-elim
-            (λ (c : (ends L (suc v) s ≡ true) × (start L (suc v) s ≡ suc v) × (num L (suc v) s ≡ suc (num L v s))).
-            absurd
-            (none (suc v) (omega arith) (le-refl (suc v))
-            (full-returned (suc v) s t (rw (h .0) at (sym (ends-full L v s) ∙ c .0)))))
-            (λ (c : (ends L (suc v) s ≡ false) × (start L (suc v) s ≡ start L v s) × (num L (suc v) s ≡ num L v s)).
-            (c .1 ∙ h .0, c .2 ∙ h .1))
-            (step L v s))
-      ]
+  goes-on s t v e none l =
+      from-on (λ w. w ≤ v → (start L w s ≡ t) × (num L w s ≡ num L t s)) t (λ m. (e, refl))
+      (λ w k before m.
+      let h = before (omega arith) in
+      ⊎-elim
+      (λ (c : (ends L (suc w) s ≡ true) × (start L (suc w) s ≡ suc w) × (num L (suc w) s ≡ suc (num L w s))).
+      absurd
+      (none (suc w) (omega arith) m
+      (full-returned (suc w) s t (rw (h .0) at (sym (ends-full L w s) ∙ c .0)))))
+      (λ (c : (ends L (suc w) s ≡ false) × (start L (suc w) s ≡ start L w s) × (num L (suc w) s ≡ num L w s)).
+      (c .1 ∙ h .0, c .2 ∙ h .1))
+      (step L w s))
+      v l (le-refl v)
 
   -- In the round before the one in which it ends, it is the sender's broadcast.
   still : (s k t u : ℕ) → Starts L s k t → EndsIn L s t (suc u) → (num L t s ≡ k) × (start L t s ≡ t) → (start L u s ≡ t) × (num L u s ≡ k)
@@ -172,7 +171,7 @@ module _ (L : Links) where
           let f = still-ends s b t e (g .0) in
           (num-ends L t s f ∙ ap suc (g .1), start-ends L t s f)
 
-  -- G4 with the start left open: a round is one of end by the clocks exactly if by the end rule a broadcast ends in it.
+  -- With the start left open: a round is one of end by the clocks exactly if by the end rule a broadcast ends in it.
   pub ends-ended : (u s : ℕ) → (ends L u s ≡ true) ↔ Ended L s u
   ends-ended u s = (there u, back u)
     where
@@ -188,18 +187,14 @@ module _ (L : Links) where
 
   -- Without such a round it does not end: its sender keeps it for good.
   pub never-ends : (u s : ℕ) → ((v : ℕ) → EndsIn L s (start L u s) v → ⊥) → (w : ℕ) → u ≤ w → num L w s ≡ num L u s
-  never-ends u s none zero l = let q : u ≡ 0 = omega arith in rw q
-  never-ends u s none (suc w) l =
-      elim (ℕ-discrete u (suc w)) [
-        | yes q ↦ rw q
-        | no d ↦
-            (let h = never-ends u s none w (omega arith) in
-            ⊎-elim
-            (λ (c : (ends L (suc w) s ≡ true) × (start L (suc w) s ≡ suc w) × (num L (suc w) s ≡ suc (num L w s))).
-            absurd (none (suc w) (rw (same-start L w u s h) at (ends-rule w s .0 (c .0)))))
-            (λ (c : (ends L (suc w) s ≡ false) × (start L (suc w) s ≡ start L w s) × (num L (suc w) s ≡ num L w s)). c .2 ∙ h)
-            (step L w s))
-      ]
+  never-ends u s none =
+      from-on (λ w. num L w s ≡ num L u s) u refl
+      (λ w l h.
+      ⊎-elim
+      (λ (c : (ends L (suc w) s ≡ true) × (start L (suc w) s ≡ suc w) × (num L (suc w) s ≡ suc (num L w s))).
+      absurd (none (suc w) (rw (same-start L w u s h) at (ends-rule w s .0 (c .0)))))
+      (λ (c : (ends L (suc w) s ≡ false) × (start L (suc w) s ≡ start L w s) × (num L (suc w) s ≡ num L w s)). c .2 ∙ h)
+      (step L w s))
 
   -- A single station's broadcast ends in the next round.
   pub alone : (s t : ℕ) → L .size ≡ 1 → s < L .size → EndsIn L s t (suc t)
@@ -210,7 +205,7 @@ module _ (L : Links) where
         first = λ v h a. h;
       }
 
-  -- G5: where every two stations have a relay within delay rounds, as long as the links are looked at, a broadcast ends within twice that.
+  -- Where every two stations have a relay within delay rounds, as long as the links are looked at, a broadcast ends within twice that.
   pub ends-within : (delay last : ℕ) → 1 ≤ delay
       → ((a b t : ℕ) → a < L .size → b < L .size → (a ≡ b → ⊥) → t + delay ≤ last → RelayBy L a t b (t + delay))
       → (s t : ℕ) → s < L .size → t + 2 * delay ≤ last → (u : ℕ) × EndsIn L s t u × (u ≤ t + 2 * delay)

@@ -9,11 +9,12 @@ use native.Mathlib.Nat.{le-refl}
 use native.Mathlib.Omega.{arith}
 use lib.Dec.{lit<}
 use lib.ListN.{getD}
+use Rattle.places.specs.Places.{allBelow}
 use Rattle.links.specs.Log.{bit, hearsIn, masksIn, cut}
 use Rattle.links.specs.Relay.{Links, Relay, direct, onward, ofLog}
 use Rattle.links.specs.EndRule.{RelayBy, Returned, EndsIn, Starts, at-first, after}
 use Rattle.links.specs.Clock.{latest, news}
-use Rattle.links.specs.Number.{answers, every, full, start, ends, num, numOf, got}
+use Rattle.links.specs.Number.{answers, full, start, ends, num, numOf, got}
 use Rattle.links.specs.Examples.{all-five, mesh, two-rounds, one-round, one-way, listing, listing-sixteen}
 use Rattle.links.proofs.Clock.{relay-news, news-mono}
 use Rattle.links.proofs.EndRule.{alone, num-starts, ends-rule, ends-once, never-ends}
@@ -132,7 +133,7 @@ one-way-arrives = refl
 
 -- The rounds of the listing: both stations end in round 2, and in no other of the three.
 pub listing-ends : (ends listing 1 0 ≡ false) × (ends listing 2 0 ≡ true) × (ends listing 3 0 ≡ false) × (ends listing 2 1 ≡ true) × (num listing 3 1 ≡ 2)
-unfolding ends num full every answers start news latest hearsIn bit masksIn
+unfolding ends num full allBelow answers start news latest hearsIn bit masksIn
 listing-ends = (refl, refl, refl, refl, refl)
 
 -- Masks and bits from N up are ignored, as is a station's own bit.

@@ -9,11 +9,11 @@ use lib.ListN.{length}
 use Rattle.links.specs.Relay.{Links, Relay, ofLog}
 use Rattle.links.specs.EndRule.{RelayBy, EndsIn, Starts, Ended}
 use Rattle.links.specs.Clock.{news}
-use Rattle.links.specs.Number.{start, ends, num, got, gotOf, fresh}
+use Rattle.links.specs.Number.{start, ends, num, got, gotOf, counted}
 use Rattle.links.proofs.Clock.{news-own, news-other, news-mono, news-carries, news-relay, relayBy-news}
 use Rattle.links.proofs.Number.{num-mono, num-start, num-before}
 use Rattle.links.proofs.Got.{got-start, got-limit, num-limit}
-use Rattle.links.proofs.Bounds.{behind, within, fresh-limit}
+use Rattle.links.proofs.Bounds.{behind, within, counted-limit}
 use Rattle.links.proofs.EndRule.{ends-rule, ends-ended, ends-once, starts-num, num-starts, never-ends, alone, ends-within}
 use Rattle.links.proofs.Version.{got-relay}
 use Rattle.links.proofs.Prefix.{same-append, news-same, num-same, start-same, got-same, ends-same, ended-same}
@@ -66,8 +66,8 @@ G2 = behind
 pub G3 : (L : Links) (u s r : ℕ) → s < L .size → r < L .size → (r ≡ s → ⊥) → got L u s r ≤ got L (start L u s) s r + 2
 G3 = within
 
-pub G3-count : (L : Links) (u p : ℕ) → p < L .size → fresh L u p ≤ 2 * (L .size - 1)
-G3-count = fresh-limit
+pub G3-count : (L : Links) (u p : ℕ) → p < L .size → counted L u p ≤ 2 * (L .size - 1)
+G3-count = counted-limit
 
 -- G4: the end rule equals what the clocks decide: the round of an end, the numbers and starts of all broadcasts, and that a broadcast with no such round
 -- goes on for good. A single station's ends in the next round.

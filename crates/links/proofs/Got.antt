@@ -94,7 +94,7 @@ module _ (L : Links) where
   pub first-number : (u s : ℕ) → start L u s ≡ 0 → num L u s ≡ 1
   first-number u s e = sym (num-start L u s) ∙ ap (λ (t : ℕ). num L t s) e ∙ num-zero L s
 
-  -- G1: everybody has the present broadcast of s or the one before.
+  -- Everybody has the present broadcast of s or the one before.
   pub got-limit : (u r s : ℕ) → got L u r s ≤ num L u s
   got-limit u r s =
       ⊎-elim

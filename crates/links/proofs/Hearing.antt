@@ -2,13 +2,14 @@
 -- what each heard sender knew after round u; so at every moment it is between these two, and the laws of versions apply.
 use mathlib.Core.Bool.{Bool, true, false}
 use mathlib.Core.Path.{_≡_, refl, sym, _∙_, ap}
-use Prim.Native.Nat.{ℕ, zero, suc, max, _+_, _-_, _*_, _<_, _≤_}
-use native.Mathlib.Nat.{le-refl, zero-add, suc-add}
+use Prim.Native.Nat.{ℕ, zero, suc, max, _-_, _*_, _<_, _≤_}
+use native.Mathlib.Nat.{le-refl}
 use native.Mathlib.Omega.{arith}
+use Rattle.places.proofs.Later.{from-on}
 use Rattle.links.specs.Relay.{Links}
 use Rattle.links.specs.Clock.{latest, news, hearing}
-use Rattle.links.specs.Number.{start, ends, numOf, got, tally, fresh}
-use Rattle.links.proofs.Bounds.{fresh-hearing-limit}
+use Rattle.links.specs.Number.{start, ends, numOf, got, tally, counted}
+use Rattle.links.proofs.Bounds.{counted-hearing-limit}
 use Rattle.links.proofs.Clock.{news-own, news-step, news-limit}
 use Rattle.links.proofs.Got.{got-numOf, numOf-mono}
 use Rattle.links.proofs.Number.{start-ends, start-stays, start-zero}
@@ -41,12 +42,10 @@ module _ (L : Links) where
       go true e = let h = hearing-heard u p q k e in (omega arith, omega arith)
       go false e = let h = hearing-unheard u p q k e in (omega arith, omega arith)
 
-  hearing-later : (d k u p q : ℕ) → hearing L u p q k ≤ hearing L u p q (d + k)
-  hearing-later zero k u p q = rw (zero-add k) (le-refl (hearing L u p q k))
-  hearing-later (suc d) k u p q = rw (suc-add d k) (omega (arith, hearing-later d k u p q, hearing-step u p q (d + k) .0))
-
   pub hearing-mono : (u p q k k′ : ℕ) → k ≤ k′ → hearing L u p q k ≤ hearing L u p q k′
-  hearing-mono u p q k k′ h = let e : k′ - k + k ≡ k′ = omega arith in rw e at (hearing-later (k′ - k) k u p q)
+  hearing-mono u p q k k′ =
+      from-on (λ i. hearing L u p q k ≤ hearing L u p q i) k (le-refl (hearing L u p q k))
+      (λ i l h. omega (arith, hearing-step u p q i .0)) k′
 
   -- Never less than after the round before, and never more than that round can tell.
   pub hearing-keeps : (u p q k : ℕ) → news L u p q ≤ hearing L u p q k
@@ -73,21 +72,23 @@ module _ (L : Links) where
         got-numOf L (suc u) p r,
         numOf-mono L r (hearing L u p r k) (news L (suc u) p r) (omega (arith, hearing-mono u p r k (L .size) lk)),
       )) in
-      omega (arith, m, fresh-hearing-limit L u p lp)
+      omega (arith, m, counted-hearing-limit L u p lp)
 
-  -- The count after a round: none where a broadcast ended, and else what the hearing left.
-  pub fresh-zero : (p : ℕ) → fresh L 0 p ≡ 0
-  unfolding fresh
-  fresh-zero p = rw (start-zero L p) (tally-none p (L .size) (λ r. got L 0 p r))
+  -- The count after a round: none where a broadcast has just begun, and else what the hearing left.
+  pub counted-start : (u p : ℕ) → start L u p ≡ u → counted L u p ≡ 0
+  unfolding counted
+  counted-start u p e = rw e (tally-none p (L .size) (λ r. got L u p r))
 
-  pub fresh-ends : (u p : ℕ) → ends L (suc u) p ≡ true → fresh L (suc u) p ≡ 0
-  unfolding fresh
-  fresh-ends u p e = rw (start-ends L u p e) (tally-none p (L .size) (λ r. got L (suc u) p r))
+  pub counted-zero : (p : ℕ) → counted L 0 p ≡ 0
+  counted-zero p = counted-start 0 p (start-zero L p)
 
-  pub fresh-stays : (u p : ℕ) → ends L (suc u) p ≡ false
-      → fresh L (suc u) p ≡ tally (L .size) p (λ r. numOf L r (hearing L u p r (L .size))) (λ r. got L (start L u p) p r)
-  unfolding fresh
-  fresh-stays u p e =
+  pub counted-ends : (u p : ℕ) → ends L (suc u) p ≡ true → counted L (suc u) p ≡ 0
+  counted-ends u p e = counted-start (suc u) p (start-ends L u p e)
+
+  pub counted-stays : (u p : ℕ) → ends L (suc u) p ≡ false
+      → counted L (suc u) p ≡ tally (L .size) p (λ r. numOf L r (hearing L u p r (L .size))) (λ r. got L (start L u p) p r)
+  unfolding counted
+  counted-stays u p e =
       rw (start-stays L u p e)
       (tally-same p (L .size)
       (λ r. got L (suc u) p r)

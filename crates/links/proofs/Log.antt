@@ -1,6 +1,6 @@
 -- Logs as lists: a mask that is not there hears nobody, so nothing is heard past the end of a log and no relay arrives there; and the masks of a log
 -- that was cut from one list are found by counting.
-use mathlib.Core.Bool.{Bool, true, false, not, _&&_, false≢true}
+use mathlib.Core.Bool.{false, not, false≢true, and-false}
 use mathlib.Core.List.{List, []}
 use mathlib.Core.Path.{_≡_, refl, sym, _∙_, ap}
 use Prim.Native.Nat.{ℕ, zero, suc, _+_, _*_, _/_, _^_, _<_, _≤_}
@@ -19,10 +19,6 @@ use Rattle.links.proofs.Relay.{relay-heard}
 pub bit-zero : (j : ℕ) → bit 0 j ≡ false
 unfolding bit
 bit-zero j = rw (zero-div (2 ^ j))
-
-and-false : (a : Bool) → (a && false) ≡ false
-and-false true = refl
-and-false false = refl
 
 -- Bits above a number's size are not set.
 pub bit-high : (mask k j : ℕ) → mask < 2 ^ k → k ≤ j → bit mask j ≡ false

@@ -1,35 +1,20 @@
 -- Broadcast numbers and starts. A number rises by one exactly where a broadcast ends, and the start is the round of the last rise; so a state of s has
 -- the present number exactly from the present start on. When s went to its present number each other station had answered the one before, so everybody
 -- holds the present or the previous broadcast of everybody.
-use mathlib.Core.Bool.{Bool, true, false, _||_, and-eq-true-iff, false≢true}
+use mathlib.Core.Bool.{Bool, true, false, _||_, false≢true}
 use mathlib.Core.Logic.{_⊎_, inl, inr, ⊎-elim}
 use mathlib.Core.Path.{_≡_, refl}
-use Prim.Native.Nat.{ℕ, zero, suc, _+_, _-_, _<_, _≤_}
+use Prim.Native.Nat.{ℕ, zero, suc, _<_, _≤_}
 use native.Mathlib.Decide.{ℕ-discrete, decLe}
-use native.Mathlib.Nat.{le-refl, zero-add, suc-add}
+use native.Mathlib.Nat.{le-refl}
 use native.Mathlib.Omega.{arith}
 use borrow.Author.Tests.{eq-eqb, ne-eqb, leb-true, le-leb}
 use lib.Dec.{eqb}
+use Rattle.places.proofs.Laws.{allBelow-at, allBelow-make}
+use Rattle.places.proofs.Later.{from-on}
 use Rattle.links.specs.Relay.{Links}
 use Rattle.links.specs.Clock.{news}
-use Rattle.links.specs.Number.{answers, every, full, start, ends, num}
-
-pub every-all : (test : ℕ → Bool) (n : ℕ) → every n test ≡ true → (k : ℕ) → k < n → test k ≡ true
-unfolding every
-every-all test zero e k l = absurd (omega arith)
-every-all test (suc n) e k l =
-    let b = and-eq-true-iff (every n test) (test n) .0 e in
-    elim (ℕ-discrete k n) [ yes q ↦ rw q (b .1) | no d ↦ every-all test n (b .0) k (omega arith) ]
-
-pub all-every : (test : ℕ → Bool) (n : ℕ) → ((k : ℕ) → k < n → test k ≡ true) → every n test ≡ true
-unfolding every
-all-every test zero h = refl
-all-every test (suc n) h = and-eq-true-iff (every n test) (test n) .1 (all-every test n (λ k l. h k (omega arith)), h n (omega arith))
-
-pub every-same : (h k : ℕ → Bool) (n : ℕ) → ((j : ℕ) → h j ≡ k j) → every n h ≡ every n k
-unfolding every
-every-same h k zero e = refl
-every-same h k (suc n) e = rw (e n, every-same h k n e)
+use Rattle.links.specs.Number.{answers, full, start, ends, num}
 
 module _ (L : Links) where
   -- An answer is news of a station in which it has news of s from after round t.
@@ -50,13 +35,13 @@ module _ (L : Links) where
   pub full-answer : (u s t : ℕ) → full L u s t ≡ true → (r : ℕ) → r < L .size → (r ≡ s → ⊥) → Answer u s t r
   unfolding full
   full-answer u s t e r l d =
-      let h = every-all (λ i. eqb i s || answers L s t i (news L u s i)) (L .size) e r l in
+      let h = allBelow-at (L .size) (λ i. eqb i s || answers L s t i (news L u s i)) e r l in
       let w = answers-out s t r (news L u s r) (rw (ne-eqb r s d) at h) in
       record { then = w .0; known = w .1; had = w .2 }
 
   pub answer-full : (u s t : ℕ) → ((r : ℕ) → r < L .size → (r ≡ s → ⊥) → Answer u s t r) → full L u s t ≡ true
   unfolding full
-  answer-full u s t h = all-every (λ i. eqb i s || answers L s t i (news L u s i)) (L .size) (λ r l. go r l (ℕ-discrete r s))
+  answer-full u s t h = allBelow-make (L .size) (λ i. eqb i s || answers L s t i (news L u s i)) (λ r l. go r l (ℕ-discrete r s))
     where
       go : (r : ℕ) → r < L .size → Dec (r ≡ s) → (eqb r s || answers L s t r (news L u s r)) ≡ true
       go r l (yes e) = rw (eq-eqb r s e)
@@ -108,18 +93,14 @@ module _ (L : Links) where
       go true e = inl (e, start-ends u s e, num-ends u s e)
       go false e = inr (e, start-stays u s e, num-stays u s e)
 
-  -- G0: numbers and starts rise with the rounds.
+  -- Numbers and starts rise with the rounds.
   pub start-limit : (u s : ℕ) → start L u s ≤ u
   start-limit zero s = omega (arith, start-zero s)
   start-limit (suc u) s = ⊎-elim (λ e. omega arith) (λ e. omega (arith, start-limit u s)) (step u s)
 
-  num-later : (d u s : ℕ) → num L u s ≤ num L (d + u) s
-  num-later zero u s = rw (zero-add u) (le-refl (num L u s))
-  num-later (suc d) u s =
-      rw (suc-add d u) (⊎-elim (λ e. omega (arith, num-later d u s)) (λ e. omega (arith, num-later d u s)) (step (d + u) s))
-
   pub num-mono : (u w s : ℕ) → u ≤ w → num L u s ≤ num L w s
-  num-mono u w s h = let e : w - u + u ≡ w = omega arith in rw e at (num-later (w - u) u s)
+  num-mono u w s =
+      from-on (λ v. num L u s ≤ num L v s) u (le-refl (num L u s)) (λ v l h. ⊎-elim (λ e. omega arith) (λ e. omega arith) (step v s)) w
 
   pub num-positive : (u s : ℕ) → 1 ≤ num L u s
   num-positive u s = omega (arith, num-zero s, num-mono 0 u s (omega arith))

@@ -8,13 +8,14 @@ use native.Mathlib.Decide.{ℕ-discrete, decLe}
 use native.Mathlib.Omega.{arith}
 use lib.Dec.{eqb}
 use lib.ListN.{length, List·getD-append}
+use Rattle.places.specs.Places.{allBelow}
+use Rattle.places.proofs.Laws.{allBelow-ext}
 use Rattle.links.specs.Log.{masksIn, hearsIn}
 use Rattle.links.specs.Relay.{Links, Relay, ofLog}
 use Rattle.links.specs.EndRule.{RelayBy, AllReturned, EndsIn, Starts, at-first, after, Ended}
 use Rattle.links.specs.Clock.{latest, news}
-use Rattle.links.specs.Number.{answers, every, full, start, ends, num, numOf, got, gotOf}
+use Rattle.links.specs.Number.{answers, full, start, ends, num, numOf, got, gotOf}
 use Rattle.links.proofs.Clock.{news-own, news-start, news-step, news-limit}
-use Rattle.links.proofs.Number.{every-same}
 use Rattle.links.proofs.Relay.{relay-keeps, relay-after}
 
 latest-same : (h k : ℕ → Bool) (f g : ℕ → ℕ) (x y n : ℕ)
@@ -69,16 +70,16 @@ module _ (L M : Links) (last : ℕ) (same : Same L M last) where
   pub full-same : (u s t : ℕ) → u ≤ last → full L u s t ≡ full M u s t
   unfolding full
   full-same u s t l =
-      every-same
+      allBelow-ext
+      (L .size)
       (λ r. eqb r s || answers L s t r (news L u s r))
       (λ r. eqb r s || answers M s t r (news M u s r))
-      (L .size)
-      (λ r.
+      (λ r lr.
       ap
       (λ (b : Bool). eqb r s || b)
       (answers-same s t r (news L u s r) (omega (arith, news-limit L u s r))
       ∙ ap (λ (v : ℕ). answers M s t r v) (news-same u s r l)))
-      ∙ ap (λ (n : ℕ). every n (λ r. eqb r s || answers M s t r (news M u s r))) (same .sizes)
+      ∙ ap (λ (n : ℕ). allBelow n (λ r. eqb r s || answers M s t r (news M u s r))) (same .sizes)
 
   pub start-same : (u s : ℕ) → u ≤ last → start L u s ≡ start M u s
   unfolding start

@@ -1,83 +1,80 @@
 -- Sums over all stations but one of what was added since: they go up with their parts, by as much; where two such sums are equal, and no part fell, no
--- part changed. Inductions over the number of stations.
+-- part changed. Each is a law of totals, with nothing to add at the station that is left out.
 use mathlib.Core.Path.{_≡_, refl, sym, _∙_}
 use Prim.Native.Nat.{ℕ, zero, suc, _+_, _-_, _*_, _<_, _≤_}
 use native.Mathlib.Decide.{ℕ-discrete}
-use native.Mathlib.Nat.{mul-suc}
+use native.Mathlib.Nat.{mul-comm}
 use native.Mathlib.Omega.{arith}
 use borrow.Author.Tests.{eq-eqb, ne-eqb}
-use Rattle.links.specs.Number.{tally}
+use Rattle.places.proofs.Total.{total-ext, total-most, total-mono, total-pins, total-gap, total-raised}
+use Rattle.links.specs.Number.{added, tally}
 
-tally-zero : (p : ℕ) (now before : ℕ → ℕ) → tally 0 p now before ≡ 0
-unfolding tally
-tally-zero p now before = refl
+added-own : (p : ℕ) (now before : ℕ → ℕ) (r : ℕ) → r ≡ p → added p now before r ≡ 0
+unfolding added
+added-own p now before r e = rw (eq-eqb r p e)
 
--- One more station: p itself adds nothing.
-pub tally-self : (p n : ℕ) (now before : ℕ → ℕ) → n ≡ p → tally (suc n) p now before ≡ tally n p now before
-unfolding tally
-tally-self p n now before e = rw (eq-eqb n p e) (omega arith)
-
-pub tally-other : (p n : ℕ) (now before : ℕ → ℕ) → (n ≡ p → ⊥) → tally (suc n) p now before ≡ tally n p now before + (now n - before n)
-unfolding tally
-tally-other p n now before d = rw (ne-eqb n p d)
+added-other : (p : ℕ) (now before : ℕ → ℕ) (r : ℕ) → (r ≡ p → ⊥) → added p now before r ≡ now r - before r
+unfolding added
+added-other p now before r d = rw (ne-eqb r p d)
 
 -- The sum depends on the other stations below n alone.
 pub tally-same : (p n : ℕ) (now now′ before before′ : ℕ → ℕ)
     → ((r : ℕ) → r < n → (r ≡ p → ⊥) → (now r ≡ now′ r) × (before r ≡ before′ r))
     → tally n p now before ≡ tally n p now′ before′
-tally-same p zero now now′ before before′ h = tally-zero p now before ∙ sym (tally-zero p now′ before′)
-tally-same p (suc n) now now′ before before′ h =
-    let k = tally-same p n now now′ before before′ (λ r l d. h r (omega arith) d) in
-    elim (ℕ-discrete n p) [
-      | yes e ↦ omega (arith, tally-self p n now before e, tally-self p n now′ before′ e)
-      | no d ↦
-          (let g = h n (omega arith) d in omega (arith, tally-other p n now before d, tally-other p n now′ before′ d, g .0, g .1))
-    ]
+unfolding tally
+tally-same p n now now′ before before′ h =
+    total-ext n (added p now before) (added p now′ before′)
+    (λ r l.
+    elim (ℕ-discrete r p) [
+      | yes e ↦ added-own p now before r e ∙ sym (added-own p now′ before′ r e)
+      | no d ↦ (let g = h r l d in omega (arith, added-other p now before r d, added-other p now′ before′ r d, g .0, g .1))
+    ])
 
--- Nothing was added since now.
+-- Where nothing was added the sum is 0.
 pub tally-none : (p n : ℕ) (now : ℕ → ℕ) → tally n p now now ≡ 0
-tally-none p zero now = tally-zero p now now
-tally-none p (suc n) now =
-    let k = tally-none p n now in
-    elim (ℕ-discrete n p) [ yes e ↦ omega (arith, tally-self p n now now e) | no d ↦ omega (arith, tally-other p n now now d) ]
+unfolding tally
+tally-none p n now =
+    omega (
+      arith,
+      total-most n 0 (added p now now)
+          (λ r l.
+          elim (ℕ-discrete r p) [
+            | yes e ↦ omega (arith, added-own p now now r e)
+            | no d ↦ omega (arith, added-other p now now r d)
+          ]),
+    )
+
+no-less : (p : ℕ) (now now′ before : ℕ → ℕ) (r : ℕ) → ((r ≡ p → ⊥) → now r ≤ now′ r) → added p now before r ≤ added p now′ before r
+no-less p now now′ before r h =
+    elim (ℕ-discrete r p) [
+      | yes e ↦ omega (arith, added-own p now before r e)
+      | no d ↦ omega (arith, added-other p now before r d, added-other p now′ before r d, h d)
+    ]
 
 -- The sum does not fall where no part does.
 pub tally-mono : (p n : ℕ) (now now′ before : ℕ → ℕ)
     → ((r : ℕ) → r < n → (r ≡ p → ⊥) → now r ≤ now′ r)
     → tally n p now before ≤ tally n p now′ before
-tally-mono p zero now now′ before h = omega (arith, tally-zero p now before)
-tally-mono p (suc n) now now′ before h =
-    let k = tally-mono p n now now′ before (λ r l d. h r (omega arith) d) in
-    elim (ℕ-discrete n p) [
-      | yes e ↦ omega (arith, tally-self p n now before e, tally-self p n now′ before e)
-      | no d ↦ omega (arith, tally-other p n now before d, tally-other p n now′ before d, h n (omega arith) d)
-    ]
+unfolding tally
+tally-mono p n now now′ before h =
+    total-mono n (added p now before) (added p now′ before) (λ r l. no-less p now now′ before r (λ d. h r l d))
 
 -- Where no part fell and the sums are equal, the parts are.
 pub tally-pins : (p n : ℕ) (now now′ before : ℕ → ℕ)
     → ((r : ℕ) → r < n → (r ≡ p → ⊥) → (before r ≤ now r) × (now r ≤ now′ r))
     → tally n p now before ≡ tally n p now′ before
     → (r : ℕ) → r < n → (r ≡ p → ⊥) → now r ≡ now′ r
-tally-pins p zero now now′ before h e r l d = absurd (omega arith)
-tally-pins p (suc n) now now′ before h e r l d =
-    let m = tally-mono p n now now′ before (λ q k f. h q (omega arith) f .1) in
-    elim (ℕ-discrete n p) [
-      | yes i ↦
-          tally-pins p n now now′ before (λ q k f. h q (omega arith) f)
-          (omega (arith, tally-self p n now before i, tally-self p n now′ before i))
-          r
-          (let x : r ≡ n → ⊥ = λ q. d (q ∙ i) in omega arith)
-          d
-      | no i ↦
-          (let g = h n (omega arith) i in
-          let a = tally-other p n now before i in
-          let b = tally-other p n now′ before i in
-          elim (ℕ-discrete r n) [
-            | yes q ↦ rw q (omega (arith, g .0, g .1))
-            | no q ↦
-                tally-pins p n now now′ before (λ q k f. h q (omega arith) f) (omega (arith, g .0, g .1)) r (omega arith) d
-          ])
-    ]
+unfolding tally
+tally-pins p n now now′ before h e r l d =
+    let g = h r l d in
+    omega (
+      arith,
+      total-pins n (added p now before) (added p now′ before) (λ q m. no-less p now now′ before q (λ f. h q m f .1)) e r l,
+      added-other p now before r d,
+      added-other p now′ before r d,
+      g .0,
+      g .1,
+    )
 
 -- One part that rises by one lifts the sum by one.
 pub tally-rises : (p n : ℕ) (now now′ before : ℕ → ℕ) (q : ℕ) → q < n → (q ≡ p → ⊥)
@@ -85,53 +82,30 @@ pub tally-rises : (p n : ℕ) (now now′ before : ℕ → ℕ) (q : ℕ) → q 
     → now′ q ≡ suc (now q)
     → ((r : ℕ) → (r ≡ q → ⊥) → now′ r ≡ now r)
     → tally n p now′ before ≡ suc (tally n p now before)
-tally-rises p zero now now′ before q l d b e h = absurd (omega arith)
-tally-rises p (suc n) now now′ before q l d b e h =
-    elim (ℕ-discrete n q) [
-      | yes i ↦
-          (let k : tally n p now′ before ≡ tally n p now before = tally-same p n now′ now before before (λ r f g. (h r (omega arith), refl)) in
-          let j : n ≡ p → ⊥ = λ f. d (sym i ∙ f) in
-          let x : now′ n ≡ suc (now n) = rw i e in
-          let y : before n ≤ now n = rw i b in
-          omega (arith, tally-other p n now before j, tally-other p n now′ before j))
-      | no i ↦
-          (let k = tally-rises p n now now′ before q (omega arith) d b e h in
-          let x : now′ n ≡ now n = h n i in
-          elim (ℕ-discrete n p) [
-            | yes f ↦ omega (arith, tally-self p n now before f, tally-self p n now′ before f)
-            | no f ↦ omega (arith, tally-other p n now before f, tally-other p n now′ before f)
-          ])
-    ]
+unfolding tally
+tally-rises p n now now′ before q l d b e h =
+    total-raised n (added p now before) (added p now′ before) q l
+    (omega (arith, added-other p now before q d, added-other p now′ before q d))
+    (λ r m f.
+    elim (ℕ-discrete r p) [
+      | yes i ↦ added-own p now′ before r i ∙ sym (added-own p now before r i)
+      | no i ↦ omega (arith, added-other p now before r i, added-other p now′ before r i, h r f)
+    ])
 
 -- Parts of at most k each give at most k for each station, p left out.
-tally-all : (k p n : ℕ) (now before : ℕ → ℕ) → ((r : ℕ) → r < n → (r ≡ p → ⊥) → now r ≤ before r + k) → tally n p now before ≤ k * n
-tally-all k p zero now before h = omega (arith, tally-zero p now before)
-tally-all k p (suc n) now before h =
-    let m = tally-all k p n now before (λ r l d. h r (omega arith) d) in
-    elim (ℕ-discrete n p) [
-      | yes e ↦ omega (arith, tally-self p n now before e, mul-suc k n)
-      | no d ↦ omega (arith, tally-other p n now before d, h n (omega arith) d, mul-suc k n)
-    ]
-
-tally-past : (k p n : ℕ) (now before : ℕ → ℕ) → p < n → ((r : ℕ) → r < n → (r ≡ p → ⊥) → now r ≤ before r + k) → tally n p now before + k ≤ k * n
-tally-past k p zero now before l h = absurd (omega arith)
-tally-past k p (suc n) now before l h =
-    elim (ℕ-discrete n p) [
-      | yes e ↦ omega (arith, tally-self p n now before e, tally-all k p n now before (λ r m d. h r (omega arith) d), mul-suc k n)
-      | no d ↦
-          omega (
-            arith,
-            tally-other p n now before d,
-            h n (omega arith) d,
-            tally-past k p n now before (omega arith) (λ r m f. h r (omega arith) f),
-            mul-suc k n,
-          )
-    ]
-
 pub tally-limit : (k p n : ℕ) (now before : ℕ → ℕ) → p < n
     → ((r : ℕ) → r < n → (r ≡ p → ⊥) → now r ≤ before r + k)
     → tally n p now before ≤ k * (n - 1)
+unfolding tally
 tally-limit k p zero now before l h = absurd (omega arith)
 tally-limit k p (suc n) now before l h =
     let e : suc n - 1 ≡ n = omega arith in
-    rw e (omega (arith, tally-past k p (suc n) now before l h, mul-suc k n))
+    let most =
+    total-gap (suc n) k (added p now before)
+    (λ r m.
+    elim (ℕ-discrete r p) [
+      | yes i ↦ omega (arith, added-own p now before r i)
+      | no i ↦ omega (arith, added-other p now before r i, h r m i)
+    ])
+    p l (added-own p now before p refl) in
+    rw e (omega (arith, most, mul-comm k n))

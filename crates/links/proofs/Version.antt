@@ -9,15 +9,17 @@ use native.Mathlib.Decide.{ℕ-discrete, decLe}
 use native.Mathlib.Omega.{arith}
 use borrow.Author.Tests.{le-leb, lt-leb, eq-eqb, ne-eqb}
 use lib.Dec.{eqb}
+use Rattle.places.specs.Places.{allBelow}
+use Rattle.places.proofs.Laws.{allBelow-ext}
 use Rattle.links.specs.Relay.{Links}
 use Rattle.links.specs.EndRule.{RelayBy, Starts}
 use Rattle.links.specs.Clock.{news}
-use Rattle.links.specs.Number.{answers, every, full, start, ends, num, numOf, got, gotOf, fresh}
+use Rattle.links.specs.Number.{answers, full, start, ends, num, numOf, got, gotOf, counted}
 use Rattle.links.proofs.Bounds.{behind, gotOf-some, gotOf-news}
 use Rattle.links.proofs.Clock.{news-other, news-carries-earlier, news-relay, relayBy-news}
 use Rattle.links.proofs.EndRule.{num-starts}
 use Rattle.links.proofs.Got.{got-numOf, version, numOf-some, numOf-mono, got-none, got-some, got-mono, got-news, got-start, got-limit, num-limit}
-use Rattle.links.proofs.Number.{ends-full, num-mono, num-positive, num-before, same-start, start-limit, every-same}
+use Rattle.links.proofs.Number.{ends-full, num-mono, num-positive, num-before, same-start, start-limit}
 use Rattle.links.proofs.Tally.{tally-mono, tally-pins}
 
 module _ (L : Links) where
@@ -37,7 +39,7 @@ module _ (L : Links) where
   gotOf-limit u q s v l =
       omega (arith, gotOf-mono q s v (suc u) l, gotOf-some L q s (suc u) u refl, got-limit L u q s)
 
-  -- G1 in flight: what p hears of q in round u + 1 is at most one broadcast ahead of what p holds.
+  -- In flight: what p hears of q in round u + 1 is at most one broadcast ahead of what p holds.
   pub numOf-close : (u p q v v′ : ℕ) → p < L .size → news L u p q ≤ v → v′ ≤ suc u → numOf L q v′ ≤ numOf L q v + 1
   numOf-close u p q v v′ lp a b =
       omega (
@@ -48,7 +50,7 @@ module _ (L : Links) where
         numOf-mono L q (news L u p q) v a,
       )
 
-  -- G2 in flight: what a version of q that p holds or hears shows of s is at most two behind.
+  -- In flight: what a version of q that p holds or hears shows of s is at most two behind.
   pub gotOf-close : (u p q s v : ℕ) → p < L .size → q < L .size → news L u p q ≤ v → num L u s ≤ gotOf L q s v + 2
   gotOf-close u p q s v lp lq a = omega (arith, behind L u p q s lp lq, gotOf-mono q s (news L u p q) v a)
 
@@ -82,15 +84,14 @@ module _ (L : Links) where
 
   -- So round u + 1 ends the broadcast of s exactly if what s then holds of each other shows its present number.
   pub ends-numbers : (u s : ℕ)
-      → ends L (suc u) s ≡ every (L .size) (λ r. eqb r s || eqb (gotOf L r s (news L (suc u) s r)) (num L u s))
+      → ends L (suc u) s ≡ allBelow (L .size) (λ r. eqb r s || eqb (gotOf L r s (news L (suc u) s r)) (num L u s))
   unfolding full
   ends-numbers u s =
       ends-full L u s
-      ∙ every-same
+      ∙ allBelow-ext (L .size)
       (λ r. eqb r s || answers L s (start L u s) r (news L (suc u) s r))
       (λ r. eqb r s || eqb (gotOf L r s (news L (suc u) s r)) (num L u s))
-      (L .size)
-      one
+      (λ r l. one r)
     where
       one : (r : ℕ)
           → (eqb r s || answers L s (start L u s) r (news L (suc u) s r)) ≡ (eqb r s || eqb (gotOf L r s (news L (suc u) s r)) (num L u s))
@@ -103,7 +104,7 @@ module _ (L : Links) where
                 (answers-number u s r (news L (suc u) s r) (news-other L (suc u) s r (λ e. d (sym e))))
           ]
 
-  -- F3 for broadcasts: who has news of s has of each q at least what s had then.
+  -- Who has news of s has of each q at least what s had then.
   pub got-carries : (u p s q w : ℕ) → w < news L u p s → got L w s q ≤ got L u p q
   got-carries u p s q w h =
       omega (
@@ -113,7 +114,7 @@ module _ (L : Links) where
         numOf-mono L q (news L w s q) (news L u p q) (news-carries-earlier L u p s q w h),
       )
 
-  -- F4 for broadcasts: r has broadcast number k of s exactly if a relay from s after its start has reached it.
+  -- A station r has broadcast number k of s exactly if a relay from s after its start has reached it.
   pub got-relay : (u r s k t : ℕ) → (r ≡ s → ⊥) → Starts L s k t → (k ≤ got L u r s) ↔ RelayBy L s t r u
   got-relay u r s k t d b = (there, back)
     where
@@ -136,16 +137,16 @@ module _ (L : Links) where
       back h = omega (arith, num-starts L s k t b .0, got-news L u r s t (relayBy-news L u s t r h))
 
   -- The count never falls within one broadcast, and where it is the same nothing new came.
-  pub fresh-mono : (u w p : ℕ) → u ≤ w → num L u p ≡ num L w p → fresh L u p ≤ fresh L w p
-  unfolding fresh
-  fresh-mono u w p l e =
+  pub counted-mono : (u w p : ℕ) → u ≤ w → num L u p ≡ num L w p → counted L u p ≤ counted L w p
+  unfolding counted
+  counted-mono u w p l e =
       rw (same-start L u w p e)
       (tally-mono p (L .size) (λ r. got L u p r) (λ r. got L w p r) (λ r. got L (start L w p) p r) (λ r lr d. got-mono L u w p r l))
 
-  pub fresh-pins : (u w p : ℕ) → u ≤ w → num L u p ≡ num L w p → fresh L u p ≡ fresh L w p
+  pub counted-pins : (u w p : ℕ) → u ≤ w → num L u p ≡ num L w p → counted L u p ≡ counted L w p
       → (r : ℕ) → r < L .size → (r ≡ p → ⊥) → got L u p r ≡ got L w p r
-  unfolding fresh
-  fresh-pins u w p l e h r lr d =
+  unfolding counted
+  counted-pins u w p l e h r lr d =
       tally-pins p (L .size) (λ q. got L u p q) (λ q. got L w p q) (λ q. got L (start L w p) p q)
       (λ q lq f. (rw (← same-start L u w p e) (got-mono L (start L u p) u p q (start-limit L u p)), got-mono L u w p q l))
       (rw (same-start L u w p e) at h)

@@ -1,7 +1,8 @@
 -- Broadcast numbers, as the clocks decide them. A means of proof; no statement about the group names them.
-use mathlib.Core.Bool.{Bool, true, false, cond, _&&_, _||_}
-use Prim.Native.Nat.{ℕ, zero, suc, _+_, _-_}
+use mathlib.Core.Bool.{Bool, false, cond, _||_}
+use Prim.Native.Nat.{ℕ, zero, suc, _-_}
 use lib.Dec.{eqb, leb}
+use Rattle.places.specs.Places.{allBelow, total}
 use Rattle.links.specs.Relay.{Links}
 use Rattle.links.specs.Clock.{news}
 
@@ -10,14 +11,9 @@ unfoldable pub answers : Links → ℕ → ℕ → ℕ → ℕ → Bool
 answers L s t r zero = false
 answers L s t r (suc w) = leb (suc t) (news L w r s)
 
--- The test holds of each number below n.
-unfoldable pub every : ℕ → (ℕ → Bool) → Bool
-every zero test = true
-every (suc n) test = every n test && test n
-
 -- After round u s has an answer of each other station to what it started in round t.
 unfoldable pub full : Links → ℕ → ℕ → ℕ → Bool
-full L u s t = every (L .size) (λ r. eqb r s || answers L s t r (news L u s r))
+full L u s t = allBelow (L .size) (λ r. eqb r s || answers L s t r (news L u s r))
 
 -- The round in which the broadcast that s has after round u started.
 unfoldable pub start : Links → ℕ → ℕ → ℕ
@@ -48,12 +44,14 @@ unfoldable pub gotOf : Links → ℕ → ℕ → ℕ → ℕ
 gotOf L q s zero = 0
 gotOf L q s (suc w) = got L w q s
 
+-- What r added since: nothing where it is p.
+unfoldable pub added : ℕ → (ℕ → ℕ) → (ℕ → ℕ) → ℕ → ℕ
+added p now before r = cond (eqb r p) 0 (now r - before r)
+
 -- How much has been added since, at the first n stations but p.
 unfoldable pub tally : ℕ → ℕ → (ℕ → ℕ) → (ℕ → ℕ) → ℕ
-tally zero p now before = 0
-tally (suc n) p now before = tally n p now before + cond (eqb n p) 0 (now n - before n)
+tally n p now before = total n (added p now before)
 
--- How many broadcasts of other stations came to p within the present broadcast of p, up to round u: what document 01 has p keep as its count. (Not
--- document 01's "fresh".)
-unfoldable pub fresh : Links → ℕ → ℕ → ℕ
-fresh L u p = tally (L .size) p (λ r. got L u p r) (λ r. got L (start L u p) p r)
+-- How many broadcasts of other stations came to p within the present broadcast of p, up to round u: what document 01 has p keep as its count.
+unfoldable pub counted : Links → ℕ → ℕ → ℕ
+counted L u p = tally (L .size) p (λ r. got L u p r) (λ r. got L (start L u p) p r)

@@ -1,12 +1,10 @@
--- The total of a number at each place below n: it is at most n times what each is at most, and rises by one where one place does.
+-- The total of a number at each place below n: it is at most n times what each is at most, goes up with the numbers and by as much, and where it stays
+-- although none falls they all stay.
 use Prim.Native.Nat.{ℕ, zero, suc, _+_, _*_, _≤_, _<_}
 use mathlib.Core.Path.{_≡_, refl, ap}
 use native.Mathlib.Decide.{ℕ-discrete}
 use native.Mathlib.Omega.{arith}
-
-unfoldable pub total : ℕ → (ℕ → ℕ) → ℕ
-total zero f = 0
-total (suc k) f = total k f + f k
+use Rattle.places.specs.Places.{total}
 
 pub total-ext : (n : ℕ) (f g : ℕ → ℕ) → ((k : ℕ) → k < n → f k ≡ g k) → total n f ≡ total n g
 unfolding total
@@ -17,6 +15,23 @@ pub total-most : (n most : ℕ) (f : ℕ → ℕ) → ((k : ℕ) → k < n → f
 unfolding total
 total-most zero most f h = omega arith
 total-most (suc n) most f h = omega (arith, total-most n most f (λ k l. h k (omega arith)), h n (omega arith))
+
+pub total-mono : (n : ℕ) (f g : ℕ → ℕ) → ((k : ℕ) → k < n → f k ≤ g k) → total n f ≤ total n g
+unfolding total
+total-mono zero f g h = omega arith
+total-mono (suc n) f g h = omega (arith, total-mono n f g (λ k l. h k (omega arith)), h n (omega arith))
+
+-- no number falls, and the total stays
+pub total-pins : (n : ℕ) (f g : ℕ → ℕ) → ((k : ℕ) → k < n → f k ≤ g k) → total n f ≡ total n g → (j : ℕ) → j < n → f j ≡ g j
+unfolding total
+total-pins zero f g h e j l = absurd (omega arith)
+total-pins (suc n) f g h e j l =
+    let rest = total-mono n f g (λ k m. h k (omega arith)) in
+    let last = h n (omega arith) in
+    elim (ℕ-discrete j n) [
+      | yes same ↦ rw same (omega arith)
+      | no ne ↦ total-pins n f g (λ k m. h k (omega arith)) (omega arith) j (omega arith)
+    ]
 
 -- a place at which there is none
 pub total-gap :

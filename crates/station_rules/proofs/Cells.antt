@@ -5,7 +5,7 @@ use mathlib.Core.Bool.{true, false, cond, _||_}
 use mathlib.Core.List.{List, [], _∷_, _++_}
 use mathlib.Core.Path.{_≡_, refl}
 use native.Mathlib.Omega.{arith}
-use lib.ListN.{getD, length, length-set, replicate}
+use lib.ListN.{getD, length, replicate}
 use lib.Seq.{getD-set-same, getD-set-other}
 use lib.Dec.{eqb}
 use borrow.Author.Tests.{eq-eqb, ne-eqb}
@@ -13,7 +13,7 @@ use Rattle.labels.specs.Label.{successor}
 use Rattle.labels.specs.Newer.{isNewer}
 use Rattle.frame_rules.specs.declared.Record.{Record}
 use Rattle.frame_rules.specs.Record.{framed, noRecord}
-use Rattle.places.proofs.Laws.{fill-below, fill-above, length-fill}
+use Rattle.places.proofs.Laws.{fill-below, fill-above}
 use Rattle.station_rules.specs.declared.Station.{Station}
 use Rattle.lanes.specs.Lane.{noLane, pushed}
 use Rattle.station_rules.specs.State.{labelOf, ackedOf, heldOf, recordOf, laneAt, recordLabel, ownLabel}
@@ -69,10 +69,6 @@ module _ (n : ℕ) (old r : Record) where
   pub replaced-body : (replaced n old r) .body ≡ r .body
   unfolding replaced
   replaced-body = refl
-
-  pub replaced-length : length ((replaced n old r) .labels) ≡ length (old .labels)
-  unfolding replaced
-  replaced-length = length-fill n (recordLabel r) (old .labels)
 
 module _ (s : Station) (r : Record) where
   -- the other cells
@@ -144,26 +140,6 @@ module _ (s : Station) (r : Record) where
   pub heard-count : (heardNewer s r) .count ≡ cond (advances s r) (raised (s .count)) (s .count)
   unfolding heardNewer
   heard-count = refl
-
-  pub heard-labels : length ((heardNewer s r) .labels) ≡ length (s .labels)
-  unfolding heardNewer
-  heard-labels = length-set (s .labels) (r .station) _
-
-  pub heard-acked : length ((heardNewer s r) .acked) ≡ length (s .acked)
-  unfolding heardNewer
-  heard-acked = length-set (s .acked) (r .station) _
-
-  pub heard-held : length ((heardNewer s r) .held) ≡ length (s .held)
-  unfolding heardNewer
-  heard-held = length-set (s .held) (r .station) _
-
-  pub heard-table : length ((heardNewer s r) .table) ≡ length (s .table)
-  unfolding heardNewer
-  heard-table = length-set (s .table) (r .station) _
-
-  pub heard-lanes : length ((heardNewer s r) .lanes) ≡ length (s .lanes)
-  unfolding heardNewer
-  heard-lanes = length-set (s .lanes) (r .station) _
 
 -- records heard one list after the other
 pub hearRecords-append : (h : Hearing) (xs ys : List Record) → hearRecords h (xs ++ ys) ≡ hearRecords (hearRecords h xs) ys

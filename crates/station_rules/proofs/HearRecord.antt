@@ -25,7 +25,3 @@ hearRecord-skips h r e = rw (hearRecord-cond h r, e)
 
 pub hearRecord-heeds : (h : Hearing) (r : Record) → heeds (h .station) r ≡ true → hearRecord h r ≡ heardOne h r
 hearRecord-heeds h r e = rw (hearRecord-cond h r, e)
-
-pub heardOne-station : (h : Hearing) (r : Record) → (heardOne h r) .station ≡ heardNewer (h .station) r
-unfolding heardOne
-heardOne-station h r = refl

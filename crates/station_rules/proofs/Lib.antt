@@ -1,22 +1,27 @@
+-- the lengths of a station's arrays
+pub mod Lengths
+pub mod Shape
+-- the limits as facts, and that every call keeps them
 pub mod BodyLaws
 pub mod LimitsLane
-pub mod HearRecord
-pub mod Shape
 pub mod LimitsQueue
 pub mod StationLimits
 pub mod LimitsFresh
-pub mod Cells
 pub mod LimitsHear
 pub mod LimitsHearing
 pub mod LimitsSent
-pub mod TurnLaws
 pub mod LimitsTurn
+pub mod LimitsCalls
+-- what a heard record and a turn change, cell by cell and case by case
+pub mod HearRecord
+pub mod Cells
+pub mod TurnLaws
 pub mod TurnParts
 pub mod TurnCells
-pub mod LimitsCalls
+-- the answers of the calls, and a station's frame
 pub mod CallSteps
-pub mod Lengths
 pub mod WriteSteps
 pub mod SentFrame
+-- examples
 pub mod Examples
 pub mod RunExamples

@@ -10,15 +10,17 @@ use lib.Dec.{leb, eqb}
 use lib.ListN.{length, length-append}
 use borrow.Author.Tests.{leb-false, eq-eqb, ne-eqb}
 use Rattle.frame_rules.specs.declared.Record.{Record}
+use Rattle.places.specs.Places.{total}
 use Rattle.places.proofs.Laws.{or-left, or-right}
-use Rattle.places.proofs.Total.{total, total-ext, total-gap, total-raised}
+use Rattle.places.proofs.Total.{total-ext, total-gap, total-raised}
 use Rattle.station_rules.specs.declared.Station.{Station}
 use Rattle.station_rules.specs.State.{laneAt}
 use Rattle.station_rules.specs.Limits.{stationInside}
 use Rattle.station_rules.specs.Hearing.{Hearing, silent, heeds, takes, heardNewer, hearRecord, hearRecords}
 use Rattle.station_rules.proofs.HearRecord.{heardOne, hearRecord-heeds, hearRecord-skips}
-use Rattle.station_rules.proofs.Shape.{Shaped, heardNewer-shaped, hearRecord-shaped}
-use Rattle.station_rules.proofs.LimitsLane.{pushed-len, lane-most}
+use Rattle.station_rules.proofs.Shape.{Shaped, heardNewer-shaped}
+use Rattle.lanes.proofs.LaneLaws.{len-pushed}
+use Rattle.station_rules.proofs.LimitsLane.{lane-most}
 use Rattle.station_rules.proofs.StationLimits.{Inside, inside-open, inside-make}
 use Rattle.station_rules.proofs.Cells.{heard-n, heard-own, heard-waiting, heard-body, lane-here, lane-other}
 use Rattle.station_rules.proofs.LimitsHear.{Carried, heeds-other, heard-holds}
@@ -69,7 +71,7 @@ module _ (s : Station) (r : Record) (other : r .station ≡ s .own → ⊥) wher
   otherLens-raised l b e room =
       rw (heard-n s r)
       (total-raised (s .n) (otherLen s) (otherLen (heardNewer s r)) (r .station) l
-      (rw (heard-own s r, ne-eqb (r .station) (s .own) other, lane-here s r b, e) (pushed-len (laneAt s (r .station)) (r .body) room))
+      (rw (heard-own s r, ne-eqb (r .station) (s .own) other, lane-here s r b, e) (len-pushed (laneAt s (r .station)) (r .body) room))
       (λ k m ne. otherLen-same k ne))
 
 -- what holds of a hearing h that began as a
@@ -169,6 +171,14 @@ module _ (a : Hearing) (c : Inside (a .station)) where
   hears-records h (r ∷ rs) hs all = hears-records (hearRecord h r) rs (hears-record h r hs (all .0)) (all .1)
 
 -- the shape is kept whether or not the station is inside its limits
+pub hearRecord-shaped : (h : Hearing) (r : Record) → r .station < 16 → Shaped (h .station) → Shaped ((hearRecord h r) .station)
+unfolding heardOne
+hearRecord-shaped h r b c = go (heeds (h .station) r) refl
+  where
+    go : (t : Bool) → heeds (h .station) r ≡ t → Shaped ((hearRecord h r) .station)
+    go true e = rw (hearRecord-heeds h r e) (heardNewer-shaped (h .station) r b c)
+    go false e = rw (hearRecord-skips h r e) c
+
 pub hearRecords-shaped :
     (n : ℕ) → n ≤ 16 → (h : Hearing) (rs : List Record) → AllCarried n rs → Shaped (h .station) → Shaped ((hearRecords h rs) .station)
 unfolding hearRecords

@@ -78,12 +78,3 @@ pushed-inside most l b h m t p = go (l .len) (l .first) (l .second) h m t
     go zero x y h m t = lane-one most b _ m p
     go (suc zero) x y h m t = lane-two most x b m (lane-first most (lane 1 x y) h (omega arith)) p
     go (suc (suc k)) x y h m t = absurd (omega arith)
-
-pub pushed-len : (l : Lane) (b : Body) → l .len < 2 → (pushed l b) .len ≡ suc (l .len)
-unfolding bodies laneOf
-pushed-len l b t = go (l .len) (l .first) (l .second) t
-  where
-    go : (k : ℕ) (x y : Body) → k < 2 → (pushed (lane k x y) b) .len ≡ suc k
-    go zero x y t = refl
-    go (suc zero) x y t = refl
-    go (suc (suc k)) x y t = absurd (omega arith)

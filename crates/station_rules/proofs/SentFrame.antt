@@ -1,12 +1,11 @@
 -- Hearing a written frame is hearing the writer's table: a station's frame reads back as the records that it sent, and every other station among as many
 -- accepts it. So a round may hand over records in the place of bytes.
 use Prim.Native.Nat.{ℕ, _<_}
-use mathlib.Core.Bool.{Bool, true, false, _||_}
-use mathlib.Core.Path.{_≡_, refl, sym, ap, subst}
-use lib.Dec.{eqb}
-use borrow.Author.Tests.{lt-ltb, eqb-true}
+use mathlib.Core.Bool.{true}
+use mathlib.Core.Path.{_≡_, ap}
+use borrow.Author.Tests.{lt-ltb}
 use Rattle.kinds.specs.Refusals.{done}
-use Rattle.frame_rules.specs.Record.{countInside, recordFits}
+use Rattle.frame_rules.specs.Record.{recordFits}
 use Rattle.frame_rules.specs.Frame.{recordsOf, frameRefusal}
 use Rattle.frame_rules.specs.Calls.{tableRecords}
 use Rattle.frame_rules.proofs.TableTrip.{table-read, table-accepted}
@@ -17,10 +16,7 @@ use Rattle.station_rules.specs.Hearing.{Hearing, hearRecords}
 use Rattle.station_rules.specs.Calls.{ownCountInside, frameOf}
 use Rattle.station_rules.proofs.StationLimits.{Inside}
 use Rattle.station_rules.proofs.WriteSteps.{writable}
-
-either : (a b : Bool) → (a || b) ≡ true → (a ≡ true → b ≡ true) → b ≡ true
-either true b h f = f refl
-either false b h f = h
+use Rattle.station_rules.proofs.LimitsSent.{sent-count}
 
 module _ (s : Station) (c : Inside s) (fits : ownCountInside s ≡ true) where
   place : (k : ℕ) → k < s .n → heldOf s k ≡ true → (recordOf s k) .station ≡ k
@@ -32,9 +28,7 @@ module _ (s : Station) (c : Inside s) (fits : ownCountInside s ≡ true) where
       let h = c .places k l .held e in
       and-both
       (and-both
-      (and-both (lt-ltb ((recordOf s k) .station) (s .n) (rw (h .station) l))
-      (either (eqb k (s .own)) (countInside (s .n) ((recordOf s k) .count)) (h .count)
-      (λ same. subst (λ (j : ℕ). countInside (s .n) ((recordOf s j) .count) ≡ true) (sym (eqb-true k (s .own) same)) fits)))
+      (and-both (lt-ltb ((recordOf s k) .station) (s .n) (rw (h .station) l)) (sent-count s c fits k l e))
       (h .body))
       (writable s c .labels k l e)
 

@@ -23,10 +23,9 @@ use Rattle.lanes.specs.Queue.{queued, unqueued, noneWaiting}
 use Rattle.lanes.proofs.QueueLaws.{unqueued-slots}
 use Rattle.frame_rules.specs.Record.{noRecord, zeroRecord}
 use Rattle.station_rules.specs.State.{recordOf, recordLabel, labelOf, laneAt, freshStation}
-use Rattle.station_rules.specs.Hearing.{Hearing, heeds, replaced, heardNewer, hearRecord}
+use Rattle.station_rules.specs.Hearing.{replaced, heardNewer}
 use Rattle.station_rules.specs.Turn.{airs, ends, mayStart, startsEdit, startedBody, lanesAfter, passed, ownRecord, rewritten, afterTurn}
 use Rattle.station_rules.specs.Calls.{posted}
-use Rattle.station_rules.proofs.HearRecord.{hearRecord-heeds, hearRecord-skips, heardOne-station}
 
 pub record Shaped (s : Station) : Type 0 where
   pub acked : length (s .acked) ≡ 16
@@ -101,13 +100,6 @@ heardNewer-shaped s r b c =
           λ k h. set-keeps LabelsShaped (s .table) (r .station) _ noRecord k (rw (c .table) h) (c .record-labels k h)
           (replaced-labels (s .n) (recordOf s (r .station)) r (c .record-labels (r .station) b));
     }
-
-pub hearRecord-shaped : (h : Hearing) (r : Record) → r .station < 16 → Shaped (h .station) → Shaped ((hearRecord h r) .station)
-hearRecord-shaped h r b c = go (heeds (h .station) r) refl
-  where
-    go : (t : Bool) → heeds (h .station) r ≡ t → Shaped ((hearRecord h r) .station)
-    go true e = rw (hearRecord-heeds h r e, heardOne-station h r) (heardNewer-shaped (h .station) r b c)
-    go false e = rw (hearRecord-skips h r e) c
 
 pub lanesAfter-length : (s : Station) → length (lanesAfter s) ≡ length (s .lanes)
 unfolding lanesAfter

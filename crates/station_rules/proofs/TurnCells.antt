@@ -3,22 +3,18 @@
 use Prim.Native.Nat.{ℕ, _<_, _≤_}
 use mathlib.Core.Bool.{Bool, true, false, cond}
 use mathlib.Core.List.{List}
-use mathlib.Core.Path.{_≡_, refl, _∙_}
-use lib.ListN.{getD, set, length, length-set}
+use mathlib.Core.Path.{_≡_, refl}
+use lib.ListN.{getD, set, length}
 use lib.Seq.{getD-set-same, getD-set-other}
 use lib.Dec.{eqb}
-use Rattle.kinds.specs.Body.{kindOf}
 use Rattle.labels.specs.Label.{successor}
 use Rattle.places.specs.Places.{fill}
-use Rattle.places.proofs.Laws.{fill-below, fill-above, length-fill}
+use Rattle.places.proofs.Laws.{fill-below, fill-above}
 use Rattle.places.proofs.Keeps.{cond-keeps}
-use Rattle.lanes.specs.declared.Lane.{Lane}
 use Rattle.station_rules.specs.declared.Station.{Station}
-use Rattle.lanes.specs.Lane.{noLane, pushed}
 use Rattle.frame_rules.specs.Record.{noRecord}
 use Rattle.station_rules.specs.State.{labelOf, ackedOf, heldOf, recordOf, recordLabel}
-use Rattle.station_rules.specs.Turn.{lanesAfter, ends, startedBody, passed, ownRecord, rewritten, afterTurn}
-use Rattle.station_rules.proofs.Shape.{lanesAfter-length}
+use Rattle.station_rules.specs.Turn.{ends, startedBody, passed, ownRecord, rewritten, afterTurn}
 
 module _ (s : Station) where
   pub turn-n : (afterTurn s) .n ≡ s .n
@@ -109,39 +105,3 @@ module _ (s : Station) where
       (k : ℕ) → k < s .n → k < length ((recordOf s (s .own)) .labels) → recordLabel (ownRecord (passed s)) k ≡ labelOf (afterTurn s) k
   unfolding ownRecord afterTurn rewritten passed
   own-label k l b = fill-below (s .n) (labelOf (passed s)) ((recordOf s (s .own)) .labels) k 0 l b
-
-  pub own-length : length ((ownRecord (passed s)) .labels) ≡ length ((recordOf s (s .own)) .labels)
-  unfolding ownRecord passed
-  own-length = length-fill (s .n) (labelOf (passed s)) ((recordOf s (s .own)) .labels)
-
-  -- no array changes its length
-  pub turn-acked-length : length ((afterTurn s) .acked) ≡ length (s .acked)
-  unfolding afterTurn rewritten passed
-  turn-acked-length = go (ends s)
-    where
-      go : (b : Bool) → length (cond b (fill (s .n) (λ i. eqb i (s .own)) (s .acked)) (s .acked)) ≡ length (s .acked)
-      go true = length-fill (s .n) (λ i. eqb i (s .own)) (s .acked)
-      go false = refl
-
-  pub turn-labels-length : length ((afterTurn s) .labels) ≡ length (s .labels)
-  unfolding afterTurn rewritten passed
-  turn-labels-length = go (ends s)
-    where
-      go : (b : Bool) → length (cond b (set (s .labels) (s .own) (successor (labelOf s (s .own)))) (s .labels)) ≡ length (s .labels)
-      go true = length-set (s .labels) (s .own) _
-      go false = refl
-
-  pub turn-held-length : length ((afterTurn s) .held) ≡ length (s .held)
-  unfolding afterTurn rewritten passed
-  turn-held-length = refl
-
-  pub turn-table-length : length ((afterTurn s) .table) ≡ length (s .table)
-  unfolding afterTurn rewritten passed
-  turn-table-length = length-set (s .table) (s .own) (ownRecord (passed s))
-
-  pub turn-lanes-length : length ((afterTurn s) .lanes) ≡ length (s .lanes)
-  unfolding afterTurn rewritten passed
-  turn-lanes-length =
-      cond-keeps (λ (l : List Lane). length l ≡ length (s .lanes)) (eqb (kindOf (startedBody s)) 0) (lanesAfter s)
-      (set (lanesAfter s) (s .own) (pushed (getD (lanesAfter s) (s .own) noLane) (startedBody s)))
-      (lanesAfter-length s) (length-set (lanesAfter s) (s .own) _ ∙ lanesAfter-length s)

@@ -1,15 +1,13 @@
 -- Writing the frame of a station: a table inside its limits can be written, and the answers of the definition with the tests on their way decided.
-use Prim.Native.Nat.{ℕ, _<_, _≤_}
+use Prim.Native.Nat.{ℕ}
 use native.Mathlib.Omega.{arith}
 use mathlib.Core.Path.{_≡_, refl}
 use mathlib.Core.Bool.{Bool, true, false}
 use mathlib.Core.List.{List}
-use lib.ListN.{getD, take, length, length-take}
-use lib.Seq.{getD-take}
+use lib.ListN.{length}
 use lib.Dec.{ltb}
 use borrow.Author.Tests.{leb-true}
-use Rattle.labels.specs.Packing.{allLabels}
-use Rattle.labels.proofs.Laws.{at-all}
+use Rattle.labels.proofs.Laws.{take-all}
 use Rattle.frame_rules.specs.Frame.{frameBytes}
 use Rattle.frame_rules.specs.Calls.{tableRecords, written, bufferWith, Writable}
 use Rattle.station_rules.specs.declared.Station.{Station}
@@ -18,11 +16,6 @@ use Rattle.station_rules.specs.Limits.{stationInside}
 use Rattle.station_rules.specs.Calls.{ownCountInside, frameOf, writeRefusal, writeCall, bufferAfter}
 use Rattle.station_rules.proofs.StationLimits.{Inside}
 
-labels-fit : (n : ℕ) (l : List ℕ) → ((j : ℕ) → j < n → getD l j 0 ≤ 2) → allLabels (take n l) ≡ true
-labels-fit n l h =
-    at-all (take n l)
-    (λ i b. let m : i < n = omega (arith, b, length-take n l) in rw (getD-take n l i 0 m) (h i m))
-
 -- the table of a station inside its limits
 pub writable : (s : Station) → Inside s → Writable (s .n) (s .own) (s .held) (s .table)
 writable s c =
@@ -30,7 +23,7 @@ writable s c =
       few = c .high;
       below = omega (arith, c .own, c .high);
       station = λ k l e. omega (arith, c .high, c .places k l .held e .station);
-      labels = λ k l e. labels-fit (s .n) ((recordOf s k) .labels) (λ j m. leb-true (recordLabel (recordOf s k) j) 2 (c .places k l .held e .labels j m));
+      labels = λ k l e. take-all (s .n) ((recordOf s k) .labels) (λ j m. leb-true (recordLabel (recordOf s k) j) 2 (c .places k l .held e .labels j m));
     }
 
 -- the records that are sent are those of the table
