@@ -1,7 +1,7 @@
 #!/usr/bin/env python3
-"""Prints from the model what the program crates/group_rounds writes: runs of a group of 1, 2, 5 and 16 stations, a line a round.
+"""Prints from the model what the program crates/group_calls writes: runs of a group of 1, 2, 5 and 16 stations, a line a round.
 
-usage: tests/model_rounds.py > crates/group_rounds/stdout
+usage: tests/model_rounds.py > crates/group_calls/stdout
 """
 
 from model import group

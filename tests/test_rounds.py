@@ -1,11 +1,11 @@
-"""The rounds that crates/group_rounds runs: the file that its output is compared with is what the model prints."""
+"""The rounds that crates/group_calls runs: the file that its output is compared with is what the model prints."""
 
 import os
 import unittest
 
 import model_rounds
 
-STORED = os.path.join(os.path.dirname(os.path.abspath(__file__)), "..", "crates", "group_rounds", "stdout")
+STORED = os.path.join(os.path.dirname(os.path.abspath(__file__)), "..", "crates", "group_calls", "stdout")
 
 
 class Rounds(unittest.TestCase):

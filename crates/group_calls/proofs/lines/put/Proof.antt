@@ -1,11 +1,11 @@
--- `group_rounds::lines::put` is safe: the columns written lie inside the line.
+-- `group_calls::lines::put` is safe: the columns written lie inside the line.
 use Prim.Native.Nat.{_≤_, _<_, _-_}
 use native.Mathlib.Omega.{arith}
 use mathlib.Core.Path.{_≡_, refl}
 use lib.ListN.{length, length-set}
 use borrow.Author.Needs.{needs}
-use Rattle.group_rounds.proofs.lines.put.Statement.{statement}
-use Rattle.group_rounds.proofs.lines.put.Tie as tie
+use Rattle.group_calls.proofs.lines.put.Statement.{statement}
+use Rattle.group_calls.proofs.lines.put.Tie as tie
 
 abbrev Inv-loop : tie.InvT-loop
 Inv-loop line₀ from end value left₀ at₀ line left at = (from ≤ at) × (at ≤ end) × (length line ≡ length line₀)

@@ -1,11 +1,11 @@
--- `group_rounds::draws::masks` is safe: the loop ends.
+-- `group_calls::draws::masks` is safe: the loop ends.
 use Prim.Native.Nat.{_≤_, _<_, _-_}
 use native.Mathlib.Omega.{arith}
 use mathlib.Core.Path.{_≡_, refl}
 use lib.ListN.{length, length-set}
 use borrow.Author.Needs.{needs}
-use Rattle.group_rounds.proofs.draws.masks.Statement.{statement}
-use Rattle.group_rounds.proofs.draws.masks.Tie as tie
+use Rattle.group_calls.proofs.draws.masks.Statement.{statement}
+use Rattle.group_calls.proofs.draws.masks.Tie as tie
 
 abbrev Inv-loop : tie.InvT-loop
 Inv-loop state masks₀ last₀ i₀ masks last i = i ≤ 16

@@ -1,9 +1,9 @@
--- `group_rounds::run` is safe: the loop ends.
+-- `group_calls::run` is safe: the loop ends.
 use Prim.Native.Nat.{_≤_, _<_, _-_}
 use native.Mathlib.Omega.{arith}
 use borrow.Author.Needs.{needs}
-use Rattle.group_rounds.proofs.run.Statement.{statement}
-use Rattle.group_rounds.proofs.run.Tie as tie
+use Rattle.group_calls.proofs.run.Statement.{statement}
+use Rattle.group_calls.proofs.run.Tie as tie
 
 abbrev Inv-loop : tie.InvT-loop
 Inv-loop n rounds g₀ state₀ round₀ g state round = (n ≤ 16) × (round ≤ rounds)
