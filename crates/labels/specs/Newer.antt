@@ -1,7 +1,9 @@
 -- Document 01, "Bodies, labels and records": of two records of one station, when the seen one counts as newer than the held one.
 use Prim.Native.Nat.{ℕ}
-use mathlib.Core.Bool.{Bool, not, _&&_, _||_}
+use mathlib.Core.Bool.{Bool, not, cond, _&&_, _||_}
 use lib.Dec.{ltb, eqb}
+use Rattle.labels.specs.declared.Age.{Age}
+use Rattle.labels.specs.declared.Age.the-variants.{Newer, NotNewer}
 use Rattle.labels.specs.Label.{successor}
 
 -- the term "newer", by the own labels and the counts: nothing is held yet; or the seen label comes next after the held one; or, at the same label, more
@@ -9,3 +11,7 @@ use Rattle.labels.specs.Label.{successor}
 unfoldable pub isNewer : Bool → ℕ → ℕ → ℕ → ℕ → Bool
 isNewer held heldLabel heldCount seenLabel seenCount =
     not held || (eqb seenLabel (successor heldLabel) || (eqb seenLabel heldLabel && ltb heldCount seenCount))
+
+-- the cases of the answer
+abbrev pub ageOf : Bool → Age
+ageOf newer = cond newer Newer NotNewer
