@@ -1,4 +1,4 @@
-"""docs/ARCHITECTURE.md against the repository: every crate has its row, its arrows and its paragraph, and arrows go down."""
+"""docs/ARCHITECTURE.md against the repository: every crate has its place in the picture, its arrows and its paragraph, and arrows go down."""
 
 import pathlib
 import re
@@ -15,28 +15,43 @@ def crates():
     return {name: rest.split() for name, rest in pairs}
 
 
-def rows():
-    """Name -> what it stands on, from the document's table."""
-    found = re.findall(r"^\| `(\w+)` \| ((?:`\w+` ?)*) ?\|", DOCUMENT, re.MULTILINE)
+def reached(name, below):
+    """Everything below a crate."""
+    return set(below.get(name, [])).union(*(reached(other, below) for other in below.get(name, [])))
+
+
+def direct():
+    """Name -> what it stands on, without what another of these stands on already."""
+    below = crates()
+    return {name: sorted(set(names).difference(*(reached(other, below) for other in names))) for name, names in below.items()}
+
+
+def paragraphs():
+    """Name -> what it stands on, from the document's paragraphs in their order."""
+    found = re.findall(r"^\*\*(\w+)\*\* (?:\(on ([^)]*)\) )?", DOCUMENT, re.MULTILINE)
     return {name: re.findall(r"\w+", rest) for name, rest in found}
 
 
 class Architecture(unittest.TestCase):
-    def test_rows(self):
-        drawn = rows()
-        self.assertEqual({name: sorted(below) for name, below in drawn.items()},
-                         {name: sorted(below) for name, below in crates().items()})
+    def test_paragraphs(self):
+        self.assertEqual({name: sorted(below) for name, below in paragraphs().items()}, direct())
 
     def test_arrows_go_down(self):
         seen = {"io", "libc"}  # the toolchain's
-        for name, below in rows().items():
+        for name, below in paragraphs().items():
             self.assertLessEqual(set(below), seen, name)
             seen.add(name)
 
-    def test_paragraphs_and_picture(self):
-        for name in rows():
-            self.assertRegex(DOCUMENT, rf"(?m)^\*\*{name}\*\* ")
-            self.assertRegex(DOCUMENT, rf"(?m)^    .*\b{name}\b")
+    def test_picture(self):
+        """Every crate stands in the picture once, before what it stands on."""
+        places = {}
+        for name in crates():
+            found = [match.start() for match in re.finditer(rf"\b{name}\b", "\n".join(re.findall(r"(?m)^    .*$", DOCUMENT)))]
+            self.assertEqual(len(found), 1, name)
+            places[name] = found[0]
+        for name, below in direct().items():
+            for other in set(below) & set(places):
+                self.assertLess(places[name], places[other], f"{name} and {other}")
 
     def test_named_files(self):
         """Every file that is named is there: in the repository, in a crate, or in some crate where the name begins with src, specs or proofs."""
