@@ -112,7 +112,8 @@ fn read_input(out: &mut [u8]) -> Passed
     }
 }
 
-// The buffer has room for what several rounds can print. The listing's last line is written only where all before it was.
+// The buffer, of 65,536 bytes, has room for the 26,880 that a round of sixteen stations can print. A read or a write that fails shows by its message and by the missing
+// last line; the exit status is 0 all the same.
 fn main() {
     let mut out = io::large_buffer();
     let passed = read_input(&mut out);
