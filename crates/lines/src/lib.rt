@@ -13,6 +13,25 @@ ghost use Rattle.kinds.specs.Limits.{isEdit};
 ghost use Rattle.lines.specs.Reports.{lineIf, takenText, airedText, turnText, reportText, roundText};
 ghost use Rattle.lines.specs.Lines.{headBytes, bodyBytes, lineBytes, endLine, placed, Put};
 
+// The letters of document 01's listing: D, A, E and X.
+const DELIVERED: u8 = 68;
+
+const AIRED: u8 = 65;
+
+const ENDED: u8 = 69;
+
+pub const REFUSED: u8 = 88;
+
+const BLANK: u8 = 32;
+
+const LINE_END: u8 = 10;
+
+// The bytes of a line.
+const LINE: usize = 35;
+
+// Room for a round of sixteen stations: each can take 30 bodies, air 16, end one and start one.
+pub const ROUND_ROOM: usize = 16 * 48 * LINE;
+
 // A number put into the columns from one place to another.
 fn put_natural(out: &mut [u8], at: usize, end: usize, value: u64)
     requires { ⌜ (at ≤ end) × (end ≤ length (now out)) ⌝ }
@@ -34,7 +53,7 @@ fn put_head(out: &mut [u8], at: usize, round: u32, letter: u8, station: usize, s
     ensures { λ r. ⌜ now (out .exit) ≡ placed (now (out .entry)) at (headBytes round letter station source) ⌝ }
 {
     put_natural(out, at, at + 6, round as u64);
-    out[at + 6] = 32;
+    out[at + 6] = BLANK;
     out[at + 7] = letter;
     put_natural(out, at + 8, at + 11, station as u64);
     put_natural(out, at + 11, at + 14, source as u64);
@@ -48,7 +67,7 @@ fn put_body(out: &mut [u8], at: usize, body: Body)
     put_natural(out, at, at + 2, kinds::kind_of(body) as u64);
     put_natural(out, at + 2, at + 11, kinds::event_of(body) as u64);
     put_whole(out, at + 11, at + 20, kinds::argument_of(body));
-    out[at + 20] = 10;
+    out[at + 20] = LINE_END;
 }
 
 // A listing line put into the buffer. Returns the place behind it.
@@ -66,7 +85,7 @@ pub fn put_line(
 {
     put_head(out, at, round, letter, station, source);
     put_body(out, at + 14, body);
-    at + 35
+    at + LINE
 }
 
 // A listing line where it is wanted.
@@ -102,7 +121,7 @@ fn put_takings(out: &mut [u8], at: usize, round: u32, p: usize, report: Report) 
         let t = takings[k];
         let source = t.source;
         let body = t.body;
-        end = put_line_if(out, end, k < len, round, 68, p, source, body);
+        end = put_line_if(out, end, k < len, round, DELIVERED, p, source, body);
         k += 1;
     }
     end
@@ -130,7 +149,7 @@ fn put_aired(out: &mut [u8], at: usize, n: usize, round: u32, p: usize, turn: Tu
     while k < n {
         let slot = row[k];
         let body = slot.body;
-        end = put_line_if(out, end, is_aired(aired, body), round, 65, p, k, body);
+        end = put_line_if(out, end, is_aired(aired, body), round, AIRED, p, k, body);
         k += 1;
     }
     end
@@ -142,10 +161,10 @@ fn put_turn(out: &mut [u8], at: usize, round: u32, p: usize, turn: TurnReport) -
     ensures { λ r. ⌜ Put (now (out .entry)) (now (out .exit)) at r (turnText round p turn) × (r ≤ at + 70) ⌝ }
 {
     let over = turn.ended_body;
-    let end = put_line_if(out, at, turn.ended, round, 69, p, p, over);
+    let end = put_line_if(out, at, turn.ended, round, ENDED, p, p, over);
     let started = turn.started_body;
     let shown = !kinds::is_empty(started);
-    put_line_if(out, end, shown, round, 68, p, p, started)
+    put_line_if(out, end, shown, round, DELIVERED, p, p, started)
 }
 
 // What station p reports of a round.

@@ -2,6 +2,8 @@
 
 use group_rules::RoundDone;
 use kinds::Body;
+use kinds::refusals::MALFORMED_LINE;
+use lines::REFUSED;
 use script::Command;
 use station_rules::Station;
 ghost use mathlib.Core.Path.{_≡_};
@@ -14,6 +16,12 @@ ghost use Rattle.group_rules.specs.Calls.{freshCall, postCall};
 ghost use Rattle.script.specs.Line.{commandOf, masksOf};
 ghost use Rattle.lines.specs.Lines.{Put, endLine};
 ghost use Rattle.listing.specs.Listing.{Answer, AnswersPost, AnswersRound, begun, obeyed, answered, after, printed, postedBody, malformedText, halted, sizedBy, refusedText, restText, closed};
+
+// The refusal of a malformed line, as its line shows it.
+const MALFORMED: usize = MALFORMED_LINE as usize;
+
+// The most that a round's columns can number.
+const LAST_ROUND: u32 = 999_999;
 
 // Where a script stands: the group's size, 0 before the `N` line; the rounds done; whether the reading has stopped; the group.
 pub struct Session {
@@ -44,7 +52,7 @@ fn halt(s: Session, out: &mut [u8]) -> Applied
     requires { ⌜ 35 ≤ length (now out) ⌝ }
     ensures { λ r. ⌜ Answer (halted s) (malformedText s) (now (out .entry)) (now (out .exit)) r ⌝ }
 {
-    let len = lines::put_line(out, 0, s.rounds, 88, 0, 11, Body::Empty);
+    let len = lines::put_line(out, 0, s.rounds, REFUSED, 0, MALFORMED, Body::Empty);
     let group = s.group;
     let session = Session {
         n: s.n,
@@ -77,7 +85,7 @@ fn put_post(s: Session, station: usize, refusal: u32, out: &mut [u8]) -> usize
         out,
         0,
         s.rounds,
-        88,
+        REFUSED,
         named(station, s.n),
         refusal as usize,
         Body::Empty,
@@ -156,7 +164,7 @@ fn put_rest(s: Session, rest: usize, out: &mut [u8]) -> usize
     if is_over(s.stopped, s.n, rest) {
         return 0;
     }
-    lines::put_line(out, 0, s.rounds, 88, 0, 11, Body::Empty)
+    lines::put_line(out, 0, s.rounds, REFUSED, 0, MALFORMED, Body::Empty)
 }
 
 // The end of a script, with what stands after its last line end; then the listing's last line.
@@ -187,7 +195,7 @@ fn apply_round(s: Session, line: &[u8], out: &mut [u8]) -> Applied
     requires { ⌜ (s .n ≤ 16) × (26_880 ≤ length (now out)) ⌝ }
     ensures { λ r. ⌜ Answer (obeyed s (masksOf (s .n) (now (line .entry))) Command.Round) (answered s (masksOf (s .n) (now (line .entry))) Command.Round) (now (out .entry)) (now (out .exit)) r ⌝ }
 {
-    if 999_999 <= s.rounds {
+    if LAST_ROUND <= s.rounds {
         return halt(s, out);
     }
     let group = s.group;

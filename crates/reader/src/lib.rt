@@ -8,12 +8,14 @@ ghost use lib.ListN.{length, take, drop};
 ghost use Rattle.lines.specs.Lines.{Put};
 ghost use Rattle.reader.specs.Remaining.{remaining, beginning, Feeds, Same, EndsAt};
 
-// Where the reading stands: the session after the lines read, and the bytes of a line whose line end is still to come. Of these
-// 146 are kept: a line of more than 145 is malformed.
+// So many bytes of a line are kept: a line of more than 145 is malformed.
+const KEPT: usize = 146;
+
+// Where the reading stands: the session after the lines read, and the bytes of a line whose line end is still to come.
 pub struct Reader {
     pub session: Session,
     pub len: usize,
-    pub line: [u8; 146],
+    pub line: [u8; KEPT],
 }
 
 // A reader after a part: how many bytes of the part it read, and how many it put into the buffer.
@@ -29,12 +31,12 @@ struct Taken {
     len: usize,
 }
 
-// One byte more of the line; the 146th and those behind it are not told apart.
+// One byte more of the line; the last that is kept and those behind it are not told apart.
 fn keep(line: &mut [u8], len: usize, b: u8) -> usize
     requires { ⌜ (len ≤ 146) × (146 ≡ length (now line)) × (b ≡ 10 → ⊥) ⌝ }
     ensures { λ r. ⌜ Same (take len (now (line .entry))) (b ∷ []) (take r (now (line .exit))) × (r ≤ 146) ⌝ }
 {
-    if 146 <= len {
+    if KEPT <= len {
         return len;
     }
     line[len] = b;
@@ -67,11 +69,11 @@ pub fn begin() -> Reader
     Reader {
         session,
         len: 0,
-        line: [0; 146],
+        line: [0; KEPT],
     }
 }
 
-fn answer(session: Session, len: usize, line: [u8; 146], read: usize, put: usize) -> Fed
+fn answer(session: Session, len: usize, line: [u8; KEPT], read: usize, put: usize) -> Fed
     ensures { λ r. ⌜ r ≡ record { read = read; len = put; reader = record { session = session; len = len; line = line } } ⌝ }
 {
     let reader = Reader { session, len, line };
@@ -92,7 +94,7 @@ pub fn feed(r: Reader, part: &[u8], out: &mut [u8]) -> Fed
     let mut held = r.len;
     let mut read = 0;
     let mut at = 0;
-    while 26_880 <= out.len() - at {
+    while lines::ROUND_ROOM <= out.len() - at {
         let taken = take_line(&mut line, held, part, read);
         held = taken.len;
         read = taken.next;
