@@ -1,7 +1,7 @@
 -- Only a number's own columns are read as that number. By the last byte: what was read before it is the columns of what was read so far.
-use mathlib.Core.Path.{_≡_, refl, sym, ap, _∙_}
+use mathlib.Core.Path.{_≡_, refl, ap, _∙_}
 use mathlib.Core.Bool.{Bool, true, false, cond, _||_, _&&_, false≢true}
-use mathlib.Core.List.{List, [], _∷_, _++_, append-nil, append-assoc}
+use mathlib.Core.List.{List, [], _∷_, _++_, append-nil}
 use mathlib.Core.Logic.{_↔_}
 use Prim.Native.Nat.{ℕ, zero, suc, _+_, _-_, _*_, _/_, _%_, _^_, _≤_, _<_}
 use native.Mathlib.Nat.{pow-suc, zero-add, add-zero, add-suc, suc-add}
@@ -9,9 +9,8 @@ use lib.Seq.{append-snoc}
 use Rattle.places.proofs.Laws.{or-left, or-right}
 use native.Mathlib.Decide.{ℕ-discrete}
 use native.Mathlib.Omega.{arith}
-use native.Mathlib.Numerals.{add-one}
-use lib.Dec.{leb, ltb, eqb}
-use lib.ListN.{length, replicate, length-append}
+use lib.Dec.{ltb, eqb}
+use lib.ListN.{length, replicate}
 use borrow.Author.Tests.{lt-ltb, le-ltb, eqb-true, eqb-false, ltb-false}
 use Rattle.columns.specs.declared.Reading.{Reading}
 use Rattle.columns.specs.declared.Reading.the-variants.{Blank, Minus, Number, Malformed}

@@ -1,16 +1,16 @@
 -- Reading and writing are inverse. Both laws go by the last column: what stands before it is the columns of the number without its last digit.
-use mathlib.Core.Path.{_≡_, refl, sym, ap, _∙_}
+use mathlib.Core.Path.{_≡_, refl, ap, _∙_}
 use mathlib.Core.Bool.{Bool, true, false, cond}
-use mathlib.Core.List.{List, [], _∷_, _++_}
+use mathlib.Core.List.{[], _∷_, _++_}
 use Prim.Native.Nat.{ℕ, zero, suc, _+_, _-_, _*_, _/_, _%_, _^_, _≤_, _<_}
 use native.Mathlib.Nat.{pow-suc}
 use native.Mathlib.Omega.{arith}
-use lib.Dec.{leb, ltb, eqb}
-use lib.ListN.{length, replicate}
+use lib.Dec.{ltb}
+use lib.ListN.{replicate}
 use borrow.Author.Tests.{le-ltb, ltb-true, ltb-false, ne-eqb}
 use Rattle.columns.specs.declared.Reading.{Reading}
-use Rattle.columns.specs.declared.Reading.the-variants.{Blank, Minus, Number, Malformed}
-use Rattle.columns.specs.Reading.{digitOf, started, grown, next, readFrom, readColumns}
+use Rattle.columns.specs.declared.Reading.the-variants.{Blank, Minus, Number}
+use Rattle.columns.specs.Reading.{started, grown, next, readFrom, readColumns}
 use Rattle.columns.specs.Writing.{Fits, lead, columns}
 use Rattle.columns.proofs.Digits.{byte-digit}
 use Rattle.columns.proofs.Steps.{read-snoc}

@@ -1,9 +1,9 @@
 -- Document 01, "The relay listing": the whole listing of a whole script, over the group's calls.
 use Prim.Native.Nat.{ℕ, _+_}
-use mathlib.Core.Bool.{Bool, true, false, cond, _&&_, _||_}
+use mathlib.Core.Bool.{true, false, cond, _&&_, _||_}
 use mathlib.Core.Path.{_≡_}
 use mathlib.Core.List.{List, [], _∷_, _++_}
-use lib.Dec.{leb, ltb, eqb}
+use lib.Dec.{ltb, eqb}
 use lib.IntN.{ℤ}
 use lib.ListN.{length}
 use Rattle.kinds.specs.declared.Body.{Body}
@@ -11,7 +11,6 @@ use Rattle.kinds.specs.declared.Body.the-variants.{Empty}
 use Rattle.kinds.specs.Body.{bodyOf}
 use Rattle.kinds.specs.Limits.{numbersInside}
 use Rattle.kinds.specs.Refusals.{done, malformedLine}
-use Rattle.station_rules.specs.declared.Station.{Station}
 use Rattle.group_rules.specs.declared.KeptGroup.{KeptGroup}
 use Rattle.group_rules.specs.declared.RoundDone.{RoundDone}
 use Rattle.group_rules.specs.State.{freshGroup}

@@ -3,14 +3,14 @@ use Prim.Native.Nat.{ℕ, zero, suc, _+_, _*_, _/_, _%_, _<_, _≤_}
 use native.Mathlib.Omega.{arith}
 use native.Mathlib.Numerals.{add-one}
 use mathlib.Core.Path.{_≡_, refl}
-use mathlib.Core.List.{List, [], _∷_, _++_}
+use mathlib.Core.List.{List, [], _∷_}
 use lib.ListN.{getD, set}
 use lib.Seq.{getD-set-other}
 use borrow.Author.Tests.{lt-ltb, le-ltb}
-use Rattle.frame_rules.specs.declared.Record.{Record}
 use Rattle.places.specs.Places.{tabulate}
 use Rattle.station_rules.specs.declared.Station.{Station}
 use Rattle.station_rules.specs.Hearing.{Hearing, silent, hearRecord, hearRecords}
+use Rattle.station_rules.proofs.Cells.{hearRecords-append}
 use Rattle.frame_marks.specs.Marks.{recordAt, sizeAt}
 use Rattle.newer_records.specs.Bars.{barred}
 use Rattle.newer_records.specs.Sieve.{Sieve, siftOne, sifted}
@@ -58,17 +58,12 @@ module _ (z : Sieve) (bytes marks starts : List ℕ) where
   frames-more f = rw (add-one f)
 
 -- the first r records of a frame
-records-append : (h : Hearing) (xs ys : List Record) → hearRecords h (xs ++ ys) ≡ hearRecords (hearRecords h xs) ys
-unfolding hearRecords
-records-append h [] ys = refl
-records-append h (x ∷ xs) ys = records-append (hearRecord h x) xs ys
-
 abbrev pub heardTo : Hearing → List ℕ → ℕ → ℕ → Hearing
 heardTo h bytes start r = hearRecords h (tabulate r (recordAt bytes start))
 
 pub heard-suc : (h : Hearing) (bytes : List ℕ) (start r : ℕ) → heardTo h bytes start (suc r) ≡ hearRecord (heardTo h bytes start r) (recordAt bytes start r)
 unfolding tabulate hearRecords
-heard-suc h bytes start r = records-append h (tabulate r (recordAt bytes start)) (recordAt bytes start r ∷ [])
+heard-suc h bytes start r = hearRecords-append h (tabulate r (recordAt bytes start)) (recordAt bytes start r ∷ [])
 
 -- the places of a list that are in use
 module _ (s : Station) (bytes starts : List ℕ) where

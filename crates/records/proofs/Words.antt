@@ -1,8 +1,7 @@
 -- Two's complement by the complement of a number, which is -1 less the number: what the code's tests and differences at 32 bits come to.
 use mathlib.Core.Path.{_≡_, refl, ap, _∙_}
-use mathlib.Core.Bool.{true, false, true≢false}
-use Prim.Native.Nat.{ℕ, zero, suc, _<_, _≤_, _-_}
-use native.Mathlib.Nat.{zero-add}
+use mathlib.Core.Bool.{true, false}
+use Prim.Native.Nat.{ℕ, _<_, _≤_, _-_}
 use native.Mathlib.Omega.{arith}
 use lib.Dec.{T}
 use lib.IntN.{ℤ, pos, negsuc, _-ℤ_, natAbs}
@@ -12,33 +11,7 @@ use mir.Syntax.{w32}
 use mir.Val.{Fits, SFits, toZ, ofZ}
 use mir.ValLaws.{toZ-ofZ, toZ-pos}
 use Rattle.frame_rules.specs.Words.{signed, unsigned}
-
--- -1 less a number
-abbrev pub complement : ℤ → ℤ
-complement (pos n) = negsuc n
-complement (negsuc n) = pos n
-
-pub minus-one-less : (z : ℤ) → negsuc 0 -ℤ z ≡ complement z
-minus-one-less (pos zero) = refl
-minus-one-less (pos (suc n)) = ap (λ (k : ℕ). negsuc (suc k)) (zero-add n)
-minus-one-less (negsuc n) =
-    let one : 1 ≤ suc n = omega arith in
-    let back : suc n - 1 ≡ n = omega arith in
-    rw (le-ltb _ _ one, back)
-
-complement-fits : (z : ℤ) → SFits w32 z → SFits w32 (complement z)
-complement-fits (pos n) f = record { sfits = f .sfits }
-complement-fits (negsuc n) f = record { sfits = f .sfits }
-
--- the complement as the code makes it
-pub complement-made : (z : ℤ) → SFits w32 z → toZ w32 (ofZ w32 (negsuc 0 -ℤ toZ w32 (ofZ w32 z))) ≡ complement z
-complement-made z f =
-    ap (λ (x : ℤ). toZ w32 (ofZ w32 (negsuc 0 -ℤ x))) (toZ-ofZ w32 z f)
-    ∙ ap (λ (x : ℤ). toZ w32 (ofZ w32 x)) (minus-one-less z)
-    ∙ toZ-ofZ w32 (complement z) (complement-fits z f)
-
-pub complement-made-fits : (z : ℤ) → SFits w32 z → SFits w32 (negsuc 0 -ℤ toZ w32 (ofZ w32 z))
-complement-made-fits z f = rw (toZ-ofZ w32 z f, minus-one-less z) (complement-fits z f)
+use Rattle.places.proofs.Complement.{complement, minus-one-less, complement-made, negative-cast, other-cast}
 
 module _ (word : ℕ) where
   pub signed-low : word < 2_147_483_648 → toZ w32 word ≡ signed word
@@ -61,11 +34,6 @@ module _ (word : ℕ) where
         ∙ rw (le-ltb _ _ low)
 
 -- a negative number
-negative-fits : (z : ℤ) → SFits w32 z → ltZ z (pos 0) ≡ true →
-    T (nonNeg (complement z)) × Fits w32 (natAbs (complement z))
-negative-fits (pos n) f h = absurd (omega (arith, ltb-true n 0 h))
-negative-fits (negsuc n) f h = (tt, record { fits = omega (arith, f .sfits) })
-
 negative-below : (z : ℤ) → SFits w32 z → ltZ z (pos 0) ≡ true → natAbs (complement z) ≤ 4_294_967_295
 negative-below (pos n) f h = absurd (omega (arith, ltb-true n 0 h))
 negative-below (negsuc n) f h = omega (arith, f .sfits)
@@ -76,10 +44,6 @@ negative-is (pos n) h = absurd (omega (arith, ltb-true n 0 h))
 negative-is (negsuc n) h = refl
 
 -- another one
-other-fits : (z : ℤ) → SFits w32 z → ltZ z (pos 0) ≡ false → T (nonNeg z) × Fits w32 (natAbs z)
-other-fits (pos n) f h = (tt, record { fits = omega (arith, f .sfits) })
-other-fits (negsuc n) f h = absurd (true≢false h)
-
 other-is : (z : ℤ) → ltZ z (pos 0) ≡ false → natAbs z ≡ unsigned z
 unfolding unsigned
 other-is (pos n) h = refl
@@ -93,7 +57,7 @@ module _ (z : ℤ) (f : SFits w32 z) where
   module _ (h : ltZ (toZ w32 (ofZ w32 z)) (pos 0) ≡ true) where
     pub unsigned-negative-cast :
         T (nonNeg (toZ w32 (ofZ w32 (negsuc 0 -ℤ toZ w32 (ofZ w32 z))))) × Fits w32 (natAbs (toZ w32 (ofZ w32 (negsuc 0 -ℤ toZ w32 (ofZ w32 z)))))
-    unsigned-negative-cast = rw (complement-made z f) (negative-fits z f (rw read at h))
+    unsigned-negative-cast = rw (complement-made z f) (negative-cast z f (rw read at h))
 
     pub unsigned-negative-sub : natAbs (toZ w32 (ofZ w32 (negsuc 0 -ℤ toZ w32 (ofZ w32 z)))) ≤ 4_294_967_295
     unsigned-negative-sub = rw (complement-made z f) (negative-below z f (rw read at h))
@@ -103,7 +67,7 @@ module _ (z : ℤ) (f : SFits w32 z) where
 
   module _ (h : ltZ (toZ w32 (ofZ w32 z)) (pos 0) ≡ false) where
     pub unsigned-other-cast : T (nonNeg (toZ w32 (ofZ w32 z))) × Fits w32 (natAbs (toZ w32 (ofZ w32 z)))
-    unsigned-other-cast = rw read (other-fits z f (rw read at h))
+    unsigned-other-cast = rw read (other-cast z f (rw read at h))
 
     pub unsigned-other : natAbs (toZ w32 (ofZ w32 z)) ≡ unsigned z
     unsigned-other = ap natAbs read ∙ other-is z (rw read at h)

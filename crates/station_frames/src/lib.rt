@@ -3,13 +3,13 @@
 ghost use mathlib.Core.Path.{_≡_};
 ghost use lib.ListN.{length};
 ghost use Rattle.station_rules.specs.Calls.{writeCall, bufferAfter, hearCall};
+use frame_rules::Written;
 use kinds::refusals::COUNT_TOO_HIGH;
 use kinds::refusals::DONE;
 use kinds::refusals::LANE_FULL;
 use kinds::refusals::OUTSIDE_LIMITS;
 use station_rules::Heard;
 use station_rules::Station;
-use station_rules::Written;
 
 // Write frame: the table's records into the buffer, whose bytes past the frame are kept.
 pub fn write(s: Station, buffer: &mut [u8]) -> Written
@@ -32,11 +32,7 @@ pub fn write(s: Station, buffer: &mut [u8]) -> Written
     }
     let held = s.held;
     let table = s.table;
-    let written = frame_writer::write_table(buffer, held, table, n, own);
-    Written {
-        refusal: written.refusal,
-        len: written.len,
-    }
+    frame_writer::write_table(buffer, held, table, n, own)
 }
 
 // Hear: one frame's records in order.

@@ -19,10 +19,10 @@ use Rattle.station_rules.proofs.WriteSteps.{writable}
 use Rattle.station_rules.proofs.LimitsSent.{sent-count}
 
 module _ (s : Station) (c : Inside s) (fits : ownCountInside s ≡ true) where
-  place : (k : ℕ) → k < s .n → heldOf s k ≡ true → (recordOf s k) .station ≡ k
+  pub place : (k : ℕ) → k < s .n → heldOf s k ≡ true → (recordOf s k) .station ≡ k
   place k l e = c .places k l .held e .station
 
-  record-fits : (k : ℕ) → k < s .n → heldOf s k ≡ true → recordFits (s .n) (recordOf s k) ≡ true
+  pub record-fits : (k : ℕ) → k < s .n → heldOf s k ≡ true → recordFits (s .n) (recordOf s k) ≡ true
   unfolding recordFits
   record-fits k l e =
       let h = c .places k l .held e in

@@ -14,7 +14,7 @@ use Rattle.station_rules.specs.declared.Station.{Station}
 use Rattle.station_rules.specs.declared.Taking.{Taking}
 use Rattle.station_rules.specs.declared.TurnReport.{TurnReport}
 use Rattle.station_rules.specs.declared.Kept.{Kept}
-use Rattle.station_rules.specs.declared.Written.{Written}
+use Rattle.frame_rules.specs.declared.Written.{Written}
 use Rattle.station_rules.specs.declared.Heard.{Heard}
 use Rattle.station_rules.specs.declared.Turned.{Turned}
 use Rattle.lanes.specs.Queue.{noSlot, queued}

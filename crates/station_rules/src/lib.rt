@@ -41,12 +41,6 @@ pub struct Kept {
     pub station: Station,
 }
 
-// The answer of write frame.
-pub struct Written {
-    pub refusal: u32,
-    pub len: usize,
-}
-
 // The answer of hear: the station, and from which stations a body was taken.
 pub struct Heard {
     pub refusal: u32,

@@ -1,7 +1,6 @@
 -- `columns::grow` judges a further digit: each return is one case of the definition, and nine digits fit a u32.
 use borrow.Author.Needs.{needs}
 use borrow.Author.Tests.{eq-eqb, ne-eqb, lt-ltb, le-ltb}
-use native.Mathlib.Omega.{arith}
 use Rattle.columns.specs.Reading.{grown}
 use Rattle.columns.proofs.grow.Statement.{statement}
 use Rattle.columns.proofs.grow.Tie as tie

@@ -1,8 +1,8 @@
 -- `columns::next` is one step of the reading: each arm of the match is one line of the definition.
-use mathlib.Core.Path.{_≡_, sym, ap, _∙_}
+use mathlib.Core.Path.{_∙_}
 use native.Mathlib.Omega.{arith}
 use borrow.Author.Tests.{eq-eqb, ne-eqb}
-use Rattle.columns.specs.Reading.{digitOf, started, grown, next}
+use Rattle.columns.specs.Reading.{next}
 use Rattle.columns.proofs.Digits.{digit-le}
 use borrow.Author.Needs.{needs}
 use Rattle.columns.proofs.next.Statement.{statement}

@@ -1,5 +1,4 @@
 -- `columns::start` judges a number's first digit: each return is one case of the definition.
-use borrow.Author.Needs.{needs}
 use borrow.Author.Tests.{eq-eqb, ne-eqb}
 use Rattle.columns.specs.Reading.{started}
 use Rattle.columns.proofs.start.Statement.{statement}

@@ -1,13 +1,13 @@
 -- `columns::write_columns` writes the digits from the right. The invariant: the columns of what is left of the number, and then the columns written, are the columns of
 -- the whole number.
-use mathlib.Core.Path.{_≡_, refl, sym, ap, _∙_}
+use mathlib.Core.Path.{_≡_, refl, sym, _∙_}
 use mathlib.Core.List.{_++_, append-nil}
-use Prim.Native.Nat.{ℕ, suc, _+_, _-_, _/_, _%_, _≤_, _<_}
+use Prim.Native.Nat.{suc, _+_, _-_, _%_, _≤_, _<_}
 use native.Mathlib.Omega.{arith}
 use borrow.Author.Needs.{needs}
 use lib.ListN.{length, take, drop, set, length-set}
 use lib.Seq.{drop-length, length-take-le, length-front}
-use Rattle.columns.specs.Writing.{lead, columns}
+use Rattle.columns.specs.Writing.{columns}
 use Rattle.columns.proofs.Fields.{digit-more, digit-last}
 use Rattle.columns.proofs.write_columns.Statement.{statement}
 use Rattle.columns.proofs.write_columns.Tie as tie

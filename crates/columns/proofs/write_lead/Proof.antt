@@ -1,11 +1,10 @@
 -- `columns::write_lead` writes blanks, and then the minus over the last of them.
 use mathlib.Core.Bool.{false}
 use Rattle.columns.proofs.Fields.{length-lead, lead-minus, lead-none}
-use mathlib.Core.Path.{_≡_, sym, ap, _∙_}
+use mathlib.Core.Path.{ap, _∙_}
 use native.Mathlib.Omega.{arith}
 use Prim.Native.Nat.{_≤_, _<_}
 use lib.ListN.{length}
-use Rattle.columns.specs.Writing.{lead}
 use Rattle.columns.proofs.Fields.{length-lead, lead-minus}
 use borrow.Author.Needs.{needs}
 use Rattle.columns.proofs.write_lead.Statement.{statement}

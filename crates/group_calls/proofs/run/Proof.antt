@@ -1,6 +1,5 @@
 -- `group_calls::run` is safe: the loop ends.
-use Prim.Native.Nat.{_≤_, _<_, _-_}
-use native.Mathlib.Omega.{arith}
+use Prim.Native.Nat.{_≤_, _-_}
 use borrow.Author.Needs.{needs}
 use Rattle.group_calls.proofs.run.Statement.{statement}
 use Rattle.group_calls.proofs.run.Tie as tie

@@ -1,11 +1,8 @@
 -- `group_limits::member_inside` meets its contract, test by test.
-use Prim.Native.Nat.{ℕ}
-use mathlib.Core.Path.{_≡_, refl, sym, _∙_}
+use mathlib.Core.Path.{_≡_, refl, _∙_}
 use mathlib.Core.Bool.{Bool, true, false, _&&_}
-use lib.Dec.{eqb}
 use borrow.Author.Needs.{needs}
 use borrow.Author.Tests.{eq-eqb, ne-eqb}
-use Rattle.station_rules.specs.declared.Station.{Station}
 use Rattle.station_rules.specs.Limits.{stationInside}
 use Rattle.group_limits.proofs.member_inside.Statement.{statement}
 use Rattle.group_limits.proofs.member_inside.Tie as tie

@@ -1,8 +1,5 @@
 -- `group_sums::of_group` is safe: the loop ends.
-use Prim.Native.Nat.{_≤_, _<_, _-_}
-use native.Mathlib.Omega.{arith}
-use mathlib.Core.Path.{_≡_, refl}
-use lib.ListN.{length, length-set}
+use Prim.Native.Nat.{_≤_, _-_}
 use borrow.Author.Needs.{needs}
 use Rattle.group_sums.proofs.of_group.Statement.{statement}
 use Rattle.group_sums.proofs.of_group.Tie as tie

@@ -1,8 +1,8 @@
 -- `labels::all_labels` meets its contract: sixteen are judged by `sixteen_labels`, and of fewer what was passed are labels.
 use Prim.Native.Nat.{ℕ, _≤_, _-_}
 use native.Mathlib.Omega.{arith}
-use mathlib.Core.Path.{_≡_, refl, sym, ap, _∙_}
-use mathlib.Core.Bool.{true, false}
+use mathlib.Core.Path.{_≡_, sym, ap, _∙_}
+use mathlib.Core.Bool.{true}
 use borrow.Author.Needs.{needs}
 use lib.ListN.{getD, take}
 use Rattle.labels.specs.Label.{isLabel}

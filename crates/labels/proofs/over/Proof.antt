@@ -1,14 +1,11 @@
 -- `labels::over` meets its contract: the labels passed are the new ones.
-use Prim.Native.Nat.{ℕ, _≤_, _-_}
+use Prim.Native.Nat.{_≤_, _-_}
 use native.Mathlib.Omega.{arith}
-use mathlib.Core.Path.{_≡_, refl, sym, ap, _∙_}
-use mathlib.Core.Bool.{Bool, true, false}
+use mathlib.Core.Path.{_≡_, refl, _∙_}
 use lib.ListN.{getD}
-use lib.Dec.{ltb, eqb}
 use borrow.Author.Needs.{needs}
-use borrow.Author.Tests.{lt-ltb, le-ltb, eq-eqb, ne-eqb, not-true, not-false}
-use Rattle.places.specs.Places.{allBelow, fill}
-use Rattle.places.proofs.Laws.{allBelow-more, allBelow-fails, fill-more, fill-above}
+use Rattle.places.specs.Places.{fill}
+use Rattle.places.proofs.Laws.{fill-more}
 use Rattle.labels.proofs.over.Statement.{statement}
 use Rattle.labels.proofs.over.Tie as tie
 

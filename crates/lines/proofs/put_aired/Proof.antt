@@ -1,13 +1,11 @@
 -- `lines::put_aired` puts the line of edit after edit. The invariant: the texts of the row's places below k stand one behind the other.
-use mathlib.Core.Path.{_≡_, refl, sym, ap, _∙_}
-use mathlib.Core.Bool.{_&&_}
+use mathlib.Core.Path.{_≡_, refl, _∙_}
 use Prim.Native.Nat.{_+_, _-_, _*_, _≤_}
 use native.Mathlib.Omega.{arith}
 use borrow.Author.Needs.{needs}
 use lib.ListN.{length}
 use Rattle.lines.specs.Lines.{joined, Put}
-use Rattle.lines.specs.Reports.{lineIf, takingText, takenText, editText, airedText}
-use Rattle.lines.proofs.Placed.{put-length}
+use Rattle.lines.specs.Reports.{editText, airedText}
 use Rattle.lines.proofs.Joined.{joined-none, joined-more}
 use Rattle.lines.proofs.put_aired.Statement.{statement}
 use Rattle.lines.proofs.put_aired.Tie as tie

@@ -1,5 +1,4 @@
 -- `lines::put_line_if` puts a line, or nothing.
-use Prim.Native.Nat.{_≤_}
 use native.Mathlib.Omega.{arith}
 use Rattle.lines.proofs.Placed.{put-none}
 use Rattle.lines.proofs.Columns.{length-line}

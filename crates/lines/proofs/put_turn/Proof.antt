@@ -1,5 +1,4 @@
 -- `lines::put_turn` puts the ended body's line and the started body's behind it.
-use mathlib.Core.Path.{_≡_, ap, _∙_}
 use native.Mathlib.Omega.{arith}
 use Rattle.lines.specs.Reports.{turnText}
 use Rattle.lines.proofs.Placed.{put-more}

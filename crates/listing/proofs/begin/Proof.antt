@@ -1,5 +1,5 @@
 -- `listing::begin` keeps the group of one that the call returned.
-use mathlib.Core.Path.{ap, _∙_}
+use mathlib.Core.Path.{ap}
 use mathlib.Core.Bool.{false}
 use Rattle.group_rules.specs.declared.KeptGroup.{KeptGroup}
 use Rattle.group_rules.specs.Calls.{freshCall}

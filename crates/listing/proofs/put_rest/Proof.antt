@@ -1,5 +1,5 @@
 -- `listing::put_rest` puts nothing where the script is over, else the malformed line.
-use mathlib.Core.Path.{_≡_, sym, _∙_}
+use mathlib.Core.Path.{sym, _∙_}
 use native.Mathlib.Omega.{arith}
 use Rattle.kinds.specs.declared.Body.the-variants.{Empty}
 use Rattle.lines.proofs.Placed.{put-none}

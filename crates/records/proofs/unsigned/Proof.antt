@@ -1,5 +1,6 @@
 -- `records::unsigned` meets its contract: a negative number is the complement of a number that is not, and the word is what that one lacks of 2^32 - 1.
-use Rattle.records.proofs.Words.{complement-made-fits, unsigned-negative-cast, unsigned-negative-sub, unsigned-negative, unsigned-other-cast, unsigned-other}
+use Rattle.places.proofs.Complement.{complement-made-fits}
+use Rattle.records.proofs.Words.{unsigned-negative-cast, unsigned-negative-sub, unsigned-negative, unsigned-other-cast, unsigned-other}
 use Rattle.records.proofs.unsigned.Statement.{statement}
 use Rattle.records.proofs.unsigned.Tie as tie
 

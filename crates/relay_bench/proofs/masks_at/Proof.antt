@@ -1,6 +1,5 @@
 -- `relay_bench::masks_at` is safe: the bytes of sixteen masks are there.
 use Prim.Native.Nat.{_≤_, _-_}
-use native.Mathlib.Omega.{arith}
 use borrow.Author.Needs.{needs}
 use Rattle.relay_bench.proofs.masks_at.Statement.{statement}
 use Rattle.relay_bench.proofs.masks_at.Tie as tie

@@ -1,5 +1,4 @@
 -- `script::post_line` takes the numbers from their fields where the form is right.
-use mathlib.Core.Path.{ap, sym, _∙_}
 use mir.Syntax.{w32}
 use mir.ValLaws.{toZ-ofZ}
 use Rattle.script.specs.Line.{postLine}

@@ -1,5 +1,5 @@
 -- `script::read_line` goes by whether an `N` line was read, and then by the letter.
-use mathlib.Core.Path.{ap, sym, _∙_}
+use mathlib.Core.Path.{_∙_}
 use borrow.Author.Tests.{eq-eqb, ne-eqb}
 use Rattle.script.specs.Line.{commandOf}
 use Rattle.script.proofs.Rounds.{no-letter}

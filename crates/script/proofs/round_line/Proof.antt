@@ -1,5 +1,4 @@
 -- `script::round_line` tests the shape and then the masks; more than sixteen masks there cannot be.
-use mathlib.Core.Path.{ap, sym, _∙_}
 use mathlib.Core.Bool.{and-false}
 use Rattle.script.specs.Line.{roundLine}
 use Rattle.script.proofs.Values.{refused, passed}

@@ -1,5 +1,4 @@
 -- `script::shaped` tests the length, and then the letter.
-use mathlib.Core.Path.{ap, _∙_}
 use borrow.Author.Tests.{eq-eqb, ne-eqb}
 use borrow.Author.Needs.{needs}
 use Rattle.script.proofs.shaped.Statement.{statement}

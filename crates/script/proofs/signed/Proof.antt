@@ -1,5 +1,5 @@
 -- `script::signed` takes the number from 0 where a minus stands before it.
-use mathlib.Core.Path.{ap, sym, _∙_}
+use mathlib.Core.Path.{_∙_}
 use Rattle.script.proofs.Values.{positive, less-fits, negative}
 use borrow.Author.Needs.{needs}
 use Rattle.script.proofs.signed.Statement.{statement}

@@ -60,7 +60,7 @@ returns-3 c =
     let o = sym (f .before .count-fits .ensures) ∙ not-false _ (f .if2 .left) in
     let w = c .before .before .write-table .ensures in
     let x = w .0 ∙ ap (λ (l : List ℕ). written l (length (a .buffer .now))) (frame-is (a .t1)) in (
-      (λ i. record { refusal = (x i) .refusal; len = (x i) .len }) ∙ write-frame (a .t1) (a .buffer .now) (within d) o,
+      x ∙ write-frame (a .t1) (a .buffer .now) (within d) o,
       w .1 ∙ ap (λ (l : List ℕ). bufferWith l (a .buffer .now)) (frame-is (a .t1)) ∙ buffer-frame (a .t1) (a .buffer .now) (within d) o,
     )
 

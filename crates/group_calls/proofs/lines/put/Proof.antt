@@ -1,8 +1,7 @@
 -- `group_calls::lines::put` is safe: the columns written lie inside the line.
-use Prim.Native.Nat.{_≤_, _<_, _-_}
-use native.Mathlib.Omega.{arith}
-use mathlib.Core.Path.{_≡_, refl}
-use lib.ListN.{length, length-set}
+use Prim.Native.Nat.{_≤_, _-_}
+use mathlib.Core.Path.{_≡_}
+use lib.ListN.{length}
 use borrow.Author.Needs.{needs}
 use Rattle.group_calls.proofs.lines.put.Statement.{statement}
 use Rattle.group_calls.proofs.lines.put.Tie as tie
