@@ -11,11 +11,10 @@ use lib.Dec.{ltb, eqb}
 use lib.ListN.{getD, take, drop}
 use lib.Seq.{getD-take, getD-drop}
 use borrow.Author.Tests.{lt-ltb, le-ltb, ne-eqb}
-use Rattle.labels.specs.Packing.{unpacked}
 use Rattle.places.specs.Places.{allBelow, anyBelow}
 use Rattle.places.proofs.Laws.{and-both, allBelow-fails}
 use Rattle.frame_rules.specs.Words.{wordAt}
-use Rattle.frame_rules.specs.Record.{recordOf, bytesInside}
+use Rattle.frame_rules.specs.Record.{bytesInside}
 use Rattle.frame_rules.specs.Frame.{part, stationAt, recordsInside}
 
 -- a record's part as the code takes it
@@ -50,20 +49,6 @@ part-word bytes k at h =
       two,
       three,
     )
-
--- the numbers of record k, read straight from the frame
-module _ (bytes : List ℕ) (k : ℕ) where
-  pub record-station : (recordOf (part bytes k)) .station ≡ getD bytes (4 + 16 * k) 0
-  unfolding recordOf
-  record-station = station-is bytes k
-
-  pub record-count : (recordOf (part bytes k)) .count ≡ getD bytes (4 + 16 * k + 1) 0
-  unfolding recordOf
-  record-count = part-byte bytes k 1 (omega arith)
-
-  pub record-label : (j : ℕ) → getD ((recordOf (part bytes k)) .labels) j 0 ≡ getD (unpacked 16 (wordAt bytes (4 + 16 * k + 12))) j 0
-  unfolding recordOf
-  record-label j = ap (λ (w : ℕ). getD (unpacked 16 w) j 0) (part-word bytes k 12 (omega arith))
 
 module _ (bytes : List ℕ) (n : ℕ) where
   -- record k is inside its limits, and its station above the one before it

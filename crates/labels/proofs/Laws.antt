@@ -71,10 +71,6 @@ all-split zero labels = refl
 all-split (suc n) [] = refl
 all-split (suc n) (label ∷ labels) = rw (all-split n labels) (sym (and-assoc (leb label 2) _ _))
 
-pub all-take : (n : ℕ) (labels : List ℕ) → allLabels labels ≡ true → allLabels (take n labels) ≡ true
-all-take n labels h =
-    both (allLabels (take n labels)) (allLabels (drop n labels)) (sym (all-split n labels) ∙ h) .0
-
 pub all-drop : (n : ℕ) (labels : List ℕ) → allLabels labels ≡ true → allLabels (drop n labels) ≡ true
 all-drop n labels h =
     both (allLabels (take n labels)) (allLabels (drop n labels)) (sym (all-split n labels) ∙ h) .1
@@ -115,11 +111,6 @@ pub packed-fits : (labels : List ℕ) → allLabels labels ≡ true → length l
 packed-fits labels h l = omega (arith, packed-less labels h, pow-le-pow-right {n = 4} (omega arith) l)
 
 -- ---- unpacking
-
-pub unpacked-length : (n word : ℕ) → length (unpacked n word) ≡ n
-unfolding unpacked
-unpacked-length zero word = refl
-unpacked-length (suc n) word = ap suc (unpacked-length n (word / 4))
 
 unpacked-zero : (n : ℕ) → unpacked n 0 ≡ replicate n 0
 unfolding unpacked

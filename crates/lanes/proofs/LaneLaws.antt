@@ -29,9 +29,6 @@ pub length-bodies : (l : Lane) → length (bodies l) ≡ min (l .len) 2
 unfolding bodies
 length-bodies l = length-take (l .len) (l .first ∷ l .second ∷ [])
 
-pub len-bodies : (l : Lane) → l .len ≤ 2 → l .len ≡ length (bodies l)
-len-bodies l h = omega (arith, length-bodies l)
-
 pub bodies-noLane : bodies noLane ≡ []
 unfolding bodies
 bodies-noLane = refl
@@ -64,9 +61,6 @@ first-bodies l d h = go (l .len) h
 pub record Holds (l : Lane) (xs : List Body) : Type 0 where
   pub these : bodies l ≡ xs
   pub many : l .len ≡ length xs
-
-pub holds-limit : (l : Lane) (xs : List Body) → Holds l xs → length xs ≤ 2
-holds-limit l xs h = omega (arith, length-bodies l, ap length (h .these), h .many)
 
 pub holds-none : Holds noLane []
 holds-none = record { these = bodies-noLane; many = refl }
