@@ -1,5 +1,5 @@
 -- The columns of a listing line, one text put behind the other.
-use mathlib.Core.Path.{_≡_, refl, sym, ap, _∙_}
+use mathlib.Core.Path.{_≡_, _∙_}
 use mathlib.Core.Bool.{false}
 use mathlib.Core.List.{List, [], _∷_, _++_}
 use Prim.Native.Nat.{ℕ, _+_, _-_, _≤_}
@@ -9,7 +9,7 @@ use lib.Signed.{ltZ}
 use lib.ListN.{length, length-append}
 use Rattle.kinds.specs.declared.Body.{Body}
 use Rattle.kinds.specs.Body.{kindOf, eventOf, argumentOf}
-use Rattle.columns.specs.Writing.{columns, natColumns, intColumns}
+use Rattle.columns.specs.Writing.{natColumns, intColumns}
 use Rattle.columns.proofs.Fields.{length-columns}
 use Rattle.lines.specs.Lines.{headBytes, bodyBytes, lineBytes, placed}
 use Rattle.lines.proofs.Placed.{placed-then}

@@ -1,8 +1,7 @@
 -- `lines::put_line` puts the body behind the head.
-use mathlib.Core.Path.{_≡_, ap, _∙_}
 use Prim.Native.Nat.{_+_}
 use native.Mathlib.Omega.{arith}
-use Rattle.lines.specs.Lines.{headBytes, bodyBytes, lineBytes}
+use Rattle.lines.specs.Lines.{bodyBytes, lineBytes}
 use Rattle.lines.proofs.Placed.{placed-then}
 use Rattle.lines.proofs.Columns.{length-head, length-line}
 use borrow.Author.Needs.{needs}

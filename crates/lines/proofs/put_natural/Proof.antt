@@ -1,8 +1,6 @@
 -- `lines::put_natural` lends the part to the writer of columns.
-use mathlib.Core.Path.{_≡_, ap, _∙_}
+use mathlib.Core.Path.{ap, _∙_}
 use Prim.Native.Nat.{ℕ, _-_}
-use native.Mathlib.Omega.{arith}
-use lib.ListN.{length, take, drop}
 use Rattle.columns.specs.Writing.{natColumns}
 use Rattle.lines.proofs.Placed.{part-length, placed-part}
 use borrow.Author.Needs.{needs}

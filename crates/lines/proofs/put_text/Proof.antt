@@ -1,10 +1,10 @@
 -- `lines::put_text` copies byte after byte. The invariant: the first k bytes of the text are put.
-use mathlib.Core.Path.{_≡_, refl, sym, ap, _∙_}
-use Prim.Native.Nat.{_+_, _-_, _≤_}
+use mathlib.Core.Path.{_≡_, refl}
+use Prim.Native.Nat.{_-_, _≤_}
 use native.Mathlib.Omega.{arith}
 use lib.ListN.{length, take, length-set}
 use lib.Seq.{take-length}
-use Rattle.lines.specs.Lines.{placed, Put}
+use Rattle.lines.specs.Lines.{placed}
 use Rattle.lines.proofs.Placed.{placed-none, placed-step}
 use Rattle.lines.proofs.put_text.Statement.{statement}
 use Rattle.lines.proofs.put_text.Tie as tie
