@@ -1,4 +1,3 @@
 pub mod Placed
 pub mod Examples
 pub mod Columns
-pub mod Joined

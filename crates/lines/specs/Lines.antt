@@ -1,5 +1,5 @@
 -- Document 01, "The relay listing": the bytes of one listing line, and of the last line.
-use Prim.Native.Nat.{ℕ, zero, suc, _+_}
+use Prim.Native.Nat.{ℕ, _+_}
 use mathlib.Core.Path.{_≡_}
 use mathlib.Core.List.{List, [], _∷_, _++_}
 use lib.ListN.{take, drop, length}
@@ -45,8 +45,3 @@ placed buffer at text = take at buffer ++ text ++ drop (at + length text) buffer
 pub record Put (entry exit : List ℕ) (at end : ℕ) (text : List ℕ) : Type 0 where
   pub holds : exit ≡ placed entry at text
   pub behind : end ≡ at + length text
-
--- the text that f gives for each place below n, one after the other
-unfoldable pub joined : ℕ → (ℕ → List ℕ) → List ℕ
-joined zero f = []
-joined (suc k) f = joined k f ++ f k

@@ -25,8 +25,8 @@ use Rattle.group_rules.specs.Calls.{freshCall, groupPostRefusal, postCall, hear
 use Rattle.columns.specs.Reading.{started, grown, next, readFrom}
 use Rattle.columns.specs.Writing.{lead, columns}
 use Rattle.script.specs.Line.{fieldOf, sizeLine, postShaped, postLine, isMask, masksInside, roundLine, commandOf, maskAt, masksOf}
-use Rattle.lines.specs.Lines.{headBytes, bodyBytes, lineBytes, endLine, joined}
-use Rattle.lines.specs.Reports.{takenText, airedText, turnText, reportText, roundText}
+use Rattle.lines.specs.Lines.{headBytes, bodyBytes, lineBytes, endLine}
+use Rattle.round_lines.specs.Reports.{joined, takenText, airedText, turnText, reportText, roundText}
 use Rattle.listing.specs.Listing.{begun, postedBody, sizedBy, postedBy, roundedBy, obeyed, refusedText, answered, after, printed, restText, linesOf, listed, listingOf}
 
 abbrev edit : Rattle.kinds.specs.declared.Body.Body

@@ -21,7 +21,7 @@ use Rattle.script.specs.Line.{commandOf, masksOf}
 use Rattle.listing.specs.declared.Session.{Session}
 use Rattle.listing.specs.declared.Applied.{Applied}
 use Rattle.lines.specs.Lines.{turnedDown, lineBytes, endLine, Put}
-use Rattle.lines.specs.Reports.{roundText}
+use Rattle.round_lines.specs.Reports.{roundText}
 
 -- before any line is read: no size yet, no round done
 unfoldable pub begun : Session

@@ -132,7 +132,7 @@ fn after_round(s: Session, made: RoundDone, out: &mut [u8]) -> Applied
 {
     let rounds = s.rounds + 1;
     let reports = made.reports;
-    let len = lines::put_round(out, s.n, rounds, reports);
+    let len = round_lines::put_round(out, s.n, rounds, reports);
     let group = made.group;
     let session = Session {
         n: s.n,

@@ -94,7 +94,7 @@ pub fn feed(r: Reader, part: &[u8], out: &mut [u8]) -> Fed
     let mut held = r.len;
     let mut read = 0;
     let mut at = 0;
-    while lines::ROUND_ROOM <= out.len() - at {
+    while round_lines::ROUND_ROOM <= out.len() - at {
         let taken = take_line(&mut line, held, part, read);
         held = taken.len;
         read = taken.next;

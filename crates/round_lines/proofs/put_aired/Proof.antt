@@ -1,14 +1,14 @@
--- `lines::put_aired` puts the line of edit after edit. The invariant: the texts of the row's places below k stand one behind the other.
+-- `round_lines::put_aired` puts the line of edit after edit. The invariant: the texts of the row's places below k stand one behind the other.
 use mathlib.Core.Path.{_≡_, refl, _∙_}
 use Prim.Native.Nat.{_+_, _-_, _*_, _≤_}
 use native.Mathlib.Omega.{arith}
 use borrow.Author.Needs.{needs}
 use lib.ListN.{length}
-use Rattle.lines.specs.Lines.{joined, Put}
-use Rattle.lines.specs.Reports.{editText, airedText}
-use Rattle.lines.proofs.Joined.{joined-none, joined-more}
-use Rattle.lines.proofs.put_aired.Statement.{statement}
-use Rattle.lines.proofs.put_aired.Tie as tie
+use Rattle.lines.specs.Lines.{Put}
+use Rattle.round_lines.specs.Reports.{joined, editText, airedText}
+use Rattle.round_lines.proofs.Joined.{joined-none, joined-more}
+use Rattle.round_lines.proofs.put_aired.Statement.{statement}
+use Rattle.round_lines.proofs.put_aired.Tie as tie
 
 abbrev Inv-loop : tie.InvT-loop
 Inv-loop out₀ at n round p aired row end₀ k₀ out end k =

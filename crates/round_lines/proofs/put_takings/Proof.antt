@@ -1,13 +1,13 @@
--- `lines::put_takings` puts the line of taking after taking. The invariant: the texts of the takings below k stand one behind the other.
+-- `round_lines::put_takings` puts the line of taking after taking. The invariant: the texts of the takings below k stand one behind the other.
 use mathlib.Core.Path.{_≡_, refl, _∙_}
 use Prim.Native.Nat.{_+_, _-_, _*_, _≤_}
 use native.Mathlib.Omega.{arith}
 use lib.ListN.{length}
-use Rattle.lines.specs.Lines.{joined, Put}
-use Rattle.lines.specs.Reports.{takingText, takenText}
-use Rattle.lines.proofs.Joined.{joined-none, joined-more}
-use Rattle.lines.proofs.put_takings.Statement.{statement}
-use Rattle.lines.proofs.put_takings.Tie as tie
+use Rattle.lines.specs.Lines.{Put}
+use Rattle.round_lines.specs.Reports.{joined, takingText, takenText}
+use Rattle.round_lines.proofs.Joined.{joined-none, joined-more}
+use Rattle.round_lines.proofs.put_takings.Statement.{statement}
+use Rattle.round_lines.proofs.put_takings.Tie as tie
 
 abbrev Inv-loop : tie.InvT-loop
 Inv-loop out₀ at round p len takings end₀ k₀ out end k =

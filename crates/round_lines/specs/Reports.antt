@@ -1,6 +1,6 @@
 -- Document 01, "The relay listing": what a round prints, station by station, in the order in which a station does it: what it took (D), what it aired (A), what it
 -- ended (E), what it started (D again, with itself as the source).
-use Prim.Native.Nat.{ℕ}
+use Prim.Native.Nat.{ℕ, zero, suc}
 use Rattle.kinds.specs.declared.Body.the-variants.{Empty}
 use mathlib.Core.Bool.{Bool, false, cond, not, _&&_}
 use mathlib.Core.List.{List, [], _++_}
@@ -15,7 +15,12 @@ use Rattle.station_rules.specs.declared.TurnReport.{TurnReport}
 use Rattle.lanes.specs.Queue.{noSlot}
 use Rattle.group_rules.specs.declared.Report.{Report}
 use Rattle.group_rules.specs.Calls.{noTaking}
-use Rattle.lines.specs.Lines.{delivered, airing, ending, lineBytes, joined}
+use Rattle.lines.specs.Lines.{delivered, airing, ending, lineBytes}
+
+-- the text that f gives for each place below n, one after the other
+unfoldable pub joined : ℕ → (ℕ → List ℕ) → List ℕ
+joined zero f = []
+joined (suc k) f = joined k f ++ f k
 
 -- a line where it is wanted
 abbrev pub lineIf : Bool → ℕ → ℕ → ℕ → ℕ → Body → List ℕ

@@ -1,10 +1,10 @@
--- `lines::put_turn` puts the ended body's line and the started body's behind it.
+-- `round_lines::put_turn` puts the ended body's line and the started body's behind it.
 use native.Mathlib.Omega.{arith}
-use Rattle.lines.specs.Reports.{turnText}
+use Rattle.round_lines.specs.Reports.{turnText}
 use Rattle.lines.proofs.Placed.{put-more}
 use borrow.Author.Needs.{needs}
-use Rattle.lines.proofs.put_turn.Statement.{statement}
-use Rattle.lines.proofs.put_turn.Tie as tie
+use Rattle.round_lines.proofs.put_turn.Statement.{statement}
+use Rattle.round_lines.proofs.put_turn.Tie as tie
 
 put-line-if-requires : tie.Need-put-line-if-requires
 put-line-if-requires c κs = search needs

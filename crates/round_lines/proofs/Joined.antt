@@ -3,8 +3,9 @@ use mathlib.Core.List.{List}
 use Prim.Native.Nat.{ℕ, _+_, _≤_}
 use native.Mathlib.Numerals.{add-one}
 use lib.ListN.{length}
-use Rattle.lines.specs.Lines.{joined, Put}
+use Rattle.lines.specs.Lines.{Put}
+use Rattle.round_lines.specs.Reports.{joined}
 use Rattle.lines.proofs.Placed.{put-none, put-more}
 
 pub joined-none : (f : ℕ → List ℕ) (l : List ℕ) (at : ℕ) → Put l l at at (joined 0 f)
 unfolding joined

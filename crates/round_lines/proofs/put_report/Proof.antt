@@ -1,10 +1,10 @@
--- `lines::put_report` puts the takings, the row and the turn one behind the other.
+-- `round_lines::put_report` puts the takings, the row and the turn one behind the other.
 use native.Mathlib.Omega.{arith}
-use Rattle.lines.specs.Reports.{reportText}
+use Rattle.round_lines.specs.Reports.{reportText}
 use Rattle.lines.proofs.Placed.{put-more}
 use borrow.Author.Needs.{needs}
-use Rattle.lines.proofs.put_report.Statement.{statement}
-use Rattle.lines.proofs.put_report.Tie as tie
+use Rattle.round_lines.proofs.put_report.Statement.{statement}
+use Rattle.round_lines.proofs.put_report.Tie as tie
 
 put-takings-requires : tie.Need-put-takings-requires
 put-takings-requires c κs = search needs

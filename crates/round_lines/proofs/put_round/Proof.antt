@@ -1,13 +1,13 @@
--- `lines::put_round` puts report after report. The invariant: the texts of the stations below p stand one behind the other.
+-- `round_lines::put_round` puts report after report. The invariant: the texts of the stations below p stand one behind the other.
 use mathlib.Core.Path.{_≡_, refl, _∙_}
 use Prim.Native.Nat.{_-_, _*_, _≤_}
 use native.Mathlib.Omega.{arith}
 use lib.ListN.{length, getD}
-use Rattle.lines.specs.Lines.{joined, Put}
-use Rattle.lines.specs.Reports.{absent, reportText, roundText}
-use Rattle.lines.proofs.Joined.{joined-none, joined-more}
-use Rattle.lines.proofs.put_round.Statement.{statement}
-use Rattle.lines.proofs.put_round.Tie as tie
+use Rattle.lines.specs.Lines.{Put}
+use Rattle.round_lines.specs.Reports.{joined, absent, reportText, roundText}
+use Rattle.round_lines.proofs.Joined.{joined-none, joined-more}
+use Rattle.round_lines.proofs.put_round.Statement.{statement}
+use Rattle.round_lines.proofs.put_round.Tie as tie
 
 abbrev Inv-loop : tie.InvT-loop
 Inv-loop out₀ n round reports end₀ p₀ out end p =

@@ -1,10 +1,10 @@
--- `lines::put_line_if` puts a line, or nothing.
+-- `round_lines::put_line_if` puts a line, or nothing.
 use native.Mathlib.Omega.{arith}
 use Rattle.lines.proofs.Placed.{put-none}
 use Rattle.lines.proofs.Columns.{length-line}
 use borrow.Author.Needs.{needs}
-use Rattle.lines.proofs.put_line_if.Statement.{statement}
-use Rattle.lines.proofs.put_line_if.Tie as tie
+use Rattle.round_lines.proofs.put_line_if.Statement.{statement}
+use Rattle.round_lines.proofs.put_line_if.Tie as tie
 
 put-line-requires : tie.Need-put-line-requires
 put-line-requires c κs = search needs

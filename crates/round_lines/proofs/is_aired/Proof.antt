@@ -1,8 +1,8 @@
--- `lines::is_aired` is an `and` of two tests.
+-- `round_lines::is_aired` is an `and` of two tests.
 use mathlib.Core.Path.{_∙_}
 use borrow.Author.Needs.{needs}
-use Rattle.lines.proofs.is_aired.Statement.{statement}
-use Rattle.lines.proofs.is_aired.Tie as tie
+use Rattle.round_lines.proofs.is_aired.Statement.{statement}
+use Rattle.round_lines.proofs.is_aired.Tie as tie
 
 is-edit-requires : tie.Need-is-edit-requires
 is-edit-requires c κs = search needs
