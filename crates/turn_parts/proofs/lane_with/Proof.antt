@@ -1,8 +1,8 @@
--- `station_turns::lane_with` meets its contract.
+-- `turn_parts::lane_with` meets its contract.
 use mathlib.Core.Path.{sym, _∙_}
 use borrow.Author.Needs.{needs}
-use Rattle.station_turns.proofs.lane_with.Statement.{statement}
-use Rattle.station_turns.proofs.lane_with.Tie as tie
+use Rattle.turn_parts.proofs.lane_with.Statement.{statement}
+use Rattle.turn_parts.proofs.lane_with.Tie as tie
 
 is-empty-requires : tie.Need-is-empty-requires
 is-empty-requires c κs = search needs

@@ -1,7 +1,7 @@
--- `station_turns::waiting_after` meets its contract.
+-- `turn_parts::waiting_after` meets its contract.
 use borrow.Author.Tests.{not-true, not-false}
-use Rattle.station_turns.proofs.waiting_after.Statement.{statement}
-use Rattle.station_turns.proofs.waiting_after.Tie as tie
+use Rattle.turn_parts.proofs.waiting_after.Statement.{statement}
+use Rattle.turn_parts.proofs.waiting_after.Tie as tie
 
 returns : tie.Need-returns
 returns c = rw (not-true (c .before .args .starts) (c .if1 .taken))

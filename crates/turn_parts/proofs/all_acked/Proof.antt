@@ -1,4 +1,4 @@
--- `station_turns::all_acked` meets its contract: what was passed is acknowledged.
+-- `turn_parts::all_acked` meets its contract: what was passed is acknowledged.
 use Prim.Native.Nat.{_≤_, _-_}
 use native.Mathlib.Omega.{arith}
 use mathlib.Core.Path.{_≡_, sym}
@@ -8,8 +8,8 @@ use borrow.Author.Needs.{needs}
 use borrow.Author.Tests.{not-true, not-false}
 use Rattle.places.specs.Places.{allBelow}
 use Rattle.places.proofs.Laws.{allBelow-more, allBelow-fails}
-use Rattle.station_turns.proofs.all_acked.Statement.{statement}
-use Rattle.station_turns.proofs.all_acked.Tie as tie
+use Rattle.turn_parts.proofs.all_acked.Statement.{statement}
+use Rattle.turn_parts.proofs.all_acked.Tie as tie
 
 abbrev Inv-loop : tie.InvT-loop
 Inv-loop n acked k₀ k = (k ≤ n) × (allBelow k (λ j. getD acked j false) ≡ true)

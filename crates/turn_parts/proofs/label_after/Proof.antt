@@ -1,7 +1,7 @@
--- `station_turns::label_after` meets its contract.
+-- `turn_parts::label_after` meets its contract.
 use borrow.Author.Needs.{needs}
-use Rattle.station_turns.proofs.label_after.Statement.{statement}
-use Rattle.station_turns.proofs.label_after.Tie as tie
+use Rattle.turn_parts.proofs.label_after.Statement.{statement}
+use Rattle.turn_parts.proofs.label_after.Tie as tie
 
 successor-requires : tie.Need-successor-requires
 successor-requires c κs = search needs

@@ -1,4 +1,4 @@
--- `station_turns::only_own` meets its contract: of the places passed only the own one is acknowledged.
+-- `turn_parts::only_own` meets its contract: of the places passed only the own one is acknowledged.
 use Prim.Native.Nat.{_≤_, _-_}
 use native.Mathlib.Omega.{arith}
 use mathlib.Core.Path.{_≡_, refl, _∙_}
@@ -6,8 +6,8 @@ use lib.Dec.{eqb}
 use borrow.Author.Needs.{needs}
 use Rattle.places.specs.Places.{fill}
 use Rattle.places.proofs.Laws.{fill-more}
-use Rattle.station_turns.proofs.only_own.Statement.{statement}
-use Rattle.station_turns.proofs.only_own.Tie as tie
+use Rattle.turn_parts.proofs.only_own.Statement.{statement}
+use Rattle.turn_parts.proofs.only_own.Tie as tie
 
 abbrev Inv-loop : tie.InvT-loop
 Inv-loop n own left₀ k₀ left k = (k ≤ n) × (left ≡ fill k (λ j. eqb j own) left₀)

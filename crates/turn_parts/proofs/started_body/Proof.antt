@@ -1,8 +1,8 @@
--- `station_turns::started_body` meets its contract.
+-- `turn_parts::started_body` meets its contract.
 use native.Mathlib.Omega.{arith}
 use borrow.Author.Tests.{eq-eqb, ne-eqb, lt-ltb, le-ltb, not-true, not-false}
-use Rattle.station_turns.proofs.started_body.Statement.{statement}
-use Rattle.station_turns.proofs.started_body.Tie as tie
+use Rattle.turn_parts.proofs.started_body.Statement.{statement}
+use Rattle.turn_parts.proofs.started_body.Tie as tie
 
 returns : tie.Need-returns
 returns c = rw (not-true (c .before .args .ended) (c .if1 .taken))

@@ -1,7 +1,7 @@
--- `station_turns::starts_edit` meets its contract.
+-- `turn_parts::starts_edit` meets its contract.
 use borrow.Author.Tests.{eq-eqb, ne-eqb, not-true, not-false}
-use Rattle.station_turns.proofs.starts_edit.Statement.{statement}
-use Rattle.station_turns.proofs.starts_edit.Tie as tie
+use Rattle.turn_parts.proofs.starts_edit.Statement.{statement}
+use Rattle.turn_parts.proofs.starts_edit.Tie as tie
 
 returns : tie.Need-returns
 returns c = rw (not-true (c .before .args .ended) (c .if1 .taken))

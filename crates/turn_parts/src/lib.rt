@@ -1,0 +1,151 @@
+// The parts of a turn, each on what it needs of a station.
+
+ghost use mathlib.Core.Path.{_≡_};
+ghost use mathlib.Core.Bool.{true, false, cond, _&&_};
+ghost use Prim.Native.Nat.{_≤_, _<_};
+ghost use lib.ListN.{getD};
+ghost use lib.Dec.{ltb, eqb};
+ghost use Rattle.kinds.specs.Body.{kindOf};
+ghost use Rattle.kinds.specs.declared.Body.the-variants.{Empty, Neutral};
+ghost use Rattle.labels.specs.Label.{successor};
+ghost use Rattle.places.specs.Places.{allBelow, fill};
+ghost use Rattle.lanes.specs.Lane.{noLane, pushed};
+ghost use Rattle.lanes.specs.Queue.{unqueued};
+use kinds::Body;
+use lanes::Lane;
+use lanes::Queue;
+
+// Has each of the first n lanes a body?
+pub fn all_full(n: usize, lanes: [Lane; 16]) -> bool
+    requires { ⌜ n ≤ 16 ⌝ }
+    ensures { λ r. ⌜ r ≡ allBelow n (λ k. ltb 0 ((getD lanes k noLane) .len)) ⌝ }
+{
+    let mut k: usize = 0;
+    while k < n {
+        let lane = lanes[k];
+        if lane.len == 0 {
+            return false;
+        }
+        k += 1;
+    }
+    true
+}
+
+// Are all n acknowledged?
+pub fn all_acked(n: usize, acked: [bool; 16]) -> bool
+    requires { ⌜ n ≤ 16 ⌝ }
+    ensures { λ r. ⌜ r ≡ allBelow n (λ k. getD acked k false) ⌝ }
+{
+    let mut k: usize = 0;
+    while k < n {
+        if !acked[k] {
+            return false;
+        }
+        k += 1;
+    }
+    true
+}
+
+// Of the first n only own.
+pub fn only_own(n: usize, own: usize, acked: [bool; 16]) -> [bool; 16]
+    requires { ⌜ n ≤ 16 ⌝ }
+    ensures { λ r. ⌜ r ≡ fill n (λ k. eqb k own) acked ⌝ }
+{
+    let mut left = acked;
+    let mut k: usize = 0;
+    while k < n {
+        left[k] = k == own;
+        k += 1;
+    }
+    left
+}
+
+// The lane with a body put last, unless the body is Empty.
+pub fn lane_with(lane: Lane, body: Body) -> Lane
+    ensures { λ r. ⌜ r ≡ cond (eqb (kindOf body) 0) lane (pushed lane body) ⌝ }
+{
+    if kinds::is_empty(body) {
+        return lane;
+    }
+    lanes::pushed(lane, body)
+}
+
+// How many of n places are changed.
+pub fn count_if(changes: bool, n: usize) -> usize
+    ensures { λ r. ⌜ r ≡ cond changes n 0 ⌝ }
+{
+    if changes {
+        return n;
+    }
+    0
+}
+
+// What starts, by the bodies in the own lane, the number of waiting edits and the oldest of them.
+pub fn started_body(ended: bool, own_len: usize, waiting_len: usize, oldest: Body) -> Body
+    ensures { λ r. ⌜ r ≡ cond ended (cond (eqb «own_len» 0) (cond (ltb 0 «waiting_len») oldest Neutral) Empty) Empty ⌝ }
+{
+    if !ended {
+        return Body::Empty;
+    }
+    if own_len != 0 {
+        return Body::Empty;
+    }
+    if waiting_len == 0 {
+        return Body::Neutral;
+    }
+    oldest
+}
+
+// Does the oldest waiting edit start?
+pub fn starts_edit(ended: bool, own_len: usize, waiting_len: usize) -> bool
+    ensures { λ r. ⌜ r ≡ (ended && (eqb «own_len» 0 && ltb 0 «waiting_len»)) ⌝ }
+{
+    if !ended {
+        return false;
+    }
+    if own_len != 0 {
+        return false;
+    }
+    0 < waiting_len
+}
+
+// The edits that wait after the start.
+pub fn waiting_after(starts: bool, waiting: Queue) -> Queue
+    requires { ⌜ (starts ≡ true → 0 < waiting .len) × (waiting .len ≤ 32) ⌝ }
+    ensures { λ r. ⌜ r ≡ cond starts (unqueued waiting) waiting ⌝ }
+{
+    if !starts {
+        return waiting;
+    }
+    lanes::unqueued(waiting)
+}
+
+// The first body where the test holds, else the second.
+pub fn body_of(test: bool, one: Body, other: Body) -> Body
+    ensures { λ r. ⌜ r ≡ cond test one other ⌝ }
+{
+    if test {
+        return one;
+    }
+    other
+}
+
+// The count after the end of a broadcast, or where it goes on.
+pub fn count_after(ended: bool, count: u8) -> u8
+    ensures { λ r. ⌜ r ≡ cond ended 0 count ⌝ }
+{
+    if ended {
+        return 0;
+    }
+    count
+}
+
+// The own label after the end of a broadcast, or where it goes on.
+pub fn label_after(ended: bool, label: u8) -> u8
+    ensures { λ r. ⌜ r ≡ cond ended (successor label) label ⌝ }
+{
+    if ended {
+        return labels::successor(label);
+    }
+    label
+}
