@@ -1,9 +1,9 @@
 -- `station_turns::take_turn` meets its contract: the loop airs a row, or nothing; then each part of the answer is the definition's.
-use Prim.Native.Nat.{ℕ, _≤_, _<_, _-_}
+use Prim.Native.Nat.{ℕ, _≤_, _<_, _+_, _-_}
 use native.Mathlib.Omega.{arith}
 use mathlib.Core.Path.{_≡_, refl, ap, _∙_}
 use mathlib.Core.Bool.{Bool, cond}
-use lib.ListN.{getD, replicate}
+use lib.ListN.{getD, set, replicate}
 use lib.Dec.{eqb}
 use borrow.Author.Needs.{needs}
 use Rattle.places.specs.Places.{fill}
@@ -73,7 +73,9 @@ loop-again c =
     let e : getD (h .loop .left) k noLane ≡ getD l k noLane =
     rw (h .loop .inv .3) (fill-above k (λ j. popped (getD l j noLane)) l k noLane (omega arith)) in
     let f : c .popped .result ≡ popped (getD l k noLane) = c .popped .ensures ∙ ap popped e in
-    (h .loop .inv .0, (omega arith, h .loop .inv .1 .1), rw (e, h .loop .inv .2) (fill-more k _ _), rw (f, h .loop .inv .3) (fill-more k (λ j. popped (getD l j noLane)) l))
+    let a : set (h .loop .row) k (record { body = (getD (h .loop .left) k noLane) .first }) ≡ rowBelow (k + 1) l =
+    rw (e, h .loop .inv .2) (fill-more k _ _) in
+    (h .loop .inv .0, (omega arith, h .loop .inv .1 .1), a, rw (f, h .loop .inv .3) (fill-more k (λ j. popped (getD l j noLane)) l))
 
 -- what the airing step came to
 module _ (d : tie.After-loop Inv-loop μ-loop) where
