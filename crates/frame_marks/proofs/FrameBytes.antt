@@ -9,8 +9,9 @@ use lib.ListN.{getD, take, drop}
 use lib.Seq.{getD-take, getD-drop, drop-drop}
 use lib.Dec.{ltb, eqb}
 use borrow.Author.Tests.{ltb-true, le-leb}
+use Rattle.kinds.specs.Body.{kindOf}
 use Rattle.kinds.specs.Limits.{numbersInside}
-use Rattle.kinds.proofs.Laws.{inside-back}
+use Rattle.kinds.proofs.Laws.{kind-back, inside-back}
 use Rattle.labels.specs.Packing.{unpacked, allLabels, allZero, wordInside}
 use Rattle.labels.proofs.Laws.{all-at}
 use Rattle.frame_rules.specs.declared.Record.{Record}
@@ -56,6 +57,9 @@ module _ (bytes : List ℕ) (at : ℕ) where
   unfolding recordOf
   count-in = sym (byte 1 (omega arith))
 
+  pub kind-in : getD bytes (at + 2) 0 ≡ getD p 2 0
+  kind-in = sym (byte 2 (omega arith))
+
   pub label-in : (k : ℕ) → getD (unpacked 16 (wordAt bytes (at + 12))) k 0 ≡ recordLabel (recordOf p) k
   unfolding recordOf
   label-in k = ap (λ (w : ℕ). getD (unpacked 16 w) k 0) (sym (word 12 (omega arith)))
@@ -65,10 +69,13 @@ module _ (bytes : List ℕ) (start r : ℕ) where
   abbrev at : ℕ
   at = start + 4 + 16 * r
 
-  pub record-at : recordOf (take 16 (drop at bytes)) ≡ recordAt bytes start r
-  record-at =
+  pub part-at : take 16 (drop at bytes) ≡ part (drop start bytes) r
+  part-at =
       let f : start + (4 + 16 * r) ≡ at = omega arith in
       rw (drop-drop (4 + 16 * r) start bytes, f)
+
+  pub record-at : recordOf (take 16 (drop at bytes)) ≡ recordAt bytes start r
+  record-at = ap recordOf part-at
 
   pub station-at : getD bytes at 0 ≡ (recordAt bytes start r) .station
   station-at = station-in bytes at ∙ ap (λ (x : Record). x .station) record-at
@@ -109,16 +116,29 @@ module _ (n : ℕ) (b : List ℕ) (h : bytesInside n b ≡ true) where
       let u = unpacked 16 (wordAt b 12) in
       rw (getD-take n u j 0 l) at (all-at (take n u) (and-left (allLabels (take n u)) (allZero (drop n u)) (and-right (t₁ && t₂ && t₃ && t₄) t₅ whole)) j)
 
+  numbers : t₃ ≡ true
+  numbers = and-right (t₁ && t₂) t₃ three
+
+  pub kind-is : kindOf ((recordOf b) .body) ≡ getD b 2 0
+  unfolding recordOf
+  kind-is = kind-back (getD b 2 0) (wordAt b 4) (signed (wordAt b 8)) numbers
+
   pub carried : Carried n (recordOf b)
   unfolding recordOf
   carried =
       record {
         station = ltb-true (getD b 0 0) n (and-left t₁ t₂ (and-left (t₁ && t₂) t₃ three));
         count = and-right t₁ t₂ (and-left (t₁ && t₂) t₃ three);
-        body = inside-back (getD b 2 0) (wordAt b 4) (signed (wordAt b 8)) (and-right (t₁ && t₂) t₃ three);
+        body = inside-back (getD b 2 0) (wordAt b 4) (signed (wordAt b 8)) numbers;
         labels = λ j l. le-leb _ 2 (labelled j l);
       }
 
 module _ (n : ℕ) (bytes : List ℕ) (start : ℕ) (fr : FrameAt n bytes start) where
+  inside : (r : ℕ) → r < getD (drop start bytes) 2 0 → bytesInside n (part (drop start bytes) r) ≡ true
+  inside r l = allBelow-at _ _ (fr .inside) r l
+
+  pub inside-at : (r : ℕ) → r < getD (drop start bytes) 2 0 → bytesInside n (take 16 (drop (start + 4 + 16 * r) bytes)) ≡ true
+  inside-at r l = ap (bytesInside n) (part-at bytes start r) ∙ inside r l
+
   pub carried-at : (r : ℕ) → r < getD (drop start bytes) 2 0 → Carried n (recordAt bytes start r)
-  carried-at r l = carried n (part (drop start bytes) r) (allBelow-at _ _ (fr .inside) r l)
+  carried-at r l = carried n (part (drop start bytes) r) (inside r l)

@@ -42,7 +42,7 @@ pub fn hear_all(
         let at = starts[place / 16] + 4 + 16 * (place % 16);
         let k = bytes[at] as usize;
         let old = station.table[k];
-        let lane = station.lanes[k];
+        let kept = old.labels;
         let e = heard_records::heard(
             bytes,
             at,
@@ -52,8 +52,8 @@ pub fn hear_all(
             station.acked[k],
             station.count,
             station.labels[k],
-            old,
-            lane,
+            kept,
+            station.lanes[k].len,
         );
         if e.overfull {
             return HeardAll {
@@ -64,17 +64,17 @@ pub fn hear_all(
             };
         }
         let entry = e.entry;
-        let longer = e.lane;
         station.acked[k] = e.acked;
         station.count = e.count;
         station.labels[k] = e.label;
         station.held[k] = true;
         station.table[k] = entry;
-        station.lanes[k] = longer;
         if !e.takes {
             continue;
         }
-        let body = e.body;
+        let body = entry.body;
+        let lane = station.lanes[k];
+        station.lanes[k] = lanes::pushed(lane, body);
         takings[len] = Taking {
             source: k,
             body: body,

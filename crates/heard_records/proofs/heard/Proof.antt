@@ -1,20 +1,20 @@
--- `heard_records::heard` meets its contract: each entry is what its function makes of the record that was read.
-use Prim.Native.Nat.{ℕ, _<_}
-use mathlib.Core.Path.{_≡_, ap, subst, sym, _∙_}
+-- `heard_records::heard` meets its contract: each entry is what the record that was read makes of it. Whether the body is Empty is seen by its kind byte, for the record's bytes are
+-- inside their limits.
+use Prim.Native.Nat.{ℕ, _+_, _<_}
+use native.Mathlib.Omega.{arith}
+use mathlib.Core.Path.{_≡_, ap, sym, _∙_}
 use mathlib.Core.Bool.{cond, not, _&&_, _||_}
 use mathlib.Core.List.{List}
-use lib.ListN.{take, drop}
+use lib.ListN.{getD, take, drop}
 use lib.Dec.{leb, eqb}
 use borrow.Author.Needs.{needs}
-use Rattle.kinds.specs.Body.{kindOf}
 use Rattle.labels.specs.Label.{successor}
 use Rattle.frame_rules.specs.declared.Record.{Record}
 use Rattle.frame_rules.specs.Record.{recordOf}
-use Rattle.lanes.specs.Lane.{pushed}
 use Rattle.station_rules.specs.State.{recordLabel, ownLabel}
-use Rattle.station_rules.specs.Hearing.{replaced, raised}
-use Rattle.frame_marks.proofs.FrameBytes.{part-in, station-in, label-in}
-use Rattle.heard_records.specs.Effects.{advancesAt, takesAt}
+use Rattle.station_rules.specs.Hearing.{raised}
+use Rattle.frame_marks.proofs.FrameBytes.{part-in, kind-in, label-in, kind-is, carried}
+use Rattle.heard_records.specs.Effects.{advancesAt, takesAt, keeping}
 use Rattle.heard_records.proofs.heard.Statement.{statement}
 use Rattle.heard_records.proofs.heard.Tie as tie
 
@@ -34,27 +34,32 @@ module _ (c : tie.After-read-record) where
 
   low : c .read-record .result .station < 16
   low =
-      subst (λ (k : ℕ). k < 16) (station-in bytes at ∙ ap (λ (x : Record). x .station) (sym read-is)) (c .before .before .before .pre .3)
+      let p = c .before .before .before .pre in
+      omega (arith, ap (λ (x : Record). x .station) read-is, carried _ _ (p .3) .station, p .1)
 
 -- what it shows
-module _ (c : tie.After-takes-body) where
+module _ (c : tie.After-successor) where
   abbrev read : tie.After-read-record
-  read = c .before .before .before .before
+  read = c .before .before .before
 
   abbrev known : ℕ
   known = read .before .before .before .args .label
 
-  own-label : c .before .before .before .label-at .result ≡ ownLabel (seen read)
+  own-label : c .before .before .label-at .result ≡ ownLabel (seen read)
   own-label =
-      c .before .before .before .label-at .ensures
+      c .before .before .label-at .ensures
       ∙ label-in (bytes read) (at read) _
       ∙ ap (λ (x : Record). recordLabel (seen read) (x .station)) (read-is read)
 
-  advances-is : eqb (c .before .before .before .label-at .result) (c .before .successor .result) ≡ advancesAt known (seen read)
-  advances-is = let l = own-label in let n = c .before .successor .ensures in λ i. eqb (l i) (n i)
+  advances-is : eqb (c .before .before .label-at .result) (c .successor .result) ≡ advancesAt known (seen read)
+  advances-is = let l = own-label in let n = c .successor .ensures in λ i. eqb (l i) (n i)
 
-  takes-is : c .takes-body .result ≡ takesAt known (seen read)
-  takes-is = let a = advances-is in let x = read-is read in c .takes-body .ensures ∙ (λ i. a i && not (eqb (kindOf ((x i) .body)) 0))
+  takes-is :
+      (eqb (c .before .before .label-at .result) (c .successor .result) && not (eqb (getD (bytes read) (at read + 2) 0) 0)) ≡ takesAt known (seen read)
+  takes-is =
+      let a = advances-is in
+      let k = kind-in (bytes read) (at read) ∙ sym (kind-is _ _ (read .before .before .before .pre .3)) in
+      λ i. a i && not (eqb (k i) 0)
 
 add-read-record : tie.Need-add-read-record
 add-read-record c = search needs
@@ -86,11 +91,11 @@ label-at-requires-2 c κs = search needs
 successor-requires : tie.Need-successor-requires
 successor-requires c κs = tt
 
-takes-body-requires : tie.Need-takes-body-requires
-takes-body-requires c κs = tt
+add-takes : tie.Need-add-takes
+add-takes c = search needs
 
-overfills-requires : tie.Need-overfills-requires
-overfills-requires c κs = tt
+shared-slice-read-takes : tie.Need-shared-slice-read-takes
+shared-slice-read-takes c = search needs
 
 count-after-requires : tie.Need-count-after-requires
 count-after-requires c κs = tt
@@ -98,11 +103,8 @@ count-after-requires c κs = tt
 label-after-requires : tie.Need-label-after-requires
 label-after-requires c κs = tt
 
-replaced-requires : tie.Need-replaced-requires
-replaced-requires c κs = search needs
-
-lane-after-requires : tie.Need-lane-after-requires
-lane-after-requires c κs = tt
+over-requires : tie.Need-over-requires
+over-requires c κs = search needs
 
 returns : tie.Need-returns
 returns c =
@@ -110,17 +112,14 @@ returns c =
     let g = read w .before .before .before .args in
     let a = advances-is w in
     let t = takes-is w in
-    let x = read-is (read w) in
-    let o = w .before .before .label-at2 .ensures ∙ label-in (bytes (read w)) (at (read w)) (g .own) in
+    let o = w .before .label-at2 .ensures ∙ label-in (bytes (read w)) (at (read w)) (g .own) in
     record {
-      overfull = c .before .before .before .before .overfills .ensures ∙ (λ i. t i && leb 2 (g .lane .len));
+      overfull = λ i. t i && leb 2 (g .lane-len);
       takes = t;
-      body = ap (λ (r : Record). r .body) x;
       acked = λ i. g .acked || eqb (o i) (g .own-label);
       count = c .before .before .before .count-after .ensures ∙ (λ i. cond (a i) (raised (g .count)) (g .count));
       label = c .before .before .label-after .ensures ∙ (λ i. cond (a i) (successor (g .label)) (g .label));
-      entry = c .before .replaced .ensures ∙ (λ i. replaced (g .n) (g .old) (x i));
-      lane = c .lane-after .ensures ∙ (λ i. cond (t i) (pushed (g .lane) ((x i) .body)) (g .lane));
+      entry = rw (c .over .ensures) (ap (keeping (g .n) (g .kept)) (read-is (read w)));
     }
 
 pub heard-spec : {M : Type 1} → statement M
@@ -137,10 +136,9 @@ heard-spec =
     add-label-at-2
     label-at-requires-2
     successor-requires
-    takes-body-requires
-    overfills-requires
+    add-takes
+    shared-slice-read-takes
     count-after-requires
     label-after-requires
-    replaced-requires
-    lane-after-requires
+    over-requires
     returns)
