@@ -8,12 +8,14 @@ use mathlib.Core.List.{List, [], _∷_, _++_, append-assoc, append-nil}
 use lib.Dec.{leb}
 use native.Mathlib.Decide.{ℕ-discrete}
 use lib.ListN.{getD, set, length, replicate, length-append}
-use lib.Seq.{set-at}
+use lib.Seq.{set-at, set-getD}
 use Rattle.frame_rules.specs.declared.Record.{Record}
+use Rattle.lanes.specs.declared.Lane.{Lane}
+use Rattle.lanes.specs.Lane.{pushed, noLane}
 use Rattle.station_rules.specs.declared.Station.{Station}
 use Rattle.station_rules.specs.declared.Taking.{Taking}
 use Rattle.station_rules.specs.State.{ackedOf, labelOf, recordOf, laneAt}
-use Rattle.station_rules.specs.Hearing.{Hearing, silent, heeds, takes, heardNewer, hearRecord}
+use Rattle.station_rules.specs.Hearing.{Hearing, silent, heeds, takes, replaced, heardNewer, hearRecord}
 use Rattle.station_rules.specs.Frames.{noTaking}
 use Rattle.station_rules.proofs.HearRecord.{heardOne, hearRecord-skips, hearRecord-heeds}
 use Rattle.station_rules.proofs.LimitsHearing.{Hears, takings-bounded}
@@ -113,9 +115,9 @@ module _ (h : Hearing) (r : Record) (s : Station) (t : List Taking) (l : ℕ) (a
       let f' : (takes (h .station) r && leb 2 ((laneAt (h .station) (r .station)) .len)) ≡ true = rw (a .station) at f in
       rw (hearRecord-heeds h r c', a .free, f')
 
--- the station with what a record does stored in the places of station k
-abbrev pub stored : Station → ℕ → Effect → Station
-stored s k e =
+-- the station with what a record does stored in the places of station k, and with these lanes
+abbrev pub stored : Station → ℕ → Effect → List Lane → Station
+stored s k e lanes =
     record {
       n = s .n;
       own = s .own;
@@ -126,12 +128,13 @@ stored s k e =
       labels = set (s .labels) k (e .label);
       held = set (s .held) k true;
       table = set (s .table) k (e .entry);
-      lanes = set (s .lanes) k (e .lane);
+      lanes = lanes;
     }
 
 -- what record r does at station s, which has the entries of station k for it
 abbrev pub Does : Station → ℕ → ℕ → ℕ → Record → Effect → Type 0
-Does s n own k r e = Effects n own (labelOf s own) (ackedOf s k) (s .count) (labelOf s k) (recordOf s k) (laneAt s k) r e
+Does s n own k r e =
+    Effects n own (labelOf s own) (ackedOf s k) (s .count) (labelOf s k) ((recordOf s k) .labels) ((laneAt s k) .len) r e
 
 -- a newer record of station k
 module _
@@ -141,9 +144,8 @@ module _
   here : Does s (s .n) (s .own) (r .station) r e
   here = rw (k-is, n-is, own-is) at does
 
-  stored-is : stored s k e ≡ heardNewer s r
-  unfolding heardNewer
-  stored-is = rw (here .acked, here .count, here .label, here .entry, here .lane, k-is)
+  body-is : (e .entry) .body ≡ r .body
+  body-is = ap (λ (x : Record). x .body) (here .entry)
 
   takes-is : (b : Bool) → e .takes ≡ b → takes s r ≡ b
   takes-is b f = sym (here .takes) ∙ f
@@ -151,11 +153,20 @@ module _
   two : e .takes ≡ true → e .overfull ≡ false → leb 2 ((laneAt s (r .station)) .len) ≡ false
   two f g = rw (takes-is true f) at (sym (here .overfull) ∙ g)
 
+  -- where the body is not taken the lanes stay, and else its station's lane gets it
+  stored-kept : e .takes ≡ false → stored s k e (s .lanes) ≡ heardNewer s r
+  unfolding heardNewer replaced
+  stored-kept f = rw (here .acked, here .count, here .label, here .entry, k-is, takes-is false f, set-getD (s .lanes) (r .station) noLane)
+
+  stored-taken : e .takes ≡ true → stored s k e (set (s .lanes) k (pushed (laneAt s k) ((e .entry) .body))) ≡ heardNewer s r
+  unfolding heardNewer replaced
+  stored-taken f = rw (here .acked, here .count, here .label, here .entry, k-is, takes-is true f)
+
   pub newer-full : e .overfull ≡ true → (hearRecord h r) .overfull ≡ true
   newer-full f = over h r s t l a new (sym (here .overfull) ∙ f)
 
-  pub newer-kept : e .takes ≡ false → At (hearRecord h r) (stored s k e) t l
-  newer-kept f = rw stored-is (at-kept h r s t l a new (takes-is false f))
+  pub newer-kept : e .takes ≡ false → At (hearRecord h r) (stored s k e (s .lanes)) t l
+  newer-kept f = rw (stored-kept f) (at-kept h r s t l a new (takes-is false f))
 
   -- the body is taken, and there is room for it
   module _ (begin : Station) (hears : Hears (silent begin) (hearRecord h r)) (taken : e .takes ≡ true) (free : e .overfull ≡ false) where
@@ -167,5 +178,7 @@ module _
           takings-bounded begin (hearRecord h r) hears (taken-free h r s t l a new (takes-is true taken) (two taken free)),
         )
 
-    pub newer-taken : At (hearRecord h r) (stored s k e) (set t l (record { source = k; body = e .body })) (l + 1)
-    newer-taken = rw (stored-is, here .body, k-is) (at-taken h r s t l a new (takes-is true taken) (two taken free) newer-room)
+    pub newer-taken :
+        At (hearRecord h r) (stored s k e (set (s .lanes) k (pushed (laneAt s k) ((e .entry) .body))))
+        (set t l (record { source = k; body = (e .entry) .body })) (l + 1)
+    newer-taken = rw (stored-taken taken, body-is, k-is) (at-taken h r s t l a new (takes-is true taken) (two taken free) newer-room)

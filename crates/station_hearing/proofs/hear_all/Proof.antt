@@ -16,7 +16,7 @@ use Rattle.station_rules.proofs.Lengths.{lengths}
 use Rattle.station_rules.proofs.LimitsHear.{Carried}
 use Rattle.station_rules.proofs.LimitsHearing.{Hears, hears-none, hears-record, takings-bounded}
 use Rattle.frame_marks.specs.Marks.{sizeAt}
-use Rattle.frame_marks.proofs.FrameBytes.{station-at, record-at, carried-at}
+use Rattle.frame_marks.proofs.FrameBytes.{station-at, record-at, inside-at, carried-at}
 use Rattle.newer_records.specs.Newer.{placeRecord, heardAt, NewerAt}
 use Rattle.newer_records.proofs.SieveSteps.{heardAt-none, heardAt-more}
 use Rattle.station_hearing.proofs.HearSteps.{At, at-start, Does, newer-full, newer-kept, newer-room, newer-taken, overfull-later}
@@ -185,12 +185,6 @@ mul-old c = record { fits = omega (arith, low (c .before .before)) }
 element-copy-out-old : tie.Need-element-copy-out-old Inv-loop μ-loop
 element-copy-out-old c = low (c .before .before) .5
 
-mul-lane : tie.Need-mul-lane Inv-loop μ-loop
-mul-lane c = record { fits = omega (arith, low (c .before .before .before)) }
-
-element-copy-out-lane : tie.Need-element-copy-out-lane Inv-loop μ-loop
-element-copy-out-lane c = low (c .before .before .before) .5
-
 element-copy-out-heard : tie.Need-element-copy-out-heard Inv-loop μ-loop
 element-copy-out-heard c = low (c .before .before .before .before) .6
 
@@ -200,10 +194,17 @@ element-copy-out-heard-2 c = low (c .before .before .before .before .before) .5
 element-copy-out-heard-3 : tie.Need-element-copy-out-heard-3 Inv-loop μ-loop
 element-copy-out-heard-3 c = low (c .before .before .before .before .before .before) .5
 
+mul-heard : tie.Need-mul-heard Inv-loop μ-loop
+mul-heard c = record { fits = omega (arith, low (c .before .before .before .before .before .before .before)) }
+
+element-copy-out-heard-4 : tie.Need-element-copy-out-heard-4 Inv-loop μ-loop
+element-copy-out-heard-4 c = low (c .before .before .before .before .before .before .before) .5
+
 heard-requires : tie.Need-heard-requires Inv-loop μ-loop
 heard-requires c κs =
-    let l = low (c .before .before .before .before .before .before .before) in
-    (l .3, l .7, l .6, l .5)
+    let v = c .before .before .before .before .before .before .before in
+    let l = low v in
+    (l .3, l .7, l .6, inside-at (s v .n) (bytes v) (start v) (frame v) (place v % 16) (below v))
 
 returns : tie.Need-returns Inv-loop μ-loop
 returns c =
@@ -217,32 +218,26 @@ returns c =
     record { overfull = sym e; station = λ z. absurd (true≢false z); len = λ z. absurd (true≢false z); takings = λ z. absurd (true≢false z); few = λ z. absurd (true≢false z) }
 
 element-write-station : tie.Need-element-write-station Inv-loop μ-loop
-element-write-station c = low (turn (c .before .before .before)) .5
+element-write-station c = low (turn (c .before .before)) .5
 
 element-write-station-2 : tie.Need-element-write-station-2 Inv-loop μ-loop
-element-write-station-2 c = low (turn (c .before .before .before)) .5
+element-write-station-2 c = low (turn (c .before .before)) .5
 
 element-write-station-3 : tie.Need-element-write-station-3 Inv-loop μ-loop
-element-write-station-3 c = low (turn (c .before .before .before)) .5
+element-write-station-3 c = low (turn (c .before .before)) .5
 
 mul-entry : tie.Need-mul-entry Inv-loop μ-loop
-mul-entry c = record { fits = omega (arith, low (turn (c .before .before .before))) }
+mul-entry c = record { fits = omega (arith, low (turn (c .before .before))) }
 
 element-set-from-entry : tie.Need-element-set-from-entry Inv-loop μ-loop
-element-set-from-entry c = low (turn (c .before .before .before)) .5
-
-mul-longer : tie.Need-mul-longer Inv-loop μ-loop
-mul-longer c = record { fits = omega (arith, low (turn (c .before .before .before))) }
-
-element-set-from-longer : tie.Need-element-set-from-longer Inv-loop μ-loop
-element-set-from-longer c = low (turn (c .before .before .before)) .5
+element-set-from-entry c = low (turn (c .before .before)) .5
 
 loop-less : tie.Need-loop-less Inv-loop μ-loop
-loop-less c = omega (arith, (turn (c .before .before .before .before .before)) .loop-test .taken)
+loop-less c = omega (arith, (turn (c .before .before .before .before)) .loop-test .taken)
 
 loop-again : tie.Need-loop-again Inv-loop μ-loop
 loop-again c =
-    let w = c .before .before .before .before .before in
+    let w = c .before .before .before .before in
     let v = turn w in
     let e = heardAt-more (s v) (bytes v) (starts v) (places v) (i v) in (
       omega (arith, v .loop-test .taken),
@@ -251,33 +246,49 @@ loop-again c =
     )
 
 -- the body is taken
-room : (c : tie.Else2 Inv-loop μ-loop) → (turn (c .before .before .before .before .before)) .before .loop .len < 30
+room : (c : tie.Else2 Inv-loop μ-loop) → (turn (c .before .before .before .before)) .before .loop .len < 30
 room c =
-    let w = c .before .before .before .before .before in
+    let w = c .before .before .before .before in
     let v = turn w in
     newer-room (so-far v) (old v) _ _ (seen v) (k v) (s v .n) (s v .own) (w .heard .result) (is-at v) (heeded v) (k-is v) (n-is v) (own-is v) (does w) (s v) (hears-more v)
-    (not-false _ (c .if2 .left)) (c .before .before .before .before .if1 .left)
+    (not-false _ (c .if2 .left)) (c .before .before .before .if1 .left)
+
+mul-lane : tie.Need-mul-lane Inv-loop μ-loop
+mul-lane c = record { fits = omega (arith, low (turn (c .before .before .before .before))) }
+
+element-copy-out-lane : tie.Need-element-copy-out-lane Inv-loop μ-loop
+element-copy-out-lane c = low (turn (c .before .before .before .before)) .5
+
+pushed-requires : tie.Need-pushed-requires Inv-loop μ-loop
+pushed-requires c κs = tt
+
+mul-t32 : tie.Need-mul-t32 Inv-loop μ-loop
+mul-t32 c = record { fits = omega (arith, low (turn (c .before .before .before .before .before .before))) }
+
+element-set-from-station : tie.Need-element-set-from-station Inv-loop μ-loop
+element-set-from-station c = low (turn (c .before .before .before .before .before .before)) .5
 
 mul-takings : tie.Need-mul-takings Inv-loop μ-loop
-mul-takings c = record { fits = omega (arith, room c) }
+mul-takings c = record { fits = omega (arith, room (c .before .before)) }
 
 array-set-from-takings : tie.Need-array-set-from-takings Inv-loop μ-loop
-array-set-from-takings c = room c
+array-set-from-takings c = room (c .before .before)
 
 add-len : tie.Need-add-len Inv-loop μ-loop
-add-len c = record { fits = omega (arith, room c) }
+add-len c = record { fits = omega (arith, room (c .before .before)) }
 
 loop-less-2 : tie.Need-loop-less-2 Inv-loop μ-loop
-loop-less-2 c = omega (arith, (turn (c .before .before .before .before .before)) .loop-test .taken)
+loop-less-2 c = omega (arith, (turn (c .before .before .before .before .before .before)) .loop-test .taken)
 
 loop-again-2 : tie.Need-loop-again-2 Inv-loop μ-loop
 loop-again-2 c =
-    let w = c .before .before .before .before .before in
+    let w = c .before .before .before .before .before .before in
     let v = turn w in
     let e = heardAt-more (s v) (bytes v) (starts v) (places v) (i v) in (
       omega (arith, v .loop-test .taken),
-      rw e (newer-taken (so-far v) (old v) _ _ (seen v) (k v) (s v .n) (s v .own) (w .heard .result) (is-at v) (heeded v) (k-is v) (n-is v) (own-is v) (does w) (s v) (hears-more v)
-          (not-false _ (c .if2 .left)) (c .before .before .before .before .if1 .left)),
+      rw (e, c .pushed .ensures)
+          (newer-taken (so-far v) (old v) _ _ (seen v) (k v) (s v .n) (s v .own) (w .heard .result) (is-at v) (heeded v) (k-is v) (n-is v) (own-is v) (does w) (s v) (hears-more v)
+          (not-false _ (c .before .before .if2 .left)) (c .before .before .before .before .before .if1 .left)),
       rw e (hears-more v),
     )
 
@@ -311,11 +322,11 @@ hear-all-spec =
     cast-k
     mul-old
     element-copy-out-old
-    mul-lane
-    element-copy-out-lane
     element-copy-out-heard
     element-copy-out-heard-2
     element-copy-out-heard-3
+    mul-heard
+    element-copy-out-heard-4
     heard-requires
     returns
     element-write-station
@@ -323,10 +334,13 @@ hear-all-spec =
     element-write-station-3
     mul-entry
     element-set-from-entry
-    mul-longer
-    element-set-from-longer
     loop-less
     loop-again
+    mul-lane
+    element-copy-out-lane
+    pushed-requires
+    mul-t32
+    element-set-from-station
     mul-takings
     array-set-from-takings
     add-len
