@@ -1,4 +1,4 @@
-// What a newer record does: to what a station has of the record's station, to its count, and what it takes.
+// What a newer record does to what a station has of the record's station and to its count, and whether its body is taken.
 
 ghost use mathlib.Core.Path.{_≡_};
 ghost use mathlib.Core.Bool.{true, cond};
@@ -43,8 +43,8 @@ fn label_after(advances: bool, label: u8) -> u8
     labels::successor(label)
 }
 
-// What the record that begins at a place does. The station has this own label and count, and of the record's station these entries: whether it is acknowledged, the label, the held
-// record's labels and how many bodies are in the lane.
+// What the record that begins at a place does, where the station has this own label and count, and of the record's station this acknowledgement, this label, these labels in the held
+// record and this many bodies in the lane.
 pub fn heard(
     bytes: &[u8],
     at: usize,
@@ -64,7 +64,8 @@ pub fn heard(
     let seen_label = records::label_at(bytes, at + 12, seen.station);
     let answer = records::label_at(bytes, at + 12, own);
     let advances = seen_label == labels::successor(label);
-    let takes = advances & (bytes[at + 2] != 0);
+    let kind = bytes[at + 2];
+    let takes = advances & (kind != 0);
     let count_now = count_after(advances, count);
     let label_now = label_after(advances, label);
     let body = seen.body;

@@ -91,11 +91,11 @@ label-at-requires-2 c κs = search needs
 successor-requires : tie.Need-successor-requires
 successor-requires c κs = tt
 
-add-takes : tie.Need-add-takes
-add-takes c = search needs
+add-kind : tie.Need-add-kind
+add-kind c = search needs
 
-shared-slice-read-takes : tie.Need-shared-slice-read-takes
-shared-slice-read-takes c = search needs
+shared-slice-read-kind : tie.Need-shared-slice-read-kind
+shared-slice-read-kind c = search needs
 
 count-after-requires : tie.Need-count-after-requires
 count-after-requires c κs = tt
@@ -136,8 +136,8 @@ heard-spec =
     add-label-at-2
     label-at-requires-2
     successor-requires
-    add-takes
-    shared-slice-read-takes
+    add-kind
+    shared-slice-read-kind
     count-after-requires
     label-after-requires
     over-requires
