@@ -16,9 +16,7 @@ abbrev μ-loop : tie.MeasureT-loop
 μ-loop n labels over₀ k₀ over k = n - k
 
 returns : tie.Need-returns Inv-loop μ-loop
-returns c =
-    let a = c .before .args in
-    rw (c .if1 .taken) (sym (fill-all 16 (a .t2) (a .old) 0 (omega arith) (omega arith)))
+returns c = rw (c .if1 .taken) (sym (fill-all 16 _ _ 0 (omega arith) (omega arith)))
 
 loop-holds : tie.Need-loop-holds Inv-loop μ-loop
 unfolding fill
