@@ -130,11 +130,14 @@ pub fn word_inside(word: u32, n: usize) -> bool
     (threes | above) == 0
 }
 
-// The first n labels over the old ones.
+// The first n labels over the old ones: all sixteen are the labels themselves.
 pub fn over(n: usize, labels: [u8; 16], old: [u8; 16]) -> [u8; 16]
     requires { ⌜ n ≤ 16 ⌝ }
     ensures { λ r. ⌜ r ≡ fill n (λ k. getD labels k 0) old ⌝ }
 {
+    if n == 16 {
+        return labels;
+    }
     let mut over = old;
     let mut k: usize = 0;
     while k < n {

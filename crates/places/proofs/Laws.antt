@@ -169,6 +169,14 @@ module _ {A : Type 0} where
   fill-ext zero f g l h = refl
   fill-ext (suc n) f g l h = rw (fill-ext n f g l (λ k b. h k (omega arith)), h n (omega arith))
 
+  -- every place filled with the entries of a list of the same length
+  pub fill-all : (n : ℕ) (m l : List A) (d : A) → length m ≡ n → length l ≡ n → fill n (λ k. getD m k d) l ≡ m
+  fill-all n m l d e₁ e₂ =
+      ext-getD d (fill n (λ k. getD m k d) l) m (length-fill n (λ k. getD m k d) l ∙ e₂ ∙ sym e₁)
+      (λ i h.
+      let b : i < length l = omega (arith, length-fill n (λ k. getD m k d) l) in
+      fill-below n (λ k. getD m k d) l i d (omega arith) b)
+
   pub gather-ext :
       (n : ℕ) (t₁ t₂ : ℕ → Bool) (f g : ℕ → A) → ((k : ℕ) → k < n → t₁ k ≡ t₂ k) → ((k : ℕ) → k < n → f k ≡ g k) →
       gather n t₁ f ≡ gather n t₂ g

@@ -1,11 +1,11 @@
--- `labels::over` meets its contract: the labels passed are the new ones.
+-- `labels::over` meets its contract: sixteen labels are the answer themselves, and of fewer the labels passed are the new ones.
 use Prim.Native.Nat.{_≤_, _-_}
 use native.Mathlib.Omega.{arith}
-use mathlib.Core.Path.{_≡_, refl, _∙_}
+use mathlib.Core.Path.{_≡_, refl, sym, _∙_}
 use lib.ListN.{getD}
 use borrow.Author.Needs.{needs}
 use Rattle.places.specs.Places.{fill}
-use Rattle.places.proofs.Laws.{fill-more}
+use Rattle.places.proofs.Laws.{fill-more, fill-all}
 use Rattle.labels.proofs.over.Statement.{statement}
 use Rattle.labels.proofs.over.Tie as tie
 
@@ -14,6 +14,9 @@ Inv-loop n labels over₀ k₀ over k = (k ≤ n) × (over ≡ fill k (λ j. get
 
 abbrev μ-loop : tie.MeasureT-loop
 μ-loop n labels over₀ k₀ over k = n - k
+
+returns : tie.Need-returns Inv-loop μ-loop
+returns c = rw (c .if1 .taken) (sym (fill-all 16 _ _ 0 (omega arith) (omega arith)))
 
 loop-holds : tie.Need-loop-holds Inv-loop μ-loop
 unfolding fill
@@ -34,9 +37,9 @@ loop-less c = search needs
 loop-again : tie.Need-loop-again Inv-loop μ-loop
 loop-again c = (omega arith, rw (c .before .loop .inv .1) (fill-more (c .before .loop .k) _ _))
 
-returns : tie.Need-returns Inv-loop μ-loop
-returns c =
-    let e : c .before .loop .k ≡ c .before .before .args .n = omega arith in
+returns-2 : tie.Need-returns-2 Inv-loop μ-loop
+returns-2 c =
+    let e : c .before .loop .k ≡ c .before .before .before .args .n = omega arith in
     c .before .loop .inv .1 ∙ rw e
 
 pub over-spec : {M : Type 1} → statement M
@@ -45,10 +48,11 @@ over-spec =
     (tie.spec
     Inv-loop
     μ-loop
+    returns
     loop-holds
     array-read-over
     array-write-over
     add-k
     loop-less
     loop-again
-    returns)
+    returns-2)
