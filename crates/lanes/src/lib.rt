@@ -52,25 +52,6 @@ pub fn pushed(lane: Lane, body: Body) -> Lane
     }
 }
 
-// The lane without its oldest body.
-pub fn popped(lane: Lane) -> Lane
-    ensures { λ r. ⌜ r ≡ laneSpec.popped lane ⌝ }
-{
-    if lane.len <= 1 {
-        return Lane {
-            len: 0,
-            first: Body::Empty,
-            second: Body::Empty,
-        };
-    }
-    let second = lane.second;
-    Lane {
-        len: 1,
-        first: second,
-        second: Body::Empty,
-    }
-}
-
 // The queue with one more body, put last.
 pub fn queued(queue: Queue, body: Body) -> Queue
     requires { ⌜ queue .len < 32 ⌝ }

@@ -1,7 +1,7 @@
 -- What a turn makes of a station: the answer built from the parts of the turn is the definition's.
-use Prim.Native.Nat.{ℕ, _≤_, _<_}
+use Prim.Native.Nat.{ℕ, _≤_, _<_, _+_}
 use native.Mathlib.Omega.{arith}
-use mathlib.Core.Path.{_≡_, refl, sym, _∙_}
+use mathlib.Core.Path.{_≡_, refl, ap, sym, _∙_}
 use mathlib.Core.Bool.{Bool, true, false, cond, _&&_}
 use mathlib.Core.List.{List}
 use lib.ListN.{getD, set, replicate}
@@ -13,7 +13,7 @@ use Rattle.kinds.specs.declared.Body.the-variants.{Empty, Neutral}
 use Rattle.kinds.specs.Body.{kindOf}
 use Rattle.labels.specs.Label.{successor}
 use Rattle.places.specs.Places.{fill}
-use Rattle.places.proofs.Laws.{and-right}
+use Rattle.places.proofs.Laws.{fill-more, fill-above, and-right}
 use Rattle.lanes.specs.declared.Lane.{Lane}
 use Rattle.lanes.specs.declared.Queue.{Queue}
 use Rattle.lanes.specs.declared.Slot.{Slot}
@@ -52,6 +52,17 @@ rowBelow m l = fill m (λ k. record { body = (getD l k noLane) .first }) (replic
 
 abbrev pub leftBelow : ℕ → List Lane → List Lane
 leftBelow m l = fill m (λ k. popped (getD l k noLane)) l
+
+-- the next lane: its oldest body joins the row, and the lane without it takes its place
+module _ (l left : List Lane) (k : ℕ) (e : left ≡ leftBelow k l) where
+  next-lane : getD left k noLane ≡ getD l k noLane
+  next-lane = rw e (fill-above k (λ j. popped (getD l j noLane)) l k noLane (omega arith))
+
+  pub row-more : (row : List Slot) → row ≡ rowBelow k l → set row k (record { body = (getD left k noLane) .first }) ≡ rowBelow (k + 1) l
+  row-more row r = rw (next-lane, r) (fill-more k _ _)
+
+  pub left-more : (x : Lane) → x ≡ popped (getD left k noLane) → set left k x ≡ leftBelow (k + 1) l
+  left-more x p = rw (p ∙ ap popped next-lane, e) (fill-more k (λ j. popped (getD l j noLane)) l)
 
 pub aired-row : (s : Station) → rowBelow (cond (airs s) (s .n) 0) (s .lanes) ≡ cond (airs s) (rowOf s) (replicate 16 noSlot)
 unfolding rowOf

@@ -6,6 +6,7 @@ ghost use Rattle.station_rules.specs.Limits.{stationInside};
 ghost use Rattle.station_rules.specs.Calls.{turnDone};
 use frame_rules::Record;
 use kinds::Body;
+use lanes::Lane;
 use lanes::Slot;
 use station_rules::Station;
 use station_rules::TurnReport;
@@ -33,8 +34,23 @@ pub fn take_turn(s: Station) -> Turned
         let lane = left[k];
         let body = lane.first;
         row[k] = Slot { body: body };
-        left[k] = lanes::popped(lane);
+        let len = lane.len;
+        let i = k;
         k += 1;
+        if len <= 1 {
+            left[i] = Lane {
+                len: 0,
+                first: Body::Empty,
+                second: Body::Empty,
+            };
+            continue;
+        }
+        let second = lane.second;
+        left[i] = Lane {
+            len: 1,
+            first: second,
+            second: Body::Empty,
+        };
     }
     let ended = turn_parts::all_acked(n, had);
     let own_lane = left[own];

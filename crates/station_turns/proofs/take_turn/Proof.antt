@@ -1,20 +1,20 @@
 -- `station_turns::take_turn` meets its contract: the loop airs a row, or nothing; then each part of the answer is the definition's.
-use Prim.Native.Nat.{ℕ, _≤_, _<_, _+_, _-_}
+use Prim.Native.Nat.{ℕ, _≤_, _<_, _-_}
 use native.Mathlib.Omega.{arith}
 use mathlib.Core.Path.{_≡_, refl, ap, _∙_}
 use mathlib.Core.Bool.{Bool, cond}
-use lib.ListN.{getD, set, replicate}
+use lib.ListN.{getD, replicate}
 use lib.Dec.{eqb}
 use borrow.Author.Needs.{needs}
 use Rattle.places.specs.Places.{fill}
-use Rattle.places.proofs.Laws.{fill-more, fill-above}
-use Rattle.lanes.specs.Lane.{noLane, popped}
+use Rattle.lanes.specs.Lane.{noLane}
 use Rattle.lanes.specs.Queue.{noSlot}
+use Rattle.lanes.proofs.LaneSteps.{pop-one, pop-two}
 use Rattle.station_rules.specs.declared.Station.{Station}
 use Rattle.station_rules.specs.Turn.{airs, rowOf, lanesAfter, ends}
 use Rattle.station_rules.proofs.LimitsQueue.{queue-most}
 use Rattle.station_rules.proofs.StationLimits.{inside-open}
-use Rattle.station_turns.proofs.TurnSteps.{rowBelow, leftBelow, most-if, fill-if, aired-row, aired-lanes, waits, turn-made}
+use Rattle.station_turns.proofs.TurnSteps.{rowBelow, leftBelow, row-more, left-more, most-if, fill-if, aired-row, aired-lanes, waits, turn-made}
 use Rattle.station_turns.proofs.take_turn.Statement.{statement}
 use Rattle.station_turns.proofs.take_turn.Tie as tie
 
@@ -50,17 +50,15 @@ mul-row c = search needs
 array-set-from-row : tie.Need-array-set-from-row Inv-loop μ-loop
 array-set-from-row c = search needs
 
-popped-requires : tie.Need-popped-requires Inv-loop μ-loop
-popped-requires c κs = search needs
+add-k : tie.Need-add-k Inv-loop μ-loop
+add-k c = search needs
 
+-- a lane of one body or none is left with none
 mul-left : tie.Need-mul-left Inv-loop μ-loop
 mul-left c = search needs
 
 array-set-from-left : tie.Need-array-set-from-left Inv-loop μ-loop
 array-set-from-left c = search needs
-
-add-k : tie.Need-add-k Inv-loop μ-loop
-add-k c = search needs
 
 loop-less : tie.Need-loop-less Inv-loop μ-loop
 loop-less c = search needs
@@ -69,13 +67,27 @@ loop-again : tie.Need-loop-again Inv-loop μ-loop
 loop-again c =
     let h = c .before .before .before in
     let l = h .before .before .before .before .before .before .before .args .s .lanes in
-    let k = h .loop .k in
-    let e : getD (h .loop .left) k noLane ≡ getD l k noLane =
-    rw (h .loop .inv .3) (fill-above k (λ j. popped (getD l j noLane)) l k noLane (omega arith)) in
-    let f : c .popped .result ≡ popped (getD l k noLane) = c .popped .ensures ∙ ap popped e in
-    let a : set (h .loop .row) k (record { body = (getD (h .loop .left) k noLane) .first }) ≡ rowBelow (k + 1) l =
-    rw (e, h .loop .inv .2) (fill-more k _ _) in
-    (h .loop .inv .0, (omega arith, h .loop .inv .1 .1), a, rw (f, h .loop .inv .3) (fill-more k (λ j. popped (getD l j noLane)) l))
+    let v = h .loop .inv in
+    let p = pop-one (getD (h .loop .left) (h .loop .k) noLane) (c .if1 .taken) in
+    (v .0, (omega arith, v .1 .1), row-more l (h .loop .left) (h .loop .k) (v .3) (h .loop .row) (v .2), left-more l (h .loop .left) (h .loop .k) (v .3) _ p)
+
+-- a lane of two is left with its second
+mul-left-2 : tie.Need-mul-left-2 Inv-loop μ-loop
+mul-left-2 c = search needs
+
+array-set-from-left-2 : tie.Need-array-set-from-left-2 Inv-loop μ-loop
+array-set-from-left-2 c = search needs
+
+loop-less-2 : tie.Need-loop-less-2 Inv-loop μ-loop
+loop-less-2 c = search needs
+
+loop-again-2 : tie.Need-loop-again-2 Inv-loop μ-loop
+loop-again-2 c =
+    let h = c .before .before .before in
+    let l = h .before .before .before .before .before .before .before .args .s .lanes in
+    let v = h .loop .inv in
+    let p = pop-two (getD (h .loop .left) (h .loop .k) noLane) (c .if1 .left) in
+    (v .0, (omega arith, v .1 .1), row-more l (h .loop .left) (h .loop .k) (v .3) (h .loop .row) (v .2), left-more l (h .loop .left) (h .loop .k) (v .3) _ p)
 
 -- what the airing step came to
 module _ (d : tie.After-loop Inv-loop μ-loop) where
@@ -178,13 +190,13 @@ array-set-from-table c =
 lane-with-requires : tie.Need-lane-with-requires Inv-loop μ-loop
 lane-with-requires c κs = search needs
 
-mul-left-2 : tie.Need-mul-left-2 Inv-loop μ-loop
-mul-left-2 c =
+mul-left-3 : tie.Need-mul-left-3 Inv-loop μ-loop
+mul-left-3 c =
     let h = own-in (c .before .before .before .before .before .before .before .before .before .before .before .before .before .before .before .before .before .before) in
     search needs
 
-array-set-from-left-2 : tie.Need-array-set-from-left-2 Inv-loop μ-loop
-array-set-from-left-2 c =
+array-set-from-left-3 : tie.Need-array-set-from-left-3 Inv-loop μ-loop
+array-set-from-left-3 c =
     let h = own-in (c .before .before .before .before .before .before .before .before .before .before .before .before .before .before .before .before .before .before) in
     search needs
 
@@ -226,12 +238,15 @@ take-turn-spec =
     array-copy-out-lane
     mul-row
     array-set-from-row
-    popped-requires
+    add-k
     mul-left
     array-set-from-left
-    add-k
     loop-less
     loop-again
+    mul-left-2
+    array-set-from-left-2
+    loop-less-2
+    loop-again-2
     all-acked-requires
     mul-own-lane
     array-copy-out-own-lane
@@ -253,6 +268,6 @@ take-turn-spec =
     mul-table
     array-set-from-table
     lane-with-requires
-    mul-left-2
-    array-set-from-left-2
+    mul-left-3
+    array-set-from-left-3
     returns)
