@@ -106,16 +106,16 @@ fn sift_changes(
     let mut len = before;
     let mut r = marks[start + 32] as usize;
     while r < records {
-        let i = r;
-        let next = i + 1;
+        let at = r;
+        let next = at + 1;
         r = marks[start + 32 + next] as usize;
-        let mark = marks[start + 2 * i] as usize;
-        let count = marks[start + 2 * i + 1];
+        let mark = marks[start + 2 * at] as usize;
+        let count = marks[start + 2 * at + 1];
         if (count as u16) < bars[mark] {
             continue;
         }
         raise(bars, mark / 4, (mark % 4) as u8, count);
-        places[len] = (16 * f + i) as u8;
+        places[len] = (16 * f + at) as u8;
         len += 1;
     }
     len
@@ -158,7 +158,7 @@ pub fn find_newer(
         ⌜ ((f : ℕ) → f < count → FrameAt (s .n) (now bytes) (getD starts f 0)) ⌝ ∗
         ⌜ ((f : ℕ) → f < count → MarksAt (now bytes) (now marks) (getD starts f 0)) ⌝ ∗
         ⌜ ((f : ℕ) → f + 1 < count → getD starts (f + 1) 0 ≡ getD starts f 0 + 260 →
-            ChangesAt (now bytes) (now marks) (getD starts f 0) (getD starts (f + 1) 0)) ⌝ }
+        ChangesAt (now bytes) (now marks) (getD starts f 0) (getD starts (f + 1) 0)) ⌝ }
     ensures { λ r. ⌜ NewerAt s (now (bytes .entry)) starts count (r .places) (r .len) ⌝ }
 {
     let mut bars = bars_of(s);
