@@ -12,7 +12,7 @@ use Rattle.station_rules.specs.Frames.{FrameAt}
 use Rattle.group_rules.specs.State.{stationAt, sizeOf, groupInside}
 use Rattle.group_frames.specs.Frames.{frameStart, FramesBelow, FramesAt}
 use Rattle.group_rules.proofs.Members.{member-at}
-use Rattle.group_frames.proofs.SentFrame.{heard-records, frame-at, frame-few}
+use Rattle.group_frames.proofs.SentFrame.{heard-records, frame-at, frame-few, frame-ascending}
 
 module _ (g : List Station) (inside : groupInside g ≡ true) (counts : (k : ℕ) → k < sizeOf g → ownCountInside (stationAt g k) ≡ true)
     (bytes : List ℕ) (frames : FramesBelow g (sizeOf g) bytes) where
@@ -27,6 +27,9 @@ module _ (g : List Station) (inside : groupInside g ≡ true) (counts : (k : ℕ
         few =
             λ k l.
             frame-few (stationAt g k) (member-at g inside k l .inside) (counts k l) bytes (frameStart k) (frames .frame k l);
+        ascending =
+            λ k l.
+            frame-ascending (stationAt g k) (member-at g inside k l .inside) (counts k l) bytes (frameStart k) (frames .frame k l);
       }
 
   pub records-of : (k : ℕ) → k < sizeOf g → recordsOf (drop (frameStart k) bytes) ≡ sentRecords (stationAt g k)

@@ -1,16 +1,18 @@
 -- The frame of a station inside its limits: it fits into 260 bytes, and where it stands in a list of bytes it is heard as the very
 -- records that the table sends. The bytes past the frame are in no record's part.
-use Prim.Native.Nat.{ℕ, suc, _+_, _*_, _-_, _≤_, _<_}
+use Prim.Native.Nat.{ℕ, zero, suc, _+_, _*_, _-_, _≤_, _<_}
 use mathlib.Core.Bool.{true}
 use mathlib.Core.List.{List, _++_}
-use mathlib.Core.Path.{_≡_, refl, sym, ap, _∙_}
+use mathlib.Core.Path.{_≡_, refl, sym, ap, subst, _∙_}
+use native.Mathlib.Decide.{ℕ-discrete}
 use native.Mathlib.Omega.{arith}
 use lib.ListN.{getD, take, drop, length, length-drop, length-append, take-append-drop}
 use lib.Seq.{take-append-le, drop-append-le}
-use Rattle.places.proofs.Laws.{and-left, allBelow-at, allBelow-make, tabulate-ext}
+use borrow.Author.Tests.{ltb-true, ne-eqb}
+use Rattle.places.proofs.Laws.{and-left, and-right, allBelow-at, allBelow-make, tabulate-ext}
 use Rattle.frame_rules.specs.declared.Record.{Record}
 use Rattle.frame_rules.specs.Record.{recordOf, bytesInside}
-use Rattle.frame_rules.specs.Frame.{part, recordsInside, recordsOf, frameBytes}
+use Rattle.frame_rules.specs.Frame.{part, stationAt, recordsInside, recordsOf, frameBytes}
 use Rattle.frame_rules.specs.Calls.{tableRecords}
 use Rattle.frame_rules.proofs.Bytes.{length-frame}
 use Rattle.frame_rules.proofs.Check.{accepted-frame}
@@ -22,6 +24,8 @@ use Rattle.station_rules.specs.Calls.{ownCountInside, frameOf}
 use Rattle.station_rules.specs.Frames.{FrameAt}
 use Rattle.station_rules.proofs.StationLimits.{Inside}
 use Rattle.station_rules.proofs.SentFrame.{place, record-fits, sent-read, sent-accepted}
+use Rattle.frame_marks.specs.Marks.{recordAt}
+use Rattle.frame_marks.specs.Changes.{Ascending}
 
 module _ (s : Station) (c : Inside s) where
   abbrev records : List Record
@@ -55,6 +59,25 @@ module _ (s : Station) (c : Inside s) where
         (sent-accepted s c fits (suc (s .own)) (λ e. absurd (omega arith)))
         .records-right in
         and-left (bytesInside (s .n) (part (frameOf s) k)) _ (allBelow-at (getD (frameOf s) 2 0) _ (and-left _ _ ok) k (rw amount l))
+
+    ascends-next : (k : ℕ) → suc k < length records → stationAt (frameOf s) k < stationAt (frameOf s) (suc k)
+    unfolding recordsInside
+    ascends-next k l =
+        let ok =
+        accepted-frame (frameOf s) (s .n) (suc (s .own))
+        (sent-accepted s c fits (suc (s .own)) (λ e. absurd (omega arith)))
+        .records-right in
+        let next =
+        and-right (bytesInside (s .n) (part (frameOf s) (suc k))) _ (allBelow-at (getD (frameOf s) 2 0) _ (and-left _ _ ok) (suc k) (rw amount l)) in
+        ltb-true (stationAt (frameOf s) k) (stationAt (frameOf s) (suc k)) (rw (ne-eqb (suc k) 0 (omega arith)) at next)
+
+    ascends-to : (r q : ℕ) → q < r → r < length records → stationAt (frameOf s) q < stationAt (frameOf s) r
+    ascends-to zero q l b = absurd (omega arith)
+    ascends-to (suc r) q l b =
+        elim (ℕ-discrete q r) [
+          | yes e ↦ subst (λ (i : ℕ). stationAt (frameOf s) i < stationAt (frameOf s) (suc r)) (sym e) (ascends-next r b)
+          | no d ↦ omega (arith, ascends-next r b, ascends-to r q (omega arith) (omega arith))
+        ]
 
     -- where the frame stands
     module _ (bytes : List ℕ) (start : ℕ) (here : take (length (frameOf s)) (drop start bytes) ≡ frameOf s) where
@@ -98,4 +121,17 @@ module _ (s : Station) (c : Inside s) where
                 rw counted
                 (allBelow-make (length records) (λ k. bytesInside (s .n) (part (drop start bytes) k))
                 (λ k l. ap (bytesInside (s .n)) (part-is k l) ∙ inside-parts k l));
+          }
+
+      station-is : (k : ℕ) → k < length records → (recordAt bytes start k) .station ≡ stationAt (frameOf s) k
+      unfolding recordOf
+      station-is k l = ap (λ (b : List ℕ). getD b 0 0) (part-is k l)
+
+      pub frame-ascending : Ascending bytes start
+      frame-ascending =
+          record {
+            ascends =
+                λ q r l b.
+                let low : r < length records = rw counted at b in
+                omega (arith, station-is q (omega arith), station-is r low, ascends-to r q l low);
           }

@@ -55,13 +55,34 @@ pub fn send(bytes: &mut [u8], s: Station, n: usize, k: usize, refusal: u32) -> u
 }
 
 // Writes the marks of the frames of n stations, those of each frame from its start on.
-pub fn mark_frames(marks: &mut [u8], bytes: &[u8], n: usize)
+fn put_all_marks(marks: &mut [u8], bytes: &[u8], n: usize)
     requires { ⌜ (n ≤ 16) × (length (now marks) ≡ 4160) ⌝ ∗ ⌜ spec.FramesAt n (now bytes) ⌝ }
-    ensures { λ _. ⌜ spec.MarksBelow n (now (bytes .entry)) (now (marks .exit)) ⌝ }
+    ensures { λ _. ⌜ (length (now (marks .exit)) ≡ 4160) × spec.MarkedBelow n (now (bytes .entry)) (now (marks .exit)) ⌝ }
 {
     let mut k: usize = 0;
     while k < n {
         frame_marks::put_marks(marks, bytes, FRAME_ROOM * k);
         k += 1;
     }
+}
+
+// Writes beside the marks of each frame but the first what it says anew after the frame before.
+fn put_all_changes(marks: &mut [u8], bytes: &[u8], n: usize)
+    requires { ⌜ (n ≤ 16) × (length (now marks) ≡ 4160) ⌝ ∗ ⌜ spec.FramesAt n (now bytes) ⌝ ∗ ⌜ spec.MarkedBelow n (now bytes) (now marks) ⌝ }
+    ensures { λ _. ⌜ spec.MarksBelow n (now (bytes .entry)) (now (marks .exit)) ⌝ }
+{
+    let mut k: usize = 1;
+    while k < n {
+        frame_marks::put_changes(marks, bytes, FRAME_ROOM * (k - 1), FRAME_ROOM * k);
+        k += 1;
+    }
+}
+
+// Writes the marks of the frames of n stations, those of each frame from its start on, and what each says anew.
+pub fn mark_frames(marks: &mut [u8], bytes: &[u8], n: usize)
+    requires { ⌜ (n ≤ 16) × (length (now marks) ≡ 4160) ⌝ ∗ ⌜ spec.FramesAt n (now bytes) ⌝ }
+    ensures { λ _. ⌜ spec.MarksBelow n (now (bytes .entry)) (now (marks .exit)) ⌝ }
+{
+    put_all_marks(marks, bytes, n);
+    put_all_changes(marks, bytes, n);
 }

@@ -1,8 +1,9 @@
--- Hearing from the starts that a mask lists: each is the start of a frame with its marks, as hearing asks for.
-use Prim.Native.Nat.{ℕ, _≤_, _<_}
+-- Hearing from the starts that a mask lists: each is the start of a frame with its marks, and of two right after each other it is known
+-- what the second says anew, as hearing asks for.
+use Prim.Native.Nat.{ℕ, _+_, _≤_, _<_}
 use mathlib.Core.Bool.{true}
 use mathlib.Core.List.{List}
-use mathlib.Core.Path.{_≡_, sym, subst}
+use mathlib.Core.Path.{_≡_, refl, sym, subst}
 use native.Mathlib.Omega.{arith}
 use lib.ListN.{getD}
 use Rattle.station_rules.specs.declared.Station.{Station}
@@ -11,9 +12,16 @@ use Rattle.station_rules.specs.declared.HeardAll.{HeardAll}
 use Rattle.station_rules.specs.Frames.{FrameAt, HearsAll}
 use Rattle.station_rules.proofs.StationLimits.{inside-open}
 use Rattle.frame_marks.specs.Marks.{MarksAt}
+use Rattle.frame_marks.specs.Changes.{ChangesAt}
 use Rattle.group_frames.specs.Frames.{frameStart, FramesAt, MarksBelow}
 use Rattle.group_turns.specs.Mask.{heardCount, heardStarts}
 use Rattle.group_turns.proofs.MaskStarts.{count-below, starts-at}
+
+-- a start is that of a sender's frame
+record StartOf (n start : ℕ) : Type 0 where
+  sender : ℕ
+  below : sender < n
+  is : start ≡ frameStart sender
 
 module _ (s : Station) (inside : stationInside s ≡ true) where
   pub few : s .n ≤ 16
@@ -28,12 +36,27 @@ module _ (s : Station) (inside : stationInside s ≡ true) where
         subst (λ (a : List ℕ). P (getD a f 0)) (sym starts-is)
         (starts-at (s .n) masks (s .own) P each few (s .n) (omega arith) f (omega (arith, count-is)))
 
+    sender : (f : ℕ) → f < count → StartOf (s .n) (getD starts f 0)
+    sender = each-start (StartOf (s .n)) (λ k l. record { sender = k; below = l; is = refl })
+
+    -- two frames of which one stands right after the other are those of a station and the next
+    changed :
+        (f : ℕ) → f + 1 < count → getD starts (f + 1) 0 ≡ getD starts f 0 + 260 → ChangesAt bytes marks (getD starts f 0) (getD starts (f + 1) 0)
+    changed f l e =
+        let a = sender f (omega arith) in
+        let b = sender (f + 1) l in
+        let c = marked .changed (a .sender) (omega (arith, a .is, b .is, b .below, e)) in
+        let next : frameStart (a .sender + 1) ≡ getD starts (f + 1) 0 = omega (arith, a .is, e) in
+        subst (λ (x : ℕ). ChangesAt bytes marks x (getD starts (f + 1) 0)) (sym (a .is)) (subst (ChangesAt bytes marks (frameStart (a .sender))) next c)
+
     pub may-hear :
         ((count ≤ 16) × (stationInside s ≡ true))
-        × (((f : ℕ) → f < count → FrameAt (s .n) bytes (getD starts f 0)) × ((f : ℕ) → f < count → MarksAt bytes marks (getD starts f 0)))
+        × (((f : ℕ) → f < count → FrameAt (s .n) bytes (getD starts f 0))
+        × (((f : ℕ) → f < count → MarksAt bytes marks (getD starts f 0))
+        × ((f : ℕ) → f + 1 < count → getD starts (f + 1) 0 ≡ getD starts f 0 + 260 → ChangesAt bytes marks (getD starts f 0) (getD starts (f + 1) 0))))
     may-hear = (
       (omega (arith, count-is, count-below (s .n) masks (s .own) (s .n), few), inside),
-      (each-start (FrameAt (s .n) bytes) (frames .frame), each-start (MarksAt bytes marks) marked),
+      (each-start (FrameAt (s .n) bytes) (frames .frame), (each-start (MarksAt bytes marks) (marked .marked), changed)),
     )
 
     pub mask-heard :

@@ -37,7 +37,7 @@ bar-newer true old count label seen b = next (eqb label (successor old)) (eqb la
     next false false = lt-ltb seen 256 b
 
 -- the three bars of a station of which a record is held
-bar-same : (label count x : ℕ) → label ≤ 2 → x ≡ label → barOf true label count x ≡ count + 1
+pub bar-same : (label count x : ℕ) → label ≤ 2 → x ≡ label → barOf true label count x ≡ count + 1
 unfolding barOf
 bar-same label count x l e = rw (ne-eqb x (successor label) (omega arith), eq-eqb x label e)
 

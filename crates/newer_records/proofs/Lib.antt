@@ -1,3 +1,5 @@
 pub mod BarLaws
+pub mod ChangeSieve
+pub mod NextFrame
 pub mod SieveLaws
 pub mod SieveSteps

@@ -220,6 +220,13 @@ module _
   follows-all z a =
       record { few = omega (arith, a .few, most); frame = a .frame; number = a .number; heeded = a .heeded; all = a .all }
 
+  -- the records of the frames
+  carry-of : (f : ℕ) (low : f < count) (r : ℕ) → r < sizeAt bytes (getD starts f 0) → Carried (s .n) (recordAt bytes (getD starts f 0) r)
+  carry-of f low r l = carried-at (s .n) bytes (getD starts f 0) (frames f low) r l
+
+  pub label-of : (f : ℕ) (low : f < count) (r : ℕ) → r < sizeAt bytes (getD starts f 0) → ownLabel (recordAt bytes (getD starts f 0) r) ≤ 2
+  label-of f low r l = let c = carry-of f low r l in leb-true _ 2 (c .labels _ (c .station))
+
   -- the marks of a frame may be sifted
   pub follows-siftable :
       (h : Hearing) (f : ℕ) (z : Sieve) → f < count → Follows h (16 * f) z →
@@ -237,9 +244,3 @@ module _
         label = λ r l. omega (arith, m .mark r l, label-of f low r l);
         count = λ r l. omega (arith, m .count r l, within .high, leb-true _ (2 * (s .n - 1)) (carry-of f low r l .count));
       }
-    where
-      carry-of : (f : ℕ) (low : f < count) (r : ℕ) → r < sizeAt bytes (getD starts f 0) → Carried (s .n) (recordAt bytes (getD starts f 0) r)
-      carry-of f low r l = carried-at (s .n) bytes (getD starts f 0) (frames f low) r l
-
-      label-of : (f : ℕ) (low : f < count) (r : ℕ) → r < sizeAt bytes (getD starts f 0) → ownLabel (recordAt bytes (getD starts f 0) r) ≤ 2
-      label-of f low r l = let c = carry-of f low r l in leb-true _ 2 (c .labels _ (c .station))

@@ -7,10 +7,14 @@ ghost use lib.ListN.{getD, length};
 ghost use Rattle.station_rules.specs.Limits.{stationInside};
 ghost use Rattle.station_rules.specs.Frames.{FrameAt};
 ghost use Rattle.frame_marks.specs.Marks.{MarksAt};
+ghost use Rattle.frame_marks.specs.Changes.{ChangesAt};
 ghost use Rattle.newer_records.specs.Bars.{Bars, barred};
-ghost use Rattle.newer_records.specs.Sieve.{Siftable, Sifts};
+ghost use Rattle.newer_records.specs.Sieve.{Siftable, Skippable, Sifts};
 ghost use Rattle.newer_records.specs.Newer.{NewerAt};
 use station_rules::Station;
+
+// How far after the frame before a frame begins whose changes are known.
+const FRAME_ROOM: usize = 260;
 
 // The places of newer records, in the order heard: 16 × the number of the frame + that of the record in it.
 pub struct Found {
@@ -85,6 +89,63 @@ fn sift(
     len
 }
 
+// The same for a frame of which it is known where it says something new.
+fn sift_changes(
+    bars: &mut [u16],
+    places: &mut [u8],
+    before: usize,
+    marks: &[u8],
+    start: usize,
+    records: usize,
+    f: usize,
+) -> usize
+    requires { ⌜ Siftable (now bars) (now places) before (now marks) start records f ⌝ ∗ ⌜ Skippable (now bars) (now marks) start records ⌝ }
+    ensures { λ r.
+        ⌜ Sifts (now (bars .entry)) (now (places .entry)) before (now (marks .entry)) start records f (now (bars .exit)) (now (places .exit)) r ⌝ }
+{
+    let mut len = before;
+    let mut r = marks[start + 32] as usize;
+    while r < records {
+        let at = r;
+        let next = at + 1;
+        r = marks[start + 32 + next] as usize;
+        let mark = marks[start + 2 * at] as usize;
+        let count = marks[start + 2 * at + 1];
+        if (count as u16) < bars[mark] {
+            continue;
+        }
+        raise(bars, mark / 4, (mark % 4) as u8, count);
+        places[len] = (16 * f + at) as u8;
+        len += 1;
+    }
+    len
+}
+
+// The same for a frame that is heard after the one that begins at `last`: where it stands right after that one, only what it says anew is sifted.
+fn sift_next(
+    bars: &mut [u16],
+    places: &mut [u8],
+    before: usize,
+    marks: &[u8],
+    last: usize,
+    start: usize,
+    records: usize,
+    f: usize,
+) -> usize
+    requires { ⌜ Siftable (now bars) (now places) before (now marks) start records f ⌝ ∗
+        ⌜ (start ≡ last + 260 → Skippable (now bars) (now marks) start records) ⌝ }
+    ensures { λ r.
+        ⌜ Sifts (now (bars .entry)) (now (places .entry)) before (now (marks .entry)) start records f (now (bars .exit)) (now (places .exit)) r ⌝ }
+{
+    if start < last {
+        return sift(bars, places, before, marks, start, records, f);
+    }
+    if start - last != FRAME_ROOM {
+        return sift(bars, places, before, marks, start, records, f);
+    }
+    sift_changes(bars, places, before, marks, start, records, f)
+}
+
 // The places of the records that are newer when they are heard, of the frames that begin at the first `count` of the starts.
 pub fn find_newer(
     s: Station,
@@ -95,18 +156,22 @@ pub fn find_newer(
 ) -> Found
     requires { ⌜ (count ≤ 16) × (stationInside s ≡ true) ⌝ ∗
         ⌜ ((f : ℕ) → f < count → FrameAt (s .n) (now bytes) (getD starts f 0)) ⌝ ∗
-        ⌜ ((f : ℕ) → f < count → MarksAt (now bytes) (now marks) (getD starts f 0)) ⌝ }
+        ⌜ ((f : ℕ) → f < count → MarksAt (now bytes) (now marks) (getD starts f 0)) ⌝ ∗
+        ⌜ ((f : ℕ) → f + 1 < count → getD starts (f + 1) 0 ≡ getD starts f 0 + 260 →
+        ChangesAt (now bytes) (now marks) (getD starts f 0) (getD starts (f + 1) 0)) ⌝ }
     ensures { λ r. ⌜ NewerAt s (now (bytes .entry)) starts count (r .places) (r .len) ⌝ }
 {
     let mut bars = bars_of(s);
     let mut places = [0u8; 256];
     let mut len: usize = 0;
+    let mut last = starts[0];
     let mut f: usize = 0;
     while f < count {
         let start = starts[f];
         let records = bytes[start + 2] as usize;
-        let more = sift(&mut bars, &mut places, len, marks, start, records, f);
+        let more = sift_next(&mut bars, &mut places, len, marks, last, start, records, f);
         len = more;
+        last = start;
         f += 1;
     }
     Found {

@@ -2,11 +2,12 @@
 
 ghost use mathlib.Core.Path.{_≡_};
 ghost use mathlib.Core.Bool.{true};
-ghost use Prim.Native.Nat.{ℕ, _≤_, _<_};
+ghost use Prim.Native.Nat.{ℕ, _+_, _≤_, _<_};
 ghost use lib.ListN.{getD};
 ghost use Rattle.station_rules.specs.Limits.{stationInside};
 ghost use Rattle.station_rules.specs.Frames.{FrameAt, HearsAll};
 ghost use Rattle.frame_marks.specs.Marks.{MarksAt};
+ghost use Rattle.frame_marks.specs.Changes.{ChangesAt};
 use kinds::Body;
 use station_rules::HeardAll;
 use station_rules::Station;
@@ -22,7 +23,9 @@ pub fn hear_all(
 ) -> HeardAll
     requires { ⌜ (count ≤ 16) × (stationInside s ≡ true) ⌝ ∗
         ⌜ ((f : ℕ) → f < count → FrameAt (s .n) (now bytes) (getD starts f 0)) ⌝ ∗
-        ⌜ ((f : ℕ) → f < count → MarksAt (now bytes) (now marks) (getD starts f 0)) ⌝ }
+        ⌜ ((f : ℕ) → f < count → MarksAt (now bytes) (now marks) (getD starts f 0)) ⌝ ∗
+        ⌜ ((f : ℕ) → f + 1 < count → getD starts (f + 1) 0 ≡ getD starts f 0 + 260 →
+        ChangesAt (now bytes) (now marks) (getD starts f 0) (getD starts (f + 1) 0)) ⌝ }
     ensures { λ r. ⌜ HearsAll s (now (bytes .entry)) starts count r ⌝ }
 {
     let n = s.n;

@@ -2,7 +2,7 @@
 -- hearing.
 use Prim.Native.Nat.{ℕ, _+_, _-_, _*_, _^_, _≤_, _<_}
 use native.Mathlib.Omega.{arith}
-use mathlib.Core.Path.{_≡_, sym, subst, _∙_}
+use mathlib.Core.Path.{_≡_, refl, sym, ap, subst, _∙_}
 use mathlib.Core.List.{List}
 use lib.ListN.{getD, length, replicate}
 use lib.Seq.{getD-drop}
@@ -12,7 +12,8 @@ use Rattle.station_rules.specs.Frames.{hearFrames}
 use Rattle.station_rules.proofs.StationLimits.{Inside, inside-open}
 use Rattle.station_rules.proofs.Lengths.{lengths}
 use Rattle.frame_marks.specs.Marks.{sizeAt}
-use Rattle.newer_records.specs.Sieve.{Sieve, sifted, Siftable}
+use Rattle.newer_records.specs.Sieve.{Sieve, sifted, Siftable, Skippable}
+use Rattle.newer_records.proofs.NextFrame.{follows-skippable}
 use Rattle.newer_records.proofs.SieveSteps.{siftedFrames, frames-none, frames-more}
 use Rattle.newer_records.proofs.SieveLaws.{Follows, follows-none, follows-frames, follows-all, follows-siftable}
 use Rattle.newer_records.proofs.find_newer.Statement.{statement}
@@ -22,11 +23,11 @@ abbrev sieve : List ℕ → List ℕ → ℕ → Sieve
 sieve bars places len = record { bars = bars; places = places; len = len }
 
 abbrev Inv-loop : tie.InvT-loop
-Inv-loop bytes marks count starts bars₀ places₀ len₀ f₀ bars places len f =
-    (f ≤ count) × (sieve bars places len ≡ siftedFrames (sieve bars₀ places₀ len₀) bytes marks starts f)
+Inv-loop bytes marks count starts bars₀ places₀ len₀ last₀ f₀ bars places len last f =
+    (f ≤ count) × (sieve bars places len ≡ siftedFrames (sieve bars₀ places₀ len₀) bytes marks starts f) × (last ≡ getD starts (f - 1) 0)
 
 abbrev μ-loop : tie.MeasureT-loop
-μ-loop bytes marks count starts bars₀ places₀ len₀ f₀ bars places len f = count - f
+μ-loop bytes marks count starts bars₀ places₀ len₀ last₀ f₀ bars places len last f = count - f
 
 -- after some frames
 module _ (c : tie.At-loop Inv-loop μ-loop) where
@@ -57,15 +58,21 @@ module _ (c : tie.At-loop Inv-loop μ-loop) where
   within : Inside s
   within = inside-open s (c .before .before .before .before .pre .0 .1)
 
+  follows-first :
+      Follows s bytes starts marks count within (c .before .before .before .before .pre .0 .0) (c .before .before .before .before .pre .1 .0)
+      (c .before .before .before .before .pre .1 .1 .0) (silent s) 0 first
+  follows-first =
+      let p = c .before .before .before .before .pre in
+      follows-none s bytes starts marks count within (p .0 .0) (p .1 .0) (p .1 .1 .0) (c .before .bars-of .result)
+      (lengths s (c .before .before .before .before .good .0)) (c .before .bars-of .ensures)
+
   follows :
       Follows s bytes starts marks count within (c .before .before .before .before .pre .0 .0) (c .before .before .before .before .pre .1 .0)
-      (c .before .before .before .before .pre .1 .1) (hearFrames (silent s) bytes starts f) (16 * f) now-sieve
+      (c .before .before .before .before .pre .1 .1 .0) (hearFrames (silent s) bytes starts f) (16 * f) now-sieve
   follows =
       let p = c .before .before .before .before .pre in
-      let z = follows-none s bytes starts marks count within (p .0 .0) (p .1 .0) (p .1 .1) (c .before .bars-of .result)
-      (lengths s (c .before .before .before .before .good .0)) (c .before .bars-of .ensures) in
-      subst (Follows s bytes starts marks count within (p .0 .0) (p .1 .0) (p .1 .1) (hearFrames (silent s) bytes starts f) (16 * f)) (sym (c .loop .inv .1))
-      (follows-frames s bytes starts marks count within (p .0 .0) (p .1 .0) (p .1 .1) first z f (c .loop .inv .0))
+      subst (Follows s bytes starts marks count within (p .0 .0) (p .1 .0) (p .1 .1 .0) (hearFrames (silent s) bytes starts f) (16 * f)) (sym (c .loop .inv .1))
+      (follows-frames s bytes starts marks count within (p .0 .0) (p .1 .0) (p .1 .1 .0) first follows-first f (c .loop .inv .0))
 
 -- a frame
 module _ (c : tie.In-loop Inv-loop μ-loop) where
@@ -85,7 +92,7 @@ module _ (c : tie.In-loop Inv-loop μ-loop) where
         omega (arith, p .0 .0),
         p .1 .0 (f (c .before)) l .room,
         c .before .before .before .before .before .good .1 .0 .0,
-        omega (arith, size-is, p .1 .1 (f (c .before)) l .few),
+        omega (arith, size-is, p .1 .1 .0 (f (c .before)) l .few),
       )
 
   siftable :
@@ -93,14 +100,28 @@ module _ (c : tie.In-loop Inv-loop μ-loop) where
   siftable =
       let p = c .before .before .before .before .before .pre in
       rw size-is
-      (follows-siftable (s (c .before)) (bytes (c .before)) (starts (c .before)) (marks (c .before)) (count (c .before)) (within (c .before)) (p .0 .0) (p .1 .0) (p .1 .1)
+      (follows-siftable (s (c .before)) (bytes (c .before)) (starts (c .before)) (marks (c .before)) (count (c .before)) (within (c .before)) (p .0 .0) (p .1 .0) (p .1 .1 .0)
       _ (f (c .before)) (now-sieve (c .before)) (c .loop-test .taken) (follows (c .before)))
+
+  skippable :
+      start ≡ c .before .loop .last + 260 →
+      Skippable (c .before .loop .bars) (marks (c .before)) start (getD (bytes (c .before)) (start + 2) 0)
+  skippable e =
+      let v = c .before in
+      let p = v .before .before .before .before .pre in
+      rw size-is
+      (subst (λ (x : Sieve). Skippable (x .bars) (marks v) start size) (sym (v .loop .inv .1))
+      (follows-skippable (s v) (bytes v) (starts v) (marks v) (count v) (within v) (p .0 .0) (p .1 .0) (p .1 .1 .0) (first v) (follows-first v) (p .1 .1 .1) (f v)
+      (v .loop .last) (c .loop-test .taken) (v .loop .inv .2) e))
 
 bars-of-requires : tie.Need-bars-of-requires Inv-loop μ-loop
 bars-of-requires c κs = c .before .before .pre .0 .1
 
+array-read-last : tie.Need-array-read-last Inv-loop μ-loop
+array-read-last c = omega arith
+
 loop-holds : tie.Need-loop-holds Inv-loop μ-loop
-loop-holds c = (omega arith, sym (frames-none _ _ _ _))
+loop-holds c = (omega arith, sym (frames-none _ _ _ _), refl)
 
 mul-start : tie.Need-mul-start Inv-loop μ-loop
 mul-start c = record { fits = omega (arith, low c) }
@@ -117,14 +138,14 @@ shared-slice-read-records c = omega (arith, low (c .before))
 cast-records : tie.Need-cast-records Inv-loop μ-loop
 cast-records c = record { fits = omega (arith, low (c .before)) }
 
-slice-aggregate-sift : tie.Need-slice-aggregate-sift Inv-loop μ-loop
-slice-aggregate-sift c = sym (siftable (c .before .before) .bars-size)
+slice-aggregate-sift-next : tie.Need-slice-aggregate-sift-next Inv-loop μ-loop
+slice-aggregate-sift-next c = sym (siftable (c .before .before) .bars-size)
 
-slice-aggregate-sift-2 : tie.Need-slice-aggregate-sift-2 Inv-loop μ-loop
-slice-aggregate-sift-2 c = sym (siftable (c .before .before .before) .places-size)
+slice-aggregate-sift-next-2 : tie.Need-slice-aggregate-sift-next-2 Inv-loop μ-loop
+slice-aggregate-sift-next-2 c = sym (siftable (c .before .before .before) .places-size)
 
-sift-requires : tie.Need-sift-requires Inv-loop μ-loop
-sift-requires c κs = siftable (c .before .before .before)
+sift-next-requires : tie.Need-sift-next-requires Inv-loop μ-loop
+sift-next-requires c κs = let v = c .before .before .before in (siftable v, skippable v)
 
 add-f : tie.Need-add-f Inv-loop μ-loop
 add-f c = record { fits = omega (arith, low (c .before .before .before .before .before .before)) }
@@ -138,9 +159,10 @@ loop-again c =
     let e = v .before .loop .inv .1 in
     let m = size-is v in (
       omega (arith, v .loop-test .taken),
-      c .before .before .sift .ensures
+      c .before .before .sift-next .ensures
           ∙ (λ i. sifted (e i) (marks (v .before)) (start v) (f (v .before)) (m i))
           ∙ sym (frames-more (first (v .before)) (bytes (v .before)) (marks (v .before)) (starts (v .before)) (f (v .before))),
+      ap (λ (j : ℕ). getD (starts (v .before)) j 0) {x = f (v .before)} {y = f (v .before) + 1 - 1} (omega arith),
     )
 
 returns : tie.Need-returns Inv-loop μ-loop
@@ -148,8 +170,8 @@ returns c =
     let v = c .before in
     let p = v .before .before .before .before .pre in
     let e : f v ≡ count v = omega (arith, v .loop .inv .0, c .loop-test .left) in
-    follows-all (s v) (bytes v) (starts v) (marks v) (count v) (within v) (p .0 .0) (p .1 .0) (p .1 .1) (now-sieve v)
-    (subst (λ (j : ℕ). Follows (s v) (bytes v) (starts v) (marks v) (count v) (within v) (p .0 .0) (p .1 .0) (p .1 .1) (hearFrames (silent (s v)) (bytes v) (starts v) j) (16 * j) (now-sieve v)) e (follows v))
+    follows-all (s v) (bytes v) (starts v) (marks v) (count v) (within v) (p .0 .0) (p .1 .0) (p .1 .1 .0) (now-sieve v)
+    (subst (λ (j : ℕ). Follows (s v) (bytes v) (starts v) (marks v) (count v) (within v) (p .0 .0) (p .1 .0) (p .1 .1 .0) (hearFrames (silent (s v)) (bytes v) (starts v) j) (16 * j) (now-sieve v)) e (follows v))
 
 pub find-newer-spec : {M : Type 1} → statement M
 find-newer-spec =
@@ -158,15 +180,16 @@ find-newer-spec =
     Inv-loop
     μ-loop
     bars-of-requires
+    array-read-last
     loop-holds
     mul-start
     array-read-start
     add-records
     shared-slice-read-records
     cast-records
-    slice-aggregate-sift
-    slice-aggregate-sift-2
-    sift-requires
+    slice-aggregate-sift-next
+    slice-aggregate-sift-next-2
+    sift-next-requires
     add-f
     loop-less
     loop-again

@@ -79,7 +79,7 @@ hear-all-requires c κs =
     λ f l. let z : f ≡ 0 = omega arith in rw z (frame-at (a .bytes .now) (a .s .n) (a .s .own) e) in
     let most = few (a .bytes .now) (a .s .n) (a .s .own) e in
     let marks = marked-at (a .bytes .now) (replicate 32 0) _ 0 most (omega (arith, most)) (c .before .before .put-marks .ensures) in
-    ((omega arith, within (d .before .before)), (one, one-marked _ _ marks))
+    ((omega arith, within (d .before .before)), (one, (one-marked _ _ marks, λ f l e. absurd (omega arith))))
 
 returns-3 : tie.Need-returns-3
 returns-3 c =

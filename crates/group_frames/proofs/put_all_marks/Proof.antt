@@ -1,16 +1,16 @@
--- `group_frames::mark_frames` meets its contract: the marks of the frames passed stand.
+-- `group_frames::put_all_marks` meets its contract: the marks of the frames passed stand.
 use Prim.Native.Nat.{ℕ, _-_, _≤_}
 use native.Mathlib.Omega.{arith}
 use mathlib.Core.Path.{_≡_, sym, subst, _∙_}
 use lib.ListN.{length}
 use borrow.Author.Needs.{needs}
-use Rattle.group_frames.specs.Frames.{MarksBelow}
+use Rattle.group_frames.specs.Frames.{MarkedBelow}
 use Rattle.group_frames.proofs.WrittenMarks.{may-mark, marks-more}
-use Rattle.group_frames.proofs.mark_frames.Statement.{statement}
-use Rattle.group_frames.proofs.mark_frames.Tie as tie
+use Rattle.group_frames.proofs.put_all_marks.Statement.{statement}
+use Rattle.group_frames.proofs.put_all_marks.Tie as tie
 
 abbrev Inv-loop : tie.InvT-loop
-Inv-loop marks₀ bytes n k₀ marks k = (k ≤ n) × (n ≤ 16) × (length marks ≡ 4160) × MarksBelow k bytes marks
+Inv-loop marks₀ bytes n k₀ marks k = (k ≤ n) × (n ≤ 16) × (length marks ≡ 4160) × MarkedBelow k bytes marks
 
 abbrev μ-loop : tie.MeasureT-loop
 μ-loop marks₀ bytes n k₀ marks k = n - k
@@ -53,10 +53,10 @@ returns c =
     let a = c .before .before .before .before .args in
     let l = c .before .loop in
     let e : l .k ≡ a .n = omega arith in
-    subst (λ (m : ℕ). MarksBelow m (a .bytes .now) (l .marks)) e (l .inv .3)
+    (l .inv .2, subst (λ (m : ℕ). MarkedBelow m (a .bytes .now) (l .marks)) e (l .inv .3))
 
-pub mark-frames-spec : {M : Type 1} → statement M
-mark-frames-spec =
+pub put-all-marks-spec : {M : Type 1} → statement M
+put-all-marks-spec =
     tie.close
     (tie.spec
     Inv-loop
