@@ -1,4 +1,4 @@
-// A station's part in a round: it hears the frames of its mask, and takes its turn.
+// What a station hears in a round: the frames of its mask.
 
 ghost use mathlib.Core.Path.{_≡_};
 ghost use mathlib.Core.Bool.{true};
@@ -7,9 +7,7 @@ ghost use Rattle.station_rules.specs.Limits.{stationInside};
 ghost use Rattle.station_rules.specs.Frames.{HearsAll};
 ghost use Rattle.group_frames.specs.Frames.{FramesAt, MarksBelow};
 ghost use Rattle.group_turns.specs.Mask as spec;
-ghost use Rattle.group_turns.specs.Turn.{stepAfter};
 use group_frames::FRAME_ROOM;
-use group_rules::Report;
 use station_rules::HeardAll;
 use station_rules::Station;
 
@@ -17,12 +15,6 @@ use station_rules::Station;
 struct Senders {
     len: usize,
     starts: [usize; 16],
-}
-
-// A station after its turn, and what the round reports of it.
-pub struct Step {
-    pub station: Station,
-    pub report: Report,
 }
 
 // The frames that station i of n hears in a round with these masks.
@@ -56,24 +48,4 @@ pub fn hear_mask(s: Station, bytes: &[u8], marks: &[u8], masks: [u16; 16]) -> He
     let senders = heard_by(masks, s.n, s.own);
     let starts = senders.starts;
     station_hearing::hear_all(s, bytes, marks, starts, senders.len)
-}
-
-// A station that has heard takes its turn.
-pub fn turn_after(heard: HeardAll) -> Step
-    requires { ⌜ stationInside (heard .station) ≡ true ⌝ }
-    ensures { λ r. ⌜ r ≡ stepAfter heard ⌝ }
-{
-    let station = heard.station;
-    let takings = heard.takings;
-    let turned = station_turns::take_turn(station);
-    let after = turned.station;
-    let turn = turned.report;
-    Step {
-        station: after,
-        report: Report {
-            takings_len: heard.takings_len,
-            takings: takings,
-            turn: turn,
-        },
-    }
 }

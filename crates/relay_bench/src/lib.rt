@@ -111,19 +111,6 @@ fn posted(g: [Station; 16], n: usize, post: u32) -> KeptGroup
     group::post(g, place_of(post, n), body_of(post))
 }
 
-// The numbers of the reports of a round.
-fn mix_reports(sum: u64, reports: [Report; 16], n: usize, number: u32) -> u64
-    requires { ⌜ n ≤ 16 ⌝ }
-{
-    let mut mixed = sum;
-    let mut k: usize = 0;
-    while k < n {
-        mixed = mix_report(mixed, reports[k], number);
-        k += 1;
-    }
-    mixed
-}
-
 // From fresh, so many rounds; gives a checksum of what they report.
 fn run(schedule: &[u8], n: usize, rounds: u32) -> u32
     requires { ⌜ (1 ≤ n) × (n ≤ 16) × (32 ≤ length (now schedule)) ⌝ }
@@ -139,8 +126,11 @@ fn run(schedule: &[u8], n: usize, rounds: u32) -> u32
         }
         let done = rounds::round(g, masks_of(schedule, number));
         g = done.group;
-        let reports = done.reports;
-        sum = mix_reports(sum, reports, n, number);
+        let mut k: usize = 0;
+        while k < n {
+            sum = mix_report(sum, done.reports[k], number);
+            k += 1;
+        }
         number += 1;
     }
     (sum % LOW) as u32

@@ -8,11 +8,14 @@ use native.Mathlib.Omega.{arith}
 use lib.ListN.{length, replicate}
 use Rattle.station_rules.specs.declared.Station.{Station}
 use Rattle.station_rules.specs.declared.HeardAll.{HeardAll}
+use Rattle.station_rules.specs.declared.Turned.{Turned}
 use Rattle.station_rules.specs.Limits.{stationInside}
 use Rattle.station_rules.specs.Hearing.{Hearing, silent}
 use Rattle.station_rules.specs.Frames.{hearFrames, HearsAll}
 use Rattle.station_rules.specs.Turn.{afterTurn, turnReport}
+use Rattle.station_rules.specs.Calls.{turnDone}
 use Rattle.station_rules.proofs.StationLimits.{inside-make}
+use Rattle.group_rules.specs.declared.Report.{Report}
 use Rattle.group_rules.specs.State.{stationAt, sizeOf}
 use Rattle.group_rules.specs.Calls.{heard, noTaking, reportOf}
 use Rattle.group_rules.proofs.Members.{Member, GroupShaped, group-high, member-at, members-open}
@@ -20,9 +23,7 @@ use Rattle.group_rules.proofs.MembersRound.{hears-all}
 use Rattle.group_frames.specs.Frames.{FramesAt, MarksBelow}
 use Rattle.group_frames.proofs.WrittenFrames.{AllSent}
 use Rattle.group_frames.proofs.GroupFrames.{frames-at}
-use Rattle.group_turns.specs.declared.Step.{Step}
 use Rattle.group_turns.specs.Mask.{heardCount, heardStarts}
-use Rattle.group_turns.specs.Turn.{stepAfter}
 use Rattle.rounds.proofs.RoundFrames.{heard-below}
 
 -- what hearing by the mask asks for
@@ -32,6 +33,10 @@ MayHear bytes marks x = (stationInside x ≡ true) × (FramesAt (x .n) bytes × 
 -- what it tells
 abbrev pub HearsMask : List ℕ → List ℕ → HeardAll → Station → Type 0
 HearsMask masks bytes r x = HearsAll x bytes (heardStarts (x .n) masks (x .own) (x .n)) (heardCount (x .n) masks (x .own) (x .n)) r
+
+-- what the round reports of a station, by what it heard and by its turn
+abbrev pub reported : HeardAll → Turned → Report
+reported r t = record { «takings_len» = r .«takings_len»; takings = r .takings; turn = t .report }
 
 module _ (g : List Station) (masks bytes : List ℕ) (sent : AllSent g bytes) (i : ℕ) (below : i < sizeOf g) where
   abbrev s : Station
@@ -70,16 +75,15 @@ module _ (g : List Station) (masks bytes : List ℕ) (sent : AllSent g bytes) (i
           let hs = hears-all (sizeOf g) g (members-open g shape (sent .inside)) masks (sent .counts) i below in
           rw station-is (inside-make ((heard g masks i) .station) (hs .inside (sym full-is ∙ room)))
 
-      module _ (t : Step) (turned : t ≡ stepAfter r) where
+      module _ (t : Turned) (turned : t ≡ turnDone (r .station)) where
         pub after-is : t .station ≡ afterTurn ((heard g masks i) .station)
-        unfolding stepAfter
-        after-is = ap (λ (x : Step). x .station) turned ∙ ap afterTurn station-is
+        after-is = ap (λ (x : Turned). x .station) turned ∙ ap afterTurn station-is
 
-        pub report-is : t .report ≡ reportOf g masks i
-        unfolding stepAfter reportOf
+        pub report-is : reported r t ≡ reportOf g masks i
+        unfolding reportOf
         report-is =
             let len : r .«takings_len» ≡ length ((heard g masks i) .takings) = h .len room ∙ ap (λ (x : Hearing). length (x .takings)) frames-heard in
             let takings : r .takings ≡ (heard g masks i) .takings ++ replicate (30 - length ((heard g masks i) .takings)) noTaking =
             h .takings room ∙ ap (λ (x : Hearing). x .takings ++ replicate (30 - length (x .takings)) noTaking) frames-heard in
-            ap (λ (x : Step). x .report) turned
+            ap (reported r) turned
             ∙ (λ j. record { «takings_len» = len j; takings = takings j; turn = turnReport (station-is j) })

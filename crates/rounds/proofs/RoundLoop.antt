@@ -9,8 +9,10 @@ use Rattle.places.specs.Places.{anyBelow, fill}
 use Rattle.places.proofs.Laws.{fill-more, fill-above}
 use Rattle.station_rules.specs.declared.Station.{Station}
 use Rattle.station_rules.specs.declared.HeardAll.{HeardAll}
+use Rattle.station_rules.specs.declared.Turned.{Turned}
 use Rattle.station_rules.specs.Limits.{stationInside}
 use Rattle.station_rules.specs.Turn.{afterTurn}
+use Rattle.station_rules.specs.Calls.{turnDone}
 use Rattle.group_rules.specs.declared.Report.{Report}
 use Rattle.group_rules.specs.declared.RoundDone.{RoundDone}
 use Rattle.group_rules.specs.State.{noStation, stationAt, sizeOf}
@@ -18,9 +20,7 @@ use Rattle.group_rules.specs.Calls.{heard, noReport, reportOf, afterRound, roun
 use Rattle.group_rules.proofs.Members.{GroupShaped}
 use Rattle.group_frames.specs.Frames.{MarksBelow}
 use Rattle.group_frames.proofs.WrittenFrames.{AllSent}
-use Rattle.group_turns.specs.declared.Step.{Step}
-use Rattle.group_turns.specs.Turn.{stepAfter}
-use Rattle.rounds.proofs.HeardTurn.{MayHear, HearsMask, may-hear, full-is, may-turn, after-is, report-is}
+use Rattle.rounds.proofs.HeardTurn.{MayHear, HearsMask, reported, may-hear, full-is, may-turn, after-is, report-is}
 use Rattle.rounds.proofs.RoundSteps.{anyBelow-more, round-full, round-done}
 
 -- the answer once the stations below i have heard and taken their turn
@@ -86,16 +86,16 @@ module _ (g : List Station) (masks : List ℕ) (none : Report) (bytes marks : Li
           pub turning-turns : stationInside (r .station) ≡ true
           turning-turns = may-turn g masks bytes (t .sent) i below r h (t .shape) room
 
-          module _ (step : Step) (step-is : step ≡ stepAfter r) where
-            after : step .station ≡ afterTurn ((heard g masks i) .station)
-            after = after-is g masks bytes (t .sent) i below r h (t .shape) room step step-is
+          module _ (turn : Turned) (turn-is : turn ≡ turnDone (r .station)) where
+            after : turn .station ≡ afterTurn ((heard g masks i) .station)
+            after = after-is g masks bytes (t .sent) i below r h (t .shape) room turn turn-is
 
-            report : step .report ≡ reportOf g masks i
-            report = report-is g masks bytes (t .sent) i below r h (t .shape) room step step-is
+            report : reported r turn ≡ reportOf g masks i
+            report = report-is g masks bytes (t .sent) i below r h (t .shape) room turn turn-is
 
             pub turning-more :
                 Turning g masks none bytes marks
-                (record { refusal = z .refusal; group = set (z .group) i (step .station); reports = set (z .reports) i (step .report) })
+                (record { refusal = z .refusal; group = set (z .group) i (turn .station); reports = set (z .reports) i (reported r turn) })
                 (i + 1)
             turning-more =
                 record {

@@ -66,11 +66,17 @@ pub fn round(g: [Station; 16], masks: [u16; 16]) -> RoundDone
             z.reports = [none; 16];
             return z;
         }
-        let step = group_turns::turn_after(heard);
-        let station = step.station;
-        let report = step.report;
-        z.group[i] = station;
-        z.reports[i] = report;
+        let station = heard.station;
+        let turned = station_turns::take_turn(station);
+        let takings = heard.takings;
+        let after = turned.station;
+        let turn = turned.report;
+        z.group[i] = after;
+        z.reports[i] = Report {
+            takings_len: heard.takings_len,
+            takings: takings,
+            turn: turn,
+        };
         i += 1;
     }
     z

@@ -143,23 +143,23 @@ returns-3 c =
     let r = c .before .before .hear-mask in
     turning-full _ _ _ _ _ (l .z) (l .i) (l .inv .3) (c .before .before .before .before .before .before .loop2-test .taken) (r .result) (r .ensures) (c .before .if3 .taken)
 
-turn-after-requires : tie.Need-turn-after-requires Inv-loop μ-loop Inv-loop2 μ-loop2
-turn-after-requires c κs =
-    let l = c .before .before .before .before .before .before .loop2 in
-    let r = c .before .hear-mask in
-    turning-turns _ _ _ _ _ (l .z) (l .i) (l .inv .3) (c .before .before .before .before .before .loop2-test .taken) (r .result) (r .ensures) (c .if3 .left)
+take-turn-requires : tie.Need-take-turn-requires Inv-loop μ-loop Inv-loop2 μ-loop2
+take-turn-requires c κs =
+    let l = c .before .before .before .before .before .before .before .loop2 in
+    let r = c .before .before .hear-mask in
+    turning-turns _ _ _ _ _ (l .z) (l .i) (l .inv .3) (c .before .before .before .before .before .before .loop2-test .taken) (r .result) (r .ensures) (c .before .if3 .left)
 
-mul-station : tie.Need-mul-station Inv-loop μ-loop Inv-loop2 μ-loop2
-mul-station c = search needs
+mul-after : tie.Need-mul-after Inv-loop μ-loop Inv-loop2 μ-loop2
+mul-after c = search needs
 
-element-set-from-station : tie.Need-element-set-from-station Inv-loop μ-loop Inv-loop2 μ-loop2
-element-set-from-station c = search needs
+element-set-from-after : tie.Need-element-set-from-after Inv-loop μ-loop Inv-loop2 μ-loop2
+element-set-from-after c = search needs
 
-mul-report : tie.Need-mul-report Inv-loop μ-loop Inv-loop2 μ-loop2
-mul-report c = search needs
+mul-t37 : tie.Need-mul-t37 Inv-loop μ-loop Inv-loop2 μ-loop2
+mul-t37 c = search needs
 
-element-set-from-report : tie.Need-element-set-from-report Inv-loop μ-loop Inv-loop2 μ-loop2
-element-set-from-report c = search needs
+element-set-from-z : tie.Need-element-set-from-z Inv-loop μ-loop Inv-loop2 μ-loop2
+element-set-from-z c = search needs
 
 add-i : tie.Need-add-i Inv-loop μ-loop Inv-loop2 μ-loop2
 add-i c = search needs
@@ -169,14 +169,14 @@ loop2-less c = search needs
 
 loop2-again : tie.Need-loop2-again Inv-loop μ-loop Inv-loop2 μ-loop2
 loop2-again c =
-    let l = c .before .before .before .before .before .before .before .before .before .loop2 in
-    let r = c .before .before .before .before .hear-mask in
-    let t = c .before .before .turn-after in
-    let below = c .before .before .before .before .before .before .before .before .loop2-test .taken in (
+    let l = c .before .before .before .before .before .before .before .before .before .before .before .loop2 in
+    let r = c .before .before .before .before .before .before .hear-mask in
+    let t = c .before .before .before .take-turn in
+    let below = c .before .before .before .before .before .before .before .before .before .before .loop2-test .taken in (
       refl,
       omega (arith, below),
       l .inv .2,
-      turning-more _ _ _ _ _ (l .z) (l .i) (l .inv .3) below (r .result) (r .ensures) (c .before .before .before .if3 .left) (t .result)
+      turning-more _ _ _ _ _ (l .z) (l .i) (l .inv .3) below (r .result) (r .ensures) (c .before .before .before .before .before .if3 .left) (t .result)
           (t .ensures),
     )
 
@@ -216,11 +216,11 @@ round-spec =
     slice-aggregate-hear-mask-2
     hear-mask-requires
     returns-3
-    turn-after-requires
-    mul-station
-    element-set-from-station
-    mul-report
-    element-set-from-report
+    take-turn-requires
+    mul-after
+    element-set-from-after
+    mul-t37
+    element-set-from-z
     add-i
     loop2-less
     loop2-again
