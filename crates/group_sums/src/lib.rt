@@ -110,7 +110,7 @@ fn mix_takings(sum: u64, takings: [Taking; 30]) -> u64 {
     while k < 30 {
         let taking = takings[k];
         let body = taking.body;
-        mixed = mix_body(mix(mixed, low(taking.source)), body);
+        mixed = mix_body(mix(mixed, taking.source as u32), body);
         k += 1;
     }
     mixed
