@@ -67,7 +67,7 @@ fn mix_labels(sum: u64, labels: [u8; 16]) -> u64 {
 fn mix_record(sum: u64, record: Record) -> u64 {
     let body = record.body;
     let labels = record.labels;
-    let station = mix(sum, low(record.station));
+    let station = mix(sum, record.station as u32);
     let count = mix(station, record.count as u32);
     mix_labels(mix_body(count, body), labels)
 }
