@@ -16,7 +16,7 @@ fn place_fits(n: usize, k: usize, r: Record) -> bool
     requires { ⌜ (k < n) × (n ≤ 16) ⌝ }
     ensures { λ b. ⌜ b ≡ placeFits n k r ⌝ }
 {
-    if r.station != k {
+    if r.station as usize != k {
         return false;
     }
     if 2 * (n - 1) < records::wide(r.count) {

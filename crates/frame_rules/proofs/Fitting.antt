@@ -93,7 +93,6 @@ module _ (n sender : ℕ) (held : List Bool) (table : List Record) where
           record {
             few = valid-few n sender v;
             below = omega (arith, valid-few n sender v, valid-own n sender v);
-            station = λ k l h. omega (arith, valid-few n sender v, place k l h);
             labels = labels-right;
           }
 

@@ -66,5 +66,4 @@ frameBuffer n sender held table buffer =
 pub record Writable (n : ℕ) (sender : ℕ) (held : List Bool) (table : List Record) : Type 0 where
   pub few : n ≤ 16
   pub below : sender < 256
-  pub station : (k : ℕ) → k < n → getD held k false ≡ true → (getD table k noRecord) .station < 256
   pub labels : (k : ℕ) → k < n → getD held k false ≡ true → allLabels (take n ((getD table k noRecord) .labels)) ≡ true

@@ -4,7 +4,7 @@ use kinds::Body;
 
 // A record: the station it is of, its count, its body and its labels.
 pub struct Record {
-    pub station: usize,
+    pub station: u8,
     pub count: u8,
     pub body: Body,
     pub labels: [u8; 16],

@@ -67,7 +67,7 @@ fn mix_labels(sum: u64, labels: [u8; 16]) -> u64 {
 fn mix_record(sum: u64, record: Record) -> u64 {
     let body = record.body;
     let labels = record.labels;
-    let station = mix(sum, low(record.station));
+    let station = mix(sum, record.station as u32);
     let count = mix(station, record.count as u32);
     mix_labels(mix_body(count, body), labels)
 }
@@ -110,7 +110,7 @@ fn mix_takings(sum: u64, takings: [Taking; 30]) -> u64 {
     while k < 30 {
         let taking = takings[k];
         let body = taking.body;
-        mixed = mix_body(mix(mixed, low(taking.source)), body);
+        mixed = mix_body(mix(mixed, taking.source as u32), body);
         k += 1;
     }
     mixed

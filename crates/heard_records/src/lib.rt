@@ -61,7 +61,7 @@ pub fn heard(
     ensures { λ r. ⌜ Effects n own «own_label» acked count label kept «lane_len» (recordOf (take 16 (drop at (now (bytes .entry))))) r ⌝ }
 {
     let seen = records::read_record(&bytes[at..at + 16]);
-    let seen_label = records::label_at(bytes, at + 12, seen.station);
+    let seen_label = records::label_at(bytes, at + 12, seen.station as usize);
     let answer = records::label_at(bytes, at + 12, own);
     let advances = seen_label == labels::successor(label);
     let kind = bytes[at + 2];

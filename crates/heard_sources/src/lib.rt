@@ -29,7 +29,7 @@ pub fn sources(takings: [Taking; 30], len: usize) -> [bool; 16]
     while 0 < i {
         i -= 1;
         let taking = takings[i];
-        let more = marked(places, taking.source);
+        let more = marked(places, taking.source as usize);
         places = more;
     }
     places

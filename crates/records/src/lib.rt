@@ -88,7 +88,7 @@ pub fn read_record(part: &[u8]) -> Record
     let body = kinds::body_of(part[2] as u32, event, argument);
     let labels = labels::unpack(word_at(part, 12));
     Record {
-        station: part[0] as usize,
+        station: part[0],
         count: part[1],
         body: body,
         labels: labels,
@@ -97,12 +97,12 @@ pub fn read_record(part: &[u8]) -> Record
 
 // A record as sixteen bytes; its labels from n up are written 0.
 pub fn write_record(part: &mut [u8], n: usize, r: Record)
-    requires { ⌜ (length (now part) ≡ 16) × (n ≤ 16) × (r .station < 256) × (allLabels (take n (r .labels)) ≡ true) ⌝ }
+    requires { ⌜ (length (now part) ≡ 16) × (n ≤ 16) × (allLabels (take n (r .labels)) ≡ true) ⌝ }
     ensures { λ _. ⌜ now (part .exit) ≡ recordBytes n r ⌝ }
 {
     let body = r.body;
     let labels = r.labels;
-    part[0] = r.station as u8;
+    part[0] = r.station;
     part[1] = r.count;
     part[2] = kinds::kind_of(body) as u8;
     part[3] = RECORD_MARK;

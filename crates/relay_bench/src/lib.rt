@@ -55,7 +55,7 @@ fn mix_report(sum: u64, report: Report, number: u32) -> u64 {
     let ended = turn.ended_body;
     let started = turn.started_body;
     let mut mixed = mix(sum, flags(report.takings_len, turn.aired, turn.ended));
-    mixed = mix(mixed, small(taking.source));
+    mixed = mix(mixed, taking.source as u32);
     mixed = mix(mixed, kinds::event_of(taken));
     mixed = mix(mixed, kinds::event_of(aired));
     mixed = mix(mixed, kinds::event_of(ended));

@@ -53,7 +53,7 @@ fn put_takings(out: &mut [u8], at: usize, round: u32, p: usize, report: Report) 
     let mut k = 0;
     while k < 30 {
         let t = takings[k];
-        let source = t.source;
+        let source = t.source as usize;
         let body = t.body;
         end = put_line_if(out, end, k < len, round, DELIVERED, p, source, body);
         k += 1;

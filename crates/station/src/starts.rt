@@ -36,7 +36,7 @@ pub fn fresh_station(n: usize, own: usize) -> Station
     };
     let mut table = [zero; 16];
     table[own] = Record {
-        station: own,
+        station: own as u8,
         count: 0,
         body: Body::Empty,
         labels: labels,

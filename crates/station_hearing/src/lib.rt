@@ -79,7 +79,7 @@ pub fn hear_all(
         let lane = station.lanes[k];
         station.lanes[k] = lanes::pushed(lane, body);
         takings[len] = Taking {
-            source: k,
+            source: k as u8,
             body: body,
         };
         len += 1;

@@ -88,7 +88,7 @@ fn record_inside(n: usize, own: usize, k: usize, record: Record) -> bool
     requires { ⌜ (1 ≤ n) × (n ≤ 16) ⌝ }
     ensures { λ r. ⌜ r ≡ spec.recordInside n own k «record» ⌝ }
 {
-    if record.station != k {
+    if record.station as usize != k {
         return false;
     }
     if !count_inside(n, own, k, record.count) {

@@ -22,7 +22,6 @@ writable s c =
     record {
       few = c .high;
       below = omega (arith, c .own, c .high);
-      station = λ k l e. omega (arith, c .high, c .places k l .held e .station);
       labels = λ k l e. take-all (s .n) ((recordOf s k) .labels) (λ j m. leb-true (recordLabel (recordOf s k) j) 2 (c .places k l .held e .labels j m));
     }
 

@@ -22,7 +22,7 @@ pub struct Station {
 
 // A body taken while hearing, and the station it is of.
 pub struct Taking {
-    pub source: usize,
+    pub source: u8,
     pub body: Body,
 }
 

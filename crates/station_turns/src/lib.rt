@@ -70,7 +70,7 @@ pub fn take_turn(s: Station) -> Turned
     let old = last.labels;
     let over = labels::over(n, marks, old);
     table[own] = Record {
-        station: own,
+        station: own as u8,
         count: count,
         body: body,
         labels: over,

@@ -7,6 +7,9 @@ use Rattle.frame_rules.proofs.Fitting.{other-station, high-count, other-body, b
 use Rattle.frame_maker.proofs.place_fits.Statement.{statement}
 use Rattle.frame_maker.proofs.place_fits.Tie as tie
 
+cast-if1 : tie.Need-cast-if1
+cast-if1 c = search needs
+
 returns : tie.Need-returns
 returns c =
     let a = c .before .before .args in
@@ -47,6 +50,7 @@ pub place-fits-spec : {M : Type 1} → statement M
 place-fits-spec =
     tie.close
     (tie.spec
+    cast-if1
     returns
     sub-if2
     mul-if2

@@ -122,7 +122,6 @@ write-record-requires c κs =
     let long = simp length-set at (l .inv .2) in (
       simp (length-take, length-drop) (omega (arith, c .before .before .before .before .before .before .held-count .ensures, room, long)),
       c .before .before .before .before .before .before .before .before .pre .few,
-      c .before .before .before .before .before .before .before .before .pre .station (l .k) (omega arith) on,
       c .before .before .before .before .before .before .before .before .pre .labels (l .k) (omega arith) on,
     )
 

@@ -19,8 +19,8 @@ mul-taking c = search needs
 array-copy-out-taking : tie.Need-array-copy-out-taking Inv-loop μ-loop
 array-copy-out-taking c = search needs
 
-low-requires : tie.Need-low-requires Inv-loop μ-loop
-low-requires c κs = search needs
+cast-mix : tie.Need-cast-mix Inv-loop μ-loop
+cast-mix c = search needs
 
 mix-requires : tie.Need-mix-requires Inv-loop μ-loop
 mix-requires c κs = search needs
@@ -49,7 +49,7 @@ mix-takings-spec =
     loop-holds
     mul-taking
     array-copy-out-taking
-    low-requires
+    cast-mix
     mix-requires
     mix-body-requires
     add-k

@@ -40,7 +40,7 @@ module _ (c : tie.After-read-record) where
 -- what it shows
 module _ (c : tie.After-successor) where
   abbrev read : tie.After-read-record
-  read = c .before .before .before
+  read = c .before .before .before .before
 
   abbrev known : ℕ
   known = read .before .before .before .args .label
@@ -79,8 +79,11 @@ read-record-requires c κs = search needs
 add-label-at : tie.Need-add-label-at
 add-label-at c = search needs
 
+cast-label-at : tie.Need-cast-label-at
+cast-label-at c = search needs
+
 label-at-requires : tie.Need-label-at-requires
-label-at-requires c κs = (search needs, low c)
+label-at-requires c κs = (search needs, low (c .before))
 
 add-label-at-2 : tie.Need-add-label-at-2
 add-label-at-2 c = search needs
@@ -132,6 +135,7 @@ heard-spec =
     part-read-record-end
     read-record-requires
     add-label-at
+    cast-label-at
     label-at-requires
     add-label-at-2
     label-at-requires-2

@@ -30,6 +30,9 @@ mul-taking c = search needs
 array-copy-out-taking : tie.Need-array-copy-out-taking Inv-loop μ-loop
 array-copy-out-taking c = search needs
 
+cast-marked : tie.Need-cast-marked Inv-loop μ-loop
+cast-marked c = search needs
+
 marked-requires : tie.Need-marked-requires Inv-loop μ-loop
 marked-requires c κs = search needs
 
@@ -38,7 +41,7 @@ loop-less c = search needs
 
 loop-again : tie.Need-loop-again Inv-loop μ-loop
 loop-again c =
-    let h = c .before .before .before in
+    let h = c .before .before .before .before in
     let a = h .before .args in
     let i = h .loop .i in
     let e : i - 1 + 1 ≡ i = omega arith in
@@ -65,6 +68,7 @@ sources-spec =
     sub-i
     mul-taking
     array-copy-out-taking
+    cast-marked
     marked-requires
     loop-less
     loop-again

@@ -37,11 +37,8 @@ unpack-requires c κs = search needs
 shared-slice-read-t8 : tie.Need-shared-slice-read-t8
 shared-slice-read-t8 c = search needs
 
-cast-t10 : tie.Need-cast-t10
-cast-t10 c = omega (arith, c .shared-slice-known3 .given 0)
-
-shared-slice-read-t12 : tie.Need-shared-slice-read-t12
-shared-slice-read-t12 c = search needs
+shared-slice-read-t11 : tie.Need-shared-slice-read-t11
+shared-slice-read-t11 c = search needs
 
 returns : tie.Need-returns
 returns c =
@@ -74,6 +71,5 @@ read-record-spec =
     word-at-requires-3
     unpack-requires
     shared-slice-read-t8
-    cast-t10
-    shared-slice-read-t12
+    shared-slice-read-t11
     returns)

@@ -7,9 +7,6 @@ use borrow.Author.Needs.{needs}
 use Rattle.records.proofs.write_record.Statement.{statement}
 use Rattle.records.proofs.write_record.Tie as tie
 
-cast-part : tie.Need-cast-part
-cast-part c = search needs
-
 slice-write-part : tie.Need-slice-write-part
 slice-write-part c = search needs
 
@@ -19,8 +16,8 @@ slice-write-part-2 c = search needs
 kind-of-requires : tie.Need-kind-of-requires
 kind-of-requires c κs = search needs
 
-cast-part-2 : tie.Need-cast-part-2
-cast-part-2 c = omega (arith, c .kind-of .ensures, kind-small (c .before .before .before .before .args .r .body))
+cast-part : tie.Need-cast-part
+cast-part c = omega (arith, c .kind-of .ensures, kind-small (c .before .before .before .args .r .body))
 
 slice-write-part-3 : tie.Need-slice-write-part-3
 slice-write-part-3 c = search needs
@@ -55,7 +52,7 @@ same-length c =
 
 returns : tie.Need-returns
 returns c =
-    let s = c .before .before .before .before .before .before .before .before .before .before .before .before .before .before .before .before .before .before .before .before .args in
+    let s = c .before .before .before .before .before .before .before .before .before .before .before .before .before .before .before .before .before .before .before .args in
     record-made (s .n) (s .r) (s .part .now) (omega arith)
     (c .before .before .before .before .before .before .before .before .before .before .before .before .before .before .before .before .kind-of .result)
     (c .before .before .before .before .before .before .before .before .before .before .before .before .before .before .event-of .result)
@@ -79,11 +76,10 @@ pub write-record-spec : {M : Type 1} → statement M
 write-record-spec =
     tie.close
     (tie.spec
-    cast-part
     slice-write-part
     slice-write-part-2
     kind-of-requires
-    cast-part-2
+    cast-part
     slice-write-part-3
     slice-write-part-4
     event-of-requires

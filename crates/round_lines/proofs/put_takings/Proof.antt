@@ -25,6 +25,9 @@ mul-t c = omega arith
 array-copy-out-t : tie.Need-array-copy-out-t Inv-loop μ-loop
 array-copy-out-t c = omega arith
 
+cast-source : tie.Need-cast-source Inv-loop μ-loop
+cast-source c = omega arith
+
 put-line-if-requires : tie.Need-put-line-if-requires Inv-loop μ-loop
 put-line-if-requires c κs = omega arith
 
@@ -35,11 +38,11 @@ loop-less : tie.Need-loop-less Inv-loop μ-loop
 loop-less c = omega arith
 
 loop-again : tie.Need-loop-again Inv-loop μ-loop
-loop-again c = let l = c .before .before .before .before .before .before .loop in (
+loop-again c = let l = c .before .before .before .before .before .before .before .loop in (
   omega arith,
   c .before .before .put-line-if .kept .0 ∙ l .inv .1,
   omega (arith, c .before .before .put-line-if .ensures .1),
-  joined-more _ (l .k) (c .before .before .before .before .before .before .before .before .before .args .out .now) (l .out) _ (c .before .before .before .before .before .before .before .before .before .args .at) (l .end) _ (omega (arith, c .before .before .before .before .before .before .before .before .before .pre)) (l .inv .3) (c .before .before .put-line-if .ensures .0),
+  joined-more _ (l .k) (c .before .before .before .before .before .before .before .before .before .before .args .out .now) (l .out) _ (c .before .before .before .before .before .before .before .before .before .before .args .at) (l .end) _ (omega (arith, c .before .before .before .before .before .before .before .before .before .before .pre)) (l .inv .3) (c .before .before .put-line-if .ensures .0),
 )
 
 same-length : tie.Need-same-length Inv-loop μ-loop
@@ -58,6 +61,7 @@ put-takings-spec =
     loop-holds
     mul-t
     array-copy-out-t
+    cast-source
     put-line-if-requires
     add-k
     loop-less

@@ -268,6 +268,9 @@ mul-t32 c = record { fits = omega (arith, low (turn (c .before .before .before .
 element-set-from-station : tie.Need-element-set-from-station Inv-loop μ-loop
 element-set-from-station c = low (turn (c .before .before .before .before .before .before)) .5
 
+cast-t31 : tie.Need-cast-t31 Inv-loop μ-loop
+cast-t31 c = record { fits = omega (arith, low (turn (c .before .before .before .before .before .before))) }
+
 mul-takings : tie.Need-mul-takings Inv-loop μ-loop
 mul-takings c = record { fits = omega (arith, room (c .before .before)) }
 
@@ -341,6 +344,7 @@ hear-all-spec =
     pushed-requires
     mul-t32
     element-set-from-station
+    cast-t31
     mul-takings
     array-set-from-takings
     add-len

@@ -11,6 +11,9 @@ use Rattle.labels.proofs.Laws.{all-below}
 use Rattle.station_limits.proofs.record_inside.Statement.{statement}
 use Rattle.station_limits.proofs.record_inside.Tie as tie
 
+cast-if1 : tie.Need-cast-if1
+cast-if1 c = search needs
+
 returns : tie.Need-returns
 unfolding recordInside
 returns c = rw (ne-eqb _ _ (c .if1 .taken))
@@ -53,6 +56,7 @@ pub record-inside-spec : {M : Type 1} → statement M
 record-inside-spec =
     tie.close
     (tie.spec
+    cast-if1
     returns
     count-inside-requires
     returns-2

@@ -177,6 +177,11 @@ array-copy-out-last c = search needs
 over-requires : tie.Need-over-requires Inv-loop μ-loop
 over-requires c κs = search needs
 
+cast-t53 : tie.Need-cast-t53 Inv-loop μ-loop
+cast-t53 c =
+    let h = own-in (c .before .before .before .before .before .before .before .before .before .before .before .before .before .before .before .before .before) in
+    search needs
+
 mul-table : tie.Need-mul-table Inv-loop μ-loop
 mul-table c =
     let h = own-in (c .before .before .before .before .before .before .before .before .before .before .before .before .before .before .before .before .before) in
@@ -265,6 +270,7 @@ take-turn-spec =
     mul-last
     array-copy-out-last
     over-requires
+    cast-t53
     mul-table
     array-set-from-table
     lane-with-requires

@@ -15,6 +15,9 @@ array-write-held c = search needs
 array-write-labels : tie.Need-array-write-labels
 array-write-labels c = search needs
 
+cast-t21 : tie.Need-cast-t21
+cast-t21 c = search needs
+
 mul-table : tie.Need-mul-table
 mul-table c = search needs
 
@@ -32,6 +35,7 @@ fresh-station-spec =
     array-write-acked
     array-write-held
     array-write-labels
+    cast-t21
     mul-table
     array-set-from-table
     returns)
