@@ -75,7 +75,7 @@ fn mix_record(sum: u64, record: Record) -> u64 {
 fn mix_lane(sum: u64, lane: Lane) -> u64 {
     let first = lane.first;
     let second = lane.second;
-    mix_body(mix_body(mix(sum, low(lane.len)), first), second)
+    mix_body(mix_body(mix(sum, lane.len as u32), first), second)
 }
 
 // What a station has of station k.

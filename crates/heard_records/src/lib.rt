@@ -55,7 +55,7 @@ pub fn heard(
     count: u8,
     label: u8,
     kept: [u8; 16],
-    lane_len: usize,
+    lane_len: u8,
 ) -> Effect
     requires { ⌜ (at + 16 ≤ length (now bytes)) × (n ≤ 16) × (own < 16) × (bytesInside n (take 16 (drop at (now bytes))) ≡ true) ⌝ }
     ensures { λ r. ⌜ Effects n own «own_label» acked count label kept «lane_len» (recordOf (take 16 (drop at (now (bytes .entry))))) r ⌝ }

@@ -13,7 +13,7 @@ pub struct Slot {
 
 // The bodies taken from one station that are in no row yet, oldest first.
 pub struct Lane {
-    pub len: usize,
+    pub len: u8,
     pub first: Body,
     pub second: Body,
 }

@@ -23,7 +23,7 @@ fn takeable(body: Body) -> bool
 }
 
 // How many bodies the lane of station k may hold.
-fn lane_room(k: usize, own: usize) -> usize
+fn lane_room(k: usize, own: usize) -> u8
     ensures { λ r. ⌜ r ≡ cond (eqb k own) 1 2 ⌝ }
 {
     if k == own {
@@ -32,7 +32,7 @@ fn lane_room(k: usize, own: usize) -> usize
     2
 }
 
-fn lane_inside(most: usize, lane: Lane) -> bool
+fn lane_inside(most: u8, lane: Lane) -> bool
     ensures { λ r. ⌜ r ≡ spec.laneInside most lane ⌝ }
 {
     let len = lane.len;

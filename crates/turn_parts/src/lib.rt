@@ -81,7 +81,7 @@ pub fn count_if(changes: bool, n: usize) -> usize
 }
 
 // What starts, by the bodies in the own lane, the number of waiting edits and the oldest of them.
-pub fn started_body(ended: bool, own_len: usize, waiting_len: usize, oldest: Body) -> Body
+pub fn started_body(ended: bool, own_len: u8, waiting_len: usize, oldest: Body) -> Body
     ensures { λ r. ⌜ r ≡ cond ended (cond (eqb «own_len» 0) (cond (ltb 0 «waiting_len») oldest Neutral) Empty) Empty ⌝ }
 {
     if !ended {
@@ -97,7 +97,7 @@ pub fn started_body(ended: bool, own_len: usize, waiting_len: usize, oldest: Bod
 }
 
 // Does the oldest waiting edit start?
-pub fn starts_edit(ended: bool, own_len: usize, waiting_len: usize) -> bool
+pub fn starts_edit(ended: bool, own_len: u8, waiting_len: usize) -> bool
     ensures { λ r. ⌜ r ≡ (ended && (eqb «own_len» 0 && ltb 0 «waiting_len»)) ⌝ }
 {
     if !ended {
