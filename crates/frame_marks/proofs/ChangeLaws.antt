@@ -56,8 +56,8 @@ module _ (m records before start : ℕ) (old : List ℕ) (few : records ≤ 16) 
   -- one place more, before those put
   module _ (r next : ℕ) (next-is : next ≡ r + 1) (within : r < records) (marks : List ℕ) (b : ChangesFrom m records before start next old marks) (place : ℕ)
       (first :
-          FirstChange r m (getD marks (start + 2 * r) 0) (getD marks (before + 2 * r) 0) (getD marks (start + 2 * r + 1) 0)
-          (getD marks (before + 2 * r + 1) 0) (changeFrom marks start next) place) where
+      FirstChange r m (getD marks (start + 2 * r) 0) (getD marks (before + 2 * r) 0) (getD marks (start + 2 * r + 1) 0)
+      (getD marks (before + 2 * r + 1) 0) (changeFrom marks start next) place) where
     abbrev more : List ℕ
     more = set marks (start + 32 + r) place
 

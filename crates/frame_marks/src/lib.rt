@@ -22,15 +22,7 @@ pub fn put_marks(marks: &mut [u8], bytes: &[u8], start: usize)
 }
 
 // Of the places from r on, one before which no record says anything new: `next`, where record r is one of those known and is as before.
-fn first_change(
-    r: u8,
-    known: u8,
-    mark: u8,
-    old_mark: u8,
-    count: u8,
-    old_count: u8,
-    next: u8,
-) -> u8
+fn first_change(r: u8, known: u8, mark: u8, old_mark: u8, count: u8, old_count: u8, next: u8) -> u8
     ensures { λ p. ⌜ FirstChange r known mark «old_mark» count «old_count» next p ⌝ }
 {
     if known <= r {

@@ -67,7 +67,7 @@ module _ {A : Type 0} (test : ℕ → Bool) (f : ℕ → A) (d : A) where
   gather-has zero k l e = absurd (omega arith)
   gather-has (suc n) k l e =
       elim (ℕ-discrete k n) [
-        | yes z ↦ subst (λ (t : Bool). Entry k (gather n test f ++ cond t (f n ∷ []) [])) (sym (ap test (sym z)  ∙ e)) (last z)
+        | yes z ↦ subst (λ (t : Bool). Entry k (gather n test f ++ cond t (f n ∷ []) [])) (sym (ap test (sym z) ∙ e)) (last z)
         | no h ↦ entry-kept k (gather n test f) _ (gather-has n k (omega arith) e)
       ]
     where

@@ -61,7 +61,7 @@ pub fn own_bars(marks: &[u8], start: usize, records: usize, own: usize) -> [u16;
     requires { ⌜ own < 16 ⌝ ∗ ⌜ MarksFit (now marks) start records ⌝ }
     ensures { λ r.
         ⌜ ((n : ℕ) (held : List Bool) (table : List Record) →
-            MarksHeld n held table (now (marks .entry)) start records → Bars n own held table r) ⌝ }
+        MarksHeld n held table (now (marks .entry)) start records → Bars n own held table r) ⌝ }
 {
     let mut bars = [0u16; 64];
     let mut r: usize = 0;
@@ -125,16 +125,16 @@ fn sift_changes(
     let mut len = before;
     let mut r = marks[start + 32] as usize;
     while r < records {
-        let i = r;
-        let next = i + 1;
+        let at = r;
+        let next = at + 1;
         r = marks[start + 32 + next] as usize;
-        let mark = marks[start + 2 * i] as usize;
-        let count = marks[start + 2 * i + 1];
+        let mark = marks[start + 2 * at] as usize;
+        let count = marks[start + 2 * at + 1];
         if (count as u16) < bars[mark] {
             continue;
         }
         raise(bars, mark / 4, (mark % 4) as u8, count);
-        places[len] = (16 * f + i) as u8;
+        places[len] = (16 * f + at) as u8;
         len += 1;
     }
     len

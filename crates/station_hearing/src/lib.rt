@@ -27,7 +27,7 @@ pub fn hear_all(
         ⌜ ((f : ℕ) → f < count → FrameAt (s .n) (now bytes) (getD starts f 0)) ⌝ ∗
         ⌜ ((f : ℕ) → f < count → MarksAt (now bytes) (now marks) (getD starts f 0)) ⌝ ∗
         ⌜ ((f : ℕ) → f + 1 < count → getD starts (f + 1) 0 ≡ getD starts f 0 + 260 →
-            ChangesAt (now bytes) (now marks) (getD starts f 0) (getD starts (f + 1) 0)) ⌝ ∗
+        ChangesAt (now bytes) (now marks) (getD starts f 0) (getD starts (f + 1) 0)) ⌝ ∗
         ⌜ Bars (s .n) (s .own) (s .held) (s .table) bars ⌝ }
     ensures { λ r. ⌜ HearsAll s (now (bytes .entry)) starts count r ⌝ }
 {

@@ -51,13 +51,12 @@ module _ (c : tie.In-loop Inv-loop μ-loop) where
   frame = c .before .before .before .before .pre .1 f (c .loop-test .taken)
 
   low : (f < 16) × (start + 2 < length bytes) × (length bytes < 2 ^ 64) × (getD bytes (start + 2) 0 ≤ 256)
-  low =
-      (
-        omega (arith, c .before .before .before .before .pre .0, c .loop-test .taken),
-        frame .long,
-        c .before .before .before .before .good .1 .0 .0,
-        omega (arith, size-is, frame .siftable .few),
-      )
+  low = (
+    omega (arith, c .before .before .before .before .pre .0, c .loop-test .taken),
+    frame .long,
+    c .before .before .before .before .good .1 .0 .0,
+    omega (arith, size-is, frame .siftable .few),
+  )
 
   siftable : Siftable (c .before .loop .bars) (c .before .loop .places) (c .before .loop .len) marks start (getD bytes (start + 2) 0) f
   siftable =
