@@ -44,6 +44,9 @@ module _ (s : Station) (inside : stationInside s ≡ true) where
     size-is : getD (drop (frameStart (s .own)) bytes) 2 0 ≡ getD bytes (frameStart (s .own) + 2) 0
     size-is = getD-drop (frameStart (s .own)) bytes 2 0
 
+    pub own-few : getD bytes (frameStart (s .own) + 2) 0 ≤ 16
+    own-few = omega (arith, size-is, marked .marked (s .own) own-low .few)
+
     pub own-fit : MarksFit marks (frameStart (s .own)) (getD bytes (frameStart (s .own) + 2) 0)
     own-fit =
         subst (MarksFit marks (frameStart (s .own))) size-is
