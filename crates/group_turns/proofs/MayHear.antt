@@ -1,6 +1,6 @@
 -- Hearing from the starts that a mask lists: each is the start of a frame with its marks, and of two right after each other it is known
 -- what the second says anew, as hearing asks for. The bars are made from the marks of the own frame.
-use Prim.Native.Nat.{ℕ, _+_, _*_, _≤_, _<_}
+use Prim.Native.Nat.{ℕ, _+_, _≤_, _<_}
 use mathlib.Core.Bool.{true}
 use mathlib.Core.List.{List}
 use mathlib.Core.Path.{_≡_, refl, sym, subst}

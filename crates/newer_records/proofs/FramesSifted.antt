@@ -3,17 +3,17 @@ use Prim.Native.Nat.{ℕ, _+_, _-_, _*_, _<_, _≤_}
 use native.Mathlib.Omega.{arith}
 use mathlib.Core.Path.{_≡_, refl, sym, subst}
 use mathlib.Core.List.{List}
-use lib.ListN.{getD, length}
+use lib.ListN.{getD}
 use Rattle.station_rules.specs.declared.Station.{Station}
 use Rattle.station_rules.specs.Hearing.{silent}
 use Rattle.station_rules.specs.Frames.{hearFrames, FrameAt}
 use Rattle.station_rules.proofs.Shape.{Shaped}
 use Rattle.station_rules.proofs.StationLimits.{Inside}
-use Rattle.frame_marks.specs.Marks.{sizeAt, MarksAt}
+use Rattle.frame_marks.specs.Marks.{MarksAt}
 use Rattle.frame_marks.specs.Changes.{ChangesAt}
 use Rattle.newer_records.specs.Bars.{Bars}
 use Rattle.newer_records.specs.Newer.{NewerAt}
-use Rattle.newer_records.specs.Sieve.{Sieve, sieveFrom, siftedFrames, SiftableFrame, SiftsFrames}
+use Rattle.newer_records.specs.Sieve.{sieveFrom, siftedFrames, SiftableFrame, SiftsFrames}
 use Rattle.newer_records.proofs.NextFrame.{follows-skippable}
 use Rattle.newer_records.proofs.SieveLaws.{Follows, follows-none, follows-frames, follows-all, follows-siftable}
 

@@ -4,7 +4,7 @@ ghost use mathlib.Core.Path.{_≡_};
 ghost use mathlib.Core.Bool.{Bool, true};
 ghost use mathlib.Core.List.{List};
 ghost use Prim.Native.Nat.{ℕ, _+_, _*_, _/_, _%_, _≤_, _<_};
-ghost use lib.ListN.{getD, length};
+ghost use lib.ListN.{length};
 ghost use Rattle.station_rules.specs.Limits.{stationInside};
 ghost use Rattle.frame_rules.specs.declared.Record.{Record};
 ghost use Rattle.newer_records.specs.Bars.{Bars, barred, MarksFit, MarksHeld};
@@ -71,9 +71,10 @@ pub fn own_bars(marks: &[u8], start: usize, records: usize, own: usize) -> [u16;
         raise(&mut bars, mark / 4, (mark % 4) as u8, count);
         r += 1;
     }
-    bars[4 * own] = 256;
-    bars[4 * own + 1] = 256;
-    bars[4 * own + 2] = 256;
+    let first = 4 * own;
+    bars[first] = 256;
+    bars[first + 1] = 256;
+    bars[first + 2] = 256;
     bars
 }
 

@@ -1,5 +1,5 @@
 -- `group_turns::hear_mask` meets its contract: the starts of the mask's frames are heard from, with the bars that the marks of the own frame tell.
-use Prim.Native.Nat.{ℕ, _+_, _*_, _^_, _≤_, _<_}
+use Prim.Native.Nat.{_+_, _*_, _^_, _≤_, _<_}
 use native.Mathlib.Omega.{arith}
 use lib.ListN.{getD, length}
 use Rattle.newer_records.specs.Bars.{MarksFit, MarksHeld}

@@ -109,35 +109,29 @@ loop-again c =
           (raised-more n held table (marks v) (start v) _ m (fit v) (r v) (l .0) (v .before .loop .bars) (i .1) (i .2 n held table m)),
     )
 
+mul-first : tie.Need-mul-first Inv-loop μ-loop
+mul-first c = record { fits = omega (arith, own-low c) }
+
 mul-bars : tie.Need-mul-bars Inv-loop μ-loop
 mul-bars c = record { fits = omega (arith, own-low c) }
-
-mul-bars-2 : tie.Need-mul-bars-2 Inv-loop μ-loop
-mul-bars-2 c = record { fits = omega (arith, own-low c) }
 
 array-write-bars : tie.Need-array-write-bars Inv-loop μ-loop
 array-write-bars c = omega (arith, own-low c)
 
-mul-bars-3 : tie.Need-mul-bars-3 Inv-loop μ-loop
-mul-bars-3 c = record { fits = omega (arith, own-low c) }
-
 add-bars : tie.Need-add-bars Inv-loop μ-loop
 add-bars c = record { fits = omega (arith, own-low c) }
 
-mul-bars-4 : tie.Need-mul-bars-4 Inv-loop μ-loop
-mul-bars-4 c = record { fits = omega (arith, own-low c) }
+mul-bars-2 : tie.Need-mul-bars-2 Inv-loop μ-loop
+mul-bars-2 c = record { fits = omega (arith, own-low c) }
 
 array-write-bars-2 : tie.Need-array-write-bars-2 Inv-loop μ-loop
 array-write-bars-2 c = omega (arith, own-low c)
 
-mul-bars-5 : tie.Need-mul-bars-5 Inv-loop μ-loop
-mul-bars-5 c = record { fits = omega (arith, own-low c) }
-
 add-bars-2 : tie.Need-add-bars-2 Inv-loop μ-loop
 add-bars-2 c = record { fits = omega (arith, own-low c) }
 
-mul-bars-6 : tie.Need-mul-bars-6 Inv-loop μ-loop
-mul-bars-6 c = record { fits = omega (arith, own-low c) }
+mul-bars-3 : tie.Need-mul-bars-3 Inv-loop μ-loop
+mul-bars-3 c = record { fits = omega (arith, own-low c) }
 
 array-write-bars-3 : tie.Need-array-write-bars-3 Inv-loop μ-loop
 array-write-bars-3 c = omega (arith, own-low c)
@@ -174,15 +168,13 @@ own-bars-spec =
     add-r
     loop-less
     loop-again
+    mul-first
     mul-bars
-    mul-bars-2
     array-write-bars
-    mul-bars-3
     add-bars
-    mul-bars-4
+    mul-bars-2
     array-write-bars-2
-    mul-bars-5
     add-bars-2
-    mul-bars-6
+    mul-bars-3
     array-write-bars-3
     returns)
