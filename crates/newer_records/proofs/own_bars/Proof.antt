@@ -1,13 +1,13 @@
 -- `newer_records::own_bars` meets its contract: the bars of the stations of the marks passed are raised, the own one's are shut last.
-use Prim.Native.Nat.{ℕ, _+_, _-_, _*_, _/_, _%_, _^_, _≤_, _<_}
+use Prim.Native.Nat.{ℕ, _+_, _-_, _*_, _%_, _^_, _≤_, _<_}
 use native.Mathlib.Omega.{arith}
 use mathlib.Core.Path.{_≡_, refl, sym, ap, subst, _∙_}
 use mathlib.Core.Bool.{Bool}
 use mathlib.Core.List.{List}
-use lib.ListN.{getD, length}
+use lib.ListN.{getD, length, length-set}
 use Rattle.frame_rules.specs.declared.Record.{Record}
 use Rattle.newer_records.specs.Bars.{MarksFit, MarksHeld}
-use Rattle.newer_records.proofs.BarLaws.{barred-size, bars-made}
+use Rattle.newer_records.proofs.BarLaws.{bars-made}
 use Rattle.newer_records.proofs.OwnBars.{Raised, raised-none, raised-more, raised-all}
 use Rattle.newer_records.proofs.own_bars.Statement.{statement}
 use Rattle.newer_records.proofs.own_bars.Tie as tie
@@ -88,7 +88,7 @@ raise-requires : tie.Need-raise-requires Inv-loop μ-loop
 raise-requires c κs =
     let v = c .before .before .before in
     let l = low v in
-    (v .before .loop .inv .1, omega (arith, l .3), l .4)
+    (v .before .loop .inv .1, omega (arith, l .3), omega (arith, l .4))
 
 add-r : tie.Need-add-r Inv-loop μ-loop
 add-r c = record { fits = omega (arith, low (c .before .before .before .before .before)) }
@@ -103,7 +103,7 @@ loop-again c =
     let i = v .before .loop .inv in
     let e = c .before .raise .ensures in (
       omega (arith, l .0),
-      ap length e ∙ barred-size (v .before .loop .bars) (mark v / 4) (mark v % 4) (getD (marks v) (start v + 2 * r v + 1) 0) (i .1) (omega (arith, l .3)) (l .4),
+      ap length e ∙ simp length-set (i .1),
       λ n held table m.
           subst (Raised table (marks v) (start v) (r v + 1)) (sym e)
           (raised-more n held table (marks v) (start v) _ m (fit v) (r v) (l .0) (v .before .loop .bars) (i .1) (i .2 n held table m)),
