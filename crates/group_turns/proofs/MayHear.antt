@@ -1,18 +1,23 @@
 -- Hearing from the starts that a mask lists: each is the start of a frame with its marks, and of two right after each other it is known
--- what the second says anew, as hearing asks for.
+-- what the second says anew, as hearing asks for. The bars are made from the marks of the own frame.
 use Prim.Native.Nat.{ℕ, _+_, _≤_, _<_}
 use mathlib.Core.Bool.{true}
 use mathlib.Core.List.{List}
 use mathlib.Core.Path.{_≡_, refl, sym, subst}
 use native.Mathlib.Omega.{arith}
-use lib.ListN.{getD}
+use lib.ListN.{getD, drop, length}
+use lib.Seq.{getD-drop}
+use Rattle.frame_rules.specs.Frame.{recordsOf}
 use Rattle.station_rules.specs.declared.Station.{Station}
+use Rattle.station_rules.specs.State.{sentRecords}
 use Rattle.station_rules.specs.Limits.{stationInside}
 use Rattle.station_rules.specs.declared.HeardAll.{HeardAll}
 use Rattle.station_rules.specs.Frames.{FrameAt, HearsAll}
 use Rattle.station_rules.proofs.StationLimits.{inside-open}
 use Rattle.frame_marks.specs.Marks.{MarksAt}
 use Rattle.frame_marks.specs.Changes.{ChangesAt}
+use Rattle.newer_records.specs.Bars.{MarksFit, MarksHeld, Bars}
+use Rattle.newer_records.proofs.HeldMarks.{marks-fit, marks-held}
 use Rattle.group_frames.specs.Frames.{frameStart, FramesAt, MarksBelow}
 use Rattle.group_turns.specs.Mask.{heardCount, heardStarts}
 use Rattle.group_turns.proofs.MaskStarts.{count-below, starts-at}
@@ -26,6 +31,31 @@ record StartOf (n start : ℕ) : Type 0 where
 module _ (s : Station) (inside : stationInside s ≡ true) where
   pub few : s .n ≤ 16
   few = inside-open s inside .high
+
+  pub own-low : s .own < s .n
+  own-low = inside-open s inside .own
+
+  -- the marks of the own frame
+  module _ (bytes marks : List ℕ) (frames : FramesAt (s .n) bytes) (marked : MarksBelow (s .n) bytes marks)
+      (own : recordsOf (drop (frameStart (s .own)) bytes) ≡ sentRecords s) where
+    pub own-room : frameStart (s .own) + 4 ≤ length bytes
+    own-room = omega (arith, frames .frame (s .own) own-low .room)
+
+    size-is : getD (drop (frameStart (s .own)) bytes) 2 0 ≡ getD bytes (frameStart (s .own) + 2) 0
+    size-is = getD-drop (frameStart (s .own)) bytes 2 0
+
+    pub own-few : getD bytes (frameStart (s .own) + 2) 0 ≤ 16
+    own-few = omega (arith, size-is, marked .marked (s .own) own-low .few)
+
+    pub own-fit : MarksFit marks (frameStart (s .own)) (getD bytes (frameStart (s .own) + 2) 0)
+    own-fit =
+        subst (MarksFit marks (frameStart (s .own))) size-is
+        (marks-fit s (inside-open s inside) bytes marks (frameStart (s .own)) (marked .marked (s .own) own-low) own)
+
+    pub own-held : MarksHeld (s .n) (s .held) (s .table) marks (frameStart (s .own)) (getD bytes (frameStart (s .own) + 2) 0)
+    own-held =
+        subst (MarksHeld (s .n) (s .held) (s .table) marks (frameStart (s .own))) size-is
+        (marks-held s (inside-open s inside) bytes marks (frameStart (s .own)) (marked .marked (s .own) own-low) own)
 
   module _ (masks bytes marks : List ℕ) (frames : FramesAt (s .n) bytes) (marked : MarksBelow (s .n) bytes marks)
       (count : ℕ) (count-is : count ≡ heardCount (s .n) masks (s .own) (s .n))
@@ -50,13 +80,15 @@ module _ (s : Station) (inside : stationInside s ≡ true) where
         subst (λ (x : ℕ). ChangesAt bytes marks x (getD starts (f + 1) 0)) (sym (a .is)) (subst (ChangesAt bytes marks (frameStart (a .sender))) next c)
 
     pub may-hear :
+        (bars : List ℕ) → Bars (s .n) (s .own) (s .held) (s .table) bars →
         ((count ≤ 16) × (stationInside s ≡ true))
         × (((f : ℕ) → f < count → FrameAt (s .n) bytes (getD starts f 0))
         × (((f : ℕ) → f < count → MarksAt bytes marks (getD starts f 0))
-        × ((f : ℕ) → f + 1 < count → getD starts (f + 1) 0 ≡ getD starts f 0 + 260 → ChangesAt bytes marks (getD starts f 0) (getD starts (f + 1) 0))))
-    may-hear = (
+        × (((f : ℕ) → f + 1 < count → getD starts (f + 1) 0 ≡ getD starts f 0 + 260 → ChangesAt bytes marks (getD starts f 0) (getD starts (f + 1) 0))
+        × Bars (s .n) (s .own) (s .held) (s .table) bars)))
+    may-hear bars b = (
       (omega (arith, count-is, count-below (s .n) masks (s .own) (s .n), few), inside),
-      (each-start (FrameAt (s .n) bytes) (frames .frame), (each-start (MarksAt bytes marks) (marked .marked), changed)),
+      (each-start (FrameAt (s .n) bytes) (frames .frame), (each-start (MarksAt bytes marks) (marked .marked), (changed, b))),
     )
 
     pub mask-heard :

@@ -3,9 +3,12 @@
 ghost use mathlib.Core.Path.{_≡_};
 ghost use mathlib.Core.Bool.{true};
 ghost use Prim.Native.Nat.{_≤_};
+ghost use lib.ListN.{drop};
+ghost use Rattle.frame_rules.specs.Frame.{recordsOf};
+ghost use Rattle.station_rules.specs.State.{sentRecords};
 ghost use Rattle.station_rules.specs.Limits.{stationInside};
 ghost use Rattle.station_rules.specs.Frames.{HearsAll};
-ghost use Rattle.group_frames.specs.Frames.{FramesAt, MarksBelow};
+ghost use Rattle.group_frames.specs.Frames.{frameStart, FramesAt, MarksBelow};
 ghost use Rattle.group_turns.specs.Mask as spec;
 use group_frames::FRAME_ROOM;
 use station_rules::HeardAll;
@@ -40,12 +43,15 @@ fn heard_by(masks: [u16; 16], n: usize, i: usize) -> Senders
     }
 }
 
-// The station hears the frames of its mask, of all that stand in these bytes with their marks beside.
+// The station hears the frames of its mask, of all that stand in these bytes with their marks beside; its own is among them and has what it holds.
 pub fn hear_mask(s: Station, bytes: &[u8], marks: &[u8], masks: [u16; 16]) -> HeardAll
-    requires { ⌜ stationInside s ≡ true ⌝ ∗ ⌜ FramesAt (s .n) (now bytes) ⌝ ∗ ⌜ MarksBelow (s .n) (now bytes) (now marks) ⌝ }
+    requires { ⌜ stationInside s ≡ true ⌝ ∗ ⌜ FramesAt (s .n) (now bytes) ⌝ ∗ ⌜ MarksBelow (s .n) (now bytes) (now marks) ⌝ ∗
+        ⌜ recordsOf (drop (frameStart (s .own)) (now bytes)) ≡ sentRecords s ⌝ }
     ensures { λ r. ⌜ HearsAll s (now (bytes .entry)) (spec.heardStarts (s .n) masks (s .own) (s .n)) (spec.heardCount (s .n) masks (s .own) (s .n)) r ⌝ }
 {
     let senders = heard_by(masks, s.n, s.own);
     let starts = senders.starts;
-    station_hearing::hear_all(s, bytes, marks, starts, senders.len)
+    let at = FRAME_ROOM * s.own;
+    let bars = newer_records::own_bars(marks, at, bytes[at + 2] as usize, s.own);
+    station_hearing::hear_all(s, bars, bytes, marks, starts, senders.len)
 }

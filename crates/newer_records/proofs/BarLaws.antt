@@ -188,7 +188,7 @@ pub record BarsBelow (held : List Bool) (table : List Record) (k : ℕ) (bars : 
       getD bars (4 * j + x) 0 ≡ barOf (getD held j false) (recordLabel (getD table j noRecord) j) ((getD table j noRecord) .count) x
   pub rest : (j x : ℕ) → k ≤ j → j < 16 → x ≤ 2 → getD bars (4 * j + x) 0 ≡ 0
 
-bar-none : (held : Bool) (label count x : ℕ) → held ≡ false → barOf held label count x ≡ 0
+pub bar-none : (held : Bool) (label count x : ℕ) → held ≡ false → barOf held label count x ≡ 0
 unfolding barOf
 bar-none held label count x e = rw e
 

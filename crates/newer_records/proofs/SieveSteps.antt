@@ -13,7 +13,7 @@ use Rattle.station_rules.specs.Hearing.{Hearing, silent, hearRecord, hearRecord
 use Rattle.station_rules.proofs.Cells.{hearRecords-append}
 use Rattle.frame_marks.specs.Marks.{recordAt, sizeAt}
 use Rattle.newer_records.specs.Bars.{barred}
-use Rattle.newer_records.specs.Sieve.{Sieve, siftOne, sifted}
+use Rattle.newer_records.specs.Sieve.{Sieve, siftOne, sifted, siftedFrames}
 use Rattle.newer_records.specs.Newer.{placeRecord, heardAt}
 
 -- one mark more
@@ -40,11 +40,6 @@ module _ (z : Sieve) (marks : List ℕ) (start f : ℕ) where
   sifted-more r = rw (add-one r)
 
 -- the first f frames
-unfoldable pub siftedFrames : Sieve → List ℕ → List ℕ → List ℕ → ℕ → Sieve
-siftedFrames z bytes marks starts zero = z
-siftedFrames z bytes marks starts (suc f) =
-    sifted (siftedFrames z bytes marks starts f) marks (getD starts f 0) f (sizeAt bytes (getD starts f 0))
-
 module _ (z : Sieve) (bytes marks starts : List ℕ) where
   pub frames-none : siftedFrames z bytes marks starts 0 ≡ z
   unfolding siftedFrames

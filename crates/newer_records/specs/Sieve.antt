@@ -1,10 +1,11 @@
 -- A frame's marks held against the bars, one after the other: the places of those that pass are put into a list, and each sets the bars anew.
-use Prim.Native.Nat.{ℕ, zero, suc, _+_, _*_, _/_, _%_, _<_, _≤_}
+use Prim.Native.Nat.{ℕ, zero, suc, _+_, _-_, _*_, _/_, _%_, _<_, _≤_}
 use mathlib.Core.Path.{_≡_}
 use mathlib.Core.Bool.{cond}
 use mathlib.Core.List.{List}
-use lib.ListN.{getD, set, length}
+use lib.ListN.{getD, set, length, replicate}
 use lib.Dec.{ltb}
+use Rattle.frame_marks.specs.Marks.{sizeAt}
 use Rattle.frame_marks.specs.Changes.{changeFrom}
 use Rattle.newer_records.specs.Bars.{barred}
 
@@ -52,3 +53,28 @@ pub record Skippable (bars marks : List ℕ) (start records : ℕ) : Type 0 wher
 abbrev pub Sifts : List ℕ → List ℕ → ℕ → List ℕ → ℕ → ℕ → ℕ → List ℕ → List ℕ → ℕ → Type 0
 Sifts bars places len marks start records f bars' places' len' =
     record { bars = bars'; places = places'; len = len' } ≡ sifted (record { bars = bars; places = places; len = len }) marks start f records
+
+-- the same of all records of the first f frames
+unfoldable pub siftedFrames : Sieve → List ℕ → List ℕ → List ℕ → ℕ → Sieve
+siftedFrames z bytes marks starts zero = z
+siftedFrames z bytes marks starts (suc f) =
+    sifted (siftedFrames z bytes marks starts f) marks (getD starts f 0) f (sizeAt bytes (getD starts f 0))
+
+-- from some bars, with no place found
+abbrev pub sieveFrom : List ℕ → Sieve
+sieveFrom bars = record { bars = bars; places = replicate 256 0; len = 0 }
+
+-- frame f may be sifted after those before it, and where it stands right after the last of them, what it says again may be passed over
+pub record SiftableFrame (bars bytes marks starts : List ℕ) (f : ℕ) : Type 0 where
+  pub long : getD starts f 0 + 2 < length bytes
+  pub siftable :
+      let z = siftedFrames (sieveFrom bars) bytes marks starts f in
+      Siftable (z .bars) (z .places) (z .len) marks (getD starts f 0) (sizeAt bytes (getD starts f 0)) f
+  pub skippable :
+      getD starts f 0 ≡ getD starts (f - 1) 0 + 260 →
+      Skippable ((siftedFrames (sieveFrom bars) bytes marks starts f) .bars) marks (getD starts f 0) (sizeAt bytes (getD starts f 0))
+
+-- what is found in the first `count` frames
+pub record SiftsFrames (bars bytes marks starts : List ℕ) (count : ℕ) (places : List ℕ) (len : ℕ) : Type 0 where
+  pub places-are : places ≡ (siftedFrames (sieveFrom bars) bytes marks starts count) .places
+  pub len-is : len ≡ (siftedFrames (sieveFrom bars) bytes marks starts count) .len

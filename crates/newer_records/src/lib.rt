@@ -1,16 +1,14 @@
 // Which of the records that a station hears are newer, decided by the marks beside the frames.
 
 ghost use mathlib.Core.Path.{_≡_};
-ghost use mathlib.Core.Bool.{true};
+ghost use mathlib.Core.Bool.{Bool, true};
+ghost use mathlib.Core.List.{List};
 ghost use Prim.Native.Nat.{ℕ, _+_, _*_, _/_, _%_, _≤_, _<_};
-ghost use lib.ListN.{getD, length};
+ghost use lib.ListN.{length};
 ghost use Rattle.station_rules.specs.Limits.{stationInside};
-ghost use Rattle.station_rules.specs.Frames.{FrameAt};
-ghost use Rattle.frame_marks.specs.Marks.{MarksAt};
-ghost use Rattle.frame_marks.specs.Changes.{ChangesAt};
-ghost use Rattle.newer_records.specs.Bars.{Bars, barred};
-ghost use Rattle.newer_records.specs.Sieve.{Siftable, Skippable, Sifts};
-ghost use Rattle.newer_records.specs.Newer.{NewerAt};
+ghost use Rattle.frame_rules.specs.declared.Record.{Record};
+ghost use Rattle.newer_records.specs.Bars.{Bars, barred, MarksFit, MarksHeld};
+ghost use Rattle.newer_records.specs.Sieve.{Siftable, Skippable, Sifts, SiftableFrame, SiftsFrames};
 use station_rules::Station;
 
 // How far after the frame before a frame begins whose changes are known.
@@ -35,7 +33,7 @@ fn raise(bars: &mut [u16], k: usize, label: u8, count: u8)
 }
 
 // For each station and each label, at place 4 × station + label, the least count with which a seen record is heeded.
-fn bars_of(s: Station) -> [u16; 64]
+pub fn bars_of(s: Station) -> [u16; 64]
     requires { ⌜ stationInside s ≡ true ⌝ }
     ensures { λ r. ⌜ Bars (s .n) (s .own) (s .held) (s .table) r ⌝ }
 {
@@ -55,6 +53,28 @@ fn bars_of(s: Station) -> [u16; 64]
     bars[4 * own] = 256;
     bars[4 * own + 1] = 256;
     bars[4 * own + 2] = 256;
+    bars
+}
+
+// The same from the marks of the station's own frame, in which each record that it holds stands.
+pub fn own_bars(marks: &[u8], start: usize, records: usize, own: usize) -> [u16; 64]
+    requires { ⌜ own < 16 ⌝ ∗ ⌜ MarksFit (now marks) start records ⌝ }
+    ensures { λ r.
+        ⌜ ((n : ℕ) (held : List Bool) (table : List Record) →
+        MarksHeld n held table (now (marks .entry)) start records → Bars n own held table r) ⌝ }
+{
+    let mut bars = [0u16; 64];
+    let mut r: usize = 0;
+    while r < records {
+        let mark = marks[start + 2 * r] as usize;
+        let count = marks[start + 2 * r + 1];
+        raise(&mut bars, mark / 4, (mark % 4) as u8, count);
+        r += 1;
+    }
+    let first = 4 * own;
+    bars[first] = 256;
+    bars[first + 1] = 256;
+    bars[first + 2] = 256;
     bars
 }
 
@@ -146,22 +166,19 @@ fn sift_next(
     sift_changes(bars, places, before, marks, start, records, f)
 }
 
-// The places of the records that are newer when they are heard, of the frames that begin at the first `count` of the starts.
+// The places of the records that pass the bars, of the frames that begin at the first `count` of the starts; each that passes raises its bars. From the bars
+// of a station these are the records that are newer when it hears them.
 pub fn find_newer(
-    s: Station,
+    given: [u16; 64],
     bytes: &[u8],
     marks: &[u8],
     starts: [usize; 16],
     count: usize,
 ) -> Found
-    requires { ⌜ (count ≤ 16) × (stationInside s ≡ true) ⌝ ∗
-        ⌜ ((f : ℕ) → f < count → FrameAt (s .n) (now bytes) (getD starts f 0)) ⌝ ∗
-        ⌜ ((f : ℕ) → f < count → MarksAt (now bytes) (now marks) (getD starts f 0)) ⌝ ∗
-        ⌜ ((f : ℕ) → f + 1 < count → getD starts (f + 1) 0 ≡ getD starts f 0 + 260 →
-        ChangesAt (now bytes) (now marks) (getD starts f 0) (getD starts (f + 1) 0)) ⌝ }
-    ensures { λ r. ⌜ NewerAt s (now (bytes .entry)) starts count (r .places) (r .len) ⌝ }
+    requires { ⌜ count ≤ 16 ⌝ ∗ ⌜ ((f : ℕ) → f < count → SiftableFrame given (now bytes) (now marks) starts f) ⌝ }
+    ensures { λ r. ⌜ SiftsFrames given (now (bytes .entry)) (now (marks .entry)) starts count (r .places) (r .len) ⌝ }
 {
-    let mut bars = bars_of(s);
+    let mut bars = given;
     let mut places = [0u8; 256];
     let mut len: usize = 0;
     let mut last = starts[0];

@@ -5,10 +5,12 @@ use mathlib.Core.Bool.{true, false}
 use mathlib.Core.List.{List, _++_}
 use mathlib.Core.Path.{_≡_, sym, ap, subst, _∙_}
 use native.Mathlib.Omega.{arith}
-use lib.ListN.{length, replicate}
+use lib.ListN.{drop, length, replicate}
+use Rattle.frame_rules.specs.Frame.{recordsOf}
 use Rattle.station_rules.specs.declared.Station.{Station}
 use Rattle.station_rules.specs.declared.HeardAll.{HeardAll}
 use Rattle.station_rules.specs.declared.Turned.{Turned}
+use Rattle.station_rules.specs.State.{sentRecords}
 use Rattle.station_rules.specs.Limits.{stationInside}
 use Rattle.station_rules.specs.Hearing.{Hearing, silent}
 use Rattle.station_rules.specs.Frames.{hearFrames, HearsAll}
@@ -20,15 +22,17 @@ use Rattle.group_rules.specs.State.{stationAt, sizeOf}
 use Rattle.group_rules.specs.Calls.{heard, noTaking, reportOf}
 use Rattle.group_rules.proofs.Members.{Member, GroupShaped, group-high, member-at, members-open}
 use Rattle.group_rules.proofs.MembersRound.{hears-all}
-use Rattle.group_frames.specs.Frames.{FramesAt, MarksBelow}
+use Rattle.group_frames.specs.Frames.{frameStart, FramesAt, MarksBelow}
 use Rattle.group_frames.proofs.WrittenFrames.{AllSent}
-use Rattle.group_frames.proofs.GroupFrames.{frames-at}
+use Rattle.group_frames.proofs.GroupFrames.{frames-at, records-of}
 use Rattle.group_turns.specs.Mask.{heardCount, heardStarts}
 use Rattle.rounds.proofs.RoundFrames.{heard-below}
 
 -- what hearing by the mask asks for
 abbrev pub MayHear : List ℕ → List ℕ → Station → Type 0
-MayHear bytes marks x = (stationInside x ≡ true) × (FramesAt (x .n) bytes × MarksBelow (x .n) bytes marks)
+MayHear bytes marks x =
+    (stationInside x ≡ true)
+    × (FramesAt (x .n) bytes × (MarksBelow (x .n) bytes marks × (recordsOf (drop (frameStart (x .own)) bytes) ≡ sentRecords x)))
 
 -- what it tells
 abbrev pub HearsMask : List ℕ → List ℕ → HeardAll → Station → Type 0
@@ -51,7 +55,11 @@ module _ (g : List Station) (masks bytes : List ℕ) (sent : AllSent g bytes) (i
         inside-make s (member .inside),
         (
           subst (λ (n : ℕ). FramesAt n bytes) size (frames-at g (sent .inside) (sent .counts) bytes (sent .frames)),
-          subst (λ (n : ℕ). MarksBelow n bytes marks) size marked,
+          (
+            subst (λ (n : ℕ). MarksBelow n bytes marks) size marked,
+            subst (λ (k : ℕ). recordsOf (drop (frameStart k) bytes) ≡ sentRecords s) (sym (member .own))
+                (records-of g (sent .inside) (sent .counts) bytes (sent .frames) i below),
+          ),
         ),
       )
 

@@ -8,14 +8,16 @@ ghost use Rattle.station_rules.specs.Limits.{stationInside};
 ghost use Rattle.station_rules.specs.Frames.{FrameAt, HearsAll};
 ghost use Rattle.frame_marks.specs.Marks.{MarksAt};
 ghost use Rattle.frame_marks.specs.Changes.{ChangesAt};
+ghost use Rattle.newer_records.specs.Bars.{Bars};
 use kinds::Body;
 use station_rules::HeardAll;
 use station_rules::Station;
 use station_rules::Taking;
 
-// The station hears the frames that begin at the first `count` of the starts, each record in order; their marks stand beside.
+// The station hears the frames that begin at the first `count` of the starts, each record in order; their marks stand beside, and its bars are known.
 pub fn hear_all(
     s: Station,
+    bars: [u16; 64],
     bytes: &[u8],
     marks: &[u8],
     starts: [usize; 16],
@@ -25,12 +27,13 @@ pub fn hear_all(
         ⌜ ((f : ℕ) → f < count → FrameAt (s .n) (now bytes) (getD starts f 0)) ⌝ ∗
         ⌜ ((f : ℕ) → f < count → MarksAt (now bytes) (now marks) (getD starts f 0)) ⌝ ∗
         ⌜ ((f : ℕ) → f + 1 < count → getD starts (f + 1) 0 ≡ getD starts f 0 + 260 →
-        ChangesAt (now bytes) (now marks) (getD starts f 0) (getD starts (f + 1) 0)) ⌝ }
+        ChangesAt (now bytes) (now marks) (getD starts f 0) (getD starts (f + 1) 0)) ⌝ ∗
+        ⌜ Bars (s .n) (s .own) (s .held) (s .table) bars ⌝ }
     ensures { λ r. ⌜ HearsAll s (now (bytes .entry)) starts count r ⌝ }
 {
     let n = s.n;
     let own = s.own;
-    let newer = newer_records::find_newer(s, bytes, marks, starts, count);
+    let newer = newer_records::find_newer(bars, bytes, marks, starts, count);
     let mut station = s;
     let none = Taking {
         source: 0,

@@ -1,21 +1,13 @@
--- `newer_records::find_newer` meets its contract: after f frames the bars, the list and its length are those of the sieve of f frames, which follows their
--- hearing.
-use Prim.Native.Nat.{ℕ, _+_, _-_, _*_, _^_, _≤_, _<_}
+-- `newer_records::find_newer` meets its contract: after f frames the bars, the list and its length are those of the definition's sieve of f frames.
+use Prim.Native.Nat.{ℕ, _+_, _-_, _^_, _≤_, _<_}
 use native.Mathlib.Omega.{arith}
 use mathlib.Core.Path.{_≡_, refl, sym, ap, subst, _∙_}
 use mathlib.Core.List.{List}
-use lib.ListN.{getD, length, replicate}
+use lib.ListN.{getD, length}
 use lib.Seq.{getD-drop}
-use Rattle.station_rules.specs.declared.Station.{Station}
-use Rattle.station_rules.specs.Hearing.{silent}
-use Rattle.station_rules.specs.Frames.{hearFrames}
-use Rattle.station_rules.proofs.StationLimits.{Inside, inside-open}
-use Rattle.station_rules.proofs.Lengths.{lengths}
 use Rattle.frame_marks.specs.Marks.{sizeAt}
-use Rattle.newer_records.specs.Sieve.{Sieve, sifted, Siftable, Skippable}
-use Rattle.newer_records.proofs.NextFrame.{follows-skippable}
-use Rattle.newer_records.proofs.SieveSteps.{siftedFrames, frames-none, frames-more}
-use Rattle.newer_records.proofs.SieveLaws.{Follows, follows-none, follows-frames, follows-all, follows-siftable}
+use Rattle.newer_records.specs.Sieve.{Sieve, sifted, siftedFrames, sieveFrom, Siftable, Skippable, SiftableFrame}
+use Rattle.newer_records.proofs.SieveSteps.{frames-none, frames-more}
 use Rattle.newer_records.proofs.find_newer.Statement.{statement}
 use Rattle.newer_records.proofs.find_newer.Tie as tie
 
@@ -29,10 +21,10 @@ Inv-loop bytes marks count starts bars₀ places₀ len₀ last₀ f₀ bars pla
 abbrev μ-loop : tie.MeasureT-loop
 μ-loop bytes marks count starts bars₀ places₀ len₀ last₀ f₀ bars places len last f = count - f
 
--- after some frames
-module _ (c : tie.At-loop Inv-loop μ-loop) where
-  abbrev s : Station
-  s = c .before .before .before .before .args .s
+-- a frame
+module _ (c : tie.In-loop Inv-loop μ-loop) where
+  abbrev given : List ℕ
+  given = c .before .before .before .before .args .given
 
   abbrev bytes : List ℕ
   bytes = c .before .before .before .before .args .bytes .now
@@ -43,79 +35,39 @@ module _ (c : tie.At-loop Inv-loop μ-loop) where
   abbrev starts : List ℕ
   starts = c .before .before .before .before .args .t4
 
-  abbrev count : ℕ
-  count = c .before .before .before .before .args .count
-
   abbrev f : ℕ
-  f = c .loop .f
+  f = c .before .loop .f
 
-  abbrev now-sieve : Sieve
-  now-sieve = sieve (c .loop .bars) (c .loop .places) (c .loop .len)
-
-  abbrev first : Sieve
-  first = sieve (c .before .bars-of .result) (replicate 256 0) 0
-
-  within : Inside s
-  within = inside-open s (c .before .before .before .before .pre .0 .1)
-
-  follows-first :
-      Follows s bytes starts marks count within (c .before .before .before .before .pre .0 .0) (c .before .before .before .before .pre .1 .0)
-      (c .before .before .before .before .pre .1 .1 .0) (silent s) 0 first
-  follows-first =
-      let p = c .before .before .before .before .pre in
-      follows-none s bytes starts marks count within (p .0 .0) (p .1 .0) (p .1 .1 .0) (c .before .bars-of .result)
-      (lengths s (c .before .before .before .before .good .0)) (c .before .bars-of .ensures)
-
-  follows :
-      Follows s bytes starts marks count within (c .before .before .before .before .pre .0 .0) (c .before .before .before .before .pre .1 .0)
-      (c .before .before .before .before .pre .1 .1 .0) (hearFrames (silent s) bytes starts f) (16 * f) now-sieve
-  follows =
-      let p = c .before .before .before .before .pre in
-      subst (Follows s bytes starts marks count within (p .0 .0) (p .1 .0) (p .1 .1 .0) (hearFrames (silent s) bytes starts f) (16 * f)) (sym (c .loop .inv .1))
-      (follows-frames s bytes starts marks count within (p .0 .0) (p .1 .0) (p .1 .1 .0) first follows-first f (c .loop .inv .0))
-
--- a frame
-module _ (c : tie.In-loop Inv-loop μ-loop) where
   abbrev start : ℕ
-  start = getD (starts (c .before)) (f (c .before)) 0
+  start = getD starts f 0
 
   abbrev size : ℕ
-  size = sizeAt (bytes (c .before)) start
+  size = sizeAt bytes start
 
-  size-is : getD (bytes (c .before)) (start + 2) 0 ≡ size
-  size-is = sym (getD-drop start (bytes (c .before)) 2 0)
+  size-is : getD bytes (start + 2) 0 ≡ size
+  size-is = sym (getD-drop start bytes 2 0)
 
-  low : (f (c .before) < 16) × (start + 4 + 16 * size ≤ length (bytes (c .before))) × (length (bytes (c .before)) < 2 ^ 64) × (getD (bytes (c .before)) (start + 2) 0 ≤ 16)
-  low =
-      let p = c .before .before .before .before .before .pre in
-      let l = c .loop-test .taken in (
-        omega (arith, p .0 .0),
-        p .1 .0 (f (c .before)) l .room,
-        c .before .before .before .before .before .good .1 .0 .0,
-        omega (arith, size-is, p .1 .1 .0 (f (c .before)) l .few),
-      )
+  frame : SiftableFrame given bytes marks starts f
+  frame = c .before .before .before .before .pre .1 f (c .loop-test .taken)
 
-  siftable :
-      Siftable (c .before .loop .bars) (c .before .loop .places) (c .before .loop .len) (marks (c .before)) start (getD (bytes (c .before)) (start + 2) 0) (f (c .before))
+  low : (f < 16) × (start + 2 < length bytes) × (length bytes < 2 ^ 64) × (getD bytes (start + 2) 0 ≤ 256)
+  low = (
+    omega (arith, c .before .before .before .before .pre .0, c .loop-test .taken),
+    frame .long,
+    c .before .before .before .before .good .1 .0 .0,
+    omega (arith, size-is, frame .siftable .few),
+  )
+
+  siftable : Siftable (c .before .loop .bars) (c .before .loop .places) (c .before .loop .len) marks start (getD bytes (start + 2) 0) f
   siftable =
-      let p = c .before .before .before .before .before .pre in
       rw size-is
-      (follows-siftable (s (c .before)) (bytes (c .before)) (starts (c .before)) (marks (c .before)) (count (c .before)) (within (c .before)) (p .0 .0) (p .1 .0) (p .1 .1 .0)
-      _ (f (c .before)) (now-sieve (c .before)) (c .loop-test .taken) (follows (c .before)))
+      (subst (λ (x : Sieve). Siftable (x .bars) (x .places) (x .len) marks start size f) (sym (c .before .loop .inv .1)) (frame .siftable))
 
-  skippable :
-      start ≡ c .before .loop .last + 260 →
-      Skippable (c .before .loop .bars) (marks (c .before)) start (getD (bytes (c .before)) (start + 2) 0)
+  skippable : start ≡ c .before .loop .last + 260 → Skippable (c .before .loop .bars) marks start (getD bytes (start + 2) 0)
   skippable e =
-      let v = c .before in
-      let p = v .before .before .before .before .pre in
       rw size-is
-      (subst (λ (x : Sieve). Skippable (x .bars) (marks v) start size) (sym (v .loop .inv .1))
-      (follows-skippable (s v) (bytes v) (starts v) (marks v) (count v) (within v) (p .0 .0) (p .1 .0) (p .1 .1 .0) (first v) (follows-first v) (p .1 .1 .1) (f v)
-      (v .loop .last) (c .loop-test .taken) (v .loop .inv .2) e))
-
-bars-of-requires : tie.Need-bars-of-requires Inv-loop μ-loop
-bars-of-requires c κs = c .before .before .pre .0 .1
+      (subst (λ (x : Sieve). Skippable (x .bars) marks start size) (sym (c .before .loop .inv .1))
+      (frame .skippable (e ∙ ap (λ (x : ℕ). x + 260) (c .before .loop .inv .2))))
 
 array-read-last : tie.Need-array-read-last Inv-loop μ-loop
 array-read-last c = omega arith
@@ -160,18 +112,17 @@ loop-again c =
     let m = size-is v in (
       omega (arith, v .loop-test .taken),
       c .before .before .sift-next .ensures
-          ∙ (λ i. sifted (e i) (marks (v .before)) (start v) (f (v .before)) (m i))
-          ∙ sym (frames-more (first (v .before)) (bytes (v .before)) (marks (v .before)) (starts (v .before)) (f (v .before))),
-      ap (λ (j : ℕ). getD (starts (v .before)) j 0) {x = f (v .before)} {y = f (v .before) + 1 - 1} (omega arith),
+          ∙ (λ i. sifted (e i) (marks v) (start v) (f v) (m i))
+          ∙ sym (frames-more (sieveFrom (given v)) (bytes v) (marks v) (starts v) (f v)),
+      ap (λ (j : ℕ). getD (starts v) j 0) {x = f v} {y = f v + 1 - 1} (omega arith),
     )
 
 returns : tie.Need-returns Inv-loop μ-loop
 returns c =
-    let v = c .before in
-    let p = v .before .before .before .before .pre in
-    let e : f v ≡ count v = omega (arith, v .loop .inv .0, c .loop-test .left) in
-    follows-all (s v) (bytes v) (starts v) (marks v) (count v) (within v) (p .0 .0) (p .1 .0) (p .1 .1 .0) (now-sieve v)
-    (subst (λ (j : ℕ). Follows (s v) (bytes v) (starts v) (marks v) (count v) (within v) (p .0 .0) (p .1 .0) (p .1 .1 .0) (hearFrames (silent (s v)) (bytes v) (starts v) j) (16 * j) (now-sieve v)) e (follows v))
+    let a = c .before .before .before .before .args in
+    let e : c .before .loop .f ≡ a .count = omega (arith, c .before .loop .inv .0, c .loop-test .left) in
+    let z = c .before .loop .inv .1 ∙ ap (siftedFrames (sieveFrom (a .given)) (a .bytes .now) (a .marks .now) (a .t4)) e in
+    record { places-are = ap (λ (x : Sieve). x .places) z; len-is = ap (λ (x : Sieve). x .len) z }
 
 pub find-newer-spec : {M : Type 1} → statement M
 find-newer-spec =
@@ -179,7 +130,6 @@ find-newer-spec =
     (tie.spec
     Inv-loop
     μ-loop
-    bars-of-requires
     array-read-last
     loop-holds
     mul-start

@@ -18,6 +18,7 @@ use Rattle.station_rules.proofs.LimitsHearing.{Hears, hears-none, hears-record,
 use Rattle.frame_marks.specs.Marks.{sizeAt}
 use Rattle.frame_marks.proofs.FrameBytes.{station-at, record-at, inside-at, carried-at}
 use Rattle.newer_records.specs.Newer.{placeRecord, heardAt, NewerAt}
+use Rattle.newer_records.proofs.FramesSifted.{frames-siftable, newer-found}
 use Rattle.newer_records.proofs.SieveSteps.{heardAt-none, heardAt-more}
 use Rattle.station_hearing.proofs.HearSteps.{At, at-start, Does, newer-full, newer-kept, newer-room, newer-taken, overfull-later}
 use Rattle.station_hearing.proofs.hear_all.Statement.{statement}
@@ -32,6 +33,17 @@ Inv-loop bytes marks count starts n own newer station₀ takings₀ len₀ i₀ 
 abbrev μ-loop : tie.MeasureT-loop
 μ-loop bytes marks count starts n own newer station₀ takings₀ len₀ i₀ station takings len i = newer .len - i
 
+-- the places found are those of the newer records
+found :
+    (c : tie.After-find-newer Inv-loop μ-loop) →
+    NewerAt (c .before .before .before .args .s) (c .before .before .before .args .bytes .now) (c .before .before .before .args .t5)
+    (c .before .before .before .args .count) (c .find-newer .result .places) (c .find-newer .result .len)
+found c =
+    let z = c .before .before .before in
+    let p = z .pre in
+    newer-found (z .args .s) (z .args .bytes .now) (z .args .t5) (z .args .marks .now) (z .args .count) (inside-open (z .args .s) (p .0 .1)) (p .0 .0)
+    (p .1 .0) (p .1 .1 .0) (lengths (z .args .s) (z .good .0)) (z .args .bars) (p .1 .1 .1 .1) _ _ (c .find-newer .ensures)
+
 -- a newer record
 module _ (c : tie.In-loop Inv-loop μ-loop) where
   abbrev s : Station
@@ -41,7 +53,7 @@ module _ (c : tie.In-loop Inv-loop μ-loop) where
   bytes = c .before .before .before .before .before .args .bytes .now
 
   abbrev starts : List ℕ
-  starts = c .before .before .before .before .before .args .t4
+  starts = c .before .before .before .before .before .args .t5
 
   abbrev places : List ℕ
   places = c .before .before .find-newer .result .places
@@ -74,7 +86,7 @@ module _ (c : tie.In-loop Inv-loop μ-loop) where
   inside = inside-open s (c .before .before .before .before .before .pre .0 .1)
 
   newer : NewerAt s bytes starts (c .before .before .before .before .before .args .count) places (c .before .before .find-newer .result .len)
-  newer = c .before .before .find-newer .ensures
+  newer = found (c .before .before)
 
   frame : FrameAt (s .n) bytes start
   frame = c .before .before .before .before .before .pre .1 .0 (place / 16) (newer .frame i (c .loop-test .taken))
@@ -123,7 +135,7 @@ module _ (c : tie.In-loop Inv-loop μ-loop) where
         newer .few,
         omega (arith, newer .frame i l, c .before .before .before .before .before .pre .0 .0),
         omega (arith, frame .room, below),
-        c .before .before .before .before .before .good .1 .0 .0,
+        c .before .before .before .before .before .good .1 .1 .0 .0,
         omega (arith, k-is, carry .station, j .high),
         omega (arith, j .own, j .high),
         j .high,
@@ -141,12 +153,18 @@ module _ (c : tie.After-heard Inv-loop μ-loop) where
       (c .heard .ensures)
 
 find-newer-requires : tie.Need-find-newer-requires Inv-loop μ-loop
-find-newer-requires c κs = c .before .before .pre
+find-newer-requires c κs =
+    let z = c .before .before in
+    let p = z .pre in (
+      p .0 .0,
+      frames-siftable (z .args .s) (z .args .bytes .now) (z .args .t5) (z .args .marks .now) (z .args .count) (inside-open (z .args .s) (p .0 .1)) (p .0 .0)
+          (p .1 .0) (p .1 .1 .0) (lengths (z .args .s) (z .good .0)) (z .args .bars) (p .1 .1 .1 .1) (p .1 .1 .1 .0),
+    )
 
 loop-holds : tie.Need-loop-holds Inv-loop μ-loop
 loop-holds c =
     let z = c .before .before .before in
-    let e = heardAt-none (z .args .s) (z .args .bytes .now) (z .args .t4) (c .find-newer .result .places) in
+    let e = heardAt-none (z .args .s) (z .args .bytes .now) (z .args .t5) (c .find-newer .result .places) in
     (omega arith, rw e (at-start (z .args .s)), rw e (hears-none (silent (z .args .s)) (inside-open (z .args .s) (z .pre .0 .1)) (lengths (z .args .s) (z .good .0))))
 
 element-copy-out-place : tie.Need-element-copy-out-place Inv-loop μ-loop
@@ -262,8 +280,8 @@ element-copy-out-lane c = low (turn (c .before .before .before .before)) .5
 pushed-requires : tie.Need-pushed-requires Inv-loop μ-loop
 pushed-requires c κs = tt
 
-mul-t32 : tie.Need-mul-t32 Inv-loop μ-loop
-mul-t32 c = record { fits = omega (arith, low (turn (c .before .before .before .before .before .before))) }
+mul-t33 : tie.Need-mul-t33 Inv-loop μ-loop
+mul-t33 c = record { fits = omega (arith, low (turn (c .before .before .before .before .before .before))) }
 
 element-set-from-station : tie.Need-element-set-from-station Inv-loop μ-loop
 element-set-from-station c = low (turn (c .before .before .before .before .before .before)) .5
@@ -300,7 +318,7 @@ returns-2 c =
     let z = c .before .before .before .before .before in
     let f = c .before .before .find-newer in
     let e : c .before .loop .i ≡ f .result .len = omega (arith, c .before .loop .inv .0, c .loop-test .left) in
-    let all = ap (heardAt (z .args .s) (z .args .bytes .now) (z .args .t4) (f .result .places)) e ∙ f .ensures .all in
+    let all = ap (heardAt (z .args .s) (z .args .bytes .now) (z .args .t5) (f .result .places)) e ∙ found (c .before .before) .all in
     let a = c .before .loop .inv .1 in
     let b = rw all at a in
     record { overfull = sym (b .free); station = λ x. b .station; len = λ x. b .len; takings = λ x. b .takings; few = λ x. omega (arith, a .len, takings-bounded _ _ (c .before .loop .inv .2) (a .free)) }
@@ -342,7 +360,7 @@ hear-all-spec =
     mul-lane
     element-copy-out-lane
     pushed-requires
-    mul-t32
+    mul-t33
     element-set-from-station
     cast-t31
     mul-takings
