@@ -131,7 +131,7 @@ module _ (z : Sieve) (marks : List ℕ) (start records f : ℕ) (a : Siftable (z
   abbrev change : ℕ → ℕ
   change j = changeAt marks start j
 
-  high : (j : ℕ) → j ≤ b .len → change j ≤ records
+  pub high : (j : ℕ) → j ≤ b .len → change j ≤ records
   high j l =
       elim (ℕ-discrete j (b .len)) [
         | yes e ↦ omega (arith, ap change e, b .list .last)
@@ -172,9 +172,6 @@ module _ (z : Sieve) (marks : List ℕ) (start records f : ℕ) (a : Siftable (z
         | yes e ↦ omega (arith, ap change e, b .list .last, b .list .inside j l)
         | no d ↦ b .list .ascends j (j + 1) (omega arith) (omega arith)
       ]
-
-  pub next-high : (j : ℕ) → j < b .len → change (j + 1) ≤ records
-  next-high j l = high (j + 1) (omega arith)
 
   pub sifted-to-next : (j : ℕ) → j < b .len → sifted z marks start f (change (j + 1)) ≡ sifted z marks start f (change j + 1)
   sifted-to-next j l = run (j + 1) (change j + 1) (omega arith) (omega (arith, next-after j l)) between
