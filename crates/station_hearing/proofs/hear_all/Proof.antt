@@ -286,8 +286,8 @@ mul-t33 c = record { fits = omega (arith, low (turn (c .before .before .before .
 element-set-from-station : tie.Need-element-set-from-station Inv-loop μ-loop
 element-set-from-station c = low (turn (c .before .before .before .before .before .before)) .5
 
-cast-t31 : tie.Need-cast-t31 Inv-loop μ-loop
-cast-t31 c = record { fits = omega (arith, low (turn (c .before .before .before .before .before .before))) }
+cast-t32 : tie.Need-cast-t32 Inv-loop μ-loop
+cast-t32 c = record { fits = omega (arith, low (turn (c .before .before .before .before .before .before))) }
 
 mul-takings : tie.Need-mul-takings Inv-loop μ-loop
 mul-takings c = record { fits = omega (arith, room (c .before .before)) }
@@ -362,7 +362,7 @@ hear-all-spec =
     pushed-requires
     mul-t33
     element-set-from-station
-    cast-t31
+    cast-t32
     mul-takings
     array-set-from-takings
     add-len

@@ -177,8 +177,8 @@ array-copy-out-last c = search needs
 over-requires : tie.Need-over-requires Inv-loop μ-loop
 over-requires c κs = search needs
 
-cast-t53 : tie.Need-cast-t53 Inv-loop μ-loop
-cast-t53 c =
+cast-t63 : tie.Need-cast-t63 Inv-loop μ-loop
+cast-t63 c =
     let h = own-in (c .before .before .before .before .before .before .before .before .before .before .before .before .before .before .before .before .before) in
     search needs
 
@@ -270,7 +270,7 @@ take-turn-spec =
     mul-last
     array-copy-out-last
     over-requires
-    cast-t53
+    cast-t63
     mul-table
     array-set-from-table
     lane-with-requires
