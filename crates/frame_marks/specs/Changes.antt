@@ -1,7 +1,6 @@
 -- Two frames of which one stands after the other: what the second says anew. A record whose mark and count are those at the same place of the frame before
 -- says what that one said.
 use Prim.Native.Nat.{ℕ, _+_, _*_, _<_, _≤_}
-use mathlib.Core.Logic.{_⊎_}
 use mathlib.Core.Path.{_≡_}
 use mathlib.Core.List.{List}
 use lib.ListN.{getD, length}
@@ -13,25 +12,37 @@ pub record SameMarks (m : ℕ) (marks : List ℕ) (before start r : ℕ) : Type 
   pub mark : getD marks (start + 2 * r) 0 ≡ getD marks (before + 2 * r) 0
   pub count : getD marks (start + 2 * r + 1) 0 ≡ getD marks (before + 2 * r + 1) 0
 
--- the place that stands for place r, beside the marks of the frame that begins at start: before it, from r on, no record says anything new
-abbrev pub changeFrom : List ℕ → ℕ → ℕ → ℕ
-changeFrom marks start r = getD marks (start + 32 + r) 0
+-- what a comparison of record r with that of the frame before tells
+pub record SaysSame (r m mark old-mark count old-count : ℕ) : Type 0 where
+  pub known : r < m
+  pub same-mark : mark ≡ old-mark
+  pub same-count : count ≡ old-count
 
--- the place for r: r itself, or the one for the next place where record r is as before
-abbrev pub FirstChange : ℕ → ℕ → ℕ → ℕ → ℕ → ℕ → ℕ → ℕ → Type 0
-FirstChange r m mark old-mark count old-count next place =
-    (place ≡ r) ⊎ ((place ≡ next) × (r < m) × (mark ≡ old-mark) × (count ≡ old-count))
+-- entry j of the list beside the marks of the frame that begins at start
+abbrev pub changeAt : List ℕ → ℕ → ℕ → ℕ
+changeAt marks start j = getD marks (start + 32 + j) 0
 
--- the places for those from r up to the number of records are put; the other bytes are as they were
-pub record ChangesFrom (m records before start r : ℕ) (old marks : List ℕ) : Type 0 where
+-- the list has `len` places of records, ascending, and then the number of records
+pub record ListAt (marks : List ℕ) (start records len : ℕ) : Type 0 where
+  pub few : len ≤ records
+  pub last : changeAt marks start len ≡ records
+  pub inside : (j : ℕ) → j < len → changeAt marks start j < records
+  pub ascends : (i j : ℕ) → i < j → j < len → changeAt marks start i < changeAt marks start j
+
+-- place q is not among its first `len` entries
+abbrev pub Unlisted : List ℕ → ℕ → ℕ → ℕ → Type 0
+Unlisted marks start len q = (j : ℕ) → j < len → changeAt marks start j ≡ q → ⊥
+
+-- the list is put, and a record that is not in it says nothing new; the other bytes are as they were
+pub record ChangesPut (m records before start : ℕ) (old marks : List ℕ) : Type 0 where
   pub size : length marks ≡ length old
   pub below : (i : ℕ) → i < start + 32 → getD marks i 0 ≡ getD old i 0
   pub above : (i : ℕ) → start + 32 + records < i → getD marks i 0 ≡ getD old i 0
-  pub low : (p : ℕ) → r ≤ p → p ≤ records → p ≤ changeFrom marks start p
-  pub high : (p : ℕ) → r ≤ p → p ≤ records → changeFrom marks start p ≤ records
-  pub same : (p q : ℕ) → r ≤ p → p ≤ records → p ≤ q → q < changeFrom marks start p → SameMarks m old before start q
+  pub len : ℕ
+  pub list : ListAt marks start records len
+  pub same : (q : ℕ) → q < records → Unlisted marks start len q → SameMarks m old before start q
 
--- two frames of at most sixteen records may be compared: the marks of the first end before the second begins, and there is room for the places
+-- two frames of at most sixteen records may be compared: the marks of the first end before the second begins, and there is room for the list
 pub record Comparable (bytes marks : List ℕ) (before start : ℕ) : Type 0 where
   pub first-size : before + 2 < length bytes
   pub size : start + 2 < length bytes
@@ -48,7 +59,6 @@ pub record ChangesAt (bytes marks : List ℕ) (before start : ℕ) : Type 0 wher
   pub first : Ascending bytes before
   pub second : Ascending bytes start
   pub room : start + 32 + sizeAt bytes start < length marks
-  pub low : (p : ℕ) → p ≤ sizeAt bytes start → p ≤ changeFrom marks start p
-  pub high : (p : ℕ) → p ≤ sizeAt bytes start → changeFrom marks start p ≤ sizeAt bytes start
-  pub same :
-      (p q : ℕ) → p ≤ sizeAt bytes start → p ≤ q → q < changeFrom marks start p → SameMarks (sizeAt bytes before) marks before start q
+  pub len : ℕ
+  pub list : ListAt marks start (sizeAt bytes start) len
+  pub same : (q : ℕ) → q < sizeAt bytes start → Unlisted marks start len q → SameMarks (sizeAt bytes before) marks before start q

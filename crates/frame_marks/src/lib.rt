@@ -1,7 +1,9 @@
 // Marks: a frame's records in short, two bytes a record.
 
 ghost use Rattle.frame_marks.specs.Marks.{Marked, Markable, sizeAt};
-ghost use Rattle.frame_marks.specs.Changes.{FirstChange, ChangesFrom, Comparable};
+ghost use Rattle.frame_marks.specs.Changes.{SaysSame, ChangesPut, Comparable};
+ghost use mathlib.Core.Path.{_≡_};
+ghost use mathlib.Core.Bool.{true};
 
 // The marks and counts of the records of the frame that begins at `start`, from the same place on.
 pub fn put_marks(marks: &mut [u8], bytes: &[u8], start: usize)
@@ -21,44 +23,49 @@ pub fn put_marks(marks: &mut [u8], bytes: &[u8], start: usize)
     }
 }
 
-// Of the places from r on, one before which no record says anything new: `next`, where record r is one of those known and is as before.
-fn first_change(r: u8, known: u8, mark: u8, old_mark: u8, count: u8, old_count: u8, next: u8) -> u8
-    ensures { λ p. ⌜ FirstChange r known mark «old_mark» count «old_count» next p ⌝ }
+// Whether record r is one of those known and is in short as before.
+fn is_same(r: usize, known: u8, mark: u8, old_mark: u8, count: u8, old_count: u8) -> bool
+    ensures { λ b. ⌜ (b ≡ true → SaysSame r known mark «old_mark» count «old_count») ⌝ }
 {
-    if known <= r {
-        return r;
+    if (known as usize) <= r {
+        return false;
     }
     if mark != old_mark {
-        return r;
+        return false;
     }
     if count != old_count {
-        return r;
+        return false;
     }
-    next
+    true
 }
 
-// For each place r of the frame that begins at `start`, at byte 32 + r: how far from r on its records are in short those of the frame before.
+// From byte 32 on after `start`, where a frame begins: the places of its records that are in short others than those of the frame before, ascending, and then
+// the number of records.
 pub fn put_changes(marks: &mut [u8], bytes: &[u8], before: usize, start: usize)
     requires { ⌜ Comparable (now bytes) (now marks) before start ⌝ }
     ensures { λ _.
-        ⌜ ChangesFrom (sizeAt (now (bytes .entry)) before) (sizeAt (now (bytes .entry)) start) before start 0 (now (marks .entry)) (now (marks .exit)) ⌝ }
+        ⌜ ChangesPut (sizeAt (now (bytes .entry)) before) (sizeAt (now (bytes .entry)) start) before start (now (marks .entry)) (now (marks .exit)) ⌝ }
 {
     let known = bytes[before + 2];
-    let records = bytes[start + 2];
-    marks[start + 32 + (records as usize)] = records;
-    let mut r = records as usize;
-    while 0 < r {
-        let next = marks[start + 32 + r];
-        r -= 1;
-        let place = first_change(
-            r as u8,
+    let records = bytes[start + 2] as usize;
+    let mut len: usize = 0;
+    let mut r: usize = 0;
+    while r < records {
+        let i = r;
+        r += 1;
+        let same = is_same(
+            i,
             known,
-            marks[start + 2 * r],
-            marks[before + 2 * r],
-            marks[start + 2 * r + 1],
-            marks[before + 2 * r + 1],
-            next,
+            marks[start + 2 * i],
+            marks[before + 2 * i],
+            marks[start + 2 * i + 1],
+            marks[before + 2 * i + 1],
         );
-        marks[start + 32 + r] = place;
+        if same {
+            continue;
+        }
+        marks[start + 32 + len] = i as u8;
+        len += 1;
     }
+    marks[start + 32 + len] = records as u8;
 }

@@ -7,7 +7,7 @@ use native.Mathlib.Decide.{ℕ-discrete}
 use native.Mathlib.Omega.{arith}
 use lib.ListN.{getD, length}
 use Rattle.frame_marks.specs.Marks.{sizeAt, Marked, Markable}
-use Rattle.frame_marks.specs.Changes.{ChangesFrom, Comparable, ChangesAt}
+use Rattle.frame_marks.specs.Changes.{ChangesPut, Comparable, ChangesAt}
 use Rattle.frame_marks.proofs.MarkLaws.{marked-at}
 use Rattle.frame_marks.proofs.ChangeLaws.{changes-at, changes-kept}
 use Rattle.group_frames.specs.Frames.{FramesAt, MarkedBelow, ChangedBelow}
@@ -46,7 +46,7 @@ module _ (n : ℕ) (bytes : List ℕ) (frames : FramesAt n bytes) (k : ℕ) (fir
         room = omega arith;
       }
 
-  module _ (marks : List ℕ) (b : ChangesFrom (sizeAt bytes (260 * (k - 1))) (sizeAt bytes (260 * k)) (260 * (k - 1)) (260 * k) 0 old marks) where
+  module _ (marks : List ℕ) (b : ChangesPut (sizeAt bytes (260 * (k - 1))) (sizeAt bytes (260 * k)) (260 * (k - 1)) (260 * k) old marks) where
     kept : (j i : ℕ) → 260 * j ≤ i → i < 260 * j + 32 → getD marks i 0 ≡ getD old i 0
     kept j i l h =
         elim (ℕ-discrete (j - k) 0) [

@@ -10,7 +10,7 @@ use mathlib.Core.List.{List}
 use lib.ListN.{getD, length}
 use lib.Dec.{ltb}
 use borrow.Author.Tests.{ltb-true, ltb-false}
-use Rattle.frame_marks.specs.Changes.{changeFrom}
+use Rattle.frame_marks.specs.Changes.{changeAt, Unlisted}
 use Rattle.newer_records.specs.Bars.{barred}
 use Rattle.newer_records.specs.Sieve.{Sieve, siftOne, sifted, Siftable, Skippable}
 use Rattle.newer_records.proofs.BarLaws.{bar-same, barred-size, barred-here, barred-other}
@@ -125,12 +125,67 @@ module _ (z : Sieve) (marks : List ℕ) (start records f : ℕ) (a : Siftable (z
       (omega (arith, ahead q (omega arith) q (omega arith) (omega arith), below q (omega arith) (omega arith)))
       ∙ passed-over r d (omega arith) (λ i h b. below i h (omega arith))
 
--- the place for r is as far as r
+-- the list beside the marks leads from one record that may pass to the next
 module _ (z : Sieve) (marks : List ℕ) (start records f : ℕ) (a : Siftable (z .bars) (z .places) (z .len) marks start records f)
     (b : Skippable (z .bars) marks start records) where
-  pub sifted-to-change : (r : ℕ) → r ≤ records → sifted z marks start f (changeFrom marks start r) ≡ sifted z marks start f r
-  sifted-to-change r l =
-      let p = changeFrom marks start r in
-      let e : r + (p - r) ≡ p = omega (arith, b .low r l) in
+  abbrev change : ℕ → ℕ
+  change j = changeAt marks start j
+
+  pub high : (j : ℕ) → j ≤ b .len → change j ≤ records
+  high j l =
+      elim (ℕ-discrete j (b .len)) [
+        | yes e ↦ omega (arith, ap change e, b .list .last)
+        | no d ↦ omega (arith, b .list .inside j (omega arith))
+      ]
+
+  -- a run of records up to entry j that are not in the list
+  run : (j r : ℕ) → j ≤ b .len → r ≤ change j → ((q : ℕ) → r ≤ q → q < change j → Unlisted marks start (b .len) q) → sifted z marks start f (change j) ≡ sifted z marks start f r
+  run j r l h unlisted =
+      let p = change j in
+      let e : r + (p - r) ≡ p = omega arith in
       ap (sifted z marks start f) (sym e)
-      ∙ passed-over z marks start records f a (b .ascends) r (p - r) (omega (arith, e, b .high r l)) (λ q h t. b .below r q l h (omega (arith, e)))
+      ∙ passed-over z marks start records f a (b .ascends) r (p - r) (omega (arith, e, high j l))
+      (λ q g t. b .below q (omega (arith, e, high j l)) (unlisted q g (omega (arith, e))))
+
+  -- what stands before entry j comes before all from j on
+  not-after : (j i q : ℕ) → j ≤ i → i < b .len → q < change j → change i ≡ q → ⊥
+  not-after j i q l h t e =
+      elim (ℕ-discrete i j) [
+        | yes g ↦ absurd (omega (arith, ap change g))
+        | no d ↦ absurd (omega (arith, b .list .ascends j i (omega arith) h))
+      ]
+
+  pub sifted-to-first : sifted z marks start f (change 0) ≡ sifted z marks start f 0
+  sifted-to-first = run 0 0 (omega arith) (omega arith) (λ q g t i h e. not-after 0 i q (omega arith) h t e)
+
+  -- an entry below the number of records is one of those before the last
+  pub entry-inside : (j : ℕ) → j ≤ b .len → change j < records → j < b .len
+  entry-inside j l h =
+      elim (ℕ-discrete j (b .len)) [
+        | yes e ↦ absurd (omega (arith, ap change e, b .list .last))
+        | no d ↦ omega arith
+      ]
+
+  pub next-after : (j : ℕ) → j < b .len → change j < change (j + 1)
+  next-after j l =
+      elim (ℕ-discrete (j + 1) (b .len)) [
+        | yes e ↦ omega (arith, ap change e, b .list .last, b .list .inside j l)
+        | no d ↦ b .list .ascends j (j + 1) (omega arith) (omega arith)
+      ]
+
+  pub sifted-to-next : (j : ℕ) → j < b .len → sifted z marks start f (change (j + 1)) ≡ sifted z marks start f (change j + 1)
+  sifted-to-next j l = run (j + 1) (change j + 1) (omega arith) (omega (arith, next-after j l)) between
+    where
+      between : (q : ℕ) → change j + 1 ≤ q → q < change (j + 1) → Unlisted marks start (b .len) q
+      between q g t i h e =
+          elim (ℕ-discrete (i - j) 0) [
+            | yes y ↦ not-before i (omega arith) e
+            | no n ↦ not-after (j + 1) i q (omega arith) h t e
+          ]
+        where
+          not-before : (i : ℕ) → i ≤ j → change i ≡ q → ⊥
+          not-before i y e =
+              elim (ℕ-discrete i j) [
+                | yes x ↦ absurd (omega (arith, ap change x))
+                | no n ↦ absurd (omega (arith, b .list .ascends i j (omega arith) l))
+              ]

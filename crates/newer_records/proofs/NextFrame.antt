@@ -53,11 +53,11 @@ module _
         record {
           room = c .room;
           ascends = marks-ascend (f + 1) l (c .second);
-          low = c .low;
-          high = c .high;
+          len = c .len;
+          list = c .list;
           below =
-              λ r q h b t.
-              let same = c .same r q h b t in
+              λ q h u.
+              let same = c .same q h u in
               omega (
                 arith,
                 same .count,

@@ -6,7 +6,7 @@ use mathlib.Core.List.{List}
 use lib.ListN.{getD, set, length, replicate}
 use lib.Dec.{ltb}
 use Rattle.frame_marks.specs.Marks.{sizeAt}
-use Rattle.frame_marks.specs.Changes.{changeFrom}
+use Rattle.frame_marks.specs.Changes.{ListAt, Unlisted}
 use Rattle.newer_records.specs.Bars.{barred}
 
 -- the bars, and the list of places with the number of those in use
@@ -38,16 +38,14 @@ pub record Siftable (bars places : List ℕ) (len : ℕ) (marks : List ℕ) (sta
   pub label : (r : ℕ) → r < records → getD marks (start + 2 * r) 0 % 4 ≤ 2
   pub count : (r : ℕ) → r < records → getD marks (start + 2 * r + 1) 0 < 256
 
--- the records that may be passed over: the place for r, beside the marks, is one before which, from r on, each count is below its bar; the records are of
--- ascending stations, so that none raises another's bar
+-- the records that may be passed over: the count of each that is not in the list beside the marks is below its bar; the records are of ascending
+-- stations, so that none raises another's bar
 pub record Skippable (bars marks : List ℕ) (start records : ℕ) : Type 0 where
   pub room : start + 32 + records < length marks
   pub ascends : (q r : ℕ) → q < r → r < records → getD marks (start + 2 * q) 0 / 4 < getD marks (start + 2 * r) 0 / 4
-  pub low : (r : ℕ) → r ≤ records → r ≤ changeFrom marks start r
-  pub high : (r : ℕ) → r ≤ records → changeFrom marks start r ≤ records
-  pub below :
-      (r q : ℕ) → r ≤ records → r ≤ q → q < changeFrom marks start r →
-      getD marks (start + 2 * q + 1) 0 < getD bars (getD marks (start + 2 * q) 0) 0
+  pub len : ℕ
+  pub list : ListAt marks start records len
+  pub below : (q : ℕ) → q < records → Unlisted marks start len q → getD marks (start + 2 * q + 1) 0 < getD bars (getD marks (start + 2 * q) 0) 0
 
 -- the bars, the list and the number of places after all records of a frame
 abbrev pub Sifts : List ℕ → List ℕ → ℕ → List ℕ → ℕ → ℕ → ℕ → List ℕ → List ℕ → ℕ → Type 0

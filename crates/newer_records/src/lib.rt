@@ -124,18 +124,19 @@ fn sift_changes(
         ⌜ Sifts (now (bars .entry)) (now (places .entry)) before (now (marks .entry)) start records f (now (bars .exit)) (now (places .exit)) r ⌝ }
 {
     let mut len = before;
-    let mut r = marks[start + 32] as usize;
-    while r < records {
-        let at = r;
-        let next = at + 1;
-        r = marks[start + 32 + next] as usize;
-        let mark = marks[start + 2 * at] as usize;
-        let count = marks[start + 2 * at + 1];
+    let mut j: usize = 0;
+    let mut i = marks[start + 32] as usize;
+    while i < records {
+        let place = i;
+        j += 1;
+        i = marks[start + 32 + j] as usize;
+        let mark = marks[start + 2 * place] as usize;
+        let count = marks[start + 2 * place + 1];
         if (count as u16) < bars[mark] {
             continue;
         }
         raise(bars, mark / 4, (mark % 4) as u8, count);
-        places[len] = (16 * f + at) as u8;
+        places[len] = (16 * f + place) as u8;
         len += 1;
     }
     len

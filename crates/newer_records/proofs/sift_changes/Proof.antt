@@ -1,13 +1,13 @@
--- `newer_records::sift_changes` meets its contract: as the loop comes to record r, the bars, the list and its length are those of the definition's sieve after
--- the r records before it, for those passed over do nothing.
+-- `newer_records::sift_changes` meets its contract: as the loop comes to entry j of the list, which is record i, the bars, the list of places and its length
+-- are those of the definition's sieve after the i records before it, for those passed over do nothing.
 use Prim.Native.Nat.{ℕ, _+_, _-_, _*_, _%_, _^_, _≤_, _<_}
 use native.Mathlib.Omega.{arith}
-use mathlib.Core.Path.{_≡_, sym, ap, _∙_}
+use mathlib.Core.Path.{_≡_, refl, sym, ap, _∙_}
 use mathlib.Core.List.{List}
 use lib.ListN.{getD, set, length, length-set}
-use Rattle.frame_marks.specs.Changes.{changeFrom}
-use Rattle.newer_records.specs.Sieve.{Sieve, siftOne, sifted}
-use Rattle.newer_records.proofs.ChangeSieve.{sifted-to-change}
+use Rattle.frame_marks.specs.Changes.{changeAt}
+use Rattle.newer_records.specs.Sieve.{Sieve, siftOne, sifted, Skippable}
+use Rattle.newer_records.proofs.ChangeSieve.{high, sifted-to-first, entry-inside, next-after, sifted-to-next}
 use Rattle.newer_records.proofs.SieveSteps.{sift-skips, sift-passes, sifted-none, sifted-more}
 use Rattle.newer_records.proofs.sift_changes.Statement.{statement}
 use Rattle.newer_records.proofs.sift_changes.Tie as tie
@@ -16,15 +16,18 @@ abbrev sieve : List ℕ → List ℕ → ℕ → Sieve
 sieve bars places len = record { bars = bars; places = places; len = len }
 
 abbrev Inv-loop : tie.InvT-loop
-Inv-loop bars₀ places₀ before marks start records f len₀ r₀ bars places len r =
-    (r ≤ records)
-    × (len ≤ before + r)
+Inv-loop bars₀ places₀ before marks start records f len₀ j₀ i₀ bars places len j i =
+    (s : Skippable bars₀ marks start records)
+    × (j ≤ s .len)
+    × (i ≡ changeAt marks start j)
+    × (i ≤ records)
+    × (len ≤ before + i)
     × (length bars ≡ 64)
     × (length places ≡ 256)
-    × (sieve bars places len ≡ sifted (sieve bars₀ places₀ before) marks start f r)
+    × (sieve bars places len ≡ sifted (sieve bars₀ places₀ before) marks start f i)
 
 abbrev μ-loop : tie.MeasureT-loop
-μ-loop bars₀ places₀ before marks start records f len₀ r₀ bars places len r = records - r
+μ-loop bars₀ places₀ before marks start records f len₀ j₀ i₀ bars places len j i = records - i
 
 -- the place of the first record that may pass
 module _ (c : tie.After-shared-slice-known Inv-loop μ-loop) where
@@ -45,17 +48,19 @@ module _ (c : tie.After-shared-slice-known Inv-loop μ-loop) where
       let p = c .before .before .before .pre in
       (p .1 .room, omega (arith, c .before .before .before .good), omega (arith, p .0 .few))
 
-  first-is : getD marks (start + 32) 0 ≡ changeFrom marks start 0
+  first-is : getD marks (start + 32) 0 ≡ changeAt marks start 0
   first-is = ap (λ (i : ℕ). getD marks i 0) {x = start + 32} {y = start + 32 + 0} (omega arith)
 
-  first-low : getD marks (start + 32) 0 ≤ records
-  first-low = omega (arith, first-is, c .before .before .before .pre .1 .high 0 (omega arith))
+  first-high : getD marks (start + 32) 0 ≤ records
+  first-high =
+      let p = c .before .before .before .pre in
+      omega (arith, first-is, high first marks start records (c .before .before .before .args .f) (p .0) (p .1) 0 (omega arith))
 
   first-sieve : first ≡ sifted first marks start (c .before .before .before .args .f) (getD marks (start + 32) 0)
   first-sieve =
       let p = c .before .before .before .pre in
       let f = c .before .before .before .args .f in
-      sym (ap (sifted first marks start f) first-is ∙ sifted-to-change first marks start records f (p .0) (p .1) 0 (omega arith) ∙ sifted-none first marks start f)
+      sym (ap (sifted first marks start f) first-is ∙ sifted-to-first first marks start records f (p .0) (p .1) ∙ sifted-none first marks start f)
 
 -- a record
 module _ (c : tie.In-loop Inv-loop μ-loop) where
@@ -65,95 +70,108 @@ module _ (c : tie.In-loop Inv-loop μ-loop) where
   abbrev f : ℕ
   f = c .before .before .before .before .before .before .args .f
 
-  abbrev r : ℕ
-  r = c .before .loop .r
+  abbrev i : ℕ
+  i = c .before .loop .i
+
+  abbrev j : ℕ
+  j = c .before .loop .j
 
   abbrev mark : ℕ
-  mark = getD (marks frame) (start frame + 2 * r) 0
+  mark = getD (marks frame) (start frame + 2 * i) 0
 
   abbrev count : ℕ
-  count = getD (marks frame) (start frame + 2 * r + 1) 0
+  count = getD (marks frame) (start frame + 2 * i + 1) 0
 
   abbrev next : ℕ
-  next = changeFrom (marks frame) (start frame) (r + 1)
+  next = changeAt (marks frame) (start frame) (j + 1)
 
   abbrev now-sieve : Sieve
   now-sieve = sieve (c .before .loop .bars) (c .before .loop .places) (c .before .loop .len)
 
+  abbrev skips : Skippable (first frame .bars) (marks frame) (start frame) (records frame)
+  skips = c .before .loop .inv .0
+
+  inside : j < skips .len
+  inside =
+      let p = c .before .before .before .before .before .before .pre .0 in
+      let v = c .before .loop .inv in
+      entry-inside (first frame) (marks frame) (start frame) (records frame) f p skips j (v .1) (omega (arith, v .2, c .loop-test .taken))
+
   low :
-      (r < records frame)
-      × (start frame + 2 * r + 1 < length (marks frame))
+      (i < records frame)
+      × (start frame + 2 * i + 1 < length (marks frame))
       × (length (marks frame) < 2 ^ 64)
       × (mark < 64)
       × (mark % 4 ≤ 2)
-      × (16 * f + r < 256)
-      × (c .before .loop .len ≤ 16 * f + r)
+      × (16 * f + i < 256)
+      × (c .before .loop .len ≤ 16 * f + i)
       × (length (c .before .loop .bars) ≡ 64)
       × (length (c .before .loop .places) ≡ 256)
       × (count < 256)
-      × (start frame + 32 + (r + 1) < length (marks frame))
-      × (r < next)
+      × (start frame + 32 + (j + 1) < length (marks frame))
+      × (i < next)
       × (next ≤ records frame)
       × (records frame ≤ 256)
   low =
       let l = c .loop-test .taken in
       let p = c .before .before .before .before .before .before .pre .0 in
-      let k = c .before .before .before .before .before .before .pre .1 in
-      let i = c .before .loop .inv in (
+      let v = c .before .loop .inv in (
         l,
         omega (arith, p .room),
         fits frame .1,
-        p .mark r l,
-        p .label r l,
+        p .mark i l,
+        p .label i l,
         omega (arith, p .few),
-        omega (arith, i .1, p .before),
-        i .2,
-        i .3,
-        p .count r l,
-        omega (arith, k .room),
-        omega (arith, k .low (r + 1) (omega arith)),
-        k .high (r + 1) (omega arith),
+        omega (arith, v .4, p .before),
+        v .5,
+        v .6,
+        p .count i l,
+        omega (arith, skips .room, skips .list .few, inside),
+        omega (arith, v .2, next-after (first frame) (marks frame) (start frame) (records frame) f p skips j inside),
+        high (first frame) (marks frame) (start frame) (records frame) f p skips (j + 1) (omega (arith, inside)),
         fits frame .2,
       )
 
   -- the sieve after it, and after those that are passed over
-  then-sieve : (x : Sieve) → siftOne now-sieve mark count (16 * f + r) ≡ x → x ≡ sifted (first frame) (marks frame) (start frame) f next
+  then-sieve : (x : Sieve) → siftOne now-sieve mark count (16 * f + i) ≡ x → x ≡ sifted (first frame) (marks frame) (start frame) f next
   then-sieve x e =
-      let p = c .before .before .before .before .before .before .pre in
+      let p = c .before .before .before .before .before .before .pre .0 in
+      let v = c .before .loop .inv in
       sym e
-      ∙ ap (λ (z : Sieve). siftOne z mark count (16 * f + r)) (c .before .loop .inv .4)
-      ∙ sym (sifted-more _ (marks frame) (start frame) f r)
-      ∙ sym (sifted-to-change (first frame) (marks frame) (start frame) (records frame) f (p .0) (p .1) (r + 1) (omega (arith, low)))
+      ∙ ap (λ (z : Sieve). siftOne z mark count (16 * f + i)) (v .7)
+      ∙ sym (sifted-more _ (marks frame) (start frame) f i)
+      ∙ ap (λ (r : ℕ). sifted (first frame) (marks frame) (start frame) f (r + 1)) (v .2)
+      ∙ sym (sifted-to-next (first frame) (marks frame) (start frame) (records frame) f p skips j inside)
 
-add-r : tie.Need-add-r Inv-loop μ-loop
-add-r c = record { fits = omega (arith, fits c) }
+add-i : tie.Need-add-i Inv-loop μ-loop
+add-i c = record { fits = omega (arith, fits c) }
 
-shared-slice-read-r : tie.Need-shared-slice-read-r Inv-loop μ-loop
-shared-slice-read-r c = omega (arith, fits (c .before))
+shared-slice-read-i : tie.Need-shared-slice-read-i Inv-loop μ-loop
+shared-slice-read-i c = omega (arith, fits (c .before))
 
-cast-r : tie.Need-cast-r Inv-loop μ-loop
-cast-r c = record { fits = omega (arith, fits (c .before), first-low (c .before)) }
+cast-i : tie.Need-cast-i Inv-loop μ-loop
+cast-i c = record { fits = omega (arith, fits (c .before), first-high (c .before)) }
 
 loop-holds : tie.Need-loop-holds Inv-loop μ-loop
 loop-holds c =
     let v = c .before in
-    let p = v .before .before .before .pre .0 in
-    (first-low v, omega arith, p .bars-size, p .places-size, first-sieve v)
+    let p = v .before .before .before .pre in
+    (p .1, omega arith, first-is v, first-high v, omega arith, p .0 .bars-size, p .0 .places-size, first-sieve v)
 
-add-next : tie.Need-add-next Inv-loop μ-loop
-add-next c = record { fits = omega (arith, low c) }
+add-j : tie.Need-add-j Inv-loop μ-loop
+add-j c = record { fits = omega (arith, low c) }
 
-add-r-2 : tie.Need-add-r-2 Inv-loop μ-loop
-add-r-2 c = record { fits = omega (arith, low c) }
+add-i-2 : tie.Need-add-i-2 Inv-loop μ-loop
+add-i-2 c = record { fits = omega (arith, low c) }
 
-add-r-3 : tie.Need-add-r-3 Inv-loop μ-loop
-add-r-3 c = record { fits = omega (arith, low c) }
+add-i-3 : tie.Need-add-i-3 Inv-loop μ-loop
+add-i-3 c = record { fits = omega (arith, low c) }
 
-shared-slice-read-r-2 : tie.Need-shared-slice-read-r-2 Inv-loop μ-loop
-shared-slice-read-r-2 c = omega (arith, low (c .before))
+shared-slice-read-i-2 : tie.Need-shared-slice-read-i-2 Inv-loop μ-loop
+shared-slice-read-i-2 c = omega (arith, low (c .before))
 
-cast-r-2 : tie.Need-cast-r-2 Inv-loop μ-loop
-cast-r-2 c = record { fits = omega (arith, low (c .before)) }
+cast-i-2 : tie.Need-cast-i-2 Inv-loop μ-loop
+cast-i-2 c = record { fits = omega (arith, low (c .before)) }
 
 mul-mark : tie.Need-mul-mark Inv-loop μ-loop
 mul-mark c = record { fits = omega (arith, low (c .before)) }
@@ -194,8 +212,16 @@ loop-less c = omega (arith, low (c .before .before .before .before .before))
 loop-again : tie.Need-loop-again Inv-loop μ-loop
 loop-again c =
     let v = c .before .before .before .before .before in
-    let i = v .before .loop .inv in
-    (omega (arith, low v), omega (arith, i .1, low v), i .2, i .3, then-sieve v _ (sift-skips (now-sieve v) (mark v) (count v) _ (c .if1 .taken)))
+    let w = v .before .loop .inv in (
+      w .0,
+      omega (arith, inside v),
+      refl,
+      omega (arith, low v),
+      omega (arith, w .4, low v),
+      w .5,
+      w .6,
+      then-sieve v _ (sift-skips (now-sieve v) (mark v) (count v) _ (c .if1 .taken)),
+    )
 
 cast-raise : tie.Need-cast-raise Inv-loop μ-loop
 cast-raise c = record { fits = omega (arith, low (c .before .before .before .before .before .before)) }
@@ -226,27 +252,30 @@ loop-less-2 c = omega (arith, low (c .before .before .before .before .before .be
 loop-again-2 : tie.Need-loop-again-2 Inv-loop μ-loop
 loop-again-2 c =
     let v = c .before .before .before .before .before .before .before .before .before in
-    let i = v .before .loop .inv in
+    let w = v .before .loop .inv in
     let e = c .before .before .raise .ensures in (
+      w .0,
+      omega (arith, inside v),
+      refl,
       omega (arith, low v),
-      omega (arith, i .1, low v),
-      ap length e ∙ simp length-set (i .2),
-      simp length-set (i .3),
+      omega (arith, w .4, low v),
+      ap length e ∙ simp length-set (w .5),
+      simp length-set (w .6),
       then-sieve v _
           (sift-passes (now-sieve v) (mark v) (count v) _ (c .before .before .before .before .if1 .left)
-          ∙ ap (λ (x : List ℕ). sieve x (set (v .before .loop .places) (v .before .loop .len) (16 * f v + r v)) (v .before .loop .len + 1)) (sym e)),
+          ∙ ap (λ (x : List ℕ). sieve x (set (v .before .loop .places) (v .before .loop .len) (16 * f v + i v)) (v .before .loop .len + 1)) (sym e)),
     )
 
 same-length : tie.Need-same-length Inv-loop μ-loop
-same-length c = c .before .loop .inv .2 ∙ sym (c .before .before .before .before .before .before .pre .0 .bars-size)
+same-length c = c .before .loop .inv .5 ∙ sym (c .before .before .before .before .before .before .pre .0 .bars-size)
 
 same-length-2 : tie.Need-same-length-2 Inv-loop μ-loop
-same-length-2 c = c .before .loop .inv .3 ∙ sym (c .before .before .before .before .before .before .pre .0 .places-size)
+same-length-2 c = c .before .loop .inv .6 ∙ sym (c .before .before .before .before .before .before .pre .0 .places-size)
 
 returns : tie.Need-returns Inv-loop μ-loop
 returns c =
-    let e : c .before .loop .r ≡ c .before .before .before .before .before .before .args .records = omega arith in
-    rw e at (c .before .loop .inv .4)
+    let e : c .before .loop .i ≡ c .before .before .before .before .before .before .args .records = omega arith in
+    rw e at (c .before .loop .inv .7)
 
 pub sift-changes-spec : {M : Type 1} → statement M
 sift-changes-spec =
@@ -254,15 +283,15 @@ sift-changes-spec =
     (tie.spec
     Inv-loop
     μ-loop
-    add-r
-    shared-slice-read-r
-    cast-r
+    add-i
+    shared-slice-read-i
+    cast-i
     loop-holds
-    add-next
-    add-r-2
-    add-r-3
-    shared-slice-read-r-2
-    cast-r-2
+    add-j
+    add-i-2
+    add-i-3
+    shared-slice-read-i-2
+    cast-i-2
     mul-mark
     add-mark
     shared-slice-read-mark
