@@ -5,6 +5,9 @@ ghost use Rattle.frame_marks.specs.Changes.{SaysSame, ChangesPut, Compar
 ghost use mathlib.Core.Path.{_≡_};
 ghost use mathlib.Core.Bool.{true};
 
+// The room of a frame of sixteen records: frames in one buffer begin this far apart.
+pub const FRAME_ROOM: usize = 260;
+
 // The marks and counts of the records of the frame that begins at `start`, from the same place on.
 pub fn put_marks(marks: &mut [u8], bytes: &[u8], start: usize)
     requires { ⌜ Markable (now bytes) (now marks) start ⌝ }

@@ -4,13 +4,11 @@ ghost use mathlib.Core.Path.{_≡_};
 ghost use Prim.Native.Nat.{_≤_};
 ghost use lib.ListN.{length};
 ghost use Rattle.group_frames.specs.Frames as spec;
+use frame_marks::FRAME_ROOM;
 use kinds::refusals::COUNT_TOO_HIGH;
 use kinds::refusals::DONE;
 use kinds::refusals::OUTSIDE_LIMITS;
 use station_rules::Station;
-
-// The room of a frame of sixteen records.
-pub const FRAME_ROOM: usize = 260;
 
 // Writes the frame of station k of a group of n into its part of the bytes; where it may not be written, answers why.
 fn write_part(bytes: &mut [u8], s: Station, n: usize, k: usize) -> u32

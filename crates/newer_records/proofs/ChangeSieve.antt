@@ -14,7 +14,7 @@ use Rattle.frame_marks.specs.Changes.{changeAt, Unlisted}
 use Rattle.newer_records.specs.Bars.{barred}
 use Rattle.newer_records.specs.Sieve.{Sieve, siftOne, sifted, Siftable, Skippable}
 use Rattle.newer_records.proofs.BarLaws.{bar-same, barred-size, barred-here, barred-other}
-use Rattle.newer_records.proofs.SieveSteps.{sift-skips, sift-passes, sifted-none, sifted-more}
+use Rattle.newer_records.proofs.SieveSteps.{sift-skips, sift-passes, sifted-more}
 
 -- one mark
 module _ (z : Sieve) (mark count place : ℕ) (size : length (z .bars) ≡ 64) (low : mark < 64) (is : mark % 4 ≤ 2) where

@@ -9,10 +9,8 @@ ghost use Rattle.station_rules.specs.Limits.{stationInside};
 ghost use Rattle.frame_rules.specs.declared.Record.{Record};
 ghost use Rattle.newer_records.specs.Bars.{Bars, barred, MarksFit, MarksHeld};
 ghost use Rattle.newer_records.specs.Sieve.{Siftable, Skippable, Sifts, SiftableFrame, SiftsFrames};
+use frame_marks::FRAME_ROOM;
 use station_rules::Station;
-
-// How far after the frame before a frame begins whose changes are known.
-const FRAME_ROOM: usize = 260;
 
 // The places of newer records, in the order heard: 16 × the number of the frame + that of the record in it.
 pub struct Found {
