@@ -3,7 +3,7 @@
 ghost use mathlib.Core.Path.{_≡_};
 ghost use mathlib.Core.Bool.{true};
 ghost use Prim.Native.Nat.{_≤_};
-ghost use lib.ListN.{drop};
+ghost use lib.ListN.{drop, replicate};
 ghost use Rattle.frame_rules.specs.Frame.{recordsOf};
 ghost use Rattle.station_rules.specs.State.{sentRecords};
 ghost use Rattle.station_rules.specs.Limits.{stationInside};
@@ -14,19 +14,12 @@ use frame_marks::FRAME_ROOM;
 use station_rules::HeardAll;
 use station_rules::Station;
 
-// Where the frames that a station hears begin, by ascending sender.
-struct Senders {
-    len: usize,
-    starts: [usize; 16],
-}
-
-// The frames that station i of n hears in a round with these masks.
-fn heard_by(masks: [u16; 16], n: usize, i: usize) -> Senders
-    requires { ⌜ n ≤ 16 ⌝ }
-    ensures { λ r. ⌜ (r .len ≡ spec.heardCount n masks i n) × (r .starts ≡ spec.heardStarts n masks i n) ⌝ }
+// Lists where the frames begin that station i of n hears in a round with these masks, by ascending sender, and answers how many they are.
+fn heard_by(starts: &mut [usize], masks: [u16; 16], n: usize, i: usize) -> usize
+    requires { ⌜ (n ≤ 16) × (now starts ≡ replicate 16 0) ⌝ }
+    ensures { λ r. ⌜ (r ≡ spec.heardCount n masks i n) × (now (starts .exit) ≡ spec.heardStarts n masks i n) ⌝ }
 {
     let mut len: usize = 0;
-    let mut starts = [0usize; 16];
     let mut j: usize = 0;
     while j < n {
         if !links::hears(masks, n, i, j) {
@@ -37,10 +30,7 @@ fn heard_by(masks: [u16; 16], n: usize, i: usize) -> Senders
         len += 1;
         j += 1;
     }
-    Senders {
-        len: len,
-        starts: starts,
-    }
+    len
 }
 
 // The station hears the frames of its mask, of all that stand in these bytes with their marks beside; its own is among them and has what it holds.
@@ -49,9 +39,9 @@ pub fn hear_mask(s: Station, bytes: &[u8], marks: &[u8], masks: [u16; 16]) -> He
         ⌜ recordsOf (drop (frameStart (s .own)) (now bytes)) ≡ sentRecords s ⌝ }
     ensures { λ r. ⌜ HearsAll s (now (bytes .entry)) (spec.heardStarts (s .n) masks (s .own) (s .n)) (spec.heardCount (s .n) masks (s .own) (s .n)) r ⌝ }
 {
-    let senders = heard_by(masks, s.n, s.own);
-    let starts = senders.starts;
+    let mut starts = [0usize; 16];
+    let count = heard_by(&mut starts, masks, s.n, s.own);
     let at = FRAME_ROOM * s.own;
     let bars = newer_records::own_bars(marks, at, bytes[at + 2] as usize, s.own);
-    station_hearing::hear_all(s, bars, bytes, marks, starts, senders.len)
+    station_hearing::hear_all(s, bars, bytes, marks, &starts, count)
 }

@@ -171,11 +171,12 @@ pub fn find_newer(
     given: [u16; 64],
     bytes: &[u8],
     marks: &[u8],
-    starts: [usize; 16],
+    starts: &[usize],
     count: usize,
 ) -> Found
-    requires { ⌜ count ≤ 16 ⌝ ∗ ⌜ ((f : ℕ) → f < count → SiftableFrame given (now bytes) (now marks) starts f) ⌝ }
-    ensures { λ r. ⌜ SiftsFrames given (now (bytes .entry)) (now (marks .entry)) starts count (r .places) (r .len) ⌝ }
+    requires { ⌜ (count ≤ 16) × (length (now starts) ≡ 16) ⌝ ∗ ⌜ ((f : ℕ) → f < count → SiftableFrame given (now bytes) (now marks) (now starts) f) ⌝ }
+    ensures { λ r.
+        ⌜ SiftsFrames given (now (bytes .entry)) (now (marks .entry)) (now (starts .entry)) count (r .places) (r .len) ⌝ }
 {
     let mut bars = given;
     let mut places = [0u8; 256];

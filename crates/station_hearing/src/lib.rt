@@ -3,7 +3,7 @@
 ghost use mathlib.Core.Path.{_≡_};
 ghost use mathlib.Core.Bool.{true};
 ghost use Prim.Native.Nat.{ℕ, _+_, _≤_, _<_};
-ghost use lib.ListN.{getD};
+ghost use lib.ListN.{getD, length};
 ghost use Rattle.station_rules.specs.Limits.{stationInside};
 ghost use Rattle.station_rules.specs.Frames.{FrameAt, HearsAll};
 ghost use Rattle.frame_marks.specs.Marks.{MarksAt};
@@ -20,16 +20,16 @@ pub fn hear_all(
     bars: [u16; 64],
     bytes: &[u8],
     marks: &[u8],
-    starts: [usize; 16],
+    starts: &[usize],
     count: usize,
 ) -> HeardAll
-    requires { ⌜ (count ≤ 16) × (stationInside s ≡ true) ⌝ ∗
-        ⌜ ((f : ℕ) → f < count → FrameAt (s .n) (now bytes) (getD starts f 0)) ⌝ ∗
-        ⌜ ((f : ℕ) → f < count → MarksAt (now bytes) (now marks) (getD starts f 0)) ⌝ ∗
-        ⌜ ((f : ℕ) → f + 1 < count → getD starts (f + 1) 0 ≡ getD starts f 0 + 260 →
-        ChangesAt (now bytes) (now marks) (getD starts f 0) (getD starts (f + 1) 0)) ⌝ ∗
+    requires { ⌜ (count ≤ 16) × (length (now starts) ≡ 16) × (stationInside s ≡ true) ⌝ ∗
+        ⌜ ((f : ℕ) → f < count → FrameAt (s .n) (now bytes) (getD (now starts) f 0)) ⌝ ∗
+        ⌜ ((f : ℕ) → f < count → MarksAt (now bytes) (now marks) (getD (now starts) f 0)) ⌝ ∗
+        ⌜ ((f : ℕ) → f + 1 < count → getD (now starts) (f + 1) 0 ≡ getD (now starts) f 0 + 260 →
+        ChangesAt (now bytes) (now marks) (getD (now starts) f 0) (getD (now starts) (f + 1) 0)) ⌝ ∗
         ⌜ Bars (s .n) (s .own) (s .held) (s .table) bars ⌝ }
-    ensures { λ r. ⌜ HearsAll s (now (bytes .entry)) starts count r ⌝ }
+    ensures { λ r. ⌜ HearsAll s (now (bytes .entry)) (now (starts .entry)) count r ⌝ }
 {
     let n = s.n;
     let own = s.own;

@@ -15,25 +15,28 @@ abbrev sieve : List ℕ → List ℕ → ℕ → Sieve
 sieve bars places len = record { bars = bars; places = places; len = len }
 
 abbrev Inv-loop : tie.InvT-loop
-Inv-loop bytes marks count starts bars₀ places₀ len₀ last₀ f₀ bars places len last f =
+Inv-loop bytes marks starts count bars₀ places₀ len₀ last₀ f₀ bars places len last f =
     (f ≤ count) × (sieve bars places len ≡ siftedFrames (sieve bars₀ places₀ len₀) bytes marks starts f) × (last ≡ getD starts (f - 1) 0)
 
 abbrev μ-loop : tie.MeasureT-loop
-μ-loop bytes marks count starts bars₀ places₀ len₀ last₀ f₀ bars places len last f = count - f
+μ-loop bytes marks starts count bars₀ places₀ len₀ last₀ f₀ bars places len last f = count - f
 
 -- a frame
 module _ (c : tie.In-loop Inv-loop μ-loop) where
+  abbrev z : tie.Start Inv-loop μ-loop
+  z = c .before .before .before .before .before .before
+
   abbrev given : List ℕ
-  given = c .before .before .before .before .args .given
+  given = z .args .given
 
   abbrev bytes : List ℕ
-  bytes = c .before .before .before .before .args .bytes .now
+  bytes = z .args .bytes .now
 
   abbrev marks : List ℕ
-  marks = c .before .before .before .before .args .marks .now
+  marks = z .args .marks .now
 
   abbrev starts : List ℕ
-  starts = c .before .before .before .before .args .t4
+  starts = z .args .starts .now
 
   abbrev f : ℕ
   f = c .before .loop .f
@@ -48,13 +51,13 @@ module _ (c : tie.In-loop Inv-loop μ-loop) where
   size-is = sym (getD-drop start bytes 2 0)
 
   frame : SiftableFrame given bytes marks starts f
-  frame = c .before .before .before .before .pre .1 f (c .loop-test .taken)
+  frame = z .pre .1 f (c .loop-test .taken)
 
-  low : (f < 16) × (start + 2 < length bytes) × (length bytes < 2 ^ 64) × (getD bytes (start + 2) 0 ≤ 256)
+  low : (f < length starts) × (start + 2 < length bytes) × (length bytes < 2 ^ 64) × (getD bytes (start + 2) 0 ≤ 256)
   low = (
-    omega (arith, c .before .before .before .before .pre .0, c .loop-test .taken),
+    omega (arith, z .pre .0 .0, z .pre .0 .1, c .loop-test .taken),
     frame .long,
-    c .before .before .before .before .good .1 .0 .0,
+    z .good .1 .0 .0,
     omega (arith, size-is, frame .siftable .few),
   )
 
@@ -69,8 +72,8 @@ module _ (c : tie.In-loop Inv-loop μ-loop) where
       (subst (λ (x : Sieve). Skippable (x .bars) marks start size) (sym (c .before .loop .inv .1))
       (frame .skippable (e ∙ ap (λ (x : ℕ). x + 260) (c .before .loop .inv .2))))
 
-array-read-last : tie.Need-array-read-last Inv-loop μ-loop
-array-read-last c = omega arith
+shared-slice-read-last : tie.Need-shared-slice-read-last Inv-loop μ-loop
+shared-slice-read-last c = omega arith
 
 loop-holds : tie.Need-loop-holds Inv-loop μ-loop
 loop-holds c = (omega arith, sym (frames-none _ _ _ _), refl)
@@ -78,36 +81,36 @@ loop-holds c = (omega arith, sym (frames-none _ _ _ _), refl)
 mul-start : tie.Need-mul-start Inv-loop μ-loop
 mul-start c = record { fits = omega (arith, low c) }
 
-array-read-start : tie.Need-array-read-start Inv-loop μ-loop
-array-read-start c = low c .0
+shared-slice-read-start : tie.Need-shared-slice-read-start Inv-loop μ-loop
+shared-slice-read-start c = low (c .before) .0
 
 add-records : tie.Need-add-records Inv-loop μ-loop
-add-records c = record { fits = omega (arith, low c) }
+add-records c = record { fits = omega (arith, low (c .before)) }
 
 shared-slice-read-records : tie.Need-shared-slice-read-records Inv-loop μ-loop
-shared-slice-read-records c = omega (arith, low (c .before))
+shared-slice-read-records c = omega (arith, low (c .before .before))
 
 cast-records : tie.Need-cast-records Inv-loop μ-loop
-cast-records c = record { fits = omega (arith, low (c .before)) }
+cast-records c = record { fits = omega (arith, low (c .before .before)) }
 
 slice-aggregate-sift-next : tie.Need-slice-aggregate-sift-next Inv-loop μ-loop
-slice-aggregate-sift-next c = sym (siftable (c .before .before) .bars-size)
+slice-aggregate-sift-next c = sym (siftable (c .before .before .before) .bars-size)
 
 slice-aggregate-sift-next-2 : tie.Need-slice-aggregate-sift-next-2 Inv-loop μ-loop
-slice-aggregate-sift-next-2 c = sym (siftable (c .before .before .before) .places-size)
+slice-aggregate-sift-next-2 c = sym (siftable (c .before .before .before .before) .places-size)
 
 sift-next-requires : tie.Need-sift-next-requires Inv-loop μ-loop
-sift-next-requires c κs = let v = c .before .before .before in (siftable v, skippable v)
+sift-next-requires c κs = let v = c .before .before .before .before in (siftable v, skippable v)
 
 add-f : tie.Need-add-f Inv-loop μ-loop
-add-f c = record { fits = omega (arith, low (c .before .before .before .before .before .before)) }
+add-f c = record { fits = omega (arith, low (c .before .before .before .before .before .before .before)) }
 
 loop-less : tie.Need-loop-less Inv-loop μ-loop
-loop-less c = omega (arith, (c .before .before .before .before .before .before) .loop-test .taken)
+loop-less c = omega (arith, (c .before .before .before .before .before .before .before) .loop-test .taken)
 
 loop-again : tie.Need-loop-again Inv-loop μ-loop
 loop-again c =
-    let v = c .before .before .before .before .before .before in
+    let v = c .before .before .before .before .before .before .before in
     let e = v .before .loop .inv .1 in
     let m = size-is v in (
       omega (arith, v .loop-test .taken),
@@ -119,9 +122,9 @@ loop-again c =
 
 returns : tie.Need-returns Inv-loop μ-loop
 returns c =
-    let a = c .before .before .before .before .args in
+    let a = c .before .before .before .before .before .before .args in
     let e : c .before .loop .f ≡ a .count = omega (arith, c .before .loop .inv .0, c .loop-test .left) in
-    let z = c .before .loop .inv .1 ∙ ap (siftedFrames (sieveFrom (a .given)) (a .bytes .now) (a .marks .now) (a .t4)) e in
+    let z = c .before .loop .inv .1 ∙ ap (siftedFrames (sieveFrom (a .given)) (a .bytes .now) (a .marks .now) (a .starts .now)) e in
     record { places-are = ap (λ (x : Sieve). x .places) z; len-is = ap (λ (x : Sieve). x .len) z }
 
 pub find-newer-spec : {M : Type 1} → statement M
@@ -130,10 +133,10 @@ find-newer-spec =
     (tie.spec
     Inv-loop
     μ-loop
-    array-read-last
+    shared-slice-read-last
     loop-holds
     mul-start
-    array-read-start
+    shared-slice-read-start
     add-records
     shared-slice-read-records
     cast-records

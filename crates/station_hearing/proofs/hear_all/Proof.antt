@@ -25,35 +25,38 @@ use Rattle.station_hearing.proofs.hear_all.Statement.{statement}
 use Rattle.station_hearing.proofs.hear_all.Tie as tie
 
 abbrev Inv-loop : tie.InvT-loop
-Inv-loop bytes marks count starts n own newer station₀ takings₀ len₀ i₀ station takings len i =
+Inv-loop bytes marks starts count n own newer station₀ takings₀ len₀ i₀ station takings len i =
     (i ≤ newer .len)
     × At (heardAt station₀ bytes starts (newer .places) i) station takings len
     × Hears (silent station₀) (heardAt station₀ bytes starts (newer .places) i)
 
 abbrev μ-loop : tie.MeasureT-loop
-μ-loop bytes marks count starts n own newer station₀ takings₀ len₀ i₀ station takings len i = newer .len - i
+μ-loop bytes marks starts count n own newer station₀ takings₀ len₀ i₀ station takings len i = newer .len - i
 
 -- the places found are those of the newer records
 found :
     (c : tie.After-find-newer Inv-loop μ-loop) →
-    NewerAt (c .before .before .before .args .s) (c .before .before .before .args .bytes .now) (c .before .before .before .args .t5)
-    (c .before .before .before .args .count) (c .find-newer .result .places) (c .find-newer .result .len)
+    NewerAt (c .before .before .before .before .args .s) (c .before .before .before .before .args .bytes .now) (c .before .before .before .before .args .starts .now)
+    (c .before .before .before .before .args .count) (c .find-newer .result .places) (c .find-newer .result .len)
 found c =
-    let z = c .before .before .before in
+    let z = c .before .before .before .before in
     let p = z .pre in
-    newer-found (z .args .s) (z .args .bytes .now) (z .args .t5) (z .args .marks .now) (z .args .count) (inside-open (z .args .s) (p .0 .1)) (p .0 .0)
+    newer-found (z .args .s) (z .args .bytes .now) (z .args .starts .now) (z .args .marks .now) (z .args .count) (inside-open (z .args .s) (p .0 .2)) (p .0 .0)
     (p .1 .0) (p .1 .1 .0) (lengths (z .args .s) (z .good .0)) (z .args .bars) (p .1 .1 .1 .1) _ _ (c .find-newer .ensures)
 
 -- a newer record
 module _ (c : tie.In-loop Inv-loop μ-loop) where
+  abbrev z : tie.Start Inv-loop μ-loop
+  z = c .before .before .before .before .before .before
+
   abbrev s : Station
-  s = c .before .before .before .before .before .args .s
+  s = z .args .s
 
   abbrev bytes : List ℕ
-  bytes = c .before .before .before .before .before .args .bytes .now
+  bytes = z .args .bytes .now
 
   abbrev starts : List ℕ
-  starts = c .before .before .before .before .before .args .t5
+  starts = z .args .starts .now
 
   abbrev places : List ℕ
   places = c .before .before .find-newer .result .places
@@ -83,13 +86,13 @@ module _ (c : tie.In-loop Inv-loop μ-loop) where
   old = c .before .loop .station
 
   inside : Inside s
-  inside = inside-open s (c .before .before .before .before .before .pre .0 .1)
+  inside = inside-open s (z .pre .0 .2)
 
-  newer : NewerAt s bytes starts (c .before .before .before .before .before .args .count) places (c .before .before .find-newer .result .len)
+  newer : NewerAt s bytes starts (z .args .count) places (c .before .before .find-newer .result .len)
   newer = found (c .before .before)
 
   frame : FrameAt (s .n) bytes start
-  frame = c .before .before .before .before .before .pre .1 .0 (place / 16) (newer .frame i (c .loop-test .taken))
+  frame = z .pre .1 .0 (place / 16) (newer .frame i (c .loop-test .taken))
 
   below : place % 16 < sizeAt bytes start
   below = newer .number i (c .loop-test .taken)
@@ -121,7 +124,7 @@ module _ (c : tie.In-loop Inv-loop μ-loop) where
   low :
       (i < c .before .before .find-newer .result .len)
       × (c .before .before .find-newer .result .len ≤ 256)
-      × (place / 16 < 16)
+      × (place / 16 < length starts)
       × (at + 16 ≤ length bytes)
       × (length bytes < 2 ^ 64)
       × (k < 16)
@@ -133,9 +136,9 @@ module _ (c : tie.In-loop Inv-loop μ-loop) where
       let j = inside in (
         l,
         newer .few,
-        omega (arith, newer .frame i l, c .before .before .before .before .before .pre .0 .0),
+        omega (arith, newer .frame i l, z .pre .0 .0, z .pre .0 .1),
         omega (arith, frame .room, below),
-        c .before .before .before .before .before .good .1 .1 .0 .0,
+        z .good .1 .1 .0 .0,
         omega (arith, k-is, carry .station, j .high),
         omega (arith, j .own, j .high),
         j .high,
@@ -145,7 +148,7 @@ module _ (c : tie.In-loop Inv-loop μ-loop) where
 -- what it does
 module _ (c : tie.After-heard Inv-loop μ-loop) where
   abbrev turn : tie.In-loop Inv-loop μ-loop
-  turn = c .before .before .before .before .before .before .before .before
+  turn = c .before .before .before .before .before .before .before .before .before
 
   does : Does (old turn) (s turn .n) (s turn .own) (k turn) (seen turn) (c .heard .result)
   does =
@@ -154,18 +157,18 @@ module _ (c : tie.After-heard Inv-loop μ-loop) where
 
 find-newer-requires : tie.Need-find-newer-requires Inv-loop μ-loop
 find-newer-requires c κs =
-    let z = c .before .before in
+    let z = c .before .before .before in
     let p = z .pre in (
-      p .0 .0,
-      frames-siftable (z .args .s) (z .args .bytes .now) (z .args .t5) (z .args .marks .now) (z .args .count) (inside-open (z .args .s) (p .0 .1)) (p .0 .0)
+      (p .0 .0, p .0 .1),
+      frames-siftable (z .args .s) (z .args .bytes .now) (z .args .starts .now) (z .args .marks .now) (z .args .count) (inside-open (z .args .s) (p .0 .2)) (p .0 .0)
           (p .1 .0) (p .1 .1 .0) (lengths (z .args .s) (z .good .0)) (z .args .bars) (p .1 .1 .1 .1) (p .1 .1 .1 .0),
     )
 
 loop-holds : tie.Need-loop-holds Inv-loop μ-loop
 loop-holds c =
-    let z = c .before .before .before in
-    let e = heardAt-none (z .args .s) (z .args .bytes .now) (z .args .t5) (c .find-newer .result .places) in
-    (omega arith, rw e (at-start (z .args .s)), rw e (hears-none (silent (z .args .s)) (inside-open (z .args .s) (z .pre .0 .1)) (lengths (z .args .s) (z .good .0))))
+    let z = c .before .before .before .before in
+    let e = heardAt-none (z .args .s) (z .args .bytes .now) (z .args .starts .now) (c .find-newer .result .places) in
+    (omega arith, rw e (at-start (z .args .s)), rw e (hears-none (silent (z .args .s)) (inside-open (z .args .s) (z .pre .0 .2)) (lengths (z .args .s) (z .good .0))))
 
 element-copy-out-place : tie.Need-element-copy-out-place Inv-loop μ-loop
 element-copy-out-place c = omega (arith, low c)
@@ -179,48 +182,48 @@ add-i c = record { fits = omega (arith, low (c .before)) }
 mul-at : tie.Need-mul-at Inv-loop μ-loop
 mul-at c = record { fits = omega (arith, low (c .before)) }
 
-array-read-at : tie.Need-array-read-at Inv-loop μ-loop
-array-read-at c = low (c .before) .2
+shared-slice-read-at : tie.Need-shared-slice-read-at Inv-loop μ-loop
+shared-slice-read-at c = low (c .before .before) .2
 
 add-at : tie.Need-add-at Inv-loop μ-loop
-add-at c = record { fits = omega (arith, low (c .before)) }
+add-at c = record { fits = omega (arith, low (c .before .before)) }
 
 mul-at-2 : tie.Need-mul-at-2 Inv-loop μ-loop
-mul-at-2 c = record { fits = omega (arith, low (c .before)) }
+mul-at-2 c = record { fits = omega (arith, low (c .before .before)) }
 
 add-at-2 : tie.Need-add-at-2 Inv-loop μ-loop
-add-at-2 c = record { fits = omega (arith, low (c .before)) }
+add-at-2 c = record { fits = omega (arith, low (c .before .before)) }
 
 shared-slice-read-k : tie.Need-shared-slice-read-k Inv-loop μ-loop
-shared-slice-read-k c = omega (arith, low (c .before .before))
+shared-slice-read-k c = omega (arith, low (c .before .before .before))
 
 cast-k : tie.Need-cast-k Inv-loop μ-loop
-cast-k c = record { fits = omega (arith, low (c .before .before)) }
+cast-k c = record { fits = omega (arith, low (c .before .before .before)) }
 
 mul-old : tie.Need-mul-old Inv-loop μ-loop
-mul-old c = record { fits = omega (arith, low (c .before .before)) }
+mul-old c = record { fits = omega (arith, low (c .before .before .before)) }
 
 element-copy-out-old : tie.Need-element-copy-out-old Inv-loop μ-loop
-element-copy-out-old c = low (c .before .before) .5
+element-copy-out-old c = low (c .before .before .before) .5
 
 element-copy-out-heard : tie.Need-element-copy-out-heard Inv-loop μ-loop
-element-copy-out-heard c = low (c .before .before .before .before) .6
+element-copy-out-heard c = low (c .before .before .before .before .before) .6
 
 element-copy-out-heard-2 : tie.Need-element-copy-out-heard-2 Inv-loop μ-loop
-element-copy-out-heard-2 c = low (c .before .before .before .before .before) .5
+element-copy-out-heard-2 c = low (c .before .before .before .before .before .before) .5
 
 element-copy-out-heard-3 : tie.Need-element-copy-out-heard-3 Inv-loop μ-loop
-element-copy-out-heard-3 c = low (c .before .before .before .before .before .before) .5
+element-copy-out-heard-3 c = low (c .before .before .before .before .before .before .before) .5
 
 mul-heard : tie.Need-mul-heard Inv-loop μ-loop
-mul-heard c = record { fits = omega (arith, low (c .before .before .before .before .before .before .before)) }
+mul-heard c = record { fits = omega (arith, low (c .before .before .before .before .before .before .before .before)) }
 
 element-copy-out-heard-4 : tie.Need-element-copy-out-heard-4 Inv-loop μ-loop
-element-copy-out-heard-4 c = low (c .before .before .before .before .before .before .before) .5
+element-copy-out-heard-4 c = low (c .before .before .before .before .before .before .before .before) .5
 
 heard-requires : tie.Need-heard-requires Inv-loop μ-loop
 heard-requires c κs =
-    let v = c .before .before .before .before .before .before .before in
+    let v = c .before .before .before .before .before .before .before .before in
     let l = low v in
     (l .3, l .7, l .6, inside-at (s v .n) (bytes v) (start v) (frame v) (place v % 16) (below v))
 
@@ -280,14 +283,14 @@ element-copy-out-lane c = low (turn (c .before .before .before .before)) .5
 pushed-requires : tie.Need-pushed-requires Inv-loop μ-loop
 pushed-requires c κs = tt
 
-mul-t33 : tie.Need-mul-t33 Inv-loop μ-loop
-mul-t33 c = record { fits = omega (arith, low (turn (c .before .before .before .before .before .before))) }
+mul-t31 : tie.Need-mul-t31 Inv-loop μ-loop
+mul-t31 c = record { fits = omega (arith, low (turn (c .before .before .before .before .before .before))) }
 
 element-set-from-station : tie.Need-element-set-from-station Inv-loop μ-loop
 element-set-from-station c = low (turn (c .before .before .before .before .before .before)) .5
 
-cast-t32 : tie.Need-cast-t32 Inv-loop μ-loop
-cast-t32 c = record { fits = omega (arith, low (turn (c .before .before .before .before .before .before))) }
+cast-t30 : tie.Need-cast-t30 Inv-loop μ-loop
+cast-t30 c = record { fits = omega (arith, low (turn (c .before .before .before .before .before .before))) }
 
 mul-takings : tie.Need-mul-takings Inv-loop μ-loop
 mul-takings c = record { fits = omega (arith, room (c .before .before)) }
@@ -315,10 +318,10 @@ loop-again-2 c =
 
 returns-2 : tie.Need-returns-2 Inv-loop μ-loop
 returns-2 c =
-    let z = c .before .before .before .before .before in
+    let z = c .before .before .before .before .before .before in
     let f = c .before .before .find-newer in
     let e : c .before .loop .i ≡ f .result .len = omega (arith, c .before .loop .inv .0, c .loop-test .left) in
-    let all = ap (heardAt (z .args .s) (z .args .bytes .now) (z .args .t5) (f .result .places)) e ∙ found (c .before .before) .all in
+    let all = ap (heardAt (z .args .s) (z .args .bytes .now) (z .args .starts .now) (f .result .places)) e ∙ found (c .before .before) .all in
     let a = c .before .loop .inv .1 in
     let b = rw all at a in
     record { overfull = sym (b .free); station = λ x. b .station; len = λ x. b .len; takings = λ x. b .takings; few = λ x. omega (arith, a .len, takings-bounded _ _ (c .before .loop .inv .2) (a .free)) }
@@ -335,7 +338,7 @@ hear-all-spec =
     cast-place
     add-i
     mul-at
-    array-read-at
+    shared-slice-read-at
     add-at
     mul-at-2
     add-at-2
@@ -360,9 +363,9 @@ hear-all-spec =
     mul-lane
     element-copy-out-lane
     pushed-requires
-    mul-t33
+    mul-t31
     element-set-from-station
-    cast-t32
+    cast-t30
     mul-takings
     array-set-from-takings
     add-len
