@@ -3,7 +3,7 @@
 use Prim.Native.Nat.{ℕ, _+_, _≤_, _<_}
 use mathlib.Core.Bool.{true}
 use mathlib.Core.List.{List}
-use mathlib.Core.Path.{_≡_, refl, sym, subst}
+use mathlib.Core.Path.{_≡_, refl, sym, ap, subst, _∙_}
 use native.Mathlib.Omega.{arith}
 use lib.ListN.{getD, drop, length}
 use lib.Seq.{getD-drop}
@@ -20,7 +20,7 @@ use Rattle.newer_records.specs.Bars.{MarksFit, MarksHeld, Bars}
 use Rattle.newer_records.proofs.HeldMarks.{marks-fit, marks-held}
 use Rattle.group_frames.specs.Frames.{frameStart, FramesAt, MarksBelow}
 use Rattle.group_turns.specs.Mask.{heardCount, heardStarts}
-use Rattle.group_turns.proofs.MaskStarts.{count-below, starts-at}
+use Rattle.group_turns.proofs.MaskStarts.{count-below, starts-length, starts-at}
 
 -- a start is that of a sender's frame
 record StartOf (n start : ℕ) : Type 0 where
@@ -81,13 +81,17 @@ module _ (s : Station) (inside : stationInside s ≡ true) where
 
     pub may-hear :
         (bars : List ℕ) → Bars (s .n) (s .own) (s .held) (s .table) bars →
-        ((count ≤ 16) × (stationInside s ≡ true))
+        ((count ≤ 16) × (length starts ≡ 16) × (stationInside s ≡ true))
         × (((f : ℕ) → f < count → FrameAt (s .n) bytes (getD starts f 0))
         × (((f : ℕ) → f < count → MarksAt bytes marks (getD starts f 0))
         × (((f : ℕ) → f + 1 < count → getD starts (f + 1) 0 ≡ getD starts f 0 + 260 → ChangesAt bytes marks (getD starts f 0) (getD starts (f + 1) 0))
         × Bars (s .n) (s .own) (s .held) (s .table) bars)))
     may-hear bars b = (
-      (omega (arith, count-is, count-below (s .n) masks (s .own) (s .n), few), inside),
+      (
+        omega (arith, count-is, count-below (s .n) masks (s .own) (s .n), few),
+        ap length starts-is ∙ starts-length (s .n) masks (s .own) (s .n),
+        inside,
+      ),
       (each-start (FrameAt (s .n) bytes) (frames .frame), (each-start (MarksAt bytes marks) (marked .marked), (changed, b))),
     )
 

@@ -1,8 +1,10 @@
 -- `group_turns::hear_mask` meets its contract: the starts of the mask's frames are heard from, with the bars that the marks of the own frame tell.
 use Prim.Native.Nat.{_+_, _*_, _^_, _≤_, _<_}
 use native.Mathlib.Omega.{arith}
+use mathlib.Core.Path.{refl, sym, ap, _∙_}
 use lib.ListN.{getD, length}
 use Rattle.newer_records.specs.Bars.{MarksFit, MarksHeld}
+use Rattle.group_turns.proofs.MaskStarts.{starts-length}
 use Rattle.group_turns.proofs.MayHear.{few, own-low, own-room, own-few, own-fit, own-held, may-hear, mask-heard}
 use Rattle.group_turns.proofs.hear_mask.Statement.{statement}
 use Rattle.group_turns.proofs.hear_mask.Tie as tie
@@ -10,7 +12,7 @@ use Rattle.group_turns.proofs.hear_mask.Tie as tie
 -- the own frame
 module _ (c : tie.After-struct-known) where
   abbrev h : tie.Start
-  h = c .before .before .before .before .before
+  h = c .before .before .before .before .before .before
 
   low :
       (h .args .s .own < 16)
@@ -34,8 +36,11 @@ module _ (c : tie.After-struct-known) where
       (getD (h .args .bytes .now) (260 * h .args .s .own + 2) 0)
   held = own-held (h .args .s) (h .pre .0) (h .args .bytes .now) (h .args .marks .now) (h .pre .1 .0) (h .pre .1 .1 .0) (h .pre .1 .1 .1)
 
+slice-aggregate-heard-by : tie.Need-slice-aggregate-heard-by
+slice-aggregate-heard-by c = refl
+
 heard-by-requires : tie.Need-heard-by-requires
-heard-by-requires c κs = few (c .before .before .args .s) (c .before .before .pre .0)
+heard-by-requires c κs = (few (c .before .before .before .args .s) (c .before .before .before .pre .0), refl)
 
 mul-at : tie.Need-mul-at
 mul-at c = record { fits = omega (arith, low c) }
@@ -52,33 +57,41 @@ cast-own-bars c = record { fits = omega (arith, low (c .before)) }
 own-bars-requires : tie.Need-own-bars-requires
 own-bars-requires c κs = (low (c .before) .0, fit (c .before))
 
+slice-aggregate-hear-all : tie.Need-slice-aggregate-hear-all
+slice-aggregate-hear-all c =
+    let v = c .before .before .before in
+    let a = h v .args in
+    sym (ap length (v .before .before .heard-by .ensures .1) ∙ starts-length (a .s .n) (a .masks) (a .s .own) (a .s .n))
+
 hear-all-requires : tie.Need-hear-all-requires
 hear-all-requires c κs =
-    let v = c .before .before in
-    let a = h v .args in
-    let p = h v .pre in
-    let r = v .before .before .heard-by in
-    may-hear (a .s) (p .0) (a .masks) (a .bytes .now) (a .marks .now) (p .1 .0) (p .1 .1 .0) (r .result .len) (r .ensures .0) (r .result .starts)
-    (r .ensures .1) (c .own-bars .result) (c .own-bars .ensures (a .s .n) (a .s .held) (a .s .table) (held v))
-
-returns : tie.Need-returns
-returns c =
     let v = c .before .before .before in
     let a = h v .args in
     let p = h v .pre in
     let r = v .before .before .heard-by in
-    mask-heard (a .s) (p .0) (a .masks) (a .bytes .now) (a .marks .now) (p .1 .0) (p .1 .1 .0) (r .result .len) (r .ensures .0) (r .result .starts)
-    (r .ensures .1) (c .hear-all .result) (c .hear-all .ensures)
+    may-hear (a .s) (p .0) (a .masks) (a .bytes .now) (a .marks .now) (p .1 .0) (p .1 .1 .0) (r .result) (r .ensures .0) (r .last .0) (r .ensures .1)
+    (c .before .own-bars .result) (c .before .own-bars .ensures (a .s .n) (a .s .held) (a .s .table) (held v))
+
+returns : tie.Need-returns
+returns c =
+    let v = c .before .before .before .before in
+    let a = h v .args in
+    let p = h v .pre in
+    let r = v .before .before .heard-by in
+    mask-heard (a .s) (p .0) (a .masks) (a .bytes .now) (a .marks .now) (p .1 .0) (p .1 .1 .0) (r .result) (r .ensures .0) (r .last .0) (r .ensures .1)
+    (c .hear-all .result) (c .hear-all .ensures)
 
 pub hear-mask-spec : {M : Type 1} → statement M
 hear-mask-spec =
     tie.close
     (tie.spec
+    slice-aggregate-heard-by
     heard-by-requires
     mul-at
     add-own-bars
     shared-slice-read-own-bars
     cast-own-bars
     own-bars-requires
+    slice-aggregate-hear-all
     hear-all-requires
     returns)
