@@ -1,6 +1,6 @@
 -- `station_frames::hear` meets its contract, refusal by refusal; where none applies, hearing all frames of a list of one is hearing the frame.
 use Prim.Native.Nat.{ℕ, _≤_, _<_}
-use mathlib.Core.Path.{_≡_, sym, ap, _∙_}
+use mathlib.Core.Path.{_≡_, refl, sym, ap, _∙_}
 use mathlib.Core.Bool.{true}
 use mathlib.Core.List.{List}
 use lib.ListN.{getD, replicate}
@@ -37,7 +37,7 @@ one-marked bytes marks m f l = let z : f ≡ 0 = omega arith in rw z m
 
 overfull-is :
     (c : tie.After-hear-all) →
-    c .hear-all .result .overfull ≡ heardFrame (c .before .before .before .before .before .before .before .before .before .before .before .args .s) (c .before .before .before .before .before .before .before .before .before .before .before .args .bytes .now) .overfull
+    c .hear-all .result .overfull ≡ heardFrame (c .before .before .before .before .before .before .before .before .before .before .before .before .args .s) (c .before .before .before .before .before .before .before .before .before .before .before .before .args .bytes .now) .overfull
 overfull-is c = c .hear-all .ensures .overfull ∙ ap (λ (x : Hearing). x .overfull) (one-frame _ _)
 
 station-inside-requires : tie.Need-station-inside-requires
@@ -73,21 +73,24 @@ bars-of-requires c κs = within (c .before .before .before .before .before)
 slice-aggregate-hear-all : tie.Need-slice-aggregate-hear-all
 slice-aggregate-hear-all c = search needs
 
+slice-aggregate-hear-all-2 : tie.Need-slice-aggregate-hear-all-2
+slice-aggregate-hear-all-2 c = search needs
+
 hear-all-requires : tie.Need-hear-all-requires
 hear-all-requires c κs =
-    let d = c .before .before .before .before .before in
+    let d = c .before .before .before .before .before .before in
     let a = d .before .before .before .before .before .args in
     let e = accepted d in
     let one : (f : ℕ) → f < 1 → FrameAt (a .s .n) (a .bytes .now) (getD (replicate 16 0) f 0) =
     λ f l. let z : f ≡ 0 = omega arith in rw z (frame-at (a .bytes .now) (a .s .n) (a .s .own) e) in
     let most = few (a .bytes .now) (a .s .n) (a .s .own) e in
-    let marks = marked-at (a .bytes .now) (replicate 32 0) _ 0 most (omega (arith, most)) (c .before .before .before .put-marks .ensures) in
-    ((omega arith, within (d .before .before)), (one, (one-marked _ _ marks, (λ f l e. absurd (omega arith), c .before .bars-of .ensures))))
+    let marks = marked-at (a .bytes .now) (replicate 32 0) _ 0 most (omega (arith, most)) (c .before .before .before .before .put-marks .ensures) in
+    ((omega arith, refl, within (d .before .before)), (one, (one-marked _ _ marks, (λ f l e. absurd (omega arith), c .before .before .bars-of .ensures))))
 
 returns-3 : tie.Need-returns-3
 returns-3 c =
     let h = c .before in
-    hear-full _ _ (within (h .before .before .before .before .before .before .before .before)) (accepted (h .before .before .before .before .before .before)) (sym (overfull-is h) ∙ c .if3 .taken)
+    hear-full _ _ (within (h .before .before .before .before .before .before .before .before .before)) (accepted (h .before .before .before .before .before .before .before)) (sym (overfull-is h) ∙ c .if3 .taken)
 
 sources-requires : tie.Need-sources-requires
 sources-requires c κs = c .before .before .before .hear-all .ensures .few (c .before .before .if3 .left)
@@ -97,8 +100,8 @@ unfolding hearFrames hearRecords
 returns-4 c =
     let h = c .before .before .before .before in
     let free = c .before .before .before .if3 .left in
-    let a = h .before .before .before .before .before .before .before .before .before .before .before .args in
-    hear-done (a .s) (a .bytes .now) (within (h .before .before .before .before .before .before .before .before)) (accepted (h .before .before .before .before .before .before)) _ _ (sym (overfull-is h) ∙ free)
+    let a = h .before .before .before .before .before .before .before .before .before .before .before .before .args in
+    hear-done (a .s) (a .bytes .now) (within (h .before .before .before .before .before .before .before .before .before)) (accepted (h .before .before .before .before .before .before .before)) _ _ (sym (overfull-is h) ∙ free)
     (h .hear-all .ensures .station free ∙ ap (λ (x : Hearing). x .station) (one-frame (a .s) (a .bytes .now)))
     (c .sources .ensures
     ∙ ap sourcesOf
@@ -116,6 +119,7 @@ hear-spec =
     put-marks-requires
     bars-of-requires
     slice-aggregate-hear-all
+    slice-aggregate-hear-all-2
     hear-all-requires
     returns-3
     sources-requires
