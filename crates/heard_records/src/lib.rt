@@ -69,8 +69,8 @@ pub fn heard(
     let count_now = count_after(advances, count);
     let label_now = label_after(advances, label);
     let body = seen.body;
-    let labels = seen.labels;
-    let over = labels::over(n, labels, kept);
+    let word = records::word_at(bytes, at + 12);
+    let over = labels::unpack_over(n, word, kept);
     Effect {
         overfull: takes & (2 <= lane_len),
         takes: takes,

@@ -146,3 +146,22 @@ pub fn over(n: usize, labels: [u8; 16], old: [u8; 16]) -> [u8; 16]
     }
     over
 }
+
+// The first n labels of a word over the old ones: all sixteen are those of the word. A branch of its own for sixteen spares them a way through memory.
+pub fn unpack_over(n: usize, word: u32, old: [u8; 16]) -> [u8; 16]
+    requires { ⌜ n ≤ 16 ⌝ }
+    ensures { λ r. ⌜ r ≡ fill n (λ k. getD (unpacked 16 word) k 0) old ⌝ }
+{
+    if n == 16 {
+        return unpack(word);
+    }
+    let mut over = old;
+    let mut rest = word;
+    let mut k: usize = 0;
+    while k < n {
+        over[k] = (rest % 4) as u8;
+        rest = rest / 4;
+        k += 1;
+    }
+    over
+}

@@ -8,13 +8,14 @@ use mathlib.Core.List.{List}
 use lib.ListN.{getD, take, drop}
 use lib.Dec.{leb, eqb}
 use borrow.Author.Needs.{needs}
+use Rattle.places.specs.Places.{fill}
 use Rattle.labels.specs.Label.{successor}
 use Rattle.frame_rules.specs.declared.Record.{Record}
 use Rattle.frame_rules.specs.Record.{recordOf}
 use Rattle.station_rules.specs.State.{recordLabel, ownLabel}
 use Rattle.station_rules.specs.Hearing.{raised}
 use Rattle.frame_marks.proofs.FrameBytes.{part-in, kind-in, label-in, kind-is, carried}
-use Rattle.heard_records.specs.Effects.{advancesAt, takesAt, keeping}
+use Rattle.heard_records.specs.Effects.{advancesAt, takesAt}
 use Rattle.heard_records.proofs.heard.Statement.{statement}
 use Rattle.heard_records.proofs.heard.Tie as tie
 
@@ -106,8 +107,14 @@ count-after-requires c κs = tt
 label-after-requires : tie.Need-label-after-requires
 label-after-requires c κs = tt
 
-over-requires : tie.Need-over-requires
-over-requires c κs = search needs
+add-word-at : tie.Need-add-word-at
+add-word-at c = search needs
+
+word-at-requires : tie.Need-word-at-requires
+word-at-requires c κs = search needs
+
+unpack-over-requires : tie.Need-unpack-over-requires
+unpack-over-requires c κs = search needs
 
 returns : tie.Need-returns
 returns c =
@@ -115,14 +122,17 @@ returns c =
     let g = read w .before .before .before .args in
     let a = advances-is w in
     let t = takes-is w in
-    let o = w .before .label-at2 .ensures ∙ label-in (bytes (read w)) (at (read w)) (g .own) in
+    let r = read-is (read w) in
+    let shown = label-in (bytes (read w)) (at (read w)) in
+    let o = w .before .label-at2 .ensures ∙ shown (g .own) in
+    let l = (rw (c .before .word-at .ensures) at (c .unpack-over .ensures)) ∙ (λ i. fill (g .n) (λ k. shown k i) (g .kept)) in
     record {
       overfull = λ i. t i && leb 2 (g .lane-len);
       takes = t;
       acked = λ i. g .acked || eqb (o i) (g .own-label);
       count = c .before .before .before .count-after .ensures ∙ (λ i. cond (a i) (raised (g .count)) (g .count));
       label = c .before .before .label-after .ensures ∙ (λ i. cond (a i) (successor (g .label)) (g .label));
-      entry = rw (c .over .ensures) (ap (keeping (g .n) (g .kept)) (read-is (read w)));
+      entry = λ i. record { station = (r i) .station; count = (r i) .count; body = (r i) .body; labels = l i };
     }
 
 pub heard-spec : {M : Type 1} → statement M
@@ -144,5 +154,7 @@ heard-spec =
     shared-slice-read-kind
     count-after-requires
     label-after-requires
-    over-requires
+    add-word-at
+    word-at-requires
+    unpack-over-requires
     returns)
