@@ -8,6 +8,9 @@ ghost use mathlib.Core.Bool.{true};
 // The room of a frame of sixteen records: frames in one buffer begin this far apart.
 pub const FRAME_ROOM: usize = 260;
 
+// The room of a frame's marks: from here on after the frame's start stands what the frame says anew.
+pub const MARKS_ROOM: usize = 32;
+
 // The marks and counts of the records of the frame that begins at `start`, from the same place on.
 pub fn put_marks(marks: &mut [u8], bytes: &[u8], start: usize)
     requires { ⌜ Markable (now bytes) (now marks) start ⌝ }
@@ -42,7 +45,7 @@ fn is_same(r: usize, known: u8, mark: u8, old_mark: u8, count: u8, old_count: u8
     true
 }
 
-// From byte 32 on after `start`, where a frame begins: the places of its records that are in short others than those of the frame before, ascending, and then
+// After the marks of the frame that begins at `start`: the places of its records that are in short others than those of the frame before, ascending, and then
 // the number of records.
 pub fn put_changes(marks: &mut [u8], bytes: &[u8], before: usize, start: usize)
     requires { ⌜ Comparable (now bytes) (now marks) before start ⌝ }
@@ -67,8 +70,8 @@ pub fn put_changes(marks: &mut [u8], bytes: &[u8], before: usize, start: usize)
         if same {
             continue;
         }
-        marks[start + 32 + len] = i as u8;
+        marks[start + MARKS_ROOM + len] = i as u8;
         len += 1;
     }
-    marks[start + 32 + len] = records as u8;
+    marks[start + MARKS_ROOM + len] = records as u8;
 }

@@ -10,6 +10,7 @@ ghost use Rattle.frame_rules.specs.declared.Record.{Record};
 ghost use Rattle.newer_records.specs.Bars.{Bars, barred, MarksFit, MarksHeld};
 ghost use Rattle.newer_records.specs.Sieve.{Siftable, Skippable, Sifts, SiftableFrame, SiftsFrames};
 use frame_marks::FRAME_ROOM;
+use frame_marks::MARKS_ROOM;
 use station_rules::Station;
 
 // The places of newer records, in the order heard: 16 × the number of the frame + that of the record in it.
@@ -123,11 +124,11 @@ fn sift_changes(
 {
     let mut len = before;
     let mut j: usize = 0;
-    let mut i = marks[start + 32] as usize;
+    let mut i = marks[start + MARKS_ROOM] as usize;
     while i < records {
         let place = i;
         j += 1;
-        i = marks[start + 32 + j] as usize;
+        i = marks[start + MARKS_ROOM + j] as usize;
         let mark = marks[start + 2 * place] as usize;
         let count = marks[start + 2 * place + 1];
         if (count as u16) < bars[mark] {
