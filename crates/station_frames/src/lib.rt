@@ -4,6 +4,7 @@ ghost use mathlib.Core.Path.{_≡_};
 ghost use lib.ListN.{length};
 ghost use Rattle.station_rules.specs.Calls.{writeCall, bufferAfter, hearCall};
 use frame_rules::Written;
+use frame_marks::MARKS_ROOM;
 use kinds::refusals::COUNT_TOO_HIGH;
 use kinds::refusals::DONE;
 use kinds::refusals::LANE_FULL;
@@ -58,7 +59,7 @@ pub fn hear(s: Station, bytes: &[u8]) -> Heard
         };
     }
     let starts = [0usize; 16];
-    let mut marks = [0u8; 32];
+    let mut marks = [0u8; MARKS_ROOM];
     frame_marks::put_marks(&mut marks, bytes, 0);
     let bars = newer_records::bars_of(s);
     let heard = station_hearing::hear_all(s, bars, bytes, &marks, &starts, 1);
