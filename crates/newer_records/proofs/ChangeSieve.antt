@@ -11,9 +11,9 @@ use lib.ListN.{getD, length}
 use lib.Dec.{ltb}
 use borrow.Author.Tests.{ltb-true, ltb-false}
 use Rattle.frame_marks.specs.Changes.{changeAt, Unlisted}
-use Rattle.newer_records.specs.Bars.{barred}
+use Rattle.bars.specs.Bars.{barred}
+use Rattle.bars.proofs.BarLaws.{bar-same, barred-size, barred-here, barred-other}
 use Rattle.newer_records.specs.Sieve.{Sieve, siftOne, sifted, Siftable, Skippable}
-use Rattle.newer_records.proofs.BarLaws.{bar-same, barred-size, barred-here, barred-other}
 use Rattle.newer_records.proofs.SieveSteps.{sift-skips, sift-passes, sifted-more}
 
 -- one mark

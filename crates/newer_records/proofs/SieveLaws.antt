@@ -24,10 +24,10 @@ use Rattle.station_rules.proofs.LimitsHear.{Carried}
 use Rattle.station_rules.proofs.LimitsHearing.{Hears, hears-none, hears-record}
 use Rattle.frame_marks.specs.Marks.{recordAt, sizeAt, markOf, MarksAt}
 use Rattle.frame_marks.proofs.FrameBytes.{carried-at}
-use Rattle.newer_records.specs.Bars.{barred}
+use Rattle.bars.specs.Bars.{barred}
+use Rattle.bars.proofs.BarLaws.{BarsOf, bar-skips, bar-passed, bars-step}
 use Rattle.newer_records.specs.Sieve.{Sieve, siftOne, sifted, siftedFrames, Siftable}
 use Rattle.newer_records.specs.Newer.{placeRecord, heardAt, NewerAt}
-use Rattle.newer_records.proofs.BarLaws.{BarsOf, bar-skips, bar-passed, bars-step}
 use Rattle.newer_records.proofs.SieveSteps.{sift-skips, sift-passes, heardTo, heard-suc, heardAt-none, heardAt-more, heardAt-set}
 
 module _

@@ -12,7 +12,7 @@ use Rattle.station_rules.specs.declared.Station.{Station}
 use Rattle.station_rules.specs.Hearing.{Hearing, silent, hearRecord, hearRecords}
 use Rattle.station_rules.proofs.Cells.{hearRecords-append}
 use Rattle.frame_marks.specs.Marks.{recordAt, sizeAt}
-use Rattle.newer_records.specs.Bars.{barred}
+use Rattle.bars.specs.Bars.{barred}
 use Rattle.newer_records.specs.Sieve.{Sieve, siftOne, sifted, siftedFrames}
 use Rattle.newer_records.specs.Newer.{placeRecord, heardAt}
 

@@ -7,7 +7,7 @@ use lib.ListN.{getD, set, length, replicate}
 use lib.Dec.{ltb}
 use Rattle.frame_marks.specs.Marks.{sizeAt}
 use Rattle.frame_marks.specs.Changes.{ListAt, Unlisted}
-use Rattle.newer_records.specs.Bars.{barred}
+use Rattle.bars.specs.Bars.{barred}
 
 -- the bars, and the list of places with the number of those in use
 pub record Sieve : Type 0 where
