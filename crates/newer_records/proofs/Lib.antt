@@ -1,4 +1,3 @@
-pub mod ChangeSieve
 pub mod FramesSifted
 pub mod NextFrame
 pub mod SieveLaws

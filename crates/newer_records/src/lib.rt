@@ -2,7 +2,9 @@
 
 ghost use mathlib.Core.Path.{_≡_};
 ghost use Prim.Native.Nat.{ℕ, _+_, _≤_, _<_};
-ghost use Rattle.newer_records.specs.Sieve.{Siftable, Skippable, Sifts, SiftableFrame, SiftsFrames};
+ghost use Rattle.sieve.specs.Sift.{Siftable, Sifts};
+ghost use Rattle.change_sieve.specs.Skippable.{Skippable};
+ghost use Rattle.newer_records.specs.Sieve.{SiftableFrame, SiftsFrames};
 use frame_marks::FRAME_ROOM;
 
 // The places of newer records, in the order heard: 16 × the number of the frame + that of the record in it.
@@ -11,71 +13,7 @@ pub struct Found {
     pub places: [u8; 256],
 }
 
-// Goes through the marks of frame f, adds the places of the newer records to those before, and answers how many there are.
-fn sift(
-    bars: &mut [u16],
-    places: &mut [u8],
-    before: usize,
-    marks: &[u8],
-    start: usize,
-    records: usize,
-    f: usize,
-) -> usize
-    requires { ⌜ Siftable (now bars) (now places) before (now marks) start records f ⌝ }
-    ensures { λ r.
-        ⌜ Sifts (now (bars .entry)) (now (places .entry)) before (now (marks .entry)) start records f (now (bars .exit)) (now (places .exit)) r ⌝ }
-{
-    let mut len = before;
-    let mut r: usize = 0;
-    while r < records {
-        let i = r;
-        r += 1;
-        let mark = marks[start + 2 * i] as usize;
-        let count = marks[start + 2 * i + 1];
-        if (count as u16) < bars[mark] {
-            continue;
-        }
-        bars::raise(bars, mark / 4, (mark % 4) as u8, count);
-        places[len] = (16 * f + i) as u8;
-        len += 1;
-    }
-    len
-}
-
-// The same for a frame of which it is known where it says something new.
-fn sift_changes(
-    bars: &mut [u16],
-    places: &mut [u8],
-    before: usize,
-    marks: &[u8],
-    start: usize,
-    records: usize,
-    f: usize,
-) -> usize
-    requires { ⌜ Siftable (now bars) (now places) before (now marks) start records f ⌝ ∗ ⌜ Skippable (now bars) (now marks) start records ⌝ }
-    ensures { λ r.
-        ⌜ Sifts (now (bars .entry)) (now (places .entry)) before (now (marks .entry)) start records f (now (bars .exit)) (now (places .exit)) r ⌝ }
-{
-    let mut len = before;
-    let mut j: usize = 0;
-    let mut i = marks[start + 32] as usize;
-    while i < records {
-        let place = i;
-        j += 1;
-        i = marks[start + 32 + j] as usize;
-        let mark = marks[start + 2 * place] as usize;
-        let count = marks[start + 2 * place + 1];
-        if (count as u16) < bars[mark] {
-            continue;
-        }
-        bars::raise(bars, mark / 4, (mark % 4) as u8, count);
-        places[len] = (16 * f + place) as u8;
-        len += 1;
-    }
-    len
-}
-
-// The same for a frame that is heard after the one that begins at `last`: where it stands right after that one, only what it says anew is sifted.
+// Sifts a frame that is heard after the one that begins at `last`: where it stands right after that one, only what it says anew is sifted.
 fn sift_next(
     bars: &mut [u16],
     places: &mut [u8],
@@ -92,12 +30,12 @@ fn sift_next(
         ⌜ Sifts (now (bars .entry)) (now (places .entry)) before (now (marks .entry)) start records f (now (bars .exit)) (now (places .exit)) r ⌝ }
 {
     if start < last {
-        return sift(bars, places, before, marks, start, records, f);
+        return sieve::sift(bars, places, before, marks, start, records, f);
     }
     if start - last != FRAME_ROOM {
-        return sift(bars, places, before, marks, start, records, f);
+        return sieve::sift(bars, places, before, marks, start, records, f);
     }
-    sift_changes(bars, places, before, marks, start, records, f)
+    change_sieve::sift_changes(bars, places, before, marks, start, records, f)
 }
 
 // The places of the records that pass the bars, of the frames that begin at the first `count` of the starts; each that passes raises its bars. From the bars
