@@ -16,8 +16,8 @@ use Rattle.station_rules.specs.Frames.{FrameAt, HearsAll}
 use Rattle.station_rules.proofs.StationLimits.{inside-open}
 use Rattle.frame_marks.specs.Marks.{MarksAt}
 use Rattle.frame_marks.specs.Changes.{ChangesAt}
-use Rattle.newer_records.specs.Bars.{MarksFit, MarksHeld, Bars}
-use Rattle.newer_records.proofs.HeldMarks.{marks-fit, marks-held}
+use Rattle.bars.specs.Bars.{MarksFit, MarksHeld, Bars}
+use Rattle.bars.proofs.HeldMarks.{marks-fit, marks-held}
 use Rattle.group_frames.specs.Frames.{frameStart, FramesAt, MarksBelow}
 use Rattle.group_turns.specs.Mask.{heardCount, heardStarts}
 use Rattle.group_turns.proofs.MaskStarts.{count-below, starts-length, starts-at}

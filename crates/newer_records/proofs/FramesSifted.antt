@@ -11,7 +11,7 @@ use Rattle.station_rules.proofs.Shape.{Shaped}
 use Rattle.station_rules.proofs.StationLimits.{Inside}
 use Rattle.frame_marks.specs.Marks.{MarksAt}
 use Rattle.frame_marks.specs.Changes.{ChangesAt}
-use Rattle.newer_records.specs.Bars.{Bars}
+use Rattle.bars.specs.Bars.{Bars}
 use Rattle.newer_records.specs.Newer.{NewerAt}
 use Rattle.newer_records.specs.Sieve.{sieveFrom, siftedFrames, SiftableFrame, SiftsFrames}
 use Rattle.newer_records.proofs.NextFrame.{follows-skippable}

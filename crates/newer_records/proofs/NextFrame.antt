@@ -11,8 +11,10 @@ use Rattle.station_rules.specs.Frames.{FrameAt}
 use Rattle.station_rules.proofs.StationLimits.{Inside}
 use Rattle.frame_marks.specs.Marks.{sizeAt, MarksAt}
 use Rattle.frame_marks.specs.Changes.{Ascending, ChangesAt}
-use Rattle.newer_records.specs.Sieve.{Sieve, Skippable, siftedFrames}
-use Rattle.newer_records.proofs.ChangeSieve.{settled}
+use Rattle.sieve.specs.Sift.{Sieve}
+use Rattle.change_sieve.specs.Skippable.{Skippable}
+use Rattle.change_sieve.proofs.ChangeSieve.{settled}
+use Rattle.newer_records.specs.Sieve.{siftedFrames}
 use Rattle.newer_records.proofs.SieveSteps.{frames-more}
 use Rattle.newer_records.proofs.SieveLaws.{Follows, follows-frames, follows-siftable, label-of}
 

@@ -24,11 +24,13 @@ use Rattle.station_rules.proofs.LimitsHear.{Carried}
 use Rattle.station_rules.proofs.LimitsHearing.{Hears, hears-none, hears-record}
 use Rattle.frame_marks.specs.Marks.{recordAt, sizeAt, markOf, MarksAt}
 use Rattle.frame_marks.proofs.FrameBytes.{carried-at}
-use Rattle.newer_records.specs.Bars.{barred}
-use Rattle.newer_records.specs.Sieve.{Sieve, siftOne, sifted, siftedFrames, Siftable}
+use Rattle.bars.specs.Bars.{barred}
+use Rattle.bars.proofs.BarLaws.{BarsOf, bar-skips, bar-passed, bars-step}
+use Rattle.sieve.specs.Sift.{Sieve, siftOne, sifted, Siftable}
+use Rattle.sieve.proofs.SiftSteps.{sift-skips, sift-passes}
+use Rattle.newer_records.specs.Sieve.{siftedFrames}
 use Rattle.newer_records.specs.Newer.{placeRecord, heardAt, NewerAt}
-use Rattle.newer_records.proofs.BarLaws.{BarsOf, bar-skips, bar-passed, bars-step}
-use Rattle.newer_records.proofs.SieveSteps.{sift-skips, sift-passes, heardTo, heard-suc, heardAt-none, heardAt-more, heardAt-set}
+use Rattle.newer_records.proofs.SieveSteps.{heardTo, heard-suc, heardAt-none, heardAt-more, heardAt-set}
 
 module _
     (s : Station) (bytes starts marks : List ℕ) (count : ℕ) (within : Inside s) (most : count ≤ 16)

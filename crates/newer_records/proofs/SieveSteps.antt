@@ -1,43 +1,19 @@
--- The sieve mark by mark and frame by frame, as the loops of the code go, and hearing record by record and place by place.
-use Prim.Native.Nat.{ℕ, zero, suc, _+_, _*_, _/_, _%_, _<_, _≤_}
+-- The sieve frame by frame, as the loop of the code goes, and hearing record by record and place by place.
+use Prim.Native.Nat.{ℕ, zero, suc, _+_, _≤_}
 use native.Mathlib.Omega.{arith}
 use native.Mathlib.Numerals.{add-one}
 use mathlib.Core.Path.{_≡_, refl}
 use mathlib.Core.List.{List, [], _∷_}
 use lib.ListN.{getD, set}
 use lib.Seq.{getD-set-other}
-use borrow.Author.Tests.{lt-ltb, le-ltb}
 use Rattle.places.specs.Places.{tabulate}
 use Rattle.station_rules.specs.declared.Station.{Station}
 use Rattle.station_rules.specs.Hearing.{Hearing, silent, hearRecord, hearRecords}
 use Rattle.station_rules.proofs.Cells.{hearRecords-append}
 use Rattle.frame_marks.specs.Marks.{recordAt, sizeAt}
-use Rattle.newer_records.specs.Bars.{barred}
-use Rattle.newer_records.specs.Sieve.{Sieve, siftOne, sifted, siftedFrames}
+use Rattle.sieve.specs.Sift.{Sieve, sifted}
+use Rattle.newer_records.specs.Sieve.{siftedFrames}
 use Rattle.newer_records.specs.Newer.{placeRecord, heardAt}
-
--- one mark more
-module _ (z : Sieve) (mark count place : ℕ) where
-  pub sift-skips : count < getD (z .bars) mark 0 → siftOne z mark count place ≡ z
-  unfolding siftOne
-  sift-skips b = rw (lt-ltb count _ b)
-
-  pub sift-passes :
-      getD (z .bars) mark 0 ≤ count →
-      siftOne z mark count place
-      ≡ record { bars = barred (z .bars) (mark / 4) (mark % 4) count; places = set (z .places) (z .len) place; len = z .len + 1 }
-  unfolding siftOne
-  sift-passes b = rw (le-ltb count _ b)
-
-module _ (z : Sieve) (marks : List ℕ) (start f : ℕ) where
-  pub sifted-none : sifted z marks start f 0 ≡ z
-  unfolding sifted
-  sifted-none = refl
-
-  pub sifted-more :
-      (r : ℕ) → sifted z marks start f (r + 1) ≡ siftOne (sifted z marks start f r) (getD marks (start + 2 * r) 0) (getD marks (start + 2 * r + 1) 0) (16 * f + r)
-  unfolding sifted
-  sifted-more r = rw (add-one r)
 
 -- the first f frames
 module _ (z : Sieve) (bytes marks starts : List ℕ) where

@@ -1,58 +1,13 @@
--- A frame's marks held against the bars, one after the other: the places of those that pass are put into a list, and each sets the bars anew.
-use Prim.Native.Nat.{ℕ, zero, suc, _+_, _-_, _*_, _/_, _%_, _<_, _≤_}
+-- One frame after the other is sifted: the bars that one leaves are those of the next, and the places come into one list.
+use Prim.Native.Nat.{ℕ, zero, suc, _+_, _-_, _<_}
 use mathlib.Core.Path.{_≡_}
-use mathlib.Core.Bool.{cond}
 use mathlib.Core.List.{List}
-use lib.ListN.{getD, set, length, replicate}
-use lib.Dec.{ltb}
+use lib.ListN.{getD, length, replicate}
 use Rattle.frame_marks.specs.Marks.{sizeAt}
-use Rattle.frame_marks.specs.Changes.{ListAt, Unlisted}
-use Rattle.newer_records.specs.Bars.{barred}
+use Rattle.sieve.specs.Sift.{Sieve, sifted, Siftable}
+use Rattle.change_sieve.specs.Skippable.{Skippable}
 
--- the bars, and the list of places with the number of those in use
-pub record Sieve : Type 0 where
-  pub bars : List ℕ
-  pub places : List ℕ
-  pub len : ℕ
-
--- a record of this mark and count, at this place
-unfoldable pub siftOne : Sieve → ℕ → ℕ → ℕ → Sieve
-siftOne z mark count place =
-    cond (ltb count (getD (z .bars) mark 0)) z
-    (record { bars = barred (z .bars) (mark / 4) (mark % 4) count; places = set (z .places) (z .len) place; len = z .len + 1 })
-
--- the first r records of frame f, whose marks stand from start on
-unfoldable pub sifted : Sieve → List ℕ → ℕ → ℕ → ℕ → Sieve
-sifted z marks start f zero = z
-sifted z marks start f (suc r) =
-    siftOne (sifted z marks start f r) (getD marks (start + 2 * r) 0) (getD marks (start + 2 * r + 1) 0) (16 * f + r)
-
--- there is room for what passes, and the marks are those of sixteen stations
-pub record Siftable (bars places : List ℕ) (len : ℕ) (marks : List ℕ) (start records f : ℕ) : Type 0 where
-  pub bars-size : length bars ≡ 64
-  pub places-size : length places ≡ 256
-  pub before : len ≤ 16 * f
-  pub few : 16 * f + records ≤ 256
-  pub room : start + 2 * records ≤ length marks
-  pub mark : (r : ℕ) → r < records → getD marks (start + 2 * r) 0 < 64
-  pub label : (r : ℕ) → r < records → getD marks (start + 2 * r) 0 % 4 ≤ 2
-  pub count : (r : ℕ) → r < records → getD marks (start + 2 * r + 1) 0 < 256
-
--- the records that may be passed over: the count of each that is not in the list beside the marks is below its bar; the records are of ascending
--- stations, so that none raises another's bar
-pub record Skippable (bars marks : List ℕ) (start records : ℕ) : Type 0 where
-  pub room : start + 32 + records < length marks
-  pub ascends : (q r : ℕ) → q < r → r < records → getD marks (start + 2 * q) 0 / 4 < getD marks (start + 2 * r) 0 / 4
-  pub len : ℕ
-  pub list : ListAt marks start records len
-  pub below : (q : ℕ) → q < records → Unlisted marks start len q → getD marks (start + 2 * q + 1) 0 < getD bars (getD marks (start + 2 * q) 0) 0
-
--- the bars, the list and the number of places after all records of a frame
-abbrev pub Sifts : List ℕ → List ℕ → ℕ → List ℕ → ℕ → ℕ → ℕ → List ℕ → List ℕ → ℕ → Type 0
-Sifts bars places len marks start records f bars' places' len' =
-    record { bars = bars'; places = places'; len = len' } ≡ sifted (record { bars = bars; places = places; len = len }) marks start f records
-
--- the same of all records of the first f frames
+-- after all records of the first f frames
 unfoldable pub siftedFrames : Sieve → List ℕ → List ℕ → List ℕ → ℕ → Sieve
 siftedFrames z bytes marks starts zero = z
 siftedFrames z bytes marks starts (suc f) =

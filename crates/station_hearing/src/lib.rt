@@ -8,7 +8,7 @@ ghost use Rattle.station_rules.specs.Limits.{stationInside};
 ghost use Rattle.station_rules.specs.Frames.{FrameAt, HearsAll};
 ghost use Rattle.frame_marks.specs.Marks.{MarksAt};
 ghost use Rattle.frame_marks.specs.Changes.{ChangesAt};
-ghost use Rattle.newer_records.specs.Bars.{Bars};
+ghost use Rattle.bars.specs.Bars.{Bars};
 use kinds::Body;
 use station_rules::HeardAll;
 use station_rules::Station;

@@ -3,7 +3,7 @@ use Prim.Native.Nat.{_+_, _*_, _^_, _≤_, _<_}
 use native.Mathlib.Omega.{arith}
 use mathlib.Core.Path.{refl, sym, ap, _∙_}
 use lib.ListN.{getD, length}
-use Rattle.newer_records.specs.Bars.{MarksFit, MarksHeld}
+use Rattle.bars.specs.Bars.{MarksFit, MarksHeld}
 use Rattle.group_turns.proofs.MaskStarts.{starts-length}
 use Rattle.group_turns.proofs.MayHear.{few, own-low, own-room, own-few, own-fit, own-held, may-hear, mask-heard}
 use Rattle.group_turns.proofs.hear_mask.Statement.{statement}

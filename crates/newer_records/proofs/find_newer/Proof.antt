@@ -6,7 +6,9 @@ use mathlib.Core.List.{List}
 use lib.ListN.{getD, length}
 use lib.Seq.{getD-drop}
 use Rattle.frame_marks.specs.Marks.{sizeAt}
-use Rattle.newer_records.specs.Sieve.{Sieve, sifted, siftedFrames, sieveFrom, Siftable, Skippable, SiftableFrame}
+use Rattle.sieve.specs.Sift.{Sieve, sifted, Siftable}
+use Rattle.change_sieve.specs.Skippable.{Skippable}
+use Rattle.newer_records.specs.Sieve.{siftedFrames, sieveFrom, SiftableFrame}
 use Rattle.newer_records.proofs.SieveSteps.{frames-none, frames-more}
 use Rattle.newer_records.proofs.find_newer.Statement.{statement}
 use Rattle.newer_records.proofs.find_newer.Tie as tie

@@ -11,10 +11,11 @@ use lib.ListN.{getD, length}
 use lib.Dec.{ltb}
 use borrow.Author.Tests.{ltb-true, ltb-false}
 use Rattle.frame_marks.specs.Changes.{changeAt, Unlisted}
-use Rattle.newer_records.specs.Bars.{barred}
-use Rattle.newer_records.specs.Sieve.{Sieve, siftOne, sifted, Siftable, Skippable}
-use Rattle.newer_records.proofs.BarLaws.{bar-same, barred-size, barred-here, barred-other}
-use Rattle.newer_records.proofs.SieveSteps.{sift-skips, sift-passes, sifted-more}
+use Rattle.bars.specs.Bars.{barred}
+use Rattle.bars.proofs.BarLaws.{bar-same, barred-size, barred-here, barred-other}
+use Rattle.sieve.specs.Sift.{Sieve, siftOne, sifted, Siftable}
+use Rattle.sieve.proofs.SiftSteps.{sift-skips, sift-passes, sifted-more}
+use Rattle.change_sieve.specs.Skippable.{Skippable}
 
 -- one mark
 module _ (z : Sieve) (mark count place : ℕ) (size : length (z .bars) ≡ 64) (low : mark < 64) (is : mark % 4 ≤ 2) where

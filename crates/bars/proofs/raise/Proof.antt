@@ -1,12 +1,12 @@
--- `newer_records::raise` meets its contract: the three writes are those of the definition.
+-- `bars::raise` meets its contract: the three writes are those of the definition.
 use Prim.Native.Nat.{ℕ, _+_, _*_, _≤_, _<_}
 use native.Mathlib.Omega.{arith}
 use mathlib.Core.Path.{_≡_, ap, _∙_}
 use lib.ListN.{set, length, length-set}
 use borrow.Author.Needs.{needs}
 use Rattle.labels.specs.Label.{successor}
-use Rattle.newer_records.proofs.raise.Statement.{statement}
-use Rattle.newer_records.proofs.raise.Tie as tie
+use Rattle.bars.proofs.raise.Statement.{statement}
+use Rattle.bars.proofs.raise.Tie as tie
 
 module _ (c : tie.After-successor2) where
   abbrev label : ℕ

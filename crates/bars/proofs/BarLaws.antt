@@ -19,7 +19,7 @@ use Rattle.station_rules.specs.Hearing.{heeds, heardNewer}
 use Rattle.station_rules.proofs.Shape.{Shaped}
 use Rattle.station_rules.proofs.Cells.{heeds-own, heeds-newer, heard-n, heard-own, held-here, held-other, record-here, record-other, replaced-label, replaced-count}
 use Rattle.station_rules.proofs.LimitsHear.{Carried, heeds-other}
-use Rattle.newer_records.specs.Bars.{barOf, barAt, barred, Bars}
+use Rattle.bars.specs.Bars.{barOf, barAt, barred, Bars}
 
 -- a count is below the bar where the record is not newer
 bar-newer : (held : Bool) (old count label seen : ℕ) → seen < 256 → ltb seen (barOf held old count label) ≡ not (isNewer held old count label seen)

@@ -1,13 +1,13 @@
--- `newer_records::sift` meets its contract: after r records the bars, the list and its length are those of the definition's sieve.
+-- `sieve::sift` meets its contract: after r records the bars, the list and its length are those of the definition's sieve.
 use Prim.Native.Nat.{ℕ, _+_, _-_, _*_, _%_, _^_, _≤_, _<_}
 use native.Mathlib.Omega.{arith}
 use mathlib.Core.Path.{_≡_, sym, ap, _∙_}
 use mathlib.Core.List.{List}
 use lib.ListN.{getD, set, length, length-set}
-use Rattle.newer_records.specs.Sieve.{Sieve, siftOne, sifted}
-use Rattle.newer_records.proofs.SieveSteps.{sift-skips, sift-passes, sifted-none, sifted-more}
-use Rattle.newer_records.proofs.sift.Statement.{statement}
-use Rattle.newer_records.proofs.sift.Tie as tie
+use Rattle.sieve.specs.Sift.{Sieve, siftOne, sifted}
+use Rattle.sieve.proofs.SiftSteps.{sift-skips, sift-passes, sifted-none, sifted-more}
+use Rattle.sieve.proofs.sift.Statement.{statement}
+use Rattle.sieve.proofs.sift.Tie as tie
 
 abbrev sieve : List ℕ → List ℕ → ℕ → Sieve
 sieve bars places len = record { bars = bars; places = places; len = len }

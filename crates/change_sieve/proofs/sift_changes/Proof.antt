@@ -1,4 +1,4 @@
--- `newer_records::sift_changes` meets its contract: as the loop comes to entry j of the list, which is record i, the bars, the list of places and its length
+-- `change_sieve::sift_changes` meets its contract: as the loop comes to entry j of the list, which is record i, the bars, the list of places and its length
 -- are those of the definition's sieve after the i records before it, for those passed over do nothing.
 use Prim.Native.Nat.{ℕ, _+_, _-_, _*_, _%_, _^_, _≤_, _<_}
 use native.Mathlib.Omega.{arith}
@@ -6,11 +6,12 @@ use mathlib.Core.Path.{_≡_, refl, sym, ap, _∙_}
 use mathlib.Core.List.{List}
 use lib.ListN.{getD, set, length, length-set}
 use Rattle.frame_marks.specs.Changes.{changeAt}
-use Rattle.newer_records.specs.Sieve.{Sieve, siftOne, sifted, Skippable}
-use Rattle.newer_records.proofs.ChangeSieve.{high, sifted-to-first, entry-inside, next-after, sifted-to-next}
-use Rattle.newer_records.proofs.SieveSteps.{sift-skips, sift-passes, sifted-none, sifted-more}
-use Rattle.newer_records.proofs.sift_changes.Statement.{statement}
-use Rattle.newer_records.proofs.sift_changes.Tie as tie
+use Rattle.sieve.specs.Sift.{Sieve, siftOne, sifted}
+use Rattle.sieve.proofs.SiftSteps.{sift-skips, sift-passes, sifted-none, sifted-more}
+use Rattle.change_sieve.specs.Skippable.{Skippable}
+use Rattle.change_sieve.proofs.ChangeSieve.{high, sifted-to-first, entry-inside, next-after, sifted-to-next}
+use Rattle.change_sieve.proofs.sift_changes.Statement.{statement}
+use Rattle.change_sieve.proofs.sift_changes.Tie as tie
 
 abbrev sieve : List ℕ → List ℕ → ℕ → Sieve
 sieve bars places len = record { bars = bars; places = places; len = len }

@@ -1,0 +1,3 @@
+pub mod BarLaws
+pub mod HeldMarks
+pub mod OwnBars
