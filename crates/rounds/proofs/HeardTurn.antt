@@ -25,7 +25,7 @@ use Rattle.group_rules.proofs.MembersRound.{hears-all}
 use Rattle.group_frames.specs.Frames.{frameStart, FramesAt, MarksBelow}
 use Rattle.group_frames.proofs.WrittenFrames.{AllSent}
 use Rattle.group_frames.proofs.GroupFrames.{frames-at, records-of}
-use Rattle.group_turns.specs.Mask.{heardCount, heardStarts}
+use Rattle.mask_hearing.specs.Mask.{heardCount, heardStarts}
 use Rattle.rounds.proofs.RoundFrames.{heard-below}
 
 -- what hearing by the mask asks for

@@ -20,8 +20,8 @@ use Rattle.group_rules.specs.State.{stationAt, sizeOf, groupInside}
 use Rattle.group_rules.specs.Calls.{hearing}
 use Rattle.group_frames.specs.Frames.{frameStart, FramesBelow}
 use Rattle.group_frames.proofs.GroupFrames.{records-of}
-use Rattle.group_turns.specs.Mask.{heardCount, heardStarts}
-use Rattle.group_turns.proofs.MaskStarts.{starts-length, count-below}
+use Rattle.mask_hearing.specs.Mask.{heardCount, heardStarts}
+use Rattle.mask_hearing.proofs.MaskStarts.{starts-length, count-below}
 
 hearFrames-none : (h : Hearing) (bytes starts : List ℕ) → hearFrames h bytes starts zero ≡ h
 unfolding hearFrames

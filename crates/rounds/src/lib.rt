@@ -59,7 +59,7 @@ pub fn round(g: [Station; 16], masks: [u16; 16]) -> RoundDone
     group_frames::mark_frames(&mut marks, &bytes, n);
     let mut i: usize = 0;
     while i < n {
-        let heard = group_turns::hear_mask(z.group[i], &bytes, &marks, masks);
+        let heard = mask_hearing::hear_mask(z.group[i], &bytes, &marks, masks);
         if heard.overfull {
             z.refusal = LANE_FULL;
             z.group = g;

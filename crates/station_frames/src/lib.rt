@@ -3,8 +3,8 @@
 ghost use mathlib.Core.Path.{_≡_};
 ghost use lib.ListN.{length};
 ghost use Rattle.station_rules.specs.Calls.{writeCall, bufferAfter, hearCall};
-use frame_rules::Written;
 use frame_marks::MARKS_ROOM;
+use frame_rules::Written;
 use kinds::refusals::COUNT_TOO_HIGH;
 use kinds::refusals::DONE;
 use kinds::refusals::LANE_FULL;

@@ -9,7 +9,7 @@ ghost use Rattle.station_rules.specs.State.{sentRecords};
 ghost use Rattle.station_rules.specs.Limits.{stationInside};
 ghost use Rattle.station_rules.specs.Frames.{HearsAll};
 ghost use Rattle.group_frames.specs.Frames.{frameStart, FramesAt, MarksBelow};
-ghost use Rattle.group_turns.specs.Mask as spec;
+ghost use Rattle.mask_hearing.specs.Mask as spec;
 use frame_marks::FRAME_ROOM;
 use station_rules::HeardAll;
 use station_rules::Station;

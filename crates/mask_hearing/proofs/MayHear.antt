@@ -19,8 +19,8 @@ use Rattle.frame_marks.specs.Changes.{ChangesAt}
 use Rattle.bars.specs.Bars.{MarksFit, MarksHeld, Bars}
 use Rattle.bars.proofs.HeldMarks.{marks-fit, marks-held}
 use Rattle.group_frames.specs.Frames.{frameStart, FramesAt, MarksBelow}
-use Rattle.group_turns.specs.Mask.{heardCount, heardStarts}
-use Rattle.group_turns.proofs.MaskStarts.{count-below, starts-length, starts-at}
+use Rattle.mask_hearing.specs.Mask.{heardCount, heardStarts}
+use Rattle.mask_hearing.proofs.MaskStarts.{count-below, starts-length, starts-at}
 
 -- a start is that of a sender's frame
 record StartOf (n start : ℕ) : Type 0 where

@@ -11,7 +11,7 @@ use lib.ListN.{getD, set, length, length-set, length-replicate}
 use lib.Seq.{getD-set-same, getD-set-other}
 use Rattle.links.specs.Log.{hearsIn}
 use Rattle.group_frames.specs.Frames.{frameStart}
-use Rattle.group_turns.specs.Mask.{heardCount, heardStarts}
+use Rattle.mask_hearing.specs.Mask.{heardCount, heardStarts}
 
 module _ (n : ℕ) (masks : List ℕ) (i : ℕ) where
   pub count-some : (j : ℕ) → hearsIn n masks i j ≡ true → heardCount n masks i (j + 1) ≡ heardCount n masks i j + 1

@@ -1,4 +1,4 @@
--- `group_turns::heard_by` meets its contract: the senders passed are listed.
+-- `mask_hearing::heard_by` meets its contract: the senders passed are listed.
 use Prim.Native.Nat.{ℕ, _+_, _*_, _-_, _≤_, _<_}
 use native.Mathlib.Omega.{arith}
 use mathlib.Core.Path.{_≡_, refl, sym, ap, _∙_}
@@ -7,10 +7,10 @@ use lib.ListN.{length, set}
 use borrow.Author.Needs.{needs}
 use borrow.Author.Tests.{not-true, not-false}
 use Rattle.links.specs.Log.{hearsIn}
-use Rattle.group_turns.specs.Mask.{heardCount, heardStarts}
-use Rattle.group_turns.proofs.MaskStarts.{count-some, count-none, starts-some, starts-none, starts-length, count-below}
-use Rattle.group_turns.proofs.heard_by.Statement.{statement}
-use Rattle.group_turns.proofs.heard_by.Tie as tie
+use Rattle.mask_hearing.specs.Mask.{heardCount, heardStarts}
+use Rattle.mask_hearing.proofs.MaskStarts.{count-some, count-none, starts-some, starts-none, starts-length, count-below}
+use Rattle.mask_hearing.proofs.heard_by.Statement.{statement}
+use Rattle.mask_hearing.proofs.heard_by.Tie as tie
 
 abbrev Inv-loop : tie.InvT-loop
 Inv-loop starts₀ masks n i len₀ j₀ starts len j = (j ≤ n) × (n ≤ 16) × (len ≡ heardCount n masks i j) × (starts ≡ heardStarts n masks i j)

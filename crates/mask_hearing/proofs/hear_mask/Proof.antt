@@ -1,13 +1,13 @@
--- `group_turns::hear_mask` meets its contract: the starts of the mask's frames are heard from, with the bars that the marks of the own frame tell.
+-- `mask_hearing::hear_mask` meets its contract: the starts of the mask's frames are heard from, with the bars that the marks of the own frame tell.
 use Prim.Native.Nat.{_+_, _*_, _^_, _≤_, _<_}
 use native.Mathlib.Omega.{arith}
 use mathlib.Core.Path.{refl, sym, ap, _∙_}
 use lib.ListN.{getD, length}
 use Rattle.bars.specs.Bars.{MarksFit, MarksHeld}
-use Rattle.group_turns.proofs.MaskStarts.{starts-length}
-use Rattle.group_turns.proofs.MayHear.{few, own-low, own-room, own-few, own-fit, own-held, may-hear, mask-heard}
-use Rattle.group_turns.proofs.hear_mask.Statement.{statement}
-use Rattle.group_turns.proofs.hear_mask.Tie as tie
+use Rattle.mask_hearing.proofs.MaskStarts.{starts-length}
+use Rattle.mask_hearing.proofs.MayHear.{few, own-low, own-room, own-few, own-fit, own-held, may-hear, mask-heard}
+use Rattle.mask_hearing.proofs.hear_mask.Statement.{statement}
+use Rattle.mask_hearing.proofs.hear_mask.Tie as tie
 
 -- the own frame
 module _ (c : tie.After-struct-known) where
