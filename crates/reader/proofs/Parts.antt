@@ -8,9 +8,9 @@ use lib.ListN.{length, take, drop, getD, length-append, length-drop, drop-of-len
 use lib.Seq.{take-all, take-at, take-add, take-suc, length-take-le, drop-drop}
 use Rattle.lines.specs.Lines.{Put, placed}
 use Rattle.lines.proofs.Placed.{put-none, put-more}
-use Rattle.listing.specs.declared.Session.{Session}
-use Rattle.listing.specs.declared.Applied.{Applied}
-use Rattle.listing.specs.Listing.{after, printed}
+use Rattle.listing_rules.specs.declared.Session.{Session}
+use Rattle.listing_rules.specs.declared.Applied.{Applied}
+use Rattle.listing_rules.specs.Listing.{after, printed}
 use Rattle.reader.specs.declared.Reader.{Reader}
 use Rattle.reader.specs.declared.Fed.{Fed}
 use Rattle.reader.specs.Remaining.{remainingAt, heldBy, Listed, Feeds, Same}

@@ -6,9 +6,9 @@ use native.Mathlib.Omega.{arith}
 use lib.ListN.{length, length-append}
 use borrow.Author.Tests.{ne-eqb}
 use Rattle.lines.specs.Lines.{endLine}
-use Rattle.listing.specs.declared.Session.{Session}
-use Rattle.listing.specs.Listing.{Lines, rest, line, before, begun, linesOf, listed, listingOf, after, printed, closed}
-use Rattle.listing.proofs.Overlong.{printed-long, after-long, closed-some}
+use Rattle.listing_rules.specs.declared.Session.{Session}
+use Rattle.listing_rules.specs.Listing.{Lines, rest, line, before, begun, linesOf, listed, listingOf, after, printed, closed}
+use Rattle.listing_rules.proofs.Overlong.{printed-long, after-long, closed-some}
 use Rattle.reader.specs.Remaining.{behind, remainingAt}
 
 behind-none : (ls : Lines) → behind [] ls ≡ ls

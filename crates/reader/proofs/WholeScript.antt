@@ -4,7 +4,7 @@ use Prim.Native.Nat.{ℕ}
 use mathlib.Core.Path.{_≡_, sym, ap, _∙_}
 use mathlib.Core.List.{List, [], _++_, append-assoc, append-nil}
 use lib.ListN.{take}
-use Rattle.listing.specs.Listing.{listingOf}
+use Rattle.listing_rules.specs.Listing.{listingOf}
 use Rattle.reader.specs.declared.Reader.{Reader}
 use Rattle.reader.specs.Remaining.{remaining}
 use Rattle.reader.specs.Whole.{Reached, at-first, then-fed, ListsWhole}

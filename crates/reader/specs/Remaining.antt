@@ -4,8 +4,8 @@ use mathlib.Core.Path.{_≡_}
 use mathlib.Core.List.{List, _++_}
 use lib.ListN.{length, take, getD, replicate}
 use Rattle.lines.specs.Lines.{endLine, Put}
-use Rattle.listing.specs.declared.Session.{Session}
-use Rattle.listing.specs.Listing.{Lines, rest, line, begun, linesOf, listed}
+use Rattle.listing_rules.specs.declared.Session.{Session}
+use Rattle.listing_rules.specs.Listing.{Lines, rest, line, begun, linesOf, listed}
 use Rattle.reader.specs.declared.Reader.{Reader}
 use Rattle.reader.specs.declared.Fed.{Fed}
 

@@ -1,6 +1,6 @@
 // A script read in parts of any size, and the listing that comes of it.
 
-use listing::Session;
+use listing_rules::Session;
 ghost use mathlib.Core.Path.{_≡_};
 ghost use mathlib.Core.List.{[], _∷_};
 ghost use Prim.Native.Nat.{_-_, _≤_};
@@ -65,7 +65,7 @@ fn take_line(line: &mut [u8], held: usize, part: &[u8], from: usize) -> Taken
 pub fn begin() -> Reader
     ensures { λ r. ⌜ r ≡ beginning ⌝ }
 {
-    let session = listing::begin();
+    let session = listing_ends::begin();
     Reader {
         session,
         len: 0,
@@ -118,5 +118,5 @@ pub fn finish(r: Reader, out: &mut [u8]) -> usize
     let session = r.session;
     let line = r.line;
     let len = r.len;
-    listing::close(session, &line[..len], out)
+    listing_ends::close(session, &line[..len], out)
 }

@@ -1,7 +1,7 @@
 -- `reader::begin` holds no byte.
 use mathlib.Core.Path.{ap}
 use lib.ListN.{replicate}
-use Rattle.listing.specs.declared.Session.{Session}
+use Rattle.listing_rules.specs.declared.Session.{Session}
 use Rattle.reader.specs.declared.Reader.{Reader}
 use borrow.Author.Needs.{needs}
 use Rattle.reader.proofs.begin.Statement.{statement}
