@@ -5,10 +5,10 @@ use mathlib.Core.Path.{_≡_, sym, ap, _∙_}
 use mathlib.Core.List.{List, [], _++_, append-assoc, append-nil}
 use lib.ListN.{take}
 use Rattle.listing_rules.specs.Listing.{listingOf}
-use Rattle.reader.specs.declared.Reader.{Reader}
-use Rattle.reader.specs.Remaining.{remaining}
-use Rattle.reader.specs.Whole.{Reached, at-first, then-fed, ListsWhole}
-use Rattle.reader.proofs.Steps.{at-start}
+use Rattle.reader_rules.specs.declared.Reader.{Reader}
+use Rattle.reader_rules.specs.Remaining.{remaining}
+use Rattle.reader_rules.specs.Whole.{Reached, at-first, then-fed, ListsWhole}
+use Rattle.reader_rules.proofs.Steps.{at-start}
 
 always : {r : Reader} {read listed : List ℕ} → Reached r read listed → (more : List ℕ) → listed ++ remaining r more ≡ listingOf (read ++ more)
 always at-first more = at-start more

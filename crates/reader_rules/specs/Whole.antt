@@ -4,9 +4,9 @@ use mathlib.Core.Path.{_≡_}
 use mathlib.Core.List.{List, [], _++_}
 use lib.ListN.{take}
 use Rattle.listing_rules.specs.Listing.{listingOf}
-use Rattle.reader.specs.declared.Reader.{Reader}
-use Rattle.reader.specs.declared.Fed.{Fed}
-use Rattle.reader.specs.Remaining.{beginning, remaining, Feeds}
+use Rattle.reader_rules.specs.declared.Reader.{Reader}
+use Rattle.reader_rules.specs.declared.Fed.{Fed}
+use Rattle.reader_rules.specs.Remaining.{beginning, remaining, Feeds}
 
 -- a reader that was fed parts of a script, with all that it read of them and all that it put into buffers
 pub data Reached : Reader → List ℕ → List ℕ → Type 0 where

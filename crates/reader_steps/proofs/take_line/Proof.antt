@@ -1,13 +1,13 @@
--- `reader::take_line` takes byte after byte: with what is left of the part, the same is still to be listed.
+-- `reader_steps::take_line` takes byte after byte: with what is left of the part, the same is still to be listed.
 use Prim.Native.Nat.{_≤_, _-_}
 use mathlib.Core.Path.{_≡_}
 use native.Mathlib.Omega.{arith}
 use lib.ListN.{length, take, drop}
-use Rattle.reader.specs.Remaining.{Same}
-use Rattle.reader.proofs.Held.{same-none, same-more}
+use Rattle.reader_rules.specs.Remaining.{Same}
+use Rattle.reader_rules.proofs.Held.{same-none, same-more}
 use borrow.Author.Needs.{needs}
-use Rattle.reader.proofs.take_line.Statement.{statement}
-use Rattle.reader.proofs.take_line.Tie as tie
+use Rattle.reader_steps.proofs.take_line.Statement.{statement}
+use Rattle.reader_steps.proofs.take_line.Tie as tie
 
 abbrev Inv-loop : tie.InvT-loop
 Inv-loop line₀ held part from len₀ next₀ line len next =

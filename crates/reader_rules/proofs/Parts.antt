@@ -11,10 +11,10 @@ use Rattle.lines.proofs.Placed.{put-none, put-more}
 use Rattle.listing_rules.specs.declared.Session.{Session}
 use Rattle.listing_rules.specs.declared.Applied.{Applied}
 use Rattle.listing_rules.specs.Listing.{after, printed}
-use Rattle.reader.specs.declared.Reader.{Reader}
-use Rattle.reader.specs.declared.Fed.{Fed}
-use Rattle.reader.specs.Remaining.{remainingAt, heldBy, Listed, Feeds, Same}
-use Rattle.reader.proofs.Steps.{line-end}
+use Rattle.reader_rules.specs.declared.Reader.{Reader}
+use Rattle.reader_rules.specs.declared.Fed.{Fed}
+use Rattle.reader_rules.specs.Remaining.{remainingAt, heldBy, Listed, Feeds, Same}
+use Rattle.reader_rules.proofs.Steps.{line-end}
 
 -- a text that a call put at the front of the buffer's part from a place on: it lies in the part, and stands in the buffer at that place
 pub put-fits : (l m text : List ℕ) (len : ℕ) → Put l m 0 len text → length m ≡ length l → len ≤ length l

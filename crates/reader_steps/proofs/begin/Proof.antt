@@ -1,11 +1,11 @@
--- `reader::begin` holds no byte.
+-- `reader_steps::begin` holds no byte.
 use mathlib.Core.Path.{ap}
 use lib.ListN.{replicate}
 use Rattle.listing_rules.specs.declared.Session.{Session}
-use Rattle.reader.specs.declared.Reader.{Reader}
+use Rattle.reader_rules.specs.declared.Reader.{Reader}
 use borrow.Author.Needs.{needs}
-use Rattle.reader.proofs.begin.Statement.{statement}
-use Rattle.reader.proofs.begin.Tie as tie
+use Rattle.reader_steps.proofs.begin.Statement.{statement}
+use Rattle.reader_steps.proofs.begin.Tie as tie
 
 holding : Session → Reader
 holding s = record { session = s; len = 0; line = replicate 146 0 }

@@ -9,7 +9,7 @@ use Rattle.lines.specs.Lines.{endLine}
 use Rattle.listing_rules.specs.declared.Session.{Session}
 use Rattle.listing_rules.specs.Listing.{Lines, rest, line, before, begun, linesOf, listed, listingOf, after, printed, closed}
 use Rattle.listing_rules.proofs.Overlong.{printed-long, after-long, closed-some}
-use Rattle.reader.specs.Remaining.{behind, remainingAt}
+use Rattle.reader_rules.specs.Remaining.{behind, remainingAt}
 
 behind-none : (ls : Lines) → behind [] ls ≡ ls
 behind-none (rest l) = refl

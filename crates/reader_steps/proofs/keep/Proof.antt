@@ -1,9 +1,9 @@
--- `reader::keep` keeps a byte while there is room.
+-- `reader_steps::keep` keeps a byte while there is room.
 use native.Mathlib.Omega.{arith}
-use Rattle.reader.proofs.Held.{keeps, loses}
+use Rattle.reader_rules.proofs.Held.{keeps, loses}
 use borrow.Author.Needs.{needs}
-use Rattle.reader.proofs.keep.Statement.{statement}
-use Rattle.reader.proofs.keep.Tie as tie
+use Rattle.reader_steps.proofs.keep.Statement.{statement}
+use Rattle.reader_steps.proofs.keep.Tie as tie
 
 returns : tie.Need-returns
 returns c = (loses _ _ _ (c .if1 .taken) (omega arith) (c .before .pre .2), omega arith)

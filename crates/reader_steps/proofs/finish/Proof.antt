@@ -1,13 +1,13 @@
--- `reader::finish` closes the script.
+-- `reader_steps::finish` closes the script.
 use mathlib.Core.Path.{_≡_, sym}
 use native.Mathlib.Omega.{arith}
 use lib.ListN.{length, length-map}
 use lib.Seq.{length-take-le}
-use Rattle.reader.specs.Remaining.{heldBy}
-use Rattle.reader.proofs.Steps.{at-end}
+use Rattle.reader_rules.specs.Remaining.{heldBy}
+use Rattle.reader_rules.proofs.Steps.{at-end}
 use borrow.Author.Needs.{needs}
-use Rattle.reader.proofs.finish.Statement.{statement}
-use Rattle.reader.proofs.finish.Tie as tie
+use Rattle.reader_steps.proofs.finish.Statement.{statement}
+use Rattle.reader_steps.proofs.finish.Tie as tie
 
 array-share-prefix-line : tie.Need-array-share-prefix-line
 array-share-prefix-line c =

@@ -6,8 +6,8 @@ use lib.ListN.{length, take, getD, replicate}
 use Rattle.lines.specs.Lines.{endLine, Put}
 use Rattle.listing_rules.specs.declared.Session.{Session}
 use Rattle.listing_rules.specs.Listing.{Lines, rest, line, begun, linesOf, listed}
-use Rattle.reader.specs.declared.Reader.{Reader}
-use Rattle.reader.specs.declared.Fed.{Fed}
+use Rattle.reader_rules.specs.declared.Reader.{Reader}
+use Rattle.reader_rules.specs.declared.Fed.{Fed}
 
 -- bytes put before the first line
 abbrev pub behind : List ℕ → Lines → Lines

@@ -6,8 +6,8 @@ use native.Mathlib.Omega.{arith}
 use native.Mathlib.Numerals.{add-one}
 use lib.ListN.{length, take, drop, set, getD, length-drop}
 use lib.Seq.{length-take-le, take-suc, take-suc-set, getD-drop}
-use Rattle.reader.specs.Remaining.{remainingAt, Same}
-use Rattle.reader.proofs.Steps.{joins, drops}
+use Rattle.reader_rules.specs.Remaining.{remainingAt, Same}
+use Rattle.reader_rules.proofs.Steps.{joins, drops}
 
 pub same-none : (held : List ℕ) → Same held [] held
 same-none held = record { same = λ s more. refl }
