@@ -5,10 +5,10 @@ use mathlib.Core.List.{List, [], _++_, append-assoc, append-nil}
 use native.Mathlib.Omega.{arith}
 use lib.ListN.{length, take, drop, length-drop}
 use lib.Seq.{take-add, take-all}
-use Rattle.reader.specs.declared.Reader.{Reader}
-use Rattle.reader.specs.declared.Fed.{Fed}
-use Rattle.reader.specs.Remaining.{Feeds}
-use Rattle.reader.specs.Whole.{then-fed}
+use Rattle.reader_rules.specs.declared.Reader.{Reader}
+use Rattle.reader_rules.specs.declared.Fed.{Fed}
+use Rattle.reader_rules.specs.Remaining.{Feeds}
+use Rattle.reader_rules.specs.Whole.{then-fed}
 use Rattle.relay_listing.specs.Passing.{Passes}
 
 pub passes-none : (r : Reader) → Passes r [] r

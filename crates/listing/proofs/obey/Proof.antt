@@ -4,8 +4,8 @@ use native.Mathlib.Omega.{arith}
 use mir.Syntax.{w32}
 use mir.ValLaws.{toZ-ofZ}
 use Rattle.script.proofs.Rounds.{round-size}
-use Rattle.listing.specs.Listing.{postedBody}
-use Rattle.listing.proofs.Answers.{by-command, sized, posted, malformed}
+use Rattle.listing_rules.specs.Listing.{postedBody}
+use Rattle.listing_rules.proofs.Answers.{by-command, sized, posted, malformed}
 use borrow.Author.Needs.{needs}
 use Rattle.listing.proofs.obey.Statement.{statement}
 use Rattle.listing.proofs.obey.Tie as tie

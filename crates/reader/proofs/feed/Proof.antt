@@ -5,8 +5,8 @@ use native.Mathlib.Omega.{arith}
 use lib.ListN.{length, take, length-map}
 use lib.Seq.{length-take-le}
 use Rattle.lines.proofs.Placed.{part-length, put-length}
-use Rattle.reader.specs.Remaining.{Listed}
-use Rattle.reader.proofs.Parts.{put-fits, put-tail, listed-none, listed-held, listed-line, fed-by}
+use Rattle.reader_rules.specs.Remaining.{Listed}
+use Rattle.reader_rules.proofs.Parts.{put-fits, put-tail, listed-none, listed-held, listed-line, fed-by}
 use borrow.Author.Needs.{needs}
 use Rattle.reader.proofs.feed.Statement.{statement}
 use Rattle.reader.proofs.feed.Tie as tie

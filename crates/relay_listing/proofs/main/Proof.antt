@@ -1,6 +1,6 @@
 -- `relay_listing::main` is safe: what the end puts into the buffer lies in it.
 use native.Mathlib.Omega.{arith}
-use Rattle.reader.proofs.Parts.{put-fits}
+use Rattle.reader_rules.proofs.Parts.{put-fits}
 use borrow.Author.Needs.{needs}
 use Rattle.relay_listing.proofs.main.Statement.{statement}
 use Rattle.relay_listing.proofs.main.Tie as tie

@@ -4,7 +4,7 @@ use mathlib.Core.Path.{_≡_}
 use native.Mathlib.Omega.{arith}
 use lib.ListN.{length, take}
 use Rattle.lines.proofs.Placed.{part-length}
-use Rattle.reader.proofs.Parts.{put-fits}
+use Rattle.reader_rules.proofs.Parts.{put-fits}
 use Rattle.relay_listing.specs.Passing.{Passes}
 use Rattle.relay_listing.proofs.Parts.{passes-none, passes-more, passes-all}
 use borrow.Author.Needs.{needs}

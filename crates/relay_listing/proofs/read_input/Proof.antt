@@ -3,7 +3,7 @@ use Prim.Native.Nat.{_≤_}
 use mathlib.Core.Path.{_≡_, sym, ap}
 use lib.ListN.{length}
 use lib.Seq.{length-take-le}
-use Rattle.reader.specs.declared.Reader.{Reader}
+use Rattle.reader_rules.specs.declared.Reader.{Reader}
 use borrow.Author.Needs.{needs}
 use Rattle.relay_listing.proofs.read_input.Statement.{statement}
 use Rattle.relay_listing.proofs.read_input.Tie as tie

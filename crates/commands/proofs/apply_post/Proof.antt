@@ -1,0 +1,24 @@
+-- `commands::apply_post` keeps the group that the post returned.
+use mathlib.Core.Path.{refl}
+use Rattle.listing_rules.specs.Listing.{postedBy}
+use Rattle.listing_rules.proofs.Answers.{post-made}
+use borrow.Author.Needs.{needs}
+use Rattle.commands.proofs.apply_post.Statement.{statement}
+use Rattle.commands.proofs.apply_post.Tie as tie
+
+post-requires : tie.Need-post-requires
+post-requires c κs = search needs
+
+put-post-requires : tie.Need-put-post-requires
+put-post-requires c κs = search needs
+
+same-length : tie.Need-same-length
+same-length c = search needs
+
+returns : tie.Need-returns
+unfolding postedBy
+returns c =
+    post-made _ _ _ _ _ _ _ (c .before .before .before .before .before .post .ensures) (record { session = refl; put = c .before .before .before .put-post .ensures })
+
+pub apply-post-spec : {M : Type 1} → statement M
+apply-post-spec = tie.close (tie.spec post-requires put-post-requires same-length returns)

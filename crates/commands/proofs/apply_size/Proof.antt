@@ -1,0 +1,16 @@
+-- `commands::apply_size` keeps the new group.
+use mathlib.Core.Path.{refl, ap}
+use Rattle.listing_rules.specs.Listing.{sizedBy}
+use borrow.Author.Needs.{needs}
+use Rattle.commands.proofs.apply_size.Statement.{statement}
+use Rattle.commands.proofs.apply_size.Tie as tie
+
+fresh-requires : tie.Need-fresh-requires
+fresh-requires c κs = search needs
+
+returns : tie.Need-returns
+unfolding sizedBy
+returns c = (ap (sizedBy (c .before .before .args .s) (c .before .before .args .n)) (c .before .fresh .ensures), refl)
+
+pub apply-size-spec : {M : Type 1} → statement M
+apply-size-spec = tie.close (tie.spec fresh-requires returns)

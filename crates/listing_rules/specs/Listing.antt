@@ -1,0 +1,131 @@
+-- Document 01, "The relay listing": the whole listing of a whole script, over the group's calls.
+use Prim.Native.Nat.{ℕ, _+_}
+use mathlib.Core.Bool.{true, false, cond, _&&_, _||_}
+use mathlib.Core.Path.{_≡_}
+use mathlib.Core.List.{List, [], _∷_, _++_}
+use lib.Dec.{ltb, eqb}
+use lib.IntN.{ℤ}
+use lib.ListN.{length}
+use Rattle.kinds.specs.declared.Body.{Body}
+use Rattle.kinds.specs.declared.Body.the-variants.{Empty}
+use Rattle.kinds.specs.Body.{bodyOf}
+use Rattle.kinds.specs.Limits.{numbersInside}
+use Rattle.kinds.specs.Refusals.{done, malformedLine}
+use Rattle.group_rules.specs.declared.KeptGroup.{KeptGroup}
+use Rattle.group_rules.specs.declared.RoundDone.{RoundDone}
+use Rattle.group_rules.specs.State.{freshGroup}
+use Rattle.group_rules.specs.Calls.{freshCall, postCall, roundCall}
+use Rattle.script.specs.declared.Command.{Command}
+use Rattle.script.specs.declared.Command.the-variants.{Size, Post, Round, Malformed}
+use Rattle.script.specs.Line.{commandOf, masksOf}
+use Rattle.listing_rules.specs.declared.Session.{Session}
+use Rattle.listing_rules.specs.declared.Applied.{Applied}
+use Rattle.lines.specs.Lines.{turnedDown, lineBytes, endLine, Put}
+use Rattle.round_lines.specs.Reports.{roundText}
+
+-- before any line is read: no size yet, no round done
+unfoldable pub begun : Session
+begun = record { n = 0; rounds = 0; stopped = false; group = freshGroup 1 }
+
+-- the body that a post's numbers name; numbers that no body has are posted as Empty, which is no edit
+unfoldable pub postedBody : ℕ → ℕ → ℤ → Body
+postedBody kind event argument = cond (numbersInside kind event argument) (bodyOf kind event argument) Empty
+
+-- a refusal, with the number of rounds done
+abbrev pub refusalText : ℕ → ℕ → ℕ → List ℕ
+refusalText rounds station refusal = lineBytes rounds turnedDown station refusal Empty
+
+-- what is printed where the reading stops: at a malformed line, or at a round that has no number
+abbrev pub malformedText : Session → List ℕ
+malformedText s = refusalText (s .rounds) 0 malformedLine
+
+abbrev pub halted : Session → Session
+halted s = record { n = s .n; rounds = s .rounds; stopped = true; group = s .group }
+
+-- the last round that a listing can number
+abbrev pub lastRound : ℕ
+lastRound = 999_999
+
+-- the session after each call of the group's, by what the call returned
+unfoldable pub sizedBy : Session → ℕ → KeptGroup → Session
+sizedBy s n made = record { n = n; rounds = s .rounds; stopped = false; group = made .group }
+
+unfoldable pub postedBy : Session → KeptGroup → Session
+postedBy s made = record { n = s .n; rounds = s .rounds; stopped = false; group = made .group }
+
+unfoldable pub roundedBy : Session → RoundDone → Session
+roundedBy s made = record { n = s .n; rounds = s .rounds + 1; stopped = false; group = made .group }
+
+-- what a post prints: a refusal; a station that is not below N is printed as 0
+unfoldable pub refusedText : Session → ℕ → ℕ → List ℕ
+refusedText s station refusal =
+    cond (eqb refusal done) [] (refusalText (s .rounds) (cond (ltb station (s .n)) station 0) refusal)
+
+-- the session after a command, whose line has the masks of a round
+unfoldable pub obeyed : Session → List ℕ → Command → Session
+obeyed s masks (Size n) = sizedBy s n (freshCall n)
+obeyed s masks (Post station kind event argument) = postedBy s (postCall (s .group) station (postedBody kind event argument))
+obeyed s masks Round = cond (ltb (s .rounds) lastRound) (roundedBy s (roundCall (s .group) masks)) (halted s)
+obeyed s masks Malformed = halted s
+
+-- what a command prints
+unfoldable pub answered : Session → List ℕ → Command → List ℕ
+answered s masks (Size n) = []
+answered s masks (Post station kind event argument) =
+    refusedText s station ((postCall (s .group) station (postedBody kind event argument)) .refusal)
+answered s masks Round =
+    cond (ltb (s .rounds) lastRound)
+    (roundText (s .n) (s .rounds + 1) ((roundCall (s .group) masks) .reports))
+    (malformedText s)
+answered s masks Malformed = malformedText s
+
+-- the session after a line, and what the line prints; a reading that has stopped neither changes nor prints any more
+unfoldable pub after : Session → List ℕ → Session
+after s line = cond (s .stopped) s (obeyed s (masksOf (s .n) line) (commandOf (s .n) line))
+
+unfoldable pub printed : Session → List ℕ → List ℕ
+printed s line = cond (s .stopped) [] (answered s (masksOf (s .n) line) (commandOf (s .n) line))
+
+-- the end of a script; so many bytes stand after its last line end. Nothing is printed where the reading has stopped, or where an `N` line was read and none
+-- stand there; else the script has no `N` line, or breaks off in a line, and that is malformed
+unfoldable pub restText : Session → ℕ → List ℕ
+restText s length = cond (s .stopped || (ltb 0 (s .n) && eqb length 0)) [] (malformedText s)
+
+abbrev pub closed : Session → List ℕ → List ℕ
+closed s rest = restText s (length rest)
+
+-- what a call on a session promises: the session after it, and the text put at the front of the lent buffer
+pub record Answer (after : Session) (text entry exit : List ℕ) (r : Applied) : Type 0 where
+  pub session : r .session ≡ after
+  pub put : Put entry exit 0 (r .len) text
+
+-- the same of a post and of a round, by what the group's call returned
+abbrev pub AnswersPost : Session → ℕ → KeptGroup → List ℕ → List ℕ → Applied → Type 0
+AnswersPost s station made entry exit r = Answer (postedBy s made) (refusedText s station (made .refusal)) entry exit r
+
+abbrev pub AnswersRound : Session → RoundDone → List ℕ → List ℕ → Applied → Type 0
+AnswersRound s made entry exit r = Answer (roundedBy s made) (roundText (s .n) (s .rounds + 1) (made .reports)) entry exit r
+
+-- a script's lines, each without its line end, and what stands after the last line end
+pub data Lines : Type 0 where
+  rest : List ℕ → Lines
+  line : List ℕ → Lines → Lines
+
+-- a byte put before the first line
+abbrev pub before : ℕ → Lines → Lines
+before b (rest l) = rest (b ∷ l)
+before b (line l ls) = line (b ∷ l) ls
+
+-- a line end is byte 10
+unfoldable pub linesOf : List ℕ → Lines
+linesOf [] = rest []
+linesOf (b ∷ bs) = cond (eqb b 10) (line [] (linesOf bs)) (before b (linesOf bs))
+
+-- what the lines print
+unfoldable pub listed : Session → Lines → List ℕ
+listed s (rest l) = closed s l
+listed s (line l ls) = printed s l ++ listed (after s l) ls
+
+-- the listing of a script
+unfoldable pub listingOf : List ℕ → List ℕ
+listingOf script = listed begun (linesOf script) ++ endLine
