@@ -1,13 +1,49 @@
 // One script line applied to a group, and the listing that comes of it.
 
+use group_rules::RoundDone;
 use listing_rules::Applied;
 use listing_rules::Session;
 use script::Command;
 ghost use mathlib.Core.Path.{_≡_};
-ghost use Prim.Native.Nat.{_≤_};
+ghost use Prim.Native.Nat.{_≤_, _<_};
 ghost use lib.ListN.{length};
 ghost use Rattle.script.specs.Line.{commandOf, masksOf};
-ghost use Rattle.listing_rules.specs.Listing.{Answer, obeyed, answered, after, printed};
+ghost use Rattle.listing_rules.specs.Listing.{Answer, AnswersRound, obeyed, answered, after, printed};
+
+// The most that a round's columns can number.
+const LAST_ROUND: u32 = 999_999;
+
+// The session after a round, and what the round prints.
+fn after_round(s: Session, made: RoundDone, out: &mut [u8]) -> Applied
+    requires { ⌜ (s .n ≤ 16) × (s .rounds < 999_999) × (26_880 ≤ length (now out)) ⌝ }
+    ensures { λ r. ⌜ AnswersRound s made (now (out .entry)) (now (out .exit)) r ⌝ }
+{
+    let rounds = s.rounds + 1;
+    let reports = made.reports;
+    let len = round_lines::put_round(out, s.n, rounds, reports);
+    let group = made.group;
+    let session = Session {
+        n: s.n,
+        rounds,
+        stopped: false,
+        group,
+    };
+    Applied { len, session }
+}
+
+// A round's line, whose masks the group hears by; a round past the last that can be numbered stops the reading.
+fn apply_round(s: Session, line: &[u8], out: &mut [u8]) -> Applied
+    requires { ⌜ (s .n ≤ 16) × (26_880 ≤ length (now out)) ⌝ }
+    ensures { λ r. ⌜ Answer (obeyed s (masksOf (s .n) (now (line .entry))) Command.Round) (answered s (masksOf (s .n) (now (line .entry))) Command.Round) (now (out .entry)) (now (out .exit)) r ⌝ }
+{
+    if LAST_ROUND <= s.rounds {
+        return listing_ends::halt(s, out);
+    }
+    let group = s.group;
+    let masks = script::masks(line, s.n);
+    let made = rounds::round(group, masks);
+    after_round(s, made, out)
+}
 
 // What a line says, done.
 fn obey(s: Session, command: Command, line: &[u8], out: &mut [u8]) -> Applied
@@ -25,7 +61,7 @@ fn obey(s: Session, command: Command, line: &[u8], out: &mut [u8]) -> Applied
             let body = commands::posted_body(kind, event, argument);
             commands::apply_post(s, station as usize, body, out)
         }
-        Command::Round => commands::apply_round(s, line, out),
+        Command::Round => apply_round(s, line, out),
         Command::Malformed => listing_ends::halt(s, out),
     }
 }

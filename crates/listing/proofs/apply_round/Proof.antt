@@ -1,8 +1,8 @@
--- `commands::apply_round` goes by whether the round can be numbered.
+-- `listing::apply_round` goes by whether the round can be numbered.
 use Rattle.listing_rules.proofs.Answers.{rounded, past-last}
 use borrow.Author.Needs.{needs}
-use Rattle.commands.proofs.apply_round.Statement.{statement}
-use Rattle.commands.proofs.apply_round.Tie as tie
+use Rattle.listing.proofs.apply_round.Statement.{statement}
+use Rattle.listing.proofs.apply_round.Tie as tie
 
 halt-requires : tie.Need-halt-requires
 halt-requires c κs = search needs

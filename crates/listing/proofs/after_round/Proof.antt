@@ -1,9 +1,9 @@
--- `commands::after_round` counts the round and keeps the group that it returned.
+-- `listing::after_round` counts the round and keeps the group that it returned.
 use mathlib.Core.Path.{refl}
 use Rattle.listing_rules.specs.Listing.{roundedBy}
 use borrow.Author.Needs.{needs}
-use Rattle.commands.proofs.after_round.Statement.{statement}
-use Rattle.commands.proofs.after_round.Tie as tie
+use Rattle.listing.proofs.after_round.Statement.{statement}
+use Rattle.listing.proofs.after_round.Tie as tie
 
 add-rounds : tie.Need-add-rounds
 add-rounds c = search needs
