@@ -4,7 +4,7 @@ use kinds::Body;
 ghost use mathlib.Core.Path.{_≡_};
 ghost use Prim.Native.Nat.{_+_, _-_, _≤_};
 ghost use lib.ListN.{length};
-ghost use Rattle.columns.specs.Writing.{natColumns, intColumns};
+ghost use Rattle.column_writer.specs.Writing.{natColumns, intColumns};
 ghost use Rattle.lines.specs.Lines.{headBytes, bodyBytes, lineBytes, endLine, placed, Put};
 
 // The letter X of document 01's listing.
@@ -22,14 +22,14 @@ fn put_natural(out: &mut [u8], at: usize, end: usize, value: u64)
     requires { ⌜ (at ≤ end) × (end ≤ length (now out)) ⌝ }
     ensures { λ r. ⌜ now (out .exit) ≡ placed (now (out .entry)) at (natColumns (end - at) value) ⌝ }
 {
-    columns::write_columns(&mut out[at..end], false, value);
+    column_writer::write_columns(&mut out[at..end], false, value);
 }
 
 fn put_whole(out: &mut [u8], at: usize, end: usize, value: i32)
     requires { ⌜ (at ≤ end) × (end ≤ length (now out)) ⌝ }
     ensures { λ r. ⌜ now (out .exit) ≡ placed (now (out .entry)) at (intColumns (end - at) value) ⌝ }
 {
-    columns::write_whole(&mut out[at..end], value);
+    column_writer::write_whole(&mut out[at..end], value);
 }
 
 // Round, letter, station and source put into their columns.

@@ -4,7 +4,7 @@ use mathlib.Core.List.{List, [], _∷_, _++_}
 use Prim.Native.Nat.{ℕ}
 use lib.IntN.{pos}
 use Rattle.kinds.specs.declared.Body.the-variants.{Empty, Neutral, Insert}
-use Rattle.columns.specs.Writing.{natColumns}
+use Rattle.column_writer.specs.Writing.{natColumns}
 use Rattle.lines.specs.Lines.{delivered, airing, ending, turnedDown}
 use Rattle.places.specs.Places.{allBelow, anyBelow, fill, gather, tabulate}
 use Rattle.kinds.specs.Body.{bodyOf}
@@ -22,8 +22,8 @@ use Rattle.station_rules.specs.Turn.{airs, rowOf, lanesAfter, ends, startedBody
 use Rattle.station_rules.specs.Calls.{posted, noTurn}
 use Rattle.group_rules.specs.State.{groupInside, freshGroup}
 use Rattle.group_rules.specs.Calls.{freshCall, groupPostRefusal, postCall, hearing, noReport, reportOf, roundRefusal, afterRound, roundCall}
-use Rattle.columns.specs.Reading.{started, grown, next, readFrom}
-use Rattle.columns.specs.Writing.{lead, columns}
+use Rattle.column_reader.specs.Reading.{started, grown, next, readFrom}
+use Rattle.column_writer.specs.Writing.{lead, columns}
 use Rattle.script.specs.Line.{fieldOf, sizeLine, postShaped, postLine, isMask, masksInside, roundLine, commandOf, maskAt, masksOf}
 use Rattle.lines.specs.Lines.{headBytes, bodyBytes, lineBytes, endLine}
 use Rattle.round_lines.specs.Reports.{joined, takenText, airedText, turnText, reportText, roundText}

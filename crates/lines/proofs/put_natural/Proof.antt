@@ -1,7 +1,7 @@
 -- `lines::put_natural` lends the part to the writer of columns.
 use mathlib.Core.Path.{ap, _∙_}
 use Prim.Native.Nat.{ℕ, _-_}
-use Rattle.columns.specs.Writing.{natColumns}
+use Rattle.column_writer.specs.Writing.{natColumns}
 use Rattle.lines.proofs.Placed.{part-length, placed-part}
 use borrow.Author.Needs.{needs}
 use Rattle.lines.proofs.put_natural.Statement.{statement}

@@ -5,7 +5,7 @@ use mir.ValLaws.{toZ-ofZ}
 use mathlib.Core.Path.{ap, _∙_}
 use Prim.Native.Nat.{ℕ, _-_}
 use lib.ListN.{length, take, drop}
-use Rattle.columns.specs.Writing.{intColumns}
+use Rattle.column_writer.specs.Writing.{intColumns}
 use Rattle.lines.proofs.Placed.{part-length, placed-part}
 use borrow.Author.Needs.{needs}
 use Rattle.lines.proofs.put_whole.Statement.{statement}
