@@ -12,7 +12,8 @@ use borrow.Author.Tests.{ltb-true, le-leb}
 use Rattle.kinds.specs.Body.{kindOf}
 use Rattle.kinds.specs.Limits.{numbersInside}
 use Rattle.kinds.proofs.Laws.{kind-back, inside-back}
-use Rattle.labels.specs.Packing.{unpacked, allLabels, allZero, wordInside}
+use Rattle.labels.specs.Label.{allLabels}
+use Rattle.label_words.specs.Packing.{unpacked, allZero, wordInside}
 use Rattle.labels.proofs.Laws.{all-at}
 use Rattle.frame_rules.specs.declared.Record.{Record}
 use Rattle.frame_rules.specs.Words.{wordAt, signed}

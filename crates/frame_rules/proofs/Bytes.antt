@@ -6,7 +6,7 @@ use native.Mathlib.Omega.{arith}
 use lib.ListN.{getD, take, replicate, length, length-append, length-replicate}
 use lib.Seq.{take-nil}
 use Rattle.kinds.specs.Body.{kindOf, eventOf, argumentOf}
-use Rattle.labels.specs.Packing.{packed}
+use Rattle.label_words.specs.Packing.{packed}
 use Rattle.places.specs.Places.{fill}
 use Rattle.places.proofs.Laws.{fill-below}
 use Rattle.frame_rules.specs.declared.Record.{Record}

@@ -14,7 +14,7 @@ use borrow.Author.Tests.{leb-true, ltb-true, ltb-false, eqb-true, eqb-false, not
 use Rattle.kinds.specs.Refusals.{done, badNumber, badShape, badAddress, badRecord, refuse}
 use Rattle.kinds.specs.Limits.{numbersInside}
 use Rattle.places.proofs.Laws.{and-left, and-right, or-left, or-right}
-use Rattle.labels.specs.Packing.{wordInside}
+use Rattle.label_words.specs.Packing.{wordInside}
 use Rattle.frame_rules.specs.Words.{wordAt, signed}
 use Rattle.frame_rules.specs.Record.{bytesInside}
 use Rattle.frame_rules.specs.Frame.{shapeWrong, addressWrong, recordsInside, validNumber, frameRefusal, checkRefusal}

@@ -8,7 +8,7 @@ use borrow.Author.Tests.{eq-eqb, ne-eqb}
 use Rattle.kinds.specs.declared.Body.{Body}
 use Rattle.kinds.specs.Body.{bodyOf}
 use Rattle.kinds.specs.Refusals.{done}
-use Rattle.labels.specs.Packing.{unpacked}
+use Rattle.label_words.specs.Packing.{unpacked}
 use Rattle.places.specs.Places.{fill}
 use Rattle.frame_rules.specs.declared.Record.{Record}
 use Rattle.frame_rules.specs.declared.Reading.{Reading}

@@ -6,7 +6,7 @@ use lib.IntN.{negsuc}
 use lib.ListN.{drop, replicate}
 use Rattle.kinds.specs.declared.Body.the-variants.{Shift}
 use Rattle.kinds.specs.Body.{bodyOf}
-use Rattle.labels.specs.Packing.{packed, unpacked}
+use Rattle.label_words.specs.Packing.{packed, unpacked}
 use Rattle.frame_rules.specs.declared.Record.{Record}
 use Rattle.frame_rules.specs.Words.{wordAt, wordBytes, signed, unsigned}
 use Rattle.frame_rules.specs.Record.{recordOf, recordBytes}

@@ -9,7 +9,7 @@ use lib.ListN.{getD, take}
 use borrow.Author.Tests.{lt-ltb, le-leb, lt-leb, eq-eqb, ne-eqb, eqb-true}
 use Rattle.kinds.specs.Limits.{bodyInside}
 use Rattle.kinds.specs.Refusals.{done, badNumber, badRecord}
-use Rattle.labels.specs.Packing.{allLabels}
+use Rattle.labels.specs.Label.{allLabels}
 use Rattle.places.specs.Places.{allBelow}
 use Rattle.places.proofs.Laws.{and-left, and-right, allBelow-at, allBelow-fails}
 use Rattle.frame_rules.specs.declared.Record.{Record}

@@ -18,8 +18,10 @@ use Rattle.kinds.specs.declared.Body.the-variants.{Empty, Neutral, Insert, Drop
 use Rattle.kinds.specs.Body.{kindOf, eventOf, argumentOf, bodyOf}
 use Rattle.kinds.specs.Limits.{numbersInside, bodyInside}
 use Rattle.kinds.proofs.Laws.{body-back, kind-back, event-back, argument-back, inside-back}
-use Rattle.labels.specs.Packing.{packed, unpacked, allLabels, allZero, wordInside}
-use Rattle.labels.proofs.Laws.{all-at, at-all, unpack-pack-take, packed-inside, packed-fits, pack-unpack, inside-labels, inside-zeros}
+use Rattle.labels.specs.Label.{allLabels}
+use Rattle.label_words.specs.Packing.{packed, unpacked, allZero, wordInside}
+use Rattle.labels.proofs.Laws.{all-at, at-all}
+use Rattle.label_words.proofs.Laws.{unpack-pack-take, packed-inside, packed-fits, pack-unpack, inside-labels, inside-zeros}
 use Rattle.places.specs.Places.{fill}
 use Rattle.places.proofs.Laws.{and-both, and-left, and-right, length-fill, fill-below, fill-above}
 use Rattle.frame_rules.specs.declared.Record.{Record}

@@ -6,7 +6,7 @@ use mathlib.Core.List.{List, _++_}
 use lib.ListN.{getD, take, drop, length, replicate}
 use lib.Dec.{ltb, eqb}
 use Rattle.kinds.specs.Refusals.{done, badNumber, badRecord, shortBuffer}
-use Rattle.labels.specs.Packing.{allLabels}
+use Rattle.labels.specs.Label.{allLabels}
 use Rattle.places.specs.Places.{allBelow, fill, gather}
 use Rattle.frame_rules.specs.declared.Record.{Record}
 use Rattle.frame_rules.specs.declared.Reading.{Reading}

@@ -7,7 +7,8 @@ use lib.Dec.{leb, ltb, eqb}
 use Rattle.kinds.specs.declared.Body.the-variants.{Empty}
 use Rattle.kinds.specs.Body.{kindOf, eventOf, argumentOf, bodyOf}
 use Rattle.kinds.specs.Limits.{numbersInside, bodyInside}
-use Rattle.labels.specs.Packing.{packed, unpacked, allLabels, wordInside}
+use Rattle.labels.specs.Label.{allLabels}
+use Rattle.label_words.specs.Packing.{packed, unpacked, wordInside}
 use Rattle.places.specs.Places.{fill}
 use Rattle.frame_rules.specs.declared.Record.{Record}
 use Rattle.frame_rules.specs.Words.{wordAt, wordBytes, signed, unsigned}

@@ -34,7 +34,7 @@ fn record_inside(table: &[u32], part: &[u8], n: usize) -> bool
     if part[3] != RECORD_MARK {
         return false;
     }
-    labels::word_inside(records::word_at(part, 12), n)
+    label_words::word_inside(records::word_at(part, 12), n)
 }
 
 // Does the length, byte 2 or byte 3 tell that these bytes are no frame?

@@ -15,6 +15,7 @@ use Rattle.kinds.specs.Limits.{isEdit, bodyInside, numbersInside}
 use Rattle.kinds.specs.Refusals.{done}
 use Rattle.kinds.proofs.Laws.{edit-inside, edit-kind, edit-not-empty}
 use Rattle.labels.proofs.Examples as labels
+use Rattle.label_words.proofs.Examples as words
 use Rattle.frame_rules.proofs.FrameTrip as frames
 use Rattle.station_rules.proofs.Examples as station
 use Rattle.station_rules.specs.declared.Station.{Station}
@@ -96,9 +97,9 @@ marked =
       m2 = labels.m2;
       m3 = labels.m3;
       m4 = labels.m4;
-      m5 = labels.m5;
-      m6 = labels.m6;
-      m7 = labels.m7;
+      m5 = words.m5;
+      m6 = words.m6;
+      m7 = words.m7;
       m8-one = λ n sender r. frames.m8 n sender (r ∷ []) .0 refl;
       m8-all = λ n sender rs sixteen. frames.m8 n sender rs .1 sixteen;
       m9 = λ s inside room event least most. station.m9 s inside event least most room;

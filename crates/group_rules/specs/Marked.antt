@@ -9,7 +9,7 @@ use Rattle.kinds.specs.declared.Body.{Body}
 use Rattle.kinds.specs.declared.Body.the-variants.{Empty, Neutral, Insert, Shift}
 use Rattle.kinds.specs.Limits.{isEdit}
 use Rattle.kinds.specs.Refusals.{done, queueFull, notAnEdit}
-use Rattle.labels.specs.Packing.{packed}
+use Rattle.label_words.specs.Packing.{packed}
 use Rattle.labels.specs.Newer.{isNewer}
 use Rattle.frame_rules.specs.declared.Record.{Record}
 use Rattle.frame_rules.specs.Frame.{frameBytes}

@@ -70,7 +70,7 @@ pub fn heard(
     let label_now = label_after(advances, label);
     let body = seen.body;
     let word = records::word_at(bytes, at + 12);
-    let over = labels::unpack_over(n, word, kept);
+    let over = label_words::unpack_over(n, word, kept);
     Effect {
         overfull: takes & (2 <= lane_len),
         takes: takes,

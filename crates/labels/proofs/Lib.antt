@@ -1,5 +1,3 @@
 pub mod Laws
-pub mod PackSteps
-pub mod Word
 pub mod Examples
 pub mod NewerLaws

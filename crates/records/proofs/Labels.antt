@@ -4,7 +4,7 @@ use mathlib.Core.List.{List, [], _∷_}
 use Prim.Native.Nat.{ℕ, zero, suc, _+_, _*_, _/_, _%_, _^_, _<_}
 use native.Mathlib.Omega.{arith}
 use lib.ListN.{getD}
-use Rattle.labels.specs.Packing.{unpacked}
+use Rattle.label_words.specs.Packing.{unpacked}
 
 -- the four labels of the lowest byte, and then those of the others
 byte-first :

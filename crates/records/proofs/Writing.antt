@@ -12,7 +12,7 @@ use mir.ValLaws.{toZ-ofZ}
 use Rattle.kinds.specs.declared.Body.{Body}
 use Rattle.kinds.specs.declared.Body.the-variants.{Empty, Neutral, Insert, Drop, Shift}
 use Rattle.kinds.specs.Body.{kindOf, eventOf, argumentOf}
-use Rattle.labels.specs.Packing.{packed}
+use Rattle.label_words.specs.Packing.{packed}
 use Rattle.frame_rules.specs.declared.Record.{Record}
 use Rattle.frame_rules.specs.Words.{wordBytes, unsigned}
 use Rattle.frame_rules.specs.Record.{recordBytes}

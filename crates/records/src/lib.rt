@@ -7,7 +7,8 @@ ghost use lib.ListN.{length, getD, take};
 ghost use lib.Seq.{sets};
 ghost use Rattle.frame_rules.specs.Words.{wordAt, wordBytes, signed, unsigned};
 ghost use Rattle.frame_rules.specs.Record.{recordOf, recordBytes};
-ghost use Rattle.labels.specs.Packing.{unpacked, allLabels};
+ghost use Rattle.labels.specs.Label.{allLabels};
+ghost use Rattle.label_words.specs.Packing.{unpacked};
 use frame_rules::Record;
 
 // Byte 3 of a frame, and byte 3 of a record, are zero.
@@ -86,7 +87,7 @@ pub fn read_record(part: &[u8]) -> Record
     let event = word_at(part, 4);
     let argument = signed(word_at(part, 8));
     let body = kinds::body_of(part[2] as u32, event, argument);
-    let labels = labels::unpack(word_at(part, 12));
+    let labels = label_words::unpack(word_at(part, 12));
     Record {
         station: part[0],
         count: part[1],
@@ -108,5 +109,5 @@ pub fn write_record(part: &mut [u8], n: usize, r: Record)
     part[3] = RECORD_MARK;
     put_word(part, 4, kinds::event_of(body));
     put_word(part, 8, unsigned(kinds::argument_of(body)));
-    put_word(part, 12, labels::pack(labels, n));
+    put_word(part, 12, label_words::pack(labels, n));
 }

@@ -12,8 +12,9 @@ use Rattle.kinds.specs.declared.Body.{Body}
 use Rattle.kinds.specs.Limits.{numbersInside, isEdit}
 use Rattle.kinds.specs.Refusals.{done, laneFull}
 use Rattle.kinds.proofs.Laws.{inside-back}
-use Rattle.labels.specs.Packing.{unpacked, wordInside}
-use Rattle.labels.proofs.Laws.{inside-all, all-at}
+use Rattle.label_words.specs.Packing.{unpacked, wordInside}
+use Rattle.labels.proofs.Laws.{all-at}
+use Rattle.label_words.proofs.Laws.{inside-all}
 use Rattle.frame_rules.specs.Words.{wordAt, signed}
 use Rattle.frame_rules.specs.Record as frames
 use Rattle.frame_rules.specs.Frame.{validNumber, part, stationAt, shapeWrong, addressWrong, recordsInside, frameRefusal, recordsOf}

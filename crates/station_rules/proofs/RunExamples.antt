@@ -11,7 +11,8 @@ use Rattle.kinds.specs.declared.Body.{Body}
 use Rattle.kinds.specs.declared.Body.the-variants.{Empty, Neutral, Insert, Drop}
 use Rattle.kinds.specs.Limits.{isEdit, bodyInside, numbersInside}
 use Rattle.labels.specs.Newer.{isNewer}
-use Rattle.labels.specs.Packing.{packed, unpacked, allLabels, allZero, wordInside}
+use Rattle.labels.specs.Label.{allLabels}
+use Rattle.label_words.specs.Packing.{packed, unpacked, allZero, wordInside}
 use Rattle.kinds.specs.Body.{bodyOf}
 use Rattle.kinds.specs.Refusals.{done, queueFull}
 use Rattle.places.specs.Places.{allBelow, anyBelow, fill, gather, tabulate}

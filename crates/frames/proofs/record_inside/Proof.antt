@@ -2,7 +2,7 @@
 use mathlib.Core.Path.{sym, ap, _∙_}
 use borrow.Author.Tests.{not-true, not-false}
 use native.Mathlib.Omega.{arith}
-use Rattle.labels.specs.Packing.{wordInside}
+use Rattle.label_words.specs.Packing.{wordInside}
 use Rattle.frame_rules.proofs.Check.{in-words, far, high, other-numbers, marked, by-labels}
 use borrow.Author.Needs.{needs}
 use Rattle.frames.proofs.record_inside.Statement.{statement}

@@ -5,8 +5,7 @@ use mathlib.Core.Path.{_≡_, sym, ap, _∙_}
 use mathlib.Core.Bool.{true}
 use borrow.Author.Needs.{needs}
 use lib.ListN.{getD, take}
-use Rattle.labels.specs.Label.{isLabel}
-use Rattle.labels.specs.Packing.{allLabels}
+use Rattle.labels.specs.Label.{isLabel, allLabels}
 use Rattle.labels.proofs.Laws.{all-below}
 use borrow.Author.Tests.{le-leb, lt-leb}
 use Rattle.places.specs.Places.{allBelow}

@@ -7,8 +7,8 @@ use mathlib.Core.Bool.{Bool, _&&_}
 use borrow.Author.Needs.{needs}
 use lib.ListN.{getD}
 use Rattle.labels.specs.Label.{isLabel}
-use Rattle.places.specs.Places.{allBelow}
 use Rattle.labels.proofs.Laws.{all-below}
+use Rattle.places.specs.Places.{allBelow}
 use Rattle.labels.proofs.sixteen_labels.Statement.{statement}
 use Rattle.labels.proofs.sixteen_labels.Tie as tie
 

@@ -3,7 +3,7 @@ use mathlib.Core.Path.{ap, _∙_}
 use Prim.Native.Nat.{ℕ, _+_, _*_}
 use native.Mathlib.Nat.{add-zero}
 use lib.ListN.{getD}
-use Rattle.labels.specs.Packing.{unpacked}
+use Rattle.label_words.specs.Packing.{unpacked}
 use Rattle.frame_rules.specs.Words.{wordAt}
 use Rattle.records.proofs.Labels.{label-in-byte}
 use borrow.Author.Needs.{needs}

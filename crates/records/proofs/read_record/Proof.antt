@@ -3,7 +3,7 @@ use mathlib.Core.Path.{ap, _∙_}
 use native.Mathlib.Omega.{arith}
 use lib.ListN.{getD}
 use Rattle.kinds.specs.Body.{bodyOf}
-use Rattle.labels.specs.Packing.{unpacked}
+use Rattle.label_words.specs.Packing.{unpacked}
 use Rattle.frame_rules.proofs.Check.{judged}
 use Rattle.frame_rules.proofs.Entries.{record-is}
 use borrow.Author.Needs.{needs}

@@ -1,4 +1,4 @@
--- `labels::pack` meets its contract. Sixteen labels are packed by `pack_all`. The loop for fewer goes down: its word is the packed labels from i
+-- `label_words::pack` meets its contract. Sixteen labels are packed by `pack_all`. The loop for fewer goes down: its word is the packed labels from i
 -- to n, and each turn puts one more below them.
 use Prim.Native.Nat.{ℕ, _+_, _-_, _*_, _^_, _≤_, _<_}
 use native.Mathlib.Omega.{arith}
@@ -6,10 +6,11 @@ use mathlib.Core.Bool.{true}
 use mathlib.Core.List.{List}
 use mathlib.Core.Path.{_≡_, sym, ap, _∙_}
 use lib.ListN.{length, take, drop, getD, length-take, drop-of-length-le}
-use Rattle.labels.specs.Packing.{packed, allLabels}
-use Rattle.labels.proofs.PackSteps.{step, small}
-use Rattle.labels.proofs.pack.Statement.{statement}
-use Rattle.labels.proofs.pack.Tie as tie
+use Rattle.labels.specs.Label.{allLabels}
+use Rattle.label_words.specs.Packing.{packed}
+use Rattle.label_words.proofs.PackSteps.{step, small}
+use Rattle.label_words.proofs.pack.Statement.{statement}
+use Rattle.label_words.proofs.pack.Tie as tie
 
 abbrev Inv-loop : tie.InvT-loop
 Inv-loop n labels word₀ i₀ word i = (i ≤ n) × (word ≡ packed (drop i (take n labels)))

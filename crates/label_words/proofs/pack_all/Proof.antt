@@ -1,12 +1,12 @@
--- `labels::pack_all` meets its contract. The loop goes down: its word is the packed labels from i up, and each turn puts one more below them.
+-- `label_words::pack_all` meets its contract. The loop goes down: its word is the packed labels from i up, and each turn puts one more below them.
 use Prim.Native.Nat.{ℕ, _+_, _-_, _*_, _^_, _≤_, _<_}
 use native.Mathlib.Omega.{arith}
 use mathlib.Core.Path.{_≡_, sym, ap, _∙_}
 use lib.ListN.{length, take, drop, getD, length-take, drop-of-length-le}
-use Rattle.labels.specs.Packing.{packed}
-use Rattle.labels.proofs.PackSteps.{step, small}
-use Rattle.labels.proofs.pack_all.Statement.{statement}
-use Rattle.labels.proofs.pack_all.Tie as tie
+use Rattle.label_words.specs.Packing.{packed}
+use Rattle.label_words.proofs.PackSteps.{step, small}
+use Rattle.label_words.proofs.pack_all.Statement.{statement}
+use Rattle.label_words.proofs.pack_all.Tie as tie
 
 abbrev Inv-loop : tie.InvT-loop
 Inv-loop all word₀ i₀ word i = (i ≤ 16) × (word ≡ packed (drop i (take 16 all)))

@@ -4,7 +4,7 @@ use mathlib.Core.Bool.{Bool, true, _&&_}
 use mathlib.Core.List.{List, [], _∷_}
 use lib.ListN.{take, drop}
 use lib.Dec.{eqb}
-use Rattle.labels.specs.Label.{isLabel}
+use Rattle.labels.specs.Label.{allLabels}
 
 -- labels as a word: each takes two bits, the first the lowest
 unfoldable pub packed : List ℕ → ℕ
@@ -15,11 +15,6 @@ packed (label ∷ labels) = label + 4 * packed labels
 unfoldable pub unpacked : ℕ → ℕ → List ℕ
 unpacked zero word = []
 unpacked (suc k) word = word % 4 ∷ unpacked k (word / 4)
-
--- every entry is 0 to 2
-unfoldable pub allLabels : List ℕ → Bool
-allLabels [] = true
-allLabels (label ∷ labels) = isLabel label && allLabels labels
 
 -- every entry is 0
 unfoldable pub allZero : List ℕ → Bool

@@ -6,8 +6,10 @@ use mathlib.Core.List.{List}
 use mathlib.Core.Path.{_≡_}
 use lib.ListN.{length, take, drop, getD, length-drop}
 use lib.Seq.{length-take-le, drop-cons, getD-take}
-use Rattle.labels.specs.Packing.{packed, allLabels}
-use Rattle.labels.proofs.Laws.{all-drop, packed-cons, packed-fits}
+use Rattle.labels.specs.Label.{allLabels}
+use Rattle.label_words.specs.Packing.{packed}
+use Rattle.labels.proofs.Laws.{all-drop}
+use Rattle.label_words.proofs.Laws.{packed-cons, packed-fits}
 
 module _
     (labels : List ℕ)

@@ -1,4 +1,4 @@
--- `labels::unpack` meets its contract. The loop's invariant: the labels written so far, and after them the labels of what is left of the
+-- `label_words::unpack` meets its contract. The loop's invariant: the labels written so far, and after them the labels of what is left of the
 -- word, are the labels of the word.
 use Prim.Native.Nat.{ℕ, suc, _+_, _-_, _/_, _%_, _≤_, _<_}
 use native.Mathlib.Numerals.{add-one}
@@ -7,9 +7,9 @@ use mathlib.Core.List.{List, _++_, append-assoc, append-nil}
 use mathlib.Core.Path.{_≡_, refl, sym, _∙_}
 use lib.ListN.{length, take, set, length-set}
 use lib.Seq.{take-suc-set, take-all}
-use Rattle.labels.specs.Packing.{unpacked}
-use Rattle.labels.proofs.unpack.Statement.{statement}
-use Rattle.labels.proofs.unpack.Tie as tie
+use Rattle.label_words.specs.Packing.{unpacked}
+use Rattle.label_words.proofs.unpack.Statement.{statement}
+use Rattle.label_words.proofs.unpack.Tie as tie
 
 -- one label more after the written ones
 step :

@@ -10,9 +10,11 @@ use lib.Bits.{bitAnd, bitOr, and-step, and-zero-r, and-le-l, and-le-r, or-add-an
 use lib.Dec.{leb, eqb}
 use lib.ListN.{take, drop}
 use borrow.Author.Tests.{leb-true, eqb-true, le-leb, eq-eqb}
-use Rattle.labels.specs.Packing.{unpacked, allLabels, allZero, wordInside}
+use Rattle.labels.specs.Label.{allLabels}
+use Rattle.label_words.specs.Packing.{unpacked, allZero, wordInside}
+use Rattle.labels.proofs.Laws.{same-test, all-split}
+use Rattle.label_words.proofs.Laws.{zero-all, zero-word}
 use Rattle.places.proofs.Laws.{both, and-both}
-use Rattle.labels.proofs.Laws.{same-test, all-split, zero-all, zero-word}
 
 -- the even places of n labels
 abbrev pub evens : ℕ → ℕ

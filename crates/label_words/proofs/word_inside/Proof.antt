@@ -1,9 +1,9 @@
--- `labels::word_inside` meets its contract: its test is the one to which `inside-one` takes the definition.
+-- `label_words::word_inside` meets its contract: its test is the one to which `inside-one` takes the definition.
 use native.Mathlib.Omega.{arith}
 use borrow.Author.Needs.{needs}
-use Rattle.labels.proofs.Word.{inside-one}
-use Rattle.labels.proofs.word_inside.Statement.{statement}
-use Rattle.labels.proofs.word_inside.Tie as tie
+use Rattle.label_words.proofs.Word.{inside-one}
+use Rattle.label_words.proofs.word_inside.Statement.{statement}
+use Rattle.label_words.proofs.word_inside.Tie as tie
 
 mul-above : tie.Need-mul-above
 mul-above c = search needs

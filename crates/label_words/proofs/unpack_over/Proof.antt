@@ -1,4 +1,4 @@
--- `labels::unpack_over` meets its contract: sixteen labels are those of the word, and of fewer the labels passed are the word's. What is left
+-- `label_words::unpack_over` meets its contract: sixteen labels are those of the word, and of fewer the labels passed are the word's. What is left
 -- of the word holds the labels that are left.
 use Prim.Native.Nat.{suc, _+_, _-_, _≤_}
 use native.Mathlib.Omega.{arith}
@@ -7,10 +7,10 @@ use lib.ListN.{drop, getD, set}
 use borrow.Author.Needs.{needs}
 use Rattle.places.specs.Places.{fill}
 use Rattle.places.proofs.Laws.{fill-more, fill-all}
-use Rattle.labels.specs.Packing.{unpacked}
-use Rattle.labels.proofs.Laws.{next-label, labels-left}
-use Rattle.labels.proofs.unpack_over.Statement.{statement}
-use Rattle.labels.proofs.unpack_over.Tie as tie
+use Rattle.label_words.specs.Packing.{unpacked}
+use Rattle.label_words.proofs.Laws.{next-label, labels-left}
+use Rattle.label_words.proofs.unpack_over.Statement.{statement}
+use Rattle.label_words.proofs.unpack_over.Tie as tie
 
 abbrev Inv-loop : tie.InvT-loop
 Inv-loop n word over₀ rest₀ k₀ over rest k =

@@ -1,0 +1,4 @@
+pub mod Laws
+pub mod PackSteps
+pub mod Word
+pub mod Examples
