@@ -1,5 +1,5 @@
 #!/usr/bin/env python3
-"""Prints from the model what the program crates/station_calls writes: the same calls, each answer with a digest of the whole station.
+"""Prints from the model what the program crates/station_calls writes: the same calls, each answer with a sum over the whole station.
 
 usage: tests/model_calls.py > crates/station_calls/stdout
 """
@@ -10,53 +10,11 @@ import io
 from model import hearing, station as calls, turns
 from model.bodies import DROP, EMPTY, INSERT, NEUTRAL, SHIFT, Body
 from model.queues import Queue
-
-
-def mix(digest, number):
-    return (digest % 65521 * 31 + number % 2**32) % 65521
-
-
-def over(digest, numbers):
-    for number in numbers:
-        digest = mix(digest, number)
-    return digest
-
-
-def of_body(digest, body):
-    return over(digest, (body.kind, body.event, body.argument % 2**32))
-
-
-def of_bodies(digest, bodies):
-    for body in bodies:
-        digest = of_body(digest, body)
-    return digest
-
-
-def of_record(digest, record):
-    return over(of_body(over(digest, (record.station, record.count)), record.body), record.labels)
-
-
-def of_queue(digest, queue):
-    return of_bodies(mix(digest, queue.length), queue.slots)
-
-
-def of_station(s):
-    digest = over(0, (s.n, s.own, s.count))
-    digest = over(of_body(digest, s.body), s.labels)
-    digest = over(digest, s.acked + s.held)
-    digest = of_queue(digest, s.waiting)
-    for record, lane in zip(s.table, s.lanes):
-        digest = of_queue(of_record(digest, record), lane)
-    return digest
-
-
-def of_turn(t):
-    digest = over(0, (t.aired, t.ended))
-    return of_bodies(of_bodies(digest, t.row), (t.ended_body, t.started_body))
+from model_sums import of_station, of_turn, sum_of
 
 
 def line(refusal, other, s):
-    print(refusal, other, of_station(s))
+    print(refusal, other, sum_of(of_station(s)))
 
 
 def fresh(n, own):
@@ -73,13 +31,13 @@ def post(s, body):
 
 def turn(s):
     t = turns.turn(s)
-    line(t.refusal, of_turn(t), t.station)
+    line(t.refusal, sum_of(of_turn(t)), t.station)
     return t.station
 
 
 def hear(s, data):
     h = hearing.hear(s, data)
-    line(h.refusal, over(0, [h.taken >> k & 1 for k in range(16)]), h.station)
+    line(h.refusal, sum_of(h.taken >> k & 1 for k in range(16)), h.station)
     return h.station
 
 

@@ -7,9 +7,9 @@ usage: tests/model_rounds.py > crates/group_calls/stdout
 from model import group
 from model.bodies import EMPTY, Body
 from model.group import MOST_TAKINGS, used_takings
+from model_sums import LOW, of_body, of_station, of_turn, sum_of
 
 RUNS = ((1, 120), (2, 120), (5, 120), (16, 120))
-LOW = 1 << 32
 
 
 def drawn(state):
@@ -32,50 +32,16 @@ def mask_of(state):
     return (0, 65_535, state >> 16)[state % 3]
 
 
-def of_body(body):
-    return (body.kind, body.event, body.argument % LOW)
-
-
-def of_record(record):
-    return (record.station, record.count, *of_body(record.body), *record.labels)
-
-
-def of_place(station, k):
-    lane = station.lanes[k]
-    return (station.acked[k], station.labels[k], station.held[k], *of_record(station.table[k]),
-            lane.length, *of_body(lane.slots[0]), *of_body(lane.slots[1]))
-
-
-def of_station(station):
-    yield from (station.n, station.own, station.waiting.length)
-    for body in station.waiting.slots:
-        yield from of_body(body)
-    yield from of_body(station.body)
-    yield station.count
-    for k in range(16):
-        yield from of_place(station, k)
-
-
 def of_report(report):
     yield len(used_takings(report))
     for taking in report.takings[:MOST_TAKINGS]:
         yield taking.source
         yield from of_body(taking.body)
-    yield report.aired
-    for body in report.row:
-        yield from of_body(body)
-    yield report.ended
-    yield from of_body(report.ended_body)
-    yield from of_body(report.started_body)
+    yield from of_turn(report)
 
 
-def sum_of(parts, numbers_of):
-    """The sum over every number of the parts."""
-    total = 0
-    for part in parts:
-        for number in numbers_of(part):
-            total = total % LOW * 2_654_435_769 + number
-    return total % LOW
+def sum_of_all(parts, numbers_of):
+    return sum_of(number for part in parts for number in numbers_of(part))
 
 
 def lines(n, rounds):
@@ -86,7 +52,7 @@ def lines(n, rounds):
         post, one = group.post(one, a % (n + 1), body_of(1 + b % 5, 1_600 * c, -1 - 2 * d if d % 2 else 34 * d))
         refusal, one, reports = group.round_of(one, tuple(mask_of(next(states)) for _ in range(16)))
         yield (f"{n:02} {number:03} {post:02} {refusal:02}"
-               f" {sum_of(reports, of_report):010} {sum_of(one, of_station):010}")
+               f" {sum_of_all(reports, of_report):010} {sum_of_all(one, of_station):010}")
 
 
 def listing():

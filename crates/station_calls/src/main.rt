@@ -1,19 +1,17 @@
-// Drives every call of a station through accepted and refused cases. Each line has the refusal, another number of the answer, and a digest of the
-// whole station that came back.
+// Drives every call of a station through accepted and refused cases. Each line has the refusal, another number of the answer, and a sum over
+// every number of the station that came back. tests/model_calls.py prints the same from the model.
 
 ghost use Prim.Native.Nat.{_<_};
 use kinds::Body;
 use lanes::Lane;
 use station_rules::Station;
 
-mod digests;
-
 fn line(refusal: u32, other: u64, s: Station) {
     io::print_decimal(1, refusal as u64);
     io::write_all(1, b" ");
     io::print_decimal(1, other);
     io::write_all(1, b" ");
-    io::print_decimal(1, digests::of_station(s));
+    io::print_decimal(1, station_sums::low(station_sums::mix_station(0, s)) as u64);
     io::write_all(1, b"\n");
 }
 
@@ -35,7 +33,11 @@ fn turn(s: Station) -> Station {
     let t = station::turn(s);
     let report = t.report;
     let after = t.station;
-    line(t.refusal, digests::of_report(report), after);
+    line(
+        t.refusal,
+        station_sums::low(station_sums::mix_turn(0, report)) as u64,
+        after,
+    );
     after
 }
 
@@ -43,7 +45,11 @@ fn hear(s: Station, bytes: &[u8]) -> Station {
     let h = station_frames::hear(s, bytes);
     let taken = h.taken;
     let after = h.station;
-    line(h.refusal, digests::of_flags(0, taken), after);
+    line(
+        h.refusal,
+        station_sums::low(station_sums::mix_flags(0, taken)) as u64,
+        after,
+    );
     after
 }
 

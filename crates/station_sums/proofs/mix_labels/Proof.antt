@@ -1,14 +1,14 @@
--- `station_calls::digests::of_labels` is safe and ends.
+-- `station_sums::mix_labels` is safe: the loop ends.
 use Prim.Native.Nat.{_≤_, _-_}
 use borrow.Author.Needs.{needs}
-use Rattle.station_calls.proofs.digests.of_labels.Statement.{statement}
-use Rattle.station_calls.proofs.digests.of_labels.Tie as tie
+use Rattle.station_sums.proofs.mix_labels.Statement.{statement}
+use Rattle.station_sums.proofs.mix_labels.Tie as tie
 
 abbrev Inv-loop : tie.InvT-loop
-Inv-loop digest labels d₀ i₀ d i = i ≤ 16
+Inv-loop sum labels mixed₀ k₀ mixed k = k ≤ 16
 
 abbrev μ-loop : tie.MeasureT-loop
-μ-loop digest labels d₀ i₀ d i = 16 - i
+μ-loop sum labels mixed₀ k₀ mixed k = 16 - k
 
 loop-holds : tie.Need-loop-holds Inv-loop μ-loop
 loop-holds c = search needs
@@ -22,8 +22,8 @@ cast-mix c = search needs
 mix-requires : tie.Need-mix-requires Inv-loop μ-loop
 mix-requires c κs = search needs
 
-add-i : tie.Need-add-i Inv-loop μ-loop
-add-i c = search needs
+add-k : tie.Need-add-k Inv-loop μ-loop
+add-k c = search needs
 
 loop-less : tie.Need-loop-less Inv-loop μ-loop
 loop-less c = search needs
@@ -34,8 +34,8 @@ loop-again c = search needs
 returns : tie.Need-returns Inv-loop μ-loop
 returns c = search needs
 
-pub of-labels-spec : {M : Type 1} → statement M
-of-labels-spec =
+pub mix-labels-spec : {M : Type 1} → statement M
+mix-labels-spec =
     tie.close
     (tie.spec
     Inv-loop
@@ -44,7 +44,7 @@ of-labels-spec =
     array-read-mix
     cast-mix
     mix-requires
-    add-i
+    add-k
     loop-less
     loop-again
     returns)

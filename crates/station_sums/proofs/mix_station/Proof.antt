@@ -1,8 +1,8 @@
--- `group_sums::mix_station` is safe: the loop ends.
+-- `station_sums::mix_station` is safe: the loop ends.
 use Prim.Native.Nat.{_≤_, _-_}
 use borrow.Author.Needs.{needs}
-use Rattle.group_sums.proofs.mix_station.Statement.{statement}
-use Rattle.group_sums.proofs.mix_station.Tie as tie
+use Rattle.station_sums.proofs.mix_station.Statement.{statement}
+use Rattle.station_sums.proofs.mix_station.Tie as tie
 
 abbrev Inv-loop : tie.InvT-loop
 Inv-loop sum s numbers mixed₀ k₀ mixed k = k ≤ 16

@@ -1,23 +1,23 @@
--- `group_sums::mix_labels` is safe: the loop ends.
+-- `station_sums::mix_flags` is safe: the loop ends.
 use Prim.Native.Nat.{_≤_, _-_}
 use borrow.Author.Needs.{needs}
-use Rattle.group_sums.proofs.mix_labels.Statement.{statement}
-use Rattle.group_sums.proofs.mix_labels.Tie as tie
+use Rattle.station_sums.proofs.mix_flags.Statement.{statement}
+use Rattle.station_sums.proofs.mix_flags.Tie as tie
 
 abbrev Inv-loop : tie.InvT-loop
-Inv-loop sum labels mixed₀ k₀ mixed k = k ≤ 16
+Inv-loop sum flags mixed₀ k₀ mixed k = k ≤ 16
 
 abbrev μ-loop : tie.MeasureT-loop
-μ-loop sum labels mixed₀ k₀ mixed k = 16 - k
+μ-loop sum flags mixed₀ k₀ mixed k = 16 - k
 
 loop-holds : tie.Need-loop-holds Inv-loop μ-loop
 loop-holds c = search needs
 
-array-read-mix : tie.Need-array-read-mix Inv-loop μ-loop
-array-read-mix c = search needs
+array-read-one-if : tie.Need-array-read-one-if Inv-loop μ-loop
+array-read-one-if c = search needs
 
-cast-mix : tie.Need-cast-mix Inv-loop μ-loop
-cast-mix c = search needs
+one-if-requires : tie.Need-one-if-requires Inv-loop μ-loop
+one-if-requires c κs = search needs
 
 mix-requires : tie.Need-mix-requires Inv-loop μ-loop
 mix-requires c κs = search needs
@@ -34,15 +34,15 @@ loop-again c = search needs
 returns : tie.Need-returns Inv-loop μ-loop
 returns c = search needs
 
-pub mix-labels-spec : {M : Type 1} → statement M
-mix-labels-spec =
+pub mix-flags-spec : {M : Type 1} → statement M
+mix-flags-spec =
     tie.close
     (tie.spec
     Inv-loop
     μ-loop
     loop-holds
-    array-read-mix
-    cast-mix
+    array-read-one-if
+    one-if-requires
     mix-requires
     add-k
     loop-less
