@@ -13,13 +13,15 @@ use Rattle.kinds.specs.declared.Body.the-variants.{Empty, Neutral}
 use Rattle.kinds.specs.Body.{kindOf}
 use Rattle.labels.specs.Label.{successor}
 use Rattle.places.specs.Places.{fill}
-use Rattle.places.proofs.Laws.{fill-more, fill-above, and-right}
+use Rattle.places.proofs.Laws.{and-right}
 use Rattle.lanes.specs.declared.Lane.{Lane}
 use Rattle.lanes.specs.declared.Queue.{Queue}
 use Rattle.lanes.specs.declared.Slot.{Slot}
+use Rattle.airing.specs.declared.Aired.{Aired}
+use Rattle.airing.specs.Airing.{airing}
 use Rattle.station_rules.specs.declared.Station.{Station}
 use Rattle.station_rules.specs.declared.Turned.{Turned}
-use Rattle.lanes.specs.Lane.{noLane, pushed, popped}
+use Rattle.lanes.specs.Lane.{noLane, pushed}
 use Rattle.lanes.specs.Queue.{noSlot, oldest, unqueued}
 use Rattle.station_rules.specs.State.{labelOf, recordOf, laneAt}
 use Rattle.station_rules.specs.Turn.{airs, rowOf, lanesAfter, ends, startedBody, passed, ownRecord, rewritten, afterTurn, turnReport}
@@ -46,31 +48,19 @@ module _ {A : Type 0} where
   set-unless true l k x d = set-getD l k d
   set-unless false l k x d = refl
 
--- the oldest body of each of the first m lanes, and what is left of these lanes
-abbrev pub rowBelow : ℕ → List Lane → List Slot
-rowBelow m l = fill m (λ k. record { body = (getD l k noLane) .first }) (replicate 16 noSlot)
+-- what the airing step makes of the station's lanes is what the definition says of the station
+module _ (s : Station) (step : Aired) (e : step ≡ airing (s .n) (s .lanes)) where
+  pub step-aired : step .aired ≡ airs s
+  unfolding airs airing
+  step-aired = ap (λ (x : Aired). x .aired) e
 
-abbrev pub leftBelow : ℕ → List Lane → List Lane
-leftBelow m l = fill m (λ k. popped (getD l k noLane)) l
+  pub step-row : step .row ≡ cond (airs s) (rowOf s) (replicate 16 noSlot)
+  unfolding airs rowOf airing
+  step-row = ap (λ (x : Aired). x .row) e
 
--- the next lane: its oldest body joins the row, and the lane without it takes its place
-module _ (l left : List Lane) (k : ℕ) (e : left ≡ leftBelow k l) where
-  next-lane : getD left k noLane ≡ getD l k noLane
-  next-lane = rw e (fill-above k (λ j. popped (getD l j noLane)) l k noLane (omega arith))
-
-  pub row-more : (row : List Slot) → row ≡ rowBelow k l → set row k (record { body = (getD left k noLane) .first }) ≡ rowBelow (k + 1) l
-  row-more row r = rw (next-lane, r) (fill-more k _ _)
-
-  pub left-more : (x : Lane) → x ≡ popped (getD left k noLane) → set left k x ≡ leftBelow (k + 1) l
-  left-more x p = rw (p ∙ ap popped next-lane, e) (fill-more k (λ j. popped (getD l j noLane)) l)
-
-pub aired-row : (s : Station) → rowBelow (cond (airs s) (s .n) 0) (s .lanes) ≡ cond (airs s) (rowOf s) (replicate 16 noSlot)
-unfolding rowOf
-aired-row s = fill-if (airs s) (s .n) (λ k. record { body = (laneAt s k) .first }) (replicate 16 noSlot)
-
-pub aired-lanes : (s : Station) → leftBelow (cond (airs s) (s .n) 0) (s .lanes) ≡ lanesAfter s
-unfolding lanesAfter
-aired-lanes s = fill-if (airs s) (s .n) (λ k. popped (laneAt s k)) (s .lanes)
+  pub step-left : step .left ≡ lanesAfter s
+  unfolding airs lanesAfter airing
+  step-left = ap (λ (x : Aired). x .left) e
 
 starts-of :
     (s : Station) →

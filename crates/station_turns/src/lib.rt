@@ -6,8 +6,6 @@ ghost use Rattle.station_rules.specs.Limits.{stationInside};
 ghost use Rattle.station_rules.specs.Calls.{turnDone};
 use frame_rules::Record;
 use kinds::Body;
-use lanes::Lane;
-use lanes::Slot;
 use station_rules::Station;
 use station_rules::TurnReport;
 use station_rules::Turned;
@@ -24,34 +22,9 @@ pub fn take_turn(s: Station) -> Turned
     let sent = s.body;
     let held = s.held;
     let lanes = s.lanes;
-    let aired = turn_parts::all_full(n, lanes);
-    let most = turn_parts::count_if(aired, n);
-    let slot = Slot { body: Body::Empty };
-    let mut row = [slot; 16];
-    let mut left = lanes;
-    let mut k: usize = 0;
-    while k < most {
-        let lane = left[k];
-        let body = lane.first;
-        row[k] = Slot { body: body };
-        let len = lane.len;
-        let i = k;
-        k += 1;
-        if len <= 1 {
-            left[i] = Lane {
-                len: 0,
-                first: Body::Empty,
-                second: Body::Empty,
-            };
-            continue;
-        }
-        let second = lane.second;
-        left[i] = Lane {
-            len: 1,
-            first: second,
-            second: Body::Empty,
-        };
-    }
+    let step = airing::air(n, lanes);
+    let row = step.row;
+    let mut left = step.left;
     let ended = turn_parts::all_acked(n, had);
     let own_lane = left[own];
     let own_len = own_lane.len;
@@ -89,7 +62,7 @@ pub fn take_turn(s: Station) -> Turned
         lanes: left,
     };
     let report = TurnReport {
-        aired: aired,
+        aired: step.aired,
         row: row,
         ended: ended,
         ended_body: ended_body,

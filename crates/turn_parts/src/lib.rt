@@ -15,22 +15,6 @@ use kinds::Body;
 use lanes::Lane;
 use lanes::Queue;
 
-// Has each of the first n lanes a body?
-pub fn all_full(n: usize, lanes: [Lane; 16]) -> bool
-    requires { ⌜ n ≤ 16 ⌝ }
-    ensures { λ r. ⌜ r ≡ allBelow n (λ k. ltb 0 ((getD lanes k noLane) .len)) ⌝ }
-{
-    let mut k: usize = 0;
-    while k < n {
-        let lane = lanes[k];
-        if lane.len == 0 {
-            return false;
-        }
-        k += 1;
-    }
-    true
-}
-
 // Are all n acknowledged?
 pub fn all_acked(n: usize, acked: [bool; 16]) -> bool
     requires { ⌜ n ≤ 16 ⌝ }

@@ -1,4 +1,4 @@
--- `turn_parts::all_full` meets its contract: the lanes passed have a body.
+-- `airing::all_full` meets its contract: the lanes passed have a body.
 use Prim.Native.Nat.{_≤_, _-_}
 use native.Mathlib.Omega.{arith}
 use mathlib.Core.Path.{_≡_, sym}
@@ -10,8 +10,8 @@ use borrow.Author.Tests.{lt-ltb, le-ltb}
 use Rattle.places.specs.Places.{allBelow}
 use Rattle.places.proofs.Laws.{allBelow-more, allBelow-fails}
 use Rattle.lanes.specs.Lane.{noLane}
-use Rattle.turn_parts.proofs.all_full.Statement.{statement}
-use Rattle.turn_parts.proofs.all_full.Tie as tie
+use Rattle.airing.proofs.all_full.Statement.{statement}
+use Rattle.airing.proofs.all_full.Tie as tie
 
 abbrev Inv-loop : tie.InvT-loop
 Inv-loop n lanes k₀ k = (k ≤ n) × (allBelow k (λ j. ltb 0 ((getD lanes j noLane) .len)) ≡ true)

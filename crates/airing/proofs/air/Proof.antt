@@ -1,0 +1,113 @@
+-- `airing::air` meets its contract: where all lanes have a body, the loop puts the oldest of each into the row.
+use Prim.Native.Nat.{ℕ, _≤_, _-_}
+use native.Mathlib.Omega.{arith}
+use mathlib.Core.Path.{_≡_, refl, ap, _∙_}
+use lib.ListN.{getD}
+use borrow.Author.Needs.{needs}
+use borrow.Author.Tests.{not-true, not-false}
+use Rattle.places.specs.Places.{fill}
+use Rattle.lanes.specs.Lane.{noLane}
+use Rattle.lanes.proofs.LaneSteps.{pop-one, pop-two}
+use Rattle.airing.specs.Airing.{firsts, rests}
+use Rattle.airing.proofs.AirSteps.{row-more, left-more, nothing-aired, row-aired}
+use Rattle.airing.proofs.air.Statement.{statement}
+use Rattle.airing.proofs.air.Tie as tie
+
+abbrev Inv-loop : tie.InvT-loop
+Inv-loop n row₀ left₀ aired k₀ row left k = (k ≤ n) × (row ≡ firsts k left₀) × (left ≡ rests k left₀)
+
+abbrev μ-loop : tie.MeasureT-loop
+μ-loop n row₀ left₀ aired k₀ row left k = n - k
+
+all-full-requires : tie.Need-all-full-requires Inv-loop μ-loop
+all-full-requires c κs = search needs
+
+returns : tie.Need-returns Inv-loop μ-loop
+returns c = nothing-aired (c .before .before .args .n) (c .before .before .args .lanes) (c .before .all-full .result) (c .before .all-full .ensures) (not-true _ (c .if1 .taken))
+
+loop-holds : tie.Need-loop-holds Inv-loop μ-loop
+unfolding fill
+loop-holds c = (omega arith, refl, refl)
+
+mul-lane : tie.Need-mul-lane Inv-loop μ-loop
+mul-lane c = search needs
+
+array-copy-out-lane : tie.Need-array-copy-out-lane Inv-loop μ-loop
+array-copy-out-lane c = search needs
+
+mul-row : tie.Need-mul-row Inv-loop μ-loop
+mul-row c = search needs
+
+array-set-from-row : tie.Need-array-set-from-row Inv-loop μ-loop
+array-set-from-row c = search needs
+
+add-k : tie.Need-add-k Inv-loop μ-loop
+add-k c = search needs
+
+-- a lane of one body or none is left with none
+mul-left : tie.Need-mul-left Inv-loop μ-loop
+mul-left c = search needs
+
+array-set-from-left : tie.Need-array-set-from-left Inv-loop μ-loop
+array-set-from-left c = search needs
+
+loop-less : tie.Need-loop-less Inv-loop μ-loop
+loop-less c = search needs
+
+loop-again : tie.Need-loop-again Inv-loop μ-loop
+loop-again c =
+    let h = c .before .before .before in
+    let l = h .before .before .before .args .lanes in
+    let v = h .loop .inv in
+    let p = pop-one (getD (h .loop .left) (h .loop .k) noLane) (c .if2 .taken) in
+    (omega arith, row-more l (h .loop .left) (h .loop .k) (v .2) (h .loop .row) (v .1), left-more l (h .loop .left) (h .loop .k) (v .2) _ p)
+
+-- a lane of two is left with its second
+mul-left-2 : tie.Need-mul-left-2 Inv-loop μ-loop
+mul-left-2 c = search needs
+
+array-set-from-left-2 : tie.Need-array-set-from-left-2 Inv-loop μ-loop
+array-set-from-left-2 c = search needs
+
+loop-less-2 : tie.Need-loop-less-2 Inv-loop μ-loop
+loop-less-2 c = search needs
+
+loop-again-2 : tie.Need-loop-again-2 Inv-loop μ-loop
+loop-again-2 c =
+    let h = c .before .before .before in
+    let l = h .before .before .before .args .lanes in
+    let v = h .loop .inv in
+    let p = pop-two (getD (h .loop .left) (h .loop .k) noLane) (c .if2 .left) in
+    (omega arith, row-more l (h .loop .left) (h .loop .k) (v .2) (h .loop .row) (v .1), left-more l (h .loop .left) (h .loop .k) (v .2) _ p)
+
+returns-2 : tie.Need-returns-2 Inv-loop μ-loop
+returns-2 c =
+    let a = c .before .before .before in
+    let l = a .before .args .lanes in
+    let all : c .before .loop .k ≡ a .before .args .n = omega arith in
+    row-aired (a .before .args .n) l (a .all-full .result) (a .all-full .ensures) (not-false _ (c .before .before .if1 .left)) (c .before .loop .row) (c .before .loop .left)
+    (c .before .loop .inv .1 ∙ ap (λ (k : ℕ). firsts k l) all) (c .before .loop .inv .2 ∙ ap (λ (k : ℕ). rests k l) all)
+
+pub air-spec : {M : Type 1} → statement M
+air-spec =
+    tie.close
+    (tie.spec
+    Inv-loop
+    μ-loop
+    all-full-requires
+    returns
+    loop-holds
+    mul-lane
+    array-copy-out-lane
+    mul-row
+    array-set-from-row
+    add-k
+    mul-left
+    array-set-from-left
+    loop-less
+    loop-again
+    mul-left-2
+    array-set-from-left-2
+    loop-less-2
+    loop-again-2
+    returns-2)
