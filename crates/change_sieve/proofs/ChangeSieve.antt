@@ -10,7 +10,7 @@ use mathlib.Core.List.{List}
 use lib.ListN.{getD, length}
 use lib.Dec.{ltb}
 use borrow.Author.Tests.{ltb-true, ltb-false}
-use Rattle.frame_marks.specs.Changes.{changeAt, Unlisted}
+use Rattle.frame_changes.specs.Changes.{changeAt, Unlisted}
 use Rattle.bars.specs.Bars.{barred}
 use Rattle.bars.proofs.BarLaws.{bar-same, barred-size, barred-here, barred-other}
 use Rattle.sieve.specs.Sift.{Sieve, siftOne, sifted, Siftable}

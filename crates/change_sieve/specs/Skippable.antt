@@ -2,7 +2,7 @@
 use Prim.Native.Nat.{ℕ, _+_, _*_, _/_, _<_}
 use mathlib.Core.List.{List}
 use lib.ListN.{getD, length}
-use Rattle.frame_marks.specs.Changes.{ListAt, Unlisted}
+use Rattle.frame_changes.specs.Changes.{ListAt, Unlisted}
 
 -- the records that may be passed over: the count of each that is not in the list beside the marks is below its bar; the records are of ascending
 -- stations, so that none raises another's bar

@@ -1,3 +1,2 @@
-pub mod ChangeLaws
 pub mod FrameBytes
 pub mod MarkLaws

@@ -4,12 +4,12 @@ ghost use mathlib.Core.Path.{_≡_};
 ghost use Prim.Native.Nat.{_≤_};
 ghost use Rattle.group_rules.specs.State.{freshGroup};
 ghost use Rattle.group_rules.specs.Calls.{freshCall, postCall};
+use fresh_station::fresh_station;
 use group_rules::KeptGroup;
 use kinds::Body;
 use kinds::refusals::BAD_NUMBER;
 use kinds::refusals::DONE;
 use kinds::refusals::OUTSIDE_LIMITS;
-use station::starts::fresh_station;
 use station_rules::Station;
 
 // The group of n, as it begins; a station alone, fresh, stands at each place from n up.

@@ -25,7 +25,7 @@ use Rattle.station_rules.specs.Frames.{FrameAt}
 use Rattle.station_rules.proofs.StationLimits.{Inside}
 use Rattle.station_rules.proofs.SentFrame.{place, record-fits, sent-read, sent-accepted}
 use Rattle.frame_marks.specs.Marks.{recordAt}
-use Rattle.frame_marks.specs.Changes.{Ascending}
+use Rattle.frame_changes.specs.Changes.{Ascending}
 
 module _ (s : Station) (c : Inside s) where
   abbrev records : List Record

@@ -7,9 +7,9 @@ use native.Mathlib.Decide.{ℕ-discrete}
 use native.Mathlib.Omega.{arith}
 use lib.ListN.{getD, length}
 use Rattle.frame_marks.specs.Marks.{sizeAt, Marked, Markable}
-use Rattle.frame_marks.specs.Changes.{ChangesPut, Comparable, ChangesAt}
+use Rattle.frame_changes.specs.Changes.{ChangesPut, Comparable, ChangesAt}
 use Rattle.frame_marks.proofs.MarkLaws.{marked-at}
-use Rattle.frame_marks.proofs.ChangeLaws.{changes-at, changes-kept}
+use Rattle.frame_changes.proofs.ChangeLaws.{changes-at, changes-kept}
 use Rattle.group_frames.specs.Frames.{FramesAt, MarkedBelow, ChangedBelow}
 
 module _ (n : ℕ) (high : n ≤ 16) (bytes : List ℕ) (frames : FramesAt n bytes) (k : ℕ) (below : k < n) (before : List ℕ) (long : length before ≡ 4160) where

@@ -13,7 +13,7 @@ use Rattle.station_rules.specs.Limits.{stationInside}
 use Rattle.station_rules.specs.Calls.{frameOf, ownCountInside}
 use Rattle.station_rules.specs.Frames.{FrameAt}
 use Rattle.frame_marks.specs.Marks.{sizeAt, MarksAt}
-use Rattle.frame_marks.specs.Changes.{Ascending, ChangesAt}
+use Rattle.frame_changes.specs.Changes.{Ascending, ChangesAt}
 use Rattle.group_rules.specs.State.{stationAt, memberInside}
 
 -- where the frame of station k begins; 260 bytes hold sixteen records

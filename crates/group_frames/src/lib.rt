@@ -71,7 +71,7 @@ fn put_all_changes(marks: &mut [u8], bytes: &[u8], n: usize)
 {
     let mut k: usize = 1;
     while k < n {
-        frame_marks::put_changes(marks, bytes, FRAME_ROOM * (k - 1), FRAME_ROOM * k);
+        frame_changes::put_changes(marks, bytes, FRAME_ROOM * (k - 1), FRAME_ROOM * k);
         k += 1;
     }
 }

@@ -15,7 +15,7 @@ use Rattle.station_rules.specs.declared.HeardAll.{HeardAll}
 use Rattle.station_rules.specs.Frames.{FrameAt, HearsAll}
 use Rattle.station_rules.proofs.StationLimits.{inside-open}
 use Rattle.frame_marks.specs.Marks.{MarksAt}
-use Rattle.frame_marks.specs.Changes.{ChangesAt}
+use Rattle.frame_changes.specs.Changes.{ChangesAt}
 use Rattle.bars.specs.Bars.{MarksFit, MarksHeld, Bars}
 use Rattle.bars.proofs.HeldMarks.{marks-fit, marks-held}
 use Rattle.group_frames.specs.Frames.{frameStart, FramesAt, MarksBelow}

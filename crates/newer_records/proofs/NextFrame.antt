@@ -10,7 +10,7 @@ use Rattle.station_rules.specs.Hearing.{silent}
 use Rattle.station_rules.specs.Frames.{FrameAt}
 use Rattle.station_rules.proofs.StationLimits.{Inside}
 use Rattle.frame_marks.specs.Marks.{sizeAt, MarksAt}
-use Rattle.frame_marks.specs.Changes.{Ascending, ChangesAt}
+use Rattle.frame_changes.specs.Changes.{Ascending, ChangesAt}
 use Rattle.sieve.specs.Sift.{Sieve}
 use Rattle.change_sieve.specs.Skippable.{Skippable}
 use Rattle.change_sieve.proofs.ChangeSieve.{settled}

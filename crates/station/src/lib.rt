@@ -14,20 +14,18 @@ use station_rules::Station;
 use station_rules::TurnReport;
 use station_rules::Turned;
 
-pub mod starts;
-
 // Fresh: station own among n, as it begins.
 pub fn fresh(n: usize, own: usize) -> Kept
     ensures { λ r. ⌜ r ≡ freshCall n own ⌝ }
 {
     if numbers::valid_number(n, own) {
-        let station = starts::fresh_station(n, own);
+        let station = fresh_station::fresh_station(n, own);
         return Kept {
             refusal: DONE,
             station: station,
         };
     }
-    let station = starts::fresh_station(1, 0);
+    let station = fresh_station::fresh_station(1, 0);
     Kept {
         refusal: BAD_NUMBER,
         station: station,

@@ -7,7 +7,7 @@ ghost use lib.ListN.{getD, length};
 ghost use Rattle.station_rules.specs.Limits.{stationInside};
 ghost use Rattle.station_rules.specs.Frames.{FrameAt, HearsAll};
 ghost use Rattle.frame_marks.specs.Marks.{MarksAt};
-ghost use Rattle.frame_marks.specs.Changes.{ChangesAt};
+ghost use Rattle.frame_changes.specs.Changes.{ChangesAt};
 ghost use Rattle.bars.specs.Bars.{Bars};
 use kinds::Body;
 use station_rules::HeardAll;

@@ -5,7 +5,7 @@ use native.Mathlib.Omega.{arith}
 use mathlib.Core.Path.{_≡_, refl, sym, ap, _∙_}
 use mathlib.Core.List.{List}
 use lib.ListN.{getD, set, length, length-set}
-use Rattle.frame_marks.specs.Changes.{changeAt}
+use Rattle.frame_changes.specs.Changes.{changeAt}
 use Rattle.sieve.specs.Sift.{Sieve, siftOne, sifted}
 use Rattle.sieve.proofs.SiftSteps.{sift-skips, sift-passes, sifted-none, sifted-more}
 use Rattle.change_sieve.specs.Skippable.{Skippable}

@@ -6,8 +6,8 @@ use mathlib.Core.Path.{_≡_, refl, sym, ap, subst, _∙_}
 use mathlib.Core.List.{List}
 use lib.ListN.{getD, set, length, length-set}
 use lib.Seq.{getD-set-same, getD-set-other}
 use Rattle.frame_marks.specs.Marks.{sizeAt}
-use Rattle.frame_marks.specs.Changes.{SameMarks, SaysSame, changeAt, Unlisted, ChangesPut, Ascending, ChangesAt}
+use Rattle.frame_changes.specs.Changes.{SameMarks, SaysSame, changeAt, Unlisted, ChangesPut, Ascending, ChangesAt}
 
 -- the list of the changes among the first r records, not yet ended
 pub record ChangesTo (m before start r len : ℕ) (old marks : List ℕ) : Type 0 where

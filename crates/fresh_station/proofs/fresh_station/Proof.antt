@@ -1,10 +1,10 @@
--- `station::starts::fresh_station` meets its contract: it makes the record of the definition.
+-- `fresh_station::fresh_station` meets its contract: it makes the record of the definition.
 use mathlib.Core.Path.{refl}
 use Rattle.lanes.specs.Queue.{noneWaiting}
 use Rattle.station_rules.specs.State.{freshStation}
 use borrow.Author.Needs.{needs}
-use Rattle.station.proofs.starts.fresh_station.Statement.{statement}
-use Rattle.station.proofs.starts.fresh_station.Tie as tie
+use Rattle.fresh_station.proofs.fresh_station.Statement.{statement}
+use Rattle.fresh_station.proofs.fresh_station.Tie as tie
 
 array-write-acked : tie.Need-array-write-acked
 array-write-acked c = search needs

@@ -1,8 +1,8 @@
--- `frame_marks::is_same` meets its contract: where no test turns it down, record r is as before.
+-- `frame_changes::is_same` meets its contract: where no test turns it down, record r is as before.
 use mathlib.Core.Bool.{false≢true}
 use native.Mathlib.Omega.{arith}
-use Rattle.frame_marks.proofs.is_same.Statement.{statement}
-use Rattle.frame_marks.proofs.is_same.Tie as tie
+use Rattle.frame_changes.proofs.is_same.Statement.{statement}
+use Rattle.frame_changes.proofs.is_same.Tie as tie
 
 returns : tie.Need-returns
 returns c = λ e. absurd (false≢true e)

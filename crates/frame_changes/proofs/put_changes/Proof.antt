@@ -1,4 +1,4 @@
--- `frame_marks::put_changes` meets its contract: the list has the changes among the first r records, and is ended when all are passed.
+-- `frame_changes::put_changes` meets its contract: the list has the changes among the first r records, and is ended when all are passed.
 use Prim.Native.Nat.{ℕ, _+_, _-_, _*_, _^_, _≤_, _<_}
 use native.Mathlib.Omega.{arith}
 use mathlib.Core.Path.{_≡_, sym, subst}
@@ -6,11 +6,11 @@ use mathlib.Core.List.{List}
 use lib.ListN.{getD, set, length, length-set}
 use lib.Seq.{getD-drop}
 use borrow.Author.Needs.{needs}
 use Rattle.frame_marks.specs.Marks.{sizeAt}
-use Rattle.frame_marks.specs.Changes.{ChangesPut}
-use Rattle.frame_marks.proofs.ChangeLaws.{ChangesTo, changes-none, changes-same, changes-more, changes-put}
-use Rattle.frame_marks.proofs.put_changes.Statement.{statement}
-use Rattle.frame_marks.proofs.put_changes.Tie as tie
+use Rattle.frame_changes.specs.Changes.{ChangesPut}
+use Rattle.frame_changes.proofs.ChangeLaws.{ChangesTo, changes-none, changes-same, changes-more, changes-put}
+use Rattle.frame_changes.proofs.put_changes.Statement.{statement}
+use Rattle.frame_changes.proofs.put_changes.Tie as tie
 
 abbrev Inv-loop : tie.InvT-loop
 Inv-loop marks₀ bytes before start known records len₀ r₀ marks len r = (r ≤ records) × ChangesTo known before start r len marks₀ marks
