@@ -1,3 +1,1 @@
 pub mod BarLaws
-pub mod HeldMarks
-pub mod OwnBars

@@ -16,8 +16,9 @@ use Rattle.station_rules.specs.Frames.{FrameAt, HearsAll}
 use Rattle.station_rules.proofs.StationLimits.{inside-open}
 use Rattle.frame_marks.specs.Marks.{MarksAt}
 use Rattle.frame_changes.specs.Changes.{ChangesAt}
-use Rattle.bars.specs.Bars.{MarksFit, MarksHeld, Bars}
-use Rattle.bars.proofs.HeldMarks.{marks-fit, marks-held}
+use Rattle.bars.specs.Bars.{Bars}
+use Rattle.station_bars.specs.HeldMarks.{MarksFit, MarksHeld}
+use Rattle.station_bars.proofs.HeldMarks.{marks-fit, marks-held}
 use Rattle.group_frames.specs.Frames.{frameStart, FramesAt, MarksBelow}
 use Rattle.mask_hearing.specs.Mask.{heardCount, heardStarts}
 use Rattle.mask_hearing.proofs.MaskStarts.{count-below, starts-length, starts-at}

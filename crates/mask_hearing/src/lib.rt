@@ -42,6 +42,6 @@ pub fn hear_mask(s: Station, bytes: &[u8], marks: &[u8], masks: [u16; 16]) -> He
     let mut starts = [0usize; 16];
     let count = heard_by(&mut starts, masks, s.n, s.own);
     let at = FRAME_ROOM * s.own;
-    let bars = bars::own_bars(marks, at, bytes[at + 2] as usize, s.own);
+    let bars = station_bars::own_bars(marks, at, bytes[at + 2] as usize, s.own);
     station_hearing::hear_all(s, bars, bytes, marks, &starts, count)
 }

@@ -61,7 +61,7 @@ pub fn hear(s: Station, bytes: &[u8]) -> Heard
     let starts = [0usize; 16];
     let mut marks = [0u8; MARKS_ROOM];
     frame_marks::put_marks(&mut marks, bytes, 0);
-    let bars = bars::bars_of(s);
+    let bars = station_bars::bars_of(s);
     let heard = station_hearing::hear_all(s, bars, bytes, &marks, &starts, 1);
     if heard.overfull {
         return Heard {

@@ -3,7 +3,7 @@ use Prim.Native.Nat.{_+_, _*_, _^_, _≤_, _<_}
 use native.Mathlib.Omega.{arith}
 use mathlib.Core.Path.{refl, sym, ap, _∙_}
 use lib.ListN.{getD, length}
-use Rattle.bars.specs.Bars.{MarksFit, MarksHeld}
+use Rattle.station_bars.specs.HeldMarks.{MarksFit, MarksHeld}
 use Rattle.mask_hearing.proofs.MaskStarts.{starts-length}
 use Rattle.mask_hearing.proofs.MayHear.{few, own-low, own-room, own-few, own-fit, own-held, may-hear, mask-heard}
 use Rattle.mask_hearing.proofs.hear_mask.Statement.{statement}

@@ -1,4 +1,4 @@
--- `bars::own_bars` meets its contract: the bars of the stations of the marks passed are raised, the own one's are shut last.
+-- `station_bars::own_bars` meets its contract: the bars of the stations of the marks passed are raised, the own one's are shut last.
 use Prim.Native.Nat.{ℕ, _+_, _-_, _*_, _%_, _^_, _≤_, _<_}
 use native.Mathlib.Omega.{arith}
 use mathlib.Core.Path.{_≡_, refl, sym, ap, subst, _∙_}
@@ -6,11 +6,11 @@ use mathlib.Core.Bool.{Bool}
 use mathlib.Core.List.{List}
 use lib.ListN.{getD, length, length-set}
 use Rattle.frame_rules.specs.declared.Record.{Record}
-use Rattle.bars.specs.Bars.{MarksFit, MarksHeld}
-use Rattle.bars.proofs.BarLaws.{bars-made}
-use Rattle.bars.proofs.OwnBars.{Raised, raised-none, raised-more, raised-all}
-use Rattle.bars.proofs.own_bars.Statement.{statement}
-use Rattle.bars.proofs.own_bars.Tie as tie
+use Rattle.station_bars.specs.HeldMarks.{MarksFit, MarksHeld}
+use Rattle.station_bars.proofs.BarsBelow.{bars-made}
+use Rattle.station_bars.proofs.OwnBars.{Raised, raised-none, raised-more, raised-all}
+use Rattle.station_bars.proofs.own_bars.Statement.{statement}
+use Rattle.station_bars.proofs.own_bars.Tie as tie
 
 abbrev Inv-loop : tie.InvT-loop
 Inv-loop marks start records own bars₀ r₀ bars r =

@@ -19,7 +19,7 @@ use Rattle.station_rules.specs.declared.Station.{Station}
 use Rattle.station_rules.specs.State.{heldOf, recordOf, recordLabel, ownLabel, sentRecords}
 use Rattle.station_rules.proofs.StationLimits.{Inside}
 use Rattle.frame_marks.specs.Marks.{recordAt, sizeAt, MarksAt}
-use Rattle.bars.specs.Bars.{MarksFit, markStation, MarksHeld}
+use Rattle.station_bars.specs.HeldMarks.{MarksFit, markStation, MarksHeld}
 
 -- what is gathered, and where it comes from
 module _ {A : Type 0} (test : ℕ → Bool) (f : ℕ → A) (d : A) where

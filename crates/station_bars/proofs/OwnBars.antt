@@ -10,8 +10,10 @@ use lib.ListN.{getD, length, replicate, getD-replicate}
 use Rattle.frame_rules.specs.declared.Record.{Record}
 use Rattle.frame_rules.specs.Record.{noRecord}
 use Rattle.station_rules.specs.State.{recordLabel}
-use Rattle.bars.specs.Bars.{barOf, barred, MarksFit, markStation, MarksHeld}
-use Rattle.bars.proofs.BarLaws.{BarsBelow, barred-here, barred-other, bar-none}
+use Rattle.bars.specs.Bars.{barOf, barred}
+use Rattle.station_bars.specs.HeldMarks.{MarksFit, markStation, MarksHeld}
+use Rattle.bars.proofs.BarLaws.{barred-here, barred-other}
+use Rattle.station_bars.proofs.BarsBelow.{BarsBelow, bar-none}
 
 -- a bar of station k, of which the table's record is held
 abbrev HeldBar : List Record → List ℕ → ℕ → ℕ → Type 0

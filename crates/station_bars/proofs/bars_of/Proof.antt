@@ -1,4 +1,4 @@
--- `bars::bars_of` meets its contract: the bars of the stations passed are made, the own one's last.
+-- `station_bars::bars_of` meets its contract: the bars of the stations passed are made, the own one's last.
 use Prim.Native.Nat.{ℕ, _+_, _-_, _≤_, _<_}
 use native.Mathlib.Omega.{arith}
 use mathlib.Core.Path.{_≡_, sym, subst}
@@ -9,9 +9,9 @@ use borrow.Author.Tests.{leb-true, not-true, not-false}
 use Rattle.station_rules.specs.declared.Station.{Station}
 use Rattle.station_rules.specs.State.{heldOf, recordOf, recordLabel}
 use Rattle.station_rules.proofs.StationLimits.{Inside, inside-open}
-use Rattle.bars.proofs.BarLaws.{BarsBelow, below-none, below-skip, below-held, bars-made}
-use Rattle.bars.proofs.bars_of.Statement.{statement}
-use Rattle.bars.proofs.bars_of.Tie as tie
+use Rattle.station_bars.proofs.BarsBelow.{BarsBelow, below-none, below-skip, below-held, bars-made}
+use Rattle.station_bars.proofs.bars_of.Statement.{statement}
+use Rattle.station_bars.proofs.bars_of.Tie as tie
 
 abbrev Inv-loop : tie.InvT-loop
 Inv-loop s n own bars₀ k₀ bars k = (k ≤ n) × BarsBelow (s .held) (s .table) k bars

@@ -1,0 +1,3 @@
+pub mod HeldMarks
+mod BarsBelow
+mod OwnBars
