@@ -23,7 +23,7 @@ fn place_fits(n: usize, k: usize, r: Record) -> bool
         return false;
     }
     let body = r.body;
-    if !kinds::body_inside(body) {
+    if !kind_limits::body_inside(body) {
         return false;
     }
     let labels = r.labels;

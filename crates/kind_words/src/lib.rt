@@ -3,10 +3,10 @@
 ghost use mathlib.Core.Path.{_≡_};
 ghost use Prim.Native.Nat.{_≤_};
 ghost use Rattle.frame_rules.specs.Words.{signed};
-ghost use Rattle.kinds.specs.Limits.{numbersInside};
+ghost use Rattle.kind_limits.specs.Limits.{numbersInside};
 ghost use Rattle.kind_words.specs.Spans.{spanOf, spans};
-use kinds::KINDS;
-use kinds::Limits;
+use kind_limits::KINDS;
+use kind_limits::Limits;
 use std::num::wrapping_sub_u32;
 
 // A row of the table of kinds in words: the least event and the least argument, and how far above them the most lie.

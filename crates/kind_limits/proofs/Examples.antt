@@ -4,8 +4,8 @@ use mathlib.Core.Bool.{true, false}
 use mathlib.Core.Path.{_≡_, refl}
 use lib.IntN.{pos, negsuc}
 use borrow.Author.Tests.{le-leb}
 use Rattle.kinds.specs.declared.Body.the-variants.{Insert, Shift}
-use Rattle.kinds.specs.Limits.{isEdit, bodyInside, numbersInside}
+use Rattle.kind_limits.specs.Limits.{isEdit, bodyInside, numbersInside}
 
 module _ (event : ℕ) (least : 1 ≤ event) (most : event ≤ 99_999_999) where
   -- a shift of -90,000 is an edit, one of -90,001 is not

@@ -1,4 +1,4 @@
--- `kinds::numbers_inside` meets its contract: the code's table is the definition's table, row by row, so each test is one of the
+-- `kind_limits::numbers_inside` meets its contract: the code's table is the definition's table, row by row, so each test is one of the
 -- definition's, and a signed number reads back from its 32 bits as itself.
 use Prim.Native.Nat.{ℕ, zero, suc, _^_, _<_, _≤_}
 use native.Mathlib.Omega.{arith}
@@ -12,9 +12,9 @@ use borrow.Author.Tests.{le-ltb, lt-ltb, le-leb, lt-leb}
 use mir.Syntax.{w32}
 use mir.Val.{toZ, ofZ, SFits}
 use mir.ValLaws.{toZ-ofZ}
-use Rattle.kinds.specs.Limits.{kinds, limitsOf, numbersInside}
-use Rattle.kinds.proofs.numbers_inside.Statement.{statement}
-use Rattle.kinds.proofs.numbers_inside.Tie as tie
+use Rattle.kind_limits.specs.Limits.{kinds, limitsOf, numbersInside}
+use Rattle.kind_limits.proofs.numbers_inside.Statement.{statement}
+use Rattle.kind_limits.proofs.numbers_inside.Tie as tie
 
 -- two signed numbers compare as their bits do
 read :

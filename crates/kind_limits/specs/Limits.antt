@@ -6,9 +6,9 @@ use lib.Dec.{leb, ltb}
 use lib.IntN.{ℤ, pos, negsuc}
 use lib.ListN.{length, getD}
 use lib.Signed.{leZ}
 use Rattle.kinds.specs.declared.Body.{Body}
-use Rattle.kinds.specs.declared.Limits.{Limits}
+use Rattle.kind_limits.specs.declared.Limits.{Limits}
 use Rattle.kinds.specs.Body.{kindOf, eventOf, argumentOf}
 
 -- a row of the table: the least and the most of the event, then of the argument
 abbrev pub row : ℕ → ℕ → ℤ → ℤ → Limits

@@ -1,12 +1,12 @@
--- `kinds::is_edit` meets its contract: a kind below 2 is no edit, and for the others `body_inside` decides.
+-- `kind_limits::is_edit` meets its contract: a kind below 2 is no edit, and for the others `body_inside` decides.
 use Prim.Native.Nat.{_<_, _≤_}
 use native.Mathlib.Omega.{arith}
 use borrow.Author.Needs.{needs}
 use borrow.Author.Tests.{lt-leb, le-leb}
 use Rattle.kinds.specs.Body.{kindOf}
-use Rattle.kinds.specs.Limits.{isEdit}
-use Rattle.kinds.proofs.is_edit.Statement.{statement}
-use Rattle.kinds.proofs.is_edit.Tie as tie
+use Rattle.kind_limits.specs.Limits.{isEdit}
+use Rattle.kind_limits.proofs.is_edit.Statement.{statement}
+use Rattle.kind_limits.proofs.is_edit.Tie as tie
 
 kind-of-requires : tie.Need-kind-of-requires
 kind-of-requires c κs = search needs

@@ -1,13 +1,13 @@
--- `kinds::body_inside` meets its contract: each arm knows which case the body is, and asks `numbers_inside` about its three numbers. A signed
+-- `kind_limits::body_inside` meets its contract: each arm knows which case the body is, and asks `numbers_inside` about its three numbers. A signed
 -- number reads back from its 32 bits as itself.
 use native.Mathlib.Omega.{arith}
 use mathlib.Core.Path.{sym, ap, _∙_}
 use borrow.Author.Needs.{needs}
 use mir.Syntax.{w32}
 use mir.ValLaws.{toZ-ofZ}
-use Rattle.kinds.specs.Limits.{numbersInside, bodyInside}
-use Rattle.kinds.proofs.body_inside.Statement.{statement}
-use Rattle.kinds.proofs.body_inside.Tie as tie
+use Rattle.kind_limits.specs.Limits.{numbersInside, bodyInside}
+use Rattle.kind_limits.proofs.body_inside.Statement.{statement}
+use Rattle.kind_limits.proofs.body_inside.Tie as tie
 
 enum-told : tie.Need-enum-told
 enum-told c = search needs
