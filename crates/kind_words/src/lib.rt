@@ -21,8 +21,8 @@ fn span_of(row: Limits) -> Span
     requires { ⌜ row .«least_event» ≤ row .«most_event» ⌝ }
     ensures { λ r. ⌜ r ≡ spanOf row ⌝ }
 {
-    let least = records::unsigned(row.least_argument);
-    let most = records::unsigned(row.most_argument);
+    let least = record_writer::unsigned(row.least_argument);
+    let most = record_writer::unsigned(row.most_argument);
     Span {
         event: row.least_event,
         events: row.most_event - row.least_event,
@@ -70,7 +70,7 @@ pub fn words_inside(table: &[u32], kind: u8, event: u32, argument: u32) -> bool
     requires { ⌜ now table ≡ spans ⌝ }
     ensures { λ r. ⌜ r ≡ numbersInside kind event (signed argument) ⌝ }
 {
-    let row = records::wide(kind);
+    let row = record_reader::wide(kind);
     if KINDS.len() <= row {
         return false;
     }

@@ -1,8 +1,8 @@
--- `records::word_at` meets its contract: `joined` makes the word of the four bytes.
+-- `record_reader::word_at` meets its contract: `joined` makes the word of the four bytes.
 use Rattle.frame_rules.specs.Words.{wordAt}
 use borrow.Author.Needs.{needs}
-use Rattle.records.proofs.word_at.Statement.{statement}
-use Rattle.records.proofs.word_at.Tie as tie
+use Rattle.record_reader.proofs.word_at.Statement.{statement}
+use Rattle.record_reader.proofs.word_at.Tie as tie
 
 shared-slice-read-joined : tie.Need-shared-slice-read-joined
 shared-slice-read-joined c = search needs

@@ -1,4 +1,4 @@
--- `records::read_record` meets its contract: each field is read as the definition reads it.
+-- `record_reader::read_record` meets its contract: each field is read as the definition reads it.
 use mathlib.Core.Path.{ap, _∙_}
 use native.Mathlib.Omega.{arith}
 use lib.ListN.{getD}
@@ -7,8 +7,8 @@ use Rattle.label_words.specs.Packing.{unpacked}
 use Rattle.frame_rules.proofs.Check.{judged}
 use Rattle.frame_rules.proofs.Entries.{record-is}
 use borrow.Author.Needs.{needs}
-use Rattle.records.proofs.read_record.Statement.{statement}
-use Rattle.records.proofs.read_record.Tie as tie
+use Rattle.record_reader.proofs.read_record.Statement.{statement}
+use Rattle.record_reader.proofs.read_record.Tie as tie
 
 word-at-requires : tie.Need-word-at-requires
 word-at-requires c κs = search needs

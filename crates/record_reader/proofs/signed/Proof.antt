@@ -1,9 +1,9 @@
--- `records::signed` meets its contract: below 2^31 the word is the number, from there up it is the complement of what the word lacks of 2^32 - 1.
+-- `record_reader::signed` meets its contract: below 2^31 the word is the number, from there up it is the complement of what the word lacks of 2^32 - 1.
 use borrow.Author.Needs.{needs}
 use native.Mathlib.Omega.{arith}
-use Rattle.records.proofs.Words.{signed-low, signed-high, signed-high-fits}
-use Rattle.records.proofs.signed.Statement.{statement}
-use Rattle.records.proofs.signed.Tie as tie
+use Rattle.record_reader.proofs.Words.{signed-low, signed-high, signed-high-fits}
+use Rattle.record_reader.proofs.signed.Statement.{statement}
+use Rattle.record_reader.proofs.signed.Tie as tie
 
 cast-result : tie.Need-cast-result
 cast-result c = search needs

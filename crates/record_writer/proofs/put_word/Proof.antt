@@ -1,11 +1,11 @@
--- `records::put_word` meets its contract: its four stores are those of the word's bytes.
+-- `record_writer::put_word` meets its contract: its four stores are those of the word's bytes.
 use native.Mathlib.Omega.{arith}
 use native.Mathlib.Numerals.{add-one, add-two, add-three}
 use lib.ListN.{length-set}
 use Rattle.frame_rules.specs.Words.{wordBytes}
 use borrow.Author.Needs.{needs}
-use Rattle.records.proofs.put_word.Statement.{statement}
-use Rattle.records.proofs.put_word.Tie as tie
+use Rattle.record_writer.proofs.put_word.Statement.{statement}
+use Rattle.record_writer.proofs.put_word.Tie as tie
 
 cast-bytes : tie.Need-cast-bytes
 cast-bytes c = search needs

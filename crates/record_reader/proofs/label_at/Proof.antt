@@ -1,14 +1,14 @@
--- `records::label_at` meets its contract: it reads the one byte in which `label-in-byte` finds the label.
+-- `record_reader::label_at` meets its contract: it reads the one byte in which `label-in-byte` finds the label.
 use mathlib.Core.Path.{ap, _∙_}
 use Prim.Native.Nat.{ℕ, _+_, _*_}
 use native.Mathlib.Nat.{add-zero}
 use lib.ListN.{getD}
 use Rattle.label_words.specs.Packing.{unpacked}
 use Rattle.frame_rules.specs.Words.{wordAt}
-use Rattle.records.proofs.Labels.{label-in-byte}
+use Rattle.record_reader.proofs.Labels.{label-in-byte}
 use borrow.Author.Needs.{needs}
-use Rattle.records.proofs.label_at.Statement.{statement}
-use Rattle.records.proofs.label_at.Tie as tie
+use Rattle.record_reader.proofs.label_at.Statement.{statement}
+use Rattle.record_reader.proofs.label_at.Tie as tie
 
 add-result : tie.Need-add-result
 add-result c = search needs

@@ -1,11 +1,11 @@
--- `records::write_record` meets its contract: its sixteen stores leave the bytes of the record.
+-- `record_writer::write_record` meets its contract: its sixteen stores leave the bytes of the record.
 use mathlib.Core.Path.{_∙_}
 use native.Mathlib.Omega.{arith}
 use lib.ListN.{length-set}
-use Rattle.records.proofs.Writing.{kind-small, record-made}
+use Rattle.record_writer.proofs.Writing.{kind-small, record-made}
 use borrow.Author.Needs.{needs}
-use Rattle.records.proofs.write_record.Statement.{statement}
-use Rattle.records.proofs.write_record.Tie as tie
+use Rattle.record_writer.proofs.write_record.Statement.{statement}
+use Rattle.record_writer.proofs.write_record.Tie as tie
 
 slice-write-part : tie.Need-slice-write-part
 slice-write-part c = search needs

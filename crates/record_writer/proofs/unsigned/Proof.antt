@@ -1,8 +1,8 @@
--- `records::unsigned` meets its contract: a negative number is the complement of a number that is not, and the word is what that one lacks of 2^32 - 1.
+-- `record_writer::unsigned` meets its contract: a negative number is the complement of a number that is not, and the word is what that one lacks of 2^32 - 1.
 use Rattle.places.proofs.Complement.{complement-made-fits}
-use Rattle.records.proofs.Words.{unsigned-negative-cast, unsigned-negative-sub, unsigned-negative, unsigned-other-cast, unsigned-other}
-use Rattle.records.proofs.unsigned.Statement.{statement}
-use Rattle.records.proofs.unsigned.Tie as tie
+use Rattle.record_writer.proofs.Words.{unsigned-negative-cast, unsigned-negative-sub, unsigned-negative, unsigned-other-cast, unsigned-other}
+use Rattle.record_writer.proofs.unsigned.Statement.{statement}
+use Rattle.record_writer.proofs.unsigned.Tie as tie
 
 sub-result : tie.Need-sub-result
 sub-result c = complement-made-fits (c .before .args .number) (c .before .fits .number)
