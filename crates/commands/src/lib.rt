@@ -17,7 +17,7 @@ ghost use Rattle.listing_rules.specs.Listing.{AnswersPost, postedBody, sizedBy,
 pub fn posted_body(kind: u32, event: u32, argument: i32) -> Body
     ensures { λ r. ⌜ r ≡ postedBody kind event argument ⌝ }
 {
-    if kinds::numbers_inside(kind, event, argument) {
+    if kind_limits::numbers_inside(kind, event, argument) {
         return kinds::body_of(kind, event, argument);
     }
     Body::Empty

@@ -19,11 +19,11 @@ fn place_fits(n: usize, k: usize, r: Record) -> bool
     if r.station as usize != k {
         return false;
     }
-    if 2 * (n - 1) < records::wide(r.count) {
+    if 2 * (n - 1) < record_reader::wide(r.count) {
         return false;
     }
     let body = r.body;
-    if !kinds::body_inside(body) {
+    if !kind_limits::body_inside(body) {
         return false;
     }
     let labels = r.labels;

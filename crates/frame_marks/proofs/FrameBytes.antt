@@ -10,8 +10,8 @@ use lib.Seq.{getD-take, getD-drop, drop-drop}
 use lib.Dec.{ltb, eqb}
 use borrow.Author.Tests.{ltb-true, le-leb}
 use Rattle.kinds.specs.Body.{kindOf}
-use Rattle.kinds.specs.Limits.{numbersInside}
-use Rattle.kinds.proofs.Laws.{kind-back, inside-back}
+use Rattle.kind_limits.specs.Limits.{numbersInside}
+use Rattle.kind_limits.proofs.Laws.{kind-back, inside-back}
 use Rattle.labels.specs.Label.{allLabels}
 use Rattle.label_words.specs.Packing.{unpacked, allZero, wordInside}
 use Rattle.labels.proofs.Laws.{all-at}

@@ -19,7 +19,7 @@ pub fn put_marks(marks: &mut [u8], bytes: &[u8], start: usize)
     while r < records {
         let at = start + 4 + 16 * r;
         let k = bytes[at];
-        let label = records::label_at(bytes, at + 12, k as usize);
+        let label = record_reader::label_at(bytes, at + 12, k as usize);
         marks[start + 2 * r] = 4 * k + label;
         marks[start + 2 * r + 1] = bytes[at + 1];
         r += 1;

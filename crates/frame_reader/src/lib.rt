@@ -26,11 +26,11 @@ pub fn read_frame(bytes: &[u8], n: usize, own: usize) -> Reading
             records: records,
         };
     }
-    let count = records::wide(bytes[2]);
+    let count = record_reader::wide(bytes[2]);
     let mut k: usize = 0;
     while k < count {
         let at = 4 + 16 * k;
-        records[k] = records::read_record(&bytes[at..at + 16]);
+        records[k] = record_reader::read_record(&bytes[at..at + 16]);
         k += 1;
     }
     Reading {

@@ -12,7 +12,7 @@ use mir.Val.{SFits, toZ, ofZ}
 use mir.ValLaws.{toZ-ofZ}
 use borrow.Author.Tests.{leb-true, ltb-true, ltb-false, eqb-true, eqb-false, not-false, lt-ltb, le-ltb, le-leb, lt-leb, eq-eqb, ne-eqb}
 use Rattle.kinds.specs.Refusals.{done, badNumber, badShape, badAddress, badRecord, refuse}
-use Rattle.kinds.specs.Limits.{numbersInside}
+use Rattle.kind_limits.specs.Limits.{numbersInside}
 use Rattle.places.proofs.Laws.{and-left, and-right, or-left, or-right}
 use Rattle.label_words.specs.Packing.{wordInside}
 use Rattle.frame_rules.specs.Words.{wordAt, signed}

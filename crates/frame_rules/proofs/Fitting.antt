@@ -7,7 +7,7 @@ use native.Mathlib.Omega.{arith}
 use lib.Dec.{ltb, eqb}
 use lib.ListN.{getD, take}
 use borrow.Author.Tests.{lt-ltb, le-leb, lt-leb, eq-eqb, ne-eqb, eqb-true}
-use Rattle.kinds.specs.Limits.{bodyInside}
+use Rattle.kind_limits.specs.Limits.{bodyInside}
 use Rattle.kinds.specs.Refusals.{done, badNumber, badRecord}
 use Rattle.labels.specs.Label.{allLabels}
 use Rattle.places.specs.Places.{allBelow}

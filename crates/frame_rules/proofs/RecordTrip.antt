@@ -16,8 +16,9 @@ use mir.Val.{SFits}
 use Rattle.kinds.specs.declared.Body.{Body}
 use Rattle.kinds.specs.declared.Body.the-variants.{Empty, Neutral, Insert, Drop, Shift}
 use Rattle.kinds.specs.Body.{kindOf, eventOf, argumentOf, bodyOf}
-use Rattle.kinds.specs.Limits.{numbersInside, bodyInside}
-use Rattle.kinds.proofs.Laws.{body-back, kind-back, event-back, argument-back, inside-back}
+use Rattle.kind_limits.specs.Limits.{numbersInside, bodyInside}
+use Rattle.kinds.proofs.Laws.{body-back}
+use Rattle.kind_limits.proofs.Laws.{kind-back, event-back, argument-back, inside-back}
 use Rattle.labels.specs.Label.{allLabels}
 use Rattle.label_words.specs.Packing.{packed, unpacked, allZero, wordInside}
 use Rattle.labels.proofs.Laws.{all-at, at-all}

@@ -6,7 +6,7 @@ use lib.ListN.{getD, take, replicate}
 use lib.Dec.{leb, ltb, eqb}
 use Rattle.kinds.specs.declared.Body.the-variants.{Empty}
 use Rattle.kinds.specs.Body.{kindOf, eventOf, argumentOf, bodyOf}
-use Rattle.kinds.specs.Limits.{numbersInside, bodyInside}
+use Rattle.kind_limits.specs.Limits.{numbersInside, bodyInside}
 use Rattle.labels.specs.Label.{allLabels}
 use Rattle.label_words.specs.Packing.{packed, unpacked, wordInside}
 use Rattle.places.specs.Places.{fill}

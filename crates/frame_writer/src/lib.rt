@@ -10,7 +10,7 @@ use frame_rules::Record;
 use frame_rules::Written;
 use kinds::refusals::DONE;
 use kinds::refusals::SHORT_BUFFER;
-use records::FRAME_MARK;
+use record_writer::FRAME_MARK;
 
 // 1 where a place is held, else 0.
 fn one_if(held: bool) -> usize
@@ -65,7 +65,7 @@ pub fn write_table(
             k += 1;
             continue;
         }
-        records::write_record(&mut buffer[at..at + 16], n, table[k]);
+        record_writer::write_record(&mut buffer[at..at + 16], n, table[k]);
         at += 16;
         k += 1;
     }

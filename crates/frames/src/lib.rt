@@ -12,29 +12,29 @@ use kinds::refusals::BAD_NUMBER;
 use kinds::refusals::BAD_RECORD;
 use kinds::refusals::BAD_SHAPE;
 use kinds::refusals::DONE;
-use records::FRAME_MARK;
-use records::RECORD_MARK;
+use record_writer::FRAME_MARK;
+use record_writer::RECORD_MARK;
 
 // Are the sixteen bytes of a record inside its limits?
 fn record_inside(table: &[u32], part: &[u8], n: usize) -> bool
     requires { ⌜ (now table ≡ spans) × (length (now part) ≡ 16) × (n ≤ 16) ⌝ }
     ensures { λ r. ⌜ r ≡ bytesInside n (now (part .entry)) ⌝ }
 {
-    if n <= records::wide(part[0]) {
+    if n <= record_reader::wide(part[0]) {
         return false;
     }
-    if 2 * (n - 1) < records::wide(part[1]) {
+    if 2 * (n - 1) < record_reader::wide(part[1]) {
         return false;
     }
-    let event = records::word_at(part, 4);
-    let argument = records::word_at(part, 8);
+    let event = record_reader::word_at(part, 4);
+    let argument = record_reader::word_at(part, 8);
     if !kind_words::words_inside(table, part[2], event, argument) {
         return false;
     }
     if part[3] != RECORD_MARK {
         return false;
     }
-    label_words::word_inside(records::word_at(part, 12), n)
+    label_words::word_inside(record_reader::word_at(part, 12), n)
 }
 
 // Does the length, byte 2 or byte 3 tell that these bytes are no frame?
@@ -44,7 +44,7 @@ fn shape_wrong(bytes: &[u8]) -> bool
     if bytes.len() < 4 {
         return true;
     }
-    let count = records::wide(bytes[2]);
+    let count = record_reader::wide(bytes[2]);
     if count == 0 {
         return true;
     }
@@ -62,10 +62,10 @@ fn address_wrong(bytes: &[u8], n: usize, own: usize) -> bool
     requires { ⌜ 4 ≤ length (now bytes) ⌝ }
     ensures { λ r. ⌜ r ≡ addressWrong (now (bytes .entry)) n own ⌝ }
 {
-    if records::wide(bytes[0]) != n {
+    if record_reader::wide(bytes[0]) != n {
         return true;
     }
-    let sender = records::wide(bytes[1]);
+    let sender = record_reader::wide(bytes[1]);
     if sender == own {
         return true;
     }
@@ -78,8 +78,8 @@ fn records_inside(bytes: &[u8], n: usize) -> bool
     requires { ⌜ (length (now bytes) ≡ 4 + 16 * getD (now bytes) 2 0) × (n ≤ 16) ⌝ }
     ensures { λ r. ⌜ r ≡ recordsInside (now (bytes .entry)) n ⌝ }
 {
-    let count = records::wide(bytes[2]);
-    let sender = records::wide(bytes[1]);
+    let count = record_reader::wide(bytes[2]);
+    let sender = record_reader::wide(bytes[1]);
     let table = kind_words::spans();
     let mut found = false;
     let mut least: usize = 0;
@@ -89,7 +89,7 @@ fn records_inside(bytes: &[u8], n: usize) -> bool
         if !record_inside(&table, &bytes[at..at + 16], n) {
             return false;
         }
-        let station = records::wide(bytes[at]);
+        let station = record_reader::wide(bytes[at]);
         if station < least {
             return false;
         }

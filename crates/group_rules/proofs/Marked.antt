@@ -11,9 +11,9 @@ use borrow.Author.Tests.{le-leb}
 use Rattle.kinds.specs.declared.Body.{Body}
 use Rattle.kinds.specs.declared.Body.the-variants.{Empty, Neutral}
 use Rattle.kinds.specs.Body.{kindOf}
-use Rattle.kinds.specs.Limits.{isEdit, bodyInside, numbersInside}
+use Rattle.kind_limits.specs.Limits.{isEdit, bodyInside, numbersInside}
 use Rattle.kinds.specs.Refusals.{done}
-use Rattle.kinds.proofs.Laws.{edit-inside, edit-kind, edit-not-empty}
+use Rattle.kind_limits.proofs.Laws.{edit-inside, edit-kind, edit-not-empty}
 use Rattle.labels.proofs.Examples as labels
 use Rattle.label_words.proofs.Examples as words
 use Rattle.frame_rules.proofs.FrameTrip as frames

@@ -11,7 +11,7 @@ use lib.ListN.{set, length-set}
 use lib.Seq.{getD-set-same, getD-set-other}
 use borrow.Author.Tests.{ltb-true, leb-false}
 use Rattle.kinds.specs.declared.Body.{Body}
-use Rattle.kinds.specs.Limits.{isEdit}
+use Rattle.kind_limits.specs.Limits.{isEdit}
 use Rattle.kinds.specs.Refusals.{done}
 use Rattle.places.proofs.Keeps.{set-keeps}
 use Rattle.station_rules.specs.declared.Station.{Station}

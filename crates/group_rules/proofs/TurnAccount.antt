@@ -12,7 +12,7 @@ use borrow.Author.Tests.{ltb-true, eq-eqb}
 use Rattle.kinds.specs.declared.Body.{Body}
 use Rattle.kinds.specs.declared.Body.the-variants.{Neutral}
 use Rattle.kinds.specs.Body.{kindOf}
-use Rattle.kinds.specs.Limits.{isEdit}
+use Rattle.kind_limits.specs.Limits.{isEdit}
 use Rattle.places.specs.Places.{gather}
 use Rattle.places.proofs.Laws.{allBelow-at, fill-below}
 use Rattle.lanes.specs.declared.Lane.{Lane}
@@ -24,7 +24,7 @@ use Rattle.lanes.specs.Queue.{noSlot, waitingBodies, oldest, unqueued}
 use Rattle.lanes.proofs.QueueLaws.{waiting-unqueued}
 use Rattle.station_rules.specs.State.{laneAt}
 use Rattle.station_rules.specs.Turn.{airs, rowOf, startsEdit, startedBody, passed, rewritten, afterTurn}
-use Rattle.kinds.proofs.Laws.{edit-not-empty}
+use Rattle.kind_limits.proofs.Laws.{edit-not-empty}
 use Rattle.station_rules.proofs.BodyLaws.{neutral-no-edit}
 use Rattle.station_rules.proofs.Shape.{Shaped, lanesAfter-length}
 use Rattle.station_rules.proofs.LimitsLane.{lane-most}

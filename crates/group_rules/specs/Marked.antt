@@ -7,7 +7,7 @@ use lib.IntN.{pos, negsuc}
 use lib.ListN.{getD, length, replicate}
 use Rattle.kinds.specs.declared.Body.{Body}
 use Rattle.kinds.specs.declared.Body.the-variants.{Empty, Neutral, Insert, Shift}
-use Rattle.kinds.specs.Limits.{isEdit}
+use Rattle.kind_limits.specs.Limits.{isEdit}
 use Rattle.kinds.specs.Refusals.{done, queueFull, notAnEdit}
 use Rattle.label_words.specs.Packing.{packed}
 use Rattle.labels.specs.Newer.{isNewer}

@@ -1,7 +1,7 @@
 -- A run of sixteen stations, computed: everyone hears everyone.
 use mathlib.Core.Path.{_≡_, refl}
 use lib.ListN.{replicate}
-use Rattle.kinds.specs.Limits.{isEdit, bodyInside, numbersInside}
+use Rattle.kind_limits.specs.Limits.{isEdit, bodyInside, numbersInside}
 use Rattle.links.specs.Log.{bit, hearsIn}
 use Rattle.places.specs.Places.{allBelow, anyBelow, fill, gather, tabulate}
 use Rattle.frame_rules.specs.Record.{framed}

@@ -60,16 +60,16 @@ pub fn heard(
     requires { ⌜ (at + 16 ≤ length (now bytes)) × (n ≤ 16) × (own < 16) × (bytesInside n (take 16 (drop at (now bytes))) ≡ true) ⌝ }
     ensures { λ r. ⌜ Effects n own «own_label» acked count label kept «lane_len» (recordOf (take 16 (drop at (now (bytes .entry))))) r ⌝ }
 {
-    let seen = records::read_record(&bytes[at..at + 16]);
-    let seen_label = records::label_at(bytes, at + 12, seen.station as usize);
-    let answer = records::label_at(bytes, at + 12, own);
+    let seen = record_reader::read_record(&bytes[at..at + 16]);
+    let seen_label = record_reader::label_at(bytes, at + 12, seen.station as usize);
+    let answer = record_reader::label_at(bytes, at + 12, own);
     let advances = seen_label == labels::successor(label);
     let kind = bytes[at + 2];
     let takes = advances & (kind != 0);
     let count_now = count_after(advances, count);
     let label_now = label_after(advances, label);
     let body = seen.body;
-    let word = records::word_at(bytes, at + 12);
+    let word = record_reader::word_at(bytes, at + 12);
     let over = label_words::unpack_over(n, word, kept);
     Effect {
         overfull: takes & (2 <= lane_len),

@@ -10,7 +10,7 @@ use lib.IntN.{ℤ, pos, negsuc}
 use lib.ListN.{getD, length}
 use lib.Signed.{leZ, mag}
 use borrow.Author.Tests.{le-ltb, lt-ltb, le-leb, lt-leb, leb-true, leb-false, ltb-true, ltb-false}
-use Rattle.kinds.specs.Limits.{limitsOf, numbersInside}
+use Rattle.kind_limits.specs.Limits.{limitsOf, numbersInside}
 use Rattle.kind_words.specs.declared.Span.{Span}
 use Rattle.frame_rules.specs.Words.{signed, unsigned}
 use Rattle.kind_words.specs.Spans.{above, spanOf, spansOf, spans}

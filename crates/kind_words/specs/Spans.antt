@@ -2,8 +2,8 @@
 -- least than the most is, distances being counted round 32 bits.
 use Prim.Native.Nat.{ℕ, _+_, _-_, _%_}
 use mathlib.Core.List.{List, [], _∷_}
-use Rattle.kinds.specs.declared.Limits.{Limits}
-use Rattle.kinds.specs.Limits.{kinds}
+use Rattle.kind_limits.specs.declared.Limits.{Limits}
+use Rattle.kind_limits.specs.Limits.{kinds}
 use Rattle.kind_words.specs.declared.Span.{Span}
 use Rattle.frame_rules.specs.Words.{unsigned}
 

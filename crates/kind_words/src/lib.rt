@@ -3,10 +3,10 @@
 ghost use mathlib.Core.Path.{_≡_};
 ghost use Prim.Native.Nat.{_≤_};
 ghost use Rattle.frame_rules.specs.Words.{signed};
-ghost use Rattle.kinds.specs.Limits.{numbersInside};
+ghost use Rattle.kind_limits.specs.Limits.{numbersInside};
 ghost use Rattle.kind_words.specs.Spans.{spanOf, spans};
-use kinds::KINDS;
-use kinds::Limits;
+use kind_limits::KINDS;
+use kind_limits::Limits;
 use std::num::wrapping_sub_u32;
 
 // A row of the table of kinds in words: the least event and the least argument, and how far above them the most lie.
@@ -21,8 +21,8 @@ fn span_of(row: Limits) -> Span
     requires { ⌜ row .«least_event» ≤ row .«most_event» ⌝ }
     ensures { λ r. ⌜ r ≡ spanOf row ⌝ }
 {
-    let least = records::unsigned(row.least_argument);
-    let most = records::unsigned(row.most_argument);
+    let least = record_writer::unsigned(row.least_argument);
+    let most = record_writer::unsigned(row.most_argument);
     Span {
         event: row.least_event,
         events: row.most_event - row.least_event,
@@ -70,7 +70,7 @@ pub fn words_inside(table: &[u32], kind: u8, event: u32, argument: u32) -> bool
     requires { ⌜ now table ≡ spans ⌝ }
     ensures { λ r. ⌜ r ≡ numbersInside kind event (signed argument) ⌝ }
 {
-    let row = records::wide(kind);
+    let row = record_reader::wide(kind);
     if KINDS.len() <= row {
         return false;
     }

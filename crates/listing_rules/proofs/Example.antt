@@ -8,7 +8,7 @@ use Rattle.column_writer.specs.Writing.{natColumns}
 use Rattle.lines.specs.Lines.{delivered, airing, ending, turnedDown}
 use Rattle.places.specs.Places.{allBelow, anyBelow, fill, gather, tabulate}
 use Rattle.kinds.specs.Body.{bodyOf}
-use Rattle.kinds.specs.Limits.{numbersInside, bodyInside, isEdit}
+use Rattle.kind_limits.specs.Limits.{numbersInside, bodyInside, isEdit}
 use Rattle.labels.specs.Newer.{isNewer}
 use Rattle.links.specs.Log.{bit, hearsIn}
 use Rattle.frame_rules.specs.Record.{framed}

@@ -9,7 +9,7 @@ use lib.ListN.{length}
 use Rattle.kinds.specs.declared.Body.{Body}
 use Rattle.kinds.specs.declared.Body.the-variants.{Empty}
 use Rattle.kinds.specs.Body.{bodyOf}
-use Rattle.kinds.specs.Limits.{numbersInside}
+use Rattle.kind_limits.specs.Limits.{numbersInside}
 use Rattle.kinds.specs.Refusals.{done, malformedLine}
 use Rattle.group_rules.specs.declared.KeptGroup.{KeptGroup}
 use Rattle.group_rules.specs.declared.RoundDone.{RoundDone}

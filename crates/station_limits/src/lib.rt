@@ -19,7 +19,7 @@ fn takeable(body: Body) -> bool
     if kinds::kind_of(body) < 1 {
         return false;
     }
-    kinds::body_inside(body)
+    kind_limits::body_inside(body)
 }
 
 // How many bodies the lane of station k may hold.
@@ -64,7 +64,7 @@ fn queue_inside(queue: Queue) -> bool
     while i < len {
         let slot = queue.slots[i];
         let body = slot.body;
-        if !kinds::is_edit(body) {
+        if !kind_limits::is_edit(body) {
             return false;
         }
         i += 1;
@@ -95,7 +95,7 @@ fn record_inside(n: usize, own: usize, k: usize, record: Record) -> bool
         return false;
     }
     let body = record.body;
-    if !kinds::body_inside(body) {
+    if !kind_limits::body_inside(body) {
         return false;
     }
     let labels = record.labels;
@@ -151,7 +151,7 @@ pub fn station_inside(s: Station) -> bool
         return false;
     }
     let body = s.body;
-    if !kinds::body_inside(body) {
+    if !kind_limits::body_inside(body) {
         return false;
     }
     let waiting = s.waiting;

@@ -7,8 +7,8 @@ use borrow.Author.Tests.{le-leb}
 use Rattle.kinds.specs.declared.Body.{Body}
 use Rattle.kinds.specs.declared.Body.the-variants.{Empty, Neutral}
 use Rattle.kinds.specs.Body.{kindOf}
-use Rattle.kinds.specs.Limits.{numbersInside, bodyInside, isEdit}
-use Rattle.kinds.proofs.Laws.{edit-inside, edit-kind}
+use Rattle.kind_limits.specs.Limits.{numbersInside, bodyInside, isEdit}
+use Rattle.kind_limits.proofs.Laws.{edit-inside, edit-kind}
 use Rattle.places.proofs.Laws.{and-both, and-right}
 use Rattle.station_rules.specs.Limits.{takeable}
 

@@ -7,8 +7,8 @@ use lib.Dec.{eqb}
 use lib.IntN.{pos, negsuc}
 use Rattle.kinds.specs.declared.Body.{Body}
 use Rattle.kinds.specs.declared.Body.the-variants.{Insert, Shift}
-use Rattle.kinds.specs.Limits.{isEdit}
-use Rattle.kinds.proofs.Examples as kinds
+use Rattle.kind_limits.specs.Limits.{isEdit}
+use Rattle.kind_limits.proofs.Examples as kinds
 use Rattle.labels.specs.Newer.{isNewer}
 use Rattle.labels.proofs.Examples as labels
 use Rattle.frame_rules.specs.declared.Record.{Record}

@@ -9,9 +9,9 @@ use lib.Dec.{leb, ltb, eqb}
 use lib.ListN.{getD}
 use borrow.Author.Tests.{ltb-true, leb-false, le-leb}
 use Rattle.kinds.specs.declared.Body.{Body}
-use Rattle.kinds.specs.Limits.{numbersInside, isEdit}
+use Rattle.kind_limits.specs.Limits.{numbersInside, isEdit}
 use Rattle.kinds.specs.Refusals.{done, laneFull}
-use Rattle.kinds.proofs.Laws.{inside-back}
+use Rattle.kind_limits.proofs.Laws.{inside-back}
 use Rattle.label_words.specs.Packing.{unpacked, wordInside}
 use Rattle.labels.proofs.Laws.{all-at}
 use Rattle.label_words.proofs.Laws.{inside-all}

@@ -9,7 +9,7 @@ use lib.ListN.{getD, length}
 use lib.Seq.{getD-set-same, getD-set-other}
 use borrow.Author.Tests.{leb-true, le-leb}
 use Rattle.kinds.specs.declared.Body.{Body}
-use Rattle.kinds.specs.Limits.{isEdit}
+use Rattle.kind_limits.specs.Limits.{isEdit}
 use Rattle.places.specs.Places.{allBelow}
 use Rattle.places.proofs.Laws.{and-both, and-left, and-right, allBelow-at, allBelow-make}
 use Rattle.lanes.specs.declared.Slot.{Slot}

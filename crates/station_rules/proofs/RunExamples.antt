@@ -9,7 +9,7 @@ use lib.IntN.{pos}
 use lib.ListN.{set, replicate}
 use Rattle.kinds.specs.declared.Body.{Body}
 use Rattle.kinds.specs.declared.Body.the-variants.{Empty, Neutral, Insert, Drop}
-use Rattle.kinds.specs.Limits.{isEdit, bodyInside, numbersInside}
+use Rattle.kind_limits.specs.Limits.{isEdit, bodyInside, numbersInside}
 use Rattle.labels.specs.Newer.{isNewer}
 use Rattle.labels.specs.Label.{allLabels}
 use Rattle.label_words.specs.Packing.{packed, unpacked, allZero, wordInside}

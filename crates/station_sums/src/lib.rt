@@ -27,7 +27,7 @@ fn one_if(flag: bool) -> u32 {
 pub fn mix_body(sum: u64, body: Body) -> u64 {
     let kind = mix(sum, kinds::kind_of(body));
     let event = mix(kind, kinds::event_of(body));
-    mix(event, records::unsigned(kinds::argument_of(body)))
+    mix(event, record_writer::unsigned(kinds::argument_of(body)))
 }
 
 fn mix_row(sum: u64, row: [Slot; 16]) -> u64 {

@@ -4,7 +4,7 @@ use mathlib.Core.Bool.{true, false}
 use mir.Syntax.{w32}
 use mir.ValLaws.{toZ-ofZ}
 use Rattle.kinds.specs.Body.{bodyOf}
-use Rattle.kinds.specs.Limits.{numbersInside}
+use Rattle.kind_limits.specs.Limits.{numbersInside}
 use Rattle.listing_rules.specs.Listing.{postedBody}
 use borrow.Author.Needs.{needs}
 use Rattle.commands.proofs.posted_body.Statement.{statement}

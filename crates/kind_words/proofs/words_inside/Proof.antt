@@ -4,7 +4,7 @@ use Prim.Native.Nat.{ℕ}
 use native.Mathlib.Omega.{arith}
 use lib.ListN.{length}
 use borrow.Author.Needs.{needs}
-use Rattle.kinds.specs.Limits.{numbersInside}
+use Rattle.kind_limits.specs.Limits.{numbersInside}
 use Rattle.frame_rules.specs.Words.{signed}
 use Rattle.kind_words.proofs.Distances.{spans-length, no-kind, refused-event, judged-argument}
 use Rattle.kind_words.proofs.words_inside.Statement.{statement}

@@ -5,7 +5,7 @@ use mathlib.Core.Path.{_≡_, refl, sym, _∙_}
 use mathlib.Core.Bool.{true, false}
 use borrow.Author.Needs.{needs}
 use lib.ListN.{getD}
-use Rattle.kinds.specs.Limits.{isEdit}
+use Rattle.kind_limits.specs.Limits.{isEdit}
 use borrow.Author.Tests.{le-leb, lt-leb, not-true, not-false}
 use Rattle.places.specs.Places.{allBelow}
 use Rattle.places.proofs.Laws.{allBelow-more, allBelow-fails}
@@ -15,7 +15,7 @@ use Rattle.station_limits.proofs.queue_inside.Statement.{statement}
 use Rattle.station_limits.proofs.queue_inside.Tie as tie
 use Rattle.station_limits.proofs.queue_inside.Reads as reads
 use Rattle.station_limits.proofs.queue_inside.Lts as lts
-use Rattle.kinds.proofs.is_edit.Reads as is-edit-reads
+use Rattle.kind_limits.proofs.is_edit.Reads as is-edit-reads
 
 abbrev Inv-loop : tie.InvT-loop
 Inv-loop queue len i₀ i = (i ≤ len) × (len ≡ queue .len) × (len ≤ 32) × (allBelow i (λ k. isEdit ((getD (queue .slots) k noSlot) .body)) ≡ true)

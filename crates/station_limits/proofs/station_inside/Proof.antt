@@ -5,7 +5,7 @@ use mathlib.Core.Path.{_≡_, refl, sym, _∙_}
 use mathlib.Core.Bool.{Bool, true, false, _&&_}
 use borrow.Author.Needs.{needs}
 use borrow.Author.Tests.{not-true, not-false}
-use Rattle.kinds.specs.Limits.{bodyInside}
+use Rattle.kind_limits.specs.Limits.{bodyInside}
 use Rattle.frame_rules.specs.Frame.{validNumber}
 use Rattle.places.specs.Places.{allBelow}
 use Rattle.places.proofs.Laws.{allBelow-more, allBelow-fails}
