@@ -6,21 +6,13 @@ use group_rules::KeptGroup;
 use group_rules::Report;
 use kinds::Body;
 use station_rules::Station;
+use station_sums::mix;
 
 // The bytes of one round's masks: sixteen, two bytes each, the low byte first.
 const MASKS_SIZE: usize = 32;
 
 // A post comes before every eighth round, the first among them, at one station after the other.
 const POST_EVERY: u32 = 8;
-
-const LOW: u64 = 4_294_967_296;
-
-const FACTOR: u64 = 2_654_435_769;
-
-// A number mixed into the sum.
-fn mix(sum: u64, number: u32) -> u64 {
-    sum % LOW * FACTOR + (number as u64)
-}
 
 // A number of at most 99 as it is; there are no others here.
 fn small(number: usize) -> u32 {
@@ -133,7 +125,7 @@ fn run(schedule: &[u8], n: usize, rounds: u32) -> u32
         }
         number += 1;
     }
-    (sum % LOW) as u32
+    station_sums::low(sum)
 }
 
 // From fresh, rounds with the masks of a schedule, again and again; gives a checksum of what they report, and 0 if a number is refused.

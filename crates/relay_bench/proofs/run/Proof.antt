@@ -62,8 +62,8 @@ loop-less c = search needs
 loop-again : tie.Need-loop-again Inv-loop2 μ-loop2 Inv-loop μ-loop
 loop-again c = search needs
 
-cast-result : tie.Need-cast-result Inv-loop2 μ-loop2 Inv-loop μ-loop
-cast-result c = search needs
+low-requires : tie.Need-low-requires Inv-loop2 μ-loop2 Inv-loop μ-loop
+low-requires c κs = search needs
 
 returns : tie.Need-returns Inv-loop2 μ-loop2 Inv-loop μ-loop
 returns c = search needs
@@ -91,5 +91,5 @@ run-spec =
     add-number
     loop-less
     loop-again
-    cast-result
+    low-requires
     returns)
