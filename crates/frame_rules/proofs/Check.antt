@@ -26,12 +26,6 @@ pub judged :
 judged F p r e w z f h d q s =
     h ∙ ap (F e) (toZ-ofZ w32 z f) ∙ (λ i. F (d i) ((s ∙ ap signed q) i))
 
--- the same of what is judged in words
-pub in-words :
-    (p : List ℕ) (r : Bool) (e w : ℕ) → r ≡ numbersInside (getD p 2 0) e (signed w) → e ≡ wordAt p 4 → w ≡ wordAt p 8 →
-    r ≡ numbersInside (getD p 2 0) (wordAt p 4) (signed (wordAt p 8))
-in-words p r e w h d q = h ∙ (λ i. numbersInside (getD p 2 0) (d i) (signed (q i)))
-
 -- one record
 module _ (n : ℕ) (p : List ℕ) where
   pub far : n ≤ getD p 0 0 → false ≡ bytesInside n p

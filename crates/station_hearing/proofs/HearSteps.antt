@@ -134,7 +134,7 @@ stored s k e lanes =
 -- what record r does at station s, which has the entries of station k for it
 abbrev pub Does : Station → ℕ → ℕ → ℕ → Record → Effect → Type 0
 Does s n own k r e =
-    Effects n own (labelOf s own) (ackedOf s k) (s .count) (labelOf s k) ((recordOf s k) .labels) ((laneAt s k) .len) r e
+    Effects n own (labelOf s own) (ackedOf s k) (s .count) (labelOf s k) ((laneAt s k) .len) (recordOf s k) r e
 
 -- a newer record of station k
 module _
@@ -145,6 +145,7 @@ module _
   here = rw (k-is, n-is, own-is) at does
 
   body-is : (e .entry) .body ≡ r .body
+  unfolding replaced
   body-is = ap (λ (x : Record). x .body) (here .entry)
 
   takes-is : (b : Bool) → e .takes ≡ b → takes s r ≡ b

@@ -46,19 +46,18 @@ pub fn hear_all(
         let place = newer.places[i] as usize;
         i += 1;
         let at = starts[place / 16] + 4 + 16 * (place % 16);
-        let k = bytes[at] as usize;
+        let seen = record_reader::read_record(&bytes[at..at + 16]);
+        let k = seen.station as usize;
         let old = station.table[k];
-        let kept = old.labels;
         let e = heard_records::heard(
-            bytes,
-            at,
+            seen,
+            old,
             n,
             own,
             station.labels[own],
             station.acked[k],
             station.count,
             station.labels[k],
-            kept,
             station.lanes[k].len,
         );
         if e.overfull {

@@ -21,9 +21,13 @@ heeds s r =
     not (eqb k (s .own))
     && isNewer (heldOf s k) (recordLabel (recordOf s k) k) ((recordOf s k) .count) (ownLabel r) (r .count)
 
+-- the record's own label comes after this one
+abbrev pub follows : ℕ → Record → Bool
+follows label r = eqb (ownLabel r) (successor label)
+
 -- it shows the next broadcast of its station: its own label comes after the hearer's label for that station (line 14)
 abbrev pub advances : Station → Record → Bool
-advances s r = eqb (ownLabel r) (successor (labelOf s (r .station)))
+advances s r = follows (labelOf s (r .station)) r
 
 -- its body is taken (line 17; Algorithm 3, line 4)
 abbrev pub takes : Station → Record → Bool
