@@ -12,28 +12,27 @@ use Rattle.kinds.specs.declared.Body.{Body}
 use Rattle.kind_limits.specs.Limits.{isEdit}
 use Rattle.places.specs.Places.{allBelow}
 use Rattle.places.proofs.Laws.{and-both, and-left, and-right, allBelow-at, allBelow-make}
 use Rattle.lanes.specs.declared.Slot.{Slot}
 use Rattle.lanes.specs.declared.Queue.{Queue}
-use Rattle.lanes.specs.Queue.{noSlot, queued, oldest, unqueued}
+use Rattle.lanes.specs.Queue.{queueCapacity, noSlot, queued, oldest, unqueued, queueInside}
 use Rattle.lanes.proofs.QueueLaws.{unqueued-at}
-use Rattle.station_rules.specs.Limits.{queueInside}
 
 -- the body at a place of a queue
 abbrev slotBody : Queue → ℕ → Body
 slotBody q i = (getD (q .slots) i noSlot) .body
 
-pub queue-most : (q : Queue) → queueInside q ≡ true → q .len ≤ 32
+pub queue-most : (q : Queue) → queueInside q ≡ true → q .len ≤ queueCapacity
 unfolding queueInside
-queue-most q h = leb-true (q .len) 32 (and-left (leb (q .len) 32) (allBelow (q .len) (λ i. isEdit (slotBody q i))) h)
+queue-most q h = leb-true (q .len) queueCapacity (and-left (leb (q .len) queueCapacity) (allBelow (q .len) (λ i. isEdit (slotBody q i))) h)
 
 pub queue-edit : (q : Queue) → queueInside q ≡ true → (i : ℕ) → i < q .len → isEdit (slotBody q i) ≡ true
 unfolding queueInside
 queue-edit q h =
-    allBelow-at (q .len) (λ i. isEdit (slotBody q i)) (and-right (leb (q .len) 32) (allBelow (q .len) (λ i. isEdit (slotBody q i))) h)
+    allBelow-at (q .len) (λ i. isEdit (slotBody q i)) (and-right (leb (q .len) queueCapacity) (allBelow (q .len) (λ i. isEdit (slotBody q i))) h)
 
-pub queue-make : (q : Queue) → q .len ≤ 32 → ((i : ℕ) → i < q .len → isEdit (slotBody q i) ≡ true) → queueInside q ≡ true
+pub queue-make : (q : Queue) → q .len ≤ queueCapacity → ((i : ℕ) → i < q .len → isEdit (slotBody q i) ≡ true) → queueInside q ≡ true
 unfolding queueInside
-queue-make q l h = and-both (le-leb (q .len) 32 l) (allBelow-make (q .len) (λ i. isEdit (slotBody q i)) h)
+queue-make q l h = and-both (le-leb (q .len) queueCapacity l) (allBelow-make (q .len) (λ i. isEdit (slotBody q i)) h)
 
 pub queued-len : (q : Queue) (b : Body) → (queued q b) .len ≡ suc (q .len)
 unfolding queued
@@ -54,7 +53,7 @@ queued-before q b i l =
     (getD-set-other (q .slots) (q .len) i (record { body = b }) noSlot (λ e. absurd (omega arith)))
 
 pub queued-inside :
-    (q : Queue) (b : Body) → length (q .slots) ≡ 32 → queueInside q ≡ true → q .len < 32 → isEdit b ≡ true → queueInside (queued q b) ≡ true
+    (q : Queue) (b : Body) → length (q .slots) ≡ queueCapacity → queueInside q ≡ true → q .len < queueCapacity → isEdit b ≡ true → queueInside (queued q b) ≡ true
 queued-inside q b shape h l e = queue-make (queued q b) (omega (arith, queued-len q b)) each
   where
     each : (i : ℕ) → i < (queued q b) .len → isEdit (slotBody (queued q b) i) ≡ true
@@ -64,9 +63,9 @@ queued-inside q b shape h l e = queue-make (queued q b) (omega (arith, queued-le
           | no ne ↦ rw (queued-before q b i (omega (arith, queued-len q b))) (queue-edit q h i (omega (arith, queued-len q b)))
         ]
 
-pub unqueued-inside : (q : Queue) → length (q .slots) ≡ 32 → queueInside q ≡ true → queueInside (unqueued q) ≡ true
+pub unqueued-inside : (q : Queue) → length (q .slots) ≡ queueCapacity → queueInside q ≡ true → queueInside (unqueued q) ≡ true
 unqueued-inside q shape h =
-    let most : q .len ≤ 32 = queue-most q h in
+    let most : q .len ≤ queueCapacity = queue-most q h in
     let len : (unqueued q) .len ≡ q .len - 1 = unqueued-len q in
     queue-make (unqueued q) (omega arith)
     (λ i m. ap (λ (x : Slot). isEdit (x .body)) (unqueued-at q i (omega arith) (omega arith)) ∙ queue-edit q h (suc i) (omega arith))
