@@ -22,6 +22,21 @@ class TestEdits(unittest.TestCase):
             with self.subTest(edit=str(edit.relative_to(ROOT))):
                 self.assertRegex(edit.read_text().splitlines()[0], r"^# \S.*\S$")
 
+    def test_each_edit_fits_its_crate(self):
+        for edit in sorted(ROOT.glob("crates/*/must-fail*/*.edit")):
+            texts = {}
+            name = old = None
+            with self.subTest(edit=str(edit.relative_to(ROOT))):
+                for line in edit.read_text().splitlines():
+                    if line.startswith("file: "):
+                        name = line[6:]
+                        texts.setdefault(name, (edit.parent.parent / name).read_text())
+                    elif line.startswith("old: "):
+                        old = line[5:]
+                    elif line.startswith("new:"):
+                        self.assertEqual(texts[name].count(old), 1, old)
+                        texts[name] = texts[name].replace(old, line[4:].removeprefix(" "))
+
     def test_a_fact_shows_something(self):
         error = CHECK.first_error(f"{NOTE}\n{FACT}\n{NAME}\n", "/copy")
         self.assertEqual(error, FACT.replace("/copy/", ""))
