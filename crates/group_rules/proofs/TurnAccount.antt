@@ -11,8 +11,7 @@ use lib.ListN.{getD, replicate, length}
 use borrow.Author.Tests.{ltb-true, eq-eqb}
 use Rattle.kinds.specs.declared.Body.{Body}
 use Rattle.kinds.specs.declared.Body.the-variants.{Neutral}
-use Rattle.kinds.specs.Body.{kindOf}
-use Rattle.kind_limits.specs.Limits.{isEdit}
+use Rattle.kinds.specs.Body.{isEmpty, isEdit}
 use Rattle.places.specs.Places.{gather}
 use Rattle.places.proofs.Laws.{allBelow-at, fill-below}
 use Rattle.lanes.specs.declared.Lane.{Lane}
@@ -22,11 +21,11 @@ use Rattle.station_rules.specs.declared.Taking.{Taking}
 use Rattle.lanes.specs.Lane.{bodies, laneOf, pushed, popped}
 use Rattle.lanes.specs.Queue.{noSlot}
 use Rattle.lanes.specs.Waiting.{waitingEdits, nextEdit, withoutNext}
-use Rattle.lanes.proofs.WaitingLaws.{next-edit, started-edits}
+use Rattle.lanes.proofs.WaitingLaws.{next-postable, started-edits}
 use Rattle.station_rules.specs.State.{laneAt}
 use Rattle.station_rules.specs.Turn.{airs, rowOf, startsEdit, startedBody, passed, rewritten, afterTurn}
-use Rattle.kind_limits.proofs.Laws.{edit-not-empty}
-use Rattle.station_rules.proofs.BodyLaws.{neutral-no-edit}
+use Rattle.kinds.proofs.Laws.{edit-not-empty}
+use Rattle.kind_limits.proofs.Laws.{postable-edit}
 use Rattle.station_rules.proofs.Shape.{Shaped, lanesAfter-length}
 use Rattle.station_rules.proofs.LimitsLane.{lane-most}
 use Rattle.station_rules.proofs.StationLimits.{Inside}
@@ -104,14 +103,14 @@ module _ (s : Station) (shape : Shaped s) (c : Inside s) where
 
       go :
           Start s →
-          onlyEdits (bodies (cond (eqb (kindOf (startedBody s)) 0) after (pushed after (startedBody s))))
+          onlyEdits (bodies (cond (isEmpty (startedBody s)) after (pushed after (startedBody s))))
           ++ waitingEdits (cond (startsEdit s) (withoutNext (s .waiting)) (s .waiting))
           ≡ onlyEdits (bodies after) ++ waitingEdits (s .waiting)
       go (anEdit e room w b) =
-          let edit : isEdit (nextEdit (s .waiting)) ≡ true = next-edit (s .waiting) (c .waiting) w in
+          let edit : isEdit (nextEdit (s .waiting)) ≡ true = postable-edit (nextEdit (s .waiting)) (next-postable (s .waiting) (c .waiting) w) in
           rw (e, b, edit-not-empty (nextEdit (s .waiting)) edit, pushed-edits after (nextEdit (s .waiting)) room, edit, none-edits after room)
           (sym (started-edits (s .waiting) (shape .waiting) (c .waiting) w))
-      go (aNeutral e room b) = rw (e, b, pushed-edits after Neutral room, neutral-no-edit, none-edits after room)
+      go (aNeutral e room b) = rw (e, b, pushed-edits after Neutral room, none-edits after room)
       go (nothing e b) = rw (e, b)
 
   rewritten-same : kept (afterTurn s) (s .own) ≡ kept (passed s) (s .own)

@@ -9,13 +9,13 @@ use lib.Dec.{ltb}
 use lib.ListN.{length}
 use borrow.Author.Tests.{ltb-true, lt-ltb, le-ltb}
 use Rattle.kinds.specs.declared.Body.{Body}
-use Rattle.kind_limits.specs.Limits.{isEdit}
+use Rattle.kind_limits.specs.Limits.{postable}
 use Rattle.places.specs.Places.{allBelow}
 use Rattle.lanes.specs.declared.Waiting.{Waiting}
 use Rattle.lanes.specs.Queue.{queueCapacity, emptyQueue, queueInside}
 use Rattle.lanes.specs.Waiting.{noneWaiting, waitingEdits, waitingCount, hasRoom, withPosted, nextEdit, withoutNext, waitingInside}
 use Rattle.lanes.proofs.QueueLaws.{bodies-empty, length-queueBodies, bodies-queued, bodies-unqueued, queued-slots, unqueued-slots}
-use Rattle.lanes.proofs.QueueLimits.{queue-most, queued-len, unqueued-len, queued-inside, unqueued-inside, oldest-edit}
+use Rattle.lanes.proofs.QueueLimits.{queue-most, queued-len, unqueued-len, queued-inside, unqueued-inside, oldest-postable}
 
 -- the array has its length by its type
 pub record WaitingSized (w : Waiting) : Type 0 where
@@ -61,7 +61,7 @@ unfolding waitingEdits withPosted
 posted-edits w b c h = bodies-queued (w .queue) b (omega (arith, room-count w h, c .slots))
 
 pub posted-inside :
-    (w : Waiting) (b : Body) → WaitingSized w → waitingInside w ≡ true → hasRoom w ≡ true → isEdit b ≡ true → waitingInside (withPosted w b) ≡ true
+    (w : Waiting) (b : Body) → WaitingSized w → waitingInside w ≡ true → hasRoom w ≡ true → postable b ≡ true → waitingInside (withPosted w b) ≡ true
 unfolding waitingInside withPosted
 posted-inside w b c i h e = queued-inside (w .queue) b (c .slots) i (room-count w h) e
 
@@ -70,9 +70,9 @@ pub edits-count : (w : Waiting) → WaitingSized w → waitingInside w ≡ true 
 unfolding waitingEdits waitingCount waitingInside
 edits-count w c i = length-queueBodies (w .queue) (omega (arith, queue-most (w .queue) i, c .slots))
 
-pub next-edit : (w : Waiting) → waitingInside w ≡ true → 0 < waitingCount w → isEdit (nextEdit w) ≡ true
+pub next-postable : (w : Waiting) → waitingInside w ≡ true → 0 < waitingCount w → postable (nextEdit w) ≡ true
 unfolding waitingCount waitingInside nextEdit
-next-edit w i l = oldest-edit (w .queue) i l
+next-postable w i l = oldest-postable (w .queue) i l
 
 -- the next one started
 pub started-count : (w : Waiting) → waitingCount (withoutNext w) ≡ waitingCount w - 1

@@ -6,7 +6,7 @@ use lib.Dec.{leb}
 use lib.ListN.{take, drop, set, getD, replicate}
 use Rattle.kinds.specs.declared.Body.{Body}
 use Rattle.kinds.specs.declared.Body.the-variants.{Empty}
-use Rattle.kind_limits.specs.Limits.{isEdit}
+use Rattle.kind_limits.specs.Limits.{postable}
 use Rattle.places.specs.Places.{allBelow}
 use Rattle.lanes.specs.declared.Slot.{Slot}
 use Rattle.lanes.specs.declared.Queue.{Queue}
@@ -38,6 +38,6 @@ oldest q = (getD (q .slots) 0 noSlot) .body
 unfoldable pub unqueued : Queue → Queue
 unqueued q = record { len = q .len - 1; slots = take (q .len - 1) (drop 1 (q .slots)) ++ (noSlot ∷ drop (q .len) (q .slots)) }
 
--- no more than there is room for, and each is an edit
+-- no more than there is room for, and each may be posted
 unfoldable pub queueInside : Queue → Bool
-queueInside q = leb (q .len) queueCapacity && allBelow (q .len) (λ i. isEdit ((getD (q .slots) i noSlot) .body))
+queueInside q = leb (q .len) queueCapacity && allBelow (q .len) (λ i. postable ((getD (q .slots) i noSlot) .body))

@@ -39,6 +39,6 @@ nextEdit w = oldest (w .queue)
 unfoldable pub withoutNext : Waiting → Waiting
 withoutNext w = record { queue = unqueued (w .queue) }
 
--- "Limits": at most 32 wait, and each is an edit
+-- "Limits": at most 32 wait, and each may be posted
 unfoldable pub waitingInside : Waiting → Bool
 waitingInside w = queueInside (w .queue)

@@ -115,7 +115,7 @@ fn unqueued(queue: Queue) -> Queue
     }
 }
 
-// Is each body of the queue an edit, and are there no more than it has room for?
+// May each body of the queue be posted, and are there no more than it has room for?
 fn queue_inside(queue: Queue) -> bool
     ensures { λ r. ⌜ r ≡ queueSpec.queueInside queue ⌝ }
 {
@@ -127,7 +127,7 @@ fn queue_inside(queue: Queue) -> bool
     while i < len {
         let slot = queue.slots[i];
         let body = slot.body;
-        if !kind_limits::is_edit(body) {
+        if !kind_limits::postable(body) {
             return false;
         }
         i += 1;

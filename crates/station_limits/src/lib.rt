@@ -15,7 +15,7 @@ use station_rules::Station;
 fn takeable(body: Body) -> bool
     ensures { λ r. ⌜ r ≡ spec.takeable body ⌝ }
 {
-    if kinds::kind_of(body) < 1 {
+    if kinds::is_empty(body) {
         return false;
     }
     kind_limits::body_inside(body)

@@ -7,7 +7,7 @@ use lib.Dec.{eqb}
 use lib.IntN.{pos, negsuc}
 use Rattle.kinds.specs.declared.Body.{Body}
 use Rattle.kinds.specs.declared.Body.the-variants.{Insert, Shift}
-use Rattle.kind_limits.specs.Limits.{isEdit}
+use Rattle.kind_limits.specs.Limits.{postable}
 use Rattle.kind_limits.proofs.Examples as kinds
 use Rattle.labels.specs.Newer.{isNewer}
 use Rattle.labels.proofs.Examples as labels
@@ -50,10 +50,10 @@ module _ (s : Station) (r : Record) where
 
 -- what a post at a station inside its limits returns
 module _ (s : Station) (i : stationInside s ≡ true) where
-  refused : (b : Body) → isEdit b ≡ false → (postCall s b) .refusal ≡ 4
+  refused : (b : Body) → postable b ≡ false → (postCall s b) .refusal ≡ 4
   refused b e = sym (ap (λ (k : Kept). k .refusal) (post-no-edit s b i e))
 
-  taken : (b : Body) → isEdit b ≡ true → waitingCount (s .waiting) < queueCapacity → (postCall s b) .refusal ≡ 0
+  taken : (b : Body) → postable b ≡ true → waitingCount (s .waiting) < queueCapacity → (postCall s b) .refusal ≡ 0
   taken b e l = sym (ap (λ (k : Kept). k .refusal) (post-done s b i e (room-below (s .waiting) l)))
 
   module _ (event : ℕ) (least : 1 ≤ event) (most : event ≤ 99_999_999) (room : waitingCount (s .waiting) < queueCapacity) where
@@ -66,12 +66,12 @@ module _ (s : Station) (i : stationInside s ≡ true) where
     m10 = let e = kinds.m10 event least most in (taken _ (e .0) room, refused _ (e .1))
 
   -- as long as fewer than 32 wait, an edit is accepted and waits
-  pub m11-room : (b : Body) → isEdit b ≡ true → waitingCount (s .waiting) < queueCapacity → ((postCall s b) .refusal ≡ 0) × (waitingCount ((postCall s b) .station .waiting) ≡ waitingCount (s .waiting) + 1)
+  pub m11-room : (b : Body) → postable b ≡ true → waitingCount (s .waiting) < queueCapacity → ((postCall s b) .refusal ≡ 0) × (waitingCount ((postCall s b) .station .waiting) ≡ waitingCount (s .waiting) + 1)
   m11-room b e l = (taken b e l, sym (ap (λ (k : Kept). waitingCount (k .station .waiting)) (post-done s b i e (room-below (s .waiting) l))) ∙ one-more)
     where
       one-more : waitingCount ((posted s b) .waiting) ≡ waitingCount (s .waiting) + 1
       one-more = unfold posted in posted-count (s .waiting) b ∙ omega arith
 
   -- the 33rd waiting edit
-  pub m11 : (b : Body) → isEdit b ≡ true → waitingCount (s .waiting) ≡ queueCapacity → (postCall s b) .refusal ≡ 3
+  pub m11 : (b : Body) → postable b ≡ true → waitingCount (s .waiting) ≡ queueCapacity → (postCall s b) .refusal ≡ 3
   m11 b e l = sym (ap (λ (k : Kept). k .refusal) (post-full s b i e (room-full (s .waiting) (omega arith))))

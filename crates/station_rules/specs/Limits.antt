@@ -4,7 +4,7 @@ use Prim.Native.Nat.{ℕ}
 use mathlib.Core.Bool.{Bool, cond, not, _&&_, _||_}
 use lib.Dec.{leb, eqb}
 use Rattle.kinds.specs.declared.Body.{Body}
-use Rattle.kinds.specs.Body.{kindOf}
+use Rattle.kinds.specs.Body.{isEmpty}
 use Rattle.kind_limits.specs.Limits.{bodyInside}
 use Rattle.labels.specs.Label.{isLabel}
 use Rattle.frame_rules.specs.declared.Record.{Record}
@@ -18,7 +18,7 @@ use Rattle.station_rules.specs.State.{labelOf, ackedOf, heldOf, recordOf
 
 -- a body that a lane may hold: inside its limits, and not Empty
 abbrev pub takeable : Body → Bool
-takeable b = leb 1 (kindOf b) && bodyInside b
+takeable b = not (isEmpty b) && bodyInside b
 
 -- a lane of at most `most` bodies, each of which it may hold
 unfoldable pub laneInside : ℕ → Lane → Bool
