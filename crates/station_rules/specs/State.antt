@@ -10,7 +10,7 @@ use Rattle.frame_rules.specs.Calls.{tableRecords}
 use Rattle.lanes.specs.declared.Lane.{Lane}
 use Rattle.station_rules.specs.declared.Station.{Station}
 use Rattle.lanes.specs.Lane.{noLane}
-use Rattle.lanes.specs.Queue.{noneWaiting}
+use Rattle.lanes.specs.Waiting.{noneWaiting}
 
 -- the label for station k
 abbrev pub labelOf : Station → ℕ → ℕ
