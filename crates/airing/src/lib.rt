@@ -1,8 +1,11 @@
 // The airing step of a turn: where every lane has a body, the oldest of each makes the row.
 
 ghost use mathlib.Core.Path.{_≡_};
+ghost use mathlib.Core.Bool.{cond};
 ghost use Prim.Native.Nat.{_≤_};
-ghost use Rattle.airing.specs.Airing.{full, airing};
+ghost use lib.ListN.{replicate};
+ghost use Rattle.lanes.specs.Queue.{noSlot};
+ghost use Rattle.station_rules.specs.Turn.{eachHasBody, oldestOfEach, withoutOldest};
 use kinds::Body;
 use lanes::Lane;
 use lanes::Slot;
@@ -17,7 +20,7 @@ pub struct Aired {
 // Has each of the first n lanes a body?
 fn all_full(n: usize, lanes: [Lane; 16]) -> bool
     requires { ⌜ n ≤ 16 ⌝ }
-    ensures { λ r. ⌜ r ≡ full n lanes ⌝ }
+    ensures { λ r. ⌜ r ≡ eachHasBody n lanes ⌝ }
 {
     let mut k: usize = 0;
     while k < n {
@@ -33,7 +36,9 @@ fn all_full(n: usize, lanes: [Lane; 16]) -> bool
 // A row aired from the first n lanes, or nothing.
 pub fn air(n: usize, lanes: [Lane; 16]) -> Aired
     requires { ⌜ n ≤ 16 ⌝ }
-    ensures { λ r. ⌜ r ≡ airing n lanes ⌝ }
+    ensures { λ r. ⌜ (r .aired ≡ eachHasBody n lanes) ×
+        (r .row ≡ cond (eachHasBody n lanes) (oldestOfEach n lanes) (replicate 16 noSlot)) ×
+        (r .left ≡ cond (eachHasBody n lanes) (withoutOldest n lanes) lanes) ⌝ }
 {
     let slot = Slot { body: Body::Empty };
     let mut row = [slot; 16];

@@ -2,12 +2,14 @@
 -- row's least is its most the number can be no other.
 use Prim.Native.Nat.{ℕ, zero, suc, _<_, _≤_}
 use native.Mathlib.Omega.{arith}
-use mathlib.Core.Bool.{Bool, true, false, _&&_}
+use mathlib.Core.Bool.{Bool, true, false, _&&_, false≢true}
 use mathlib.Core.Path.{_≡_, refl, ap, _∙_}
 use lib.Dec.{ltb, leb}
 use lib.IntN.{ℤ, pos, negsuc}
 use lib.ListN.{length}
-use lib.Signed.{leZ}
+use lib.Signed.{leZ, mag}
+use mir.Syntax.{w32}
+use mir.Val.{SFits}
 use borrow.Author.Tests.{leb-true, ltb-true}
 use Rattle.kinds.proofs.Laws.{edit-not-empty}
 use Rattle.places.proofs.Laws.{both}
@@ -78,6 +80,39 @@ module _ (k e : ℕ) (a : ℤ) (h : numbersInside k e a ≡ true) where
   pub inside-back : bodyInside (bodyOf k e a) ≡ true
   unfolding bodyInside
   inside-back = (λ i. numbersInside (kind-back i) (event-back i) (argument-back i)) ∙ h
+
+-- the limits of every row fit 32 bits, and so do the numbers between them
+record Small (k : ℕ) : Type 0 where
+  event : limitsOf k .«most_event» < 4_294_967_296
+  least : mag (limitsOf k .«least_argument») < 2_147_483_648
+  most : mag (limitsOf k .«most_argument») < 2_147_483_648
+
+small : (k : ℕ) → Small k
+small zero = record { event = omega arith; least = omega arith; most = omega arith }
+small (suc zero) = record { event = omega arith; least = omega arith; most = omega arith }
+small (suc (suc zero)) = record { event = omega arith; least = omega arith; most = omega arith }
+small (suc (suc (suc zero))) = record { event = omega arith; least = omega arith; most = omega arith }
+small (suc (suc (suc (suc zero)))) = record { event = omega arith; least = omega arith; most = omega arith }
+small (suc (suc (suc (suc (suc k))))) = record { event = omega arith; least = omega arith; most = omega arith }
+
+between-fits : (low a high : ℤ) → mag low < 2_147_483_648 → mag high < 2_147_483_648 → (leZ low a && leZ a high) ≡ true → SFits w32 a
+between-fits low (pos m) (pos h) p q e = record { sfits = omega (arith, leb-true m h (both (leZ low (pos m)) (leb m h) e .1)) }
+between-fits low (pos m) (negsuc h) p q e = absurd (false≢true (both (leZ low (pos m)) false e .1))
+between-fits (pos l) (negsuc m) high p q e = absurd (false≢true (both false (leZ (negsuc m) high) e .0))
+between-fits (negsuc l) (negsuc m) high p q e = record { sfits = omega (arith, leb-true m l (both (leb m l) (leZ (negsuc m) high) e .0)) }
+
+module _ (b : Body) (h : bodyInside b ≡ true) where
+  facts : Inside (kindOf b) (eventOf b) (argumentOf b)
+  unfolding bodyInside
+  facts = inside (kindOf b) (eventOf b) (argumentOf b) h
+
+  pub body-event-fits : eventOf b < 4_294_967_296
+  body-event-fits = omega (arith, facts .most, (small (kindOf b)) .event)
+
+  pub body-argument-fits : SFits w32 (argumentOf b)
+  body-argument-fits =
+      let s = small (kindOf b) in
+      between-fits (limitsOf (kindOf b) .«least_argument») (argumentOf b) (limitsOf (kindOf b) .«most_argument») (s .least) (s .most) (facts .argument)
 
 -- what may be posted is an edit, and inside its limits
 pub postable-edit : (b : Body) → postable b ≡ true → isEdit b ≡ true

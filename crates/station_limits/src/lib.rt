@@ -2,7 +2,7 @@
 
 ghost use mathlib.Core.Path.{_≡_};
 ghost use mathlib.Core.Bool.{cond, not, _||_};
-ghost use Prim.Native.Nat.{_≤_};
+ghost use Prim.Native.Nat.{_≤_, _<_};
 ghost use lib.Dec.{eqb};
 ghost use Rattle.frame_rules.specs.Record.{countInside};
 ghost use Rattle.station_rules.specs.Limits as spec;
@@ -65,7 +65,7 @@ fn count_inside(n: usize, own: usize, k: usize, count: u8) -> bool
 
 // Is this a record of station k, inside its limits, in the table of station own among n?
 fn record_inside(n: usize, own: usize, k: usize, record: Record) -> bool
-    requires { ⌜ (1 ≤ n) × (n ≤ 16) ⌝ }
+    requires { ⌜ (n ≤ 16) × (k < n) ⌝ }
     ensures { λ r. ⌜ r ≡ spec.recordInside n own k «record» ⌝ }
 {
     if record.station as usize != k {
@@ -84,7 +84,7 @@ fn record_inside(n: usize, own: usize, k: usize, record: Record) -> bool
 
 // Is the record of station k inside its limits, if one is held?
 fn held_inside(n: usize, own: usize, k: usize, held: bool, record: Record) -> bool
-    requires { ⌜ (1 ≤ n) × (n ≤ 16) ⌝ }
+    requires { ⌜ (n ≤ 16) × (k < n) ⌝ }
     ensures { λ r. ⌜ r ≡ (not held || spec.recordInside n own k «record») ⌝ }
 {
     if !held {
@@ -103,7 +103,7 @@ fn place_inside(
     record: Record,
     lane: Lane,
 ) -> bool
-    requires { ⌜ (1 ≤ n) × (n ≤ 16) ⌝ }
+    requires { ⌜ (n ≤ 16) × (k < n) ⌝ }
     ensures { λ r. ⌜ r ≡ spec.entryInside n own k label held «record» lane ⌝ }
 {
     if 2 < label {

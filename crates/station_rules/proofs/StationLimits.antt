@@ -8,7 +8,8 @@ use borrow.Author.Tests.{leb-true, ltb-true, le-leb, lt-ltb, eqb-true, eq-eqb}
 use Rattle.kind_limits.specs.Limits.{bodyInside}
 use Rattle.labels.specs.Label.{isLabel}
 use Rattle.frame_rules.specs.declared.Record.{Record}
-use Rattle.frame_rules.specs.Record.{countInside}
+use Rattle.frame_rules.specs.Record.{countInside, recordLimits}
+use Rattle.frame_rules.proofs.Limits.{limits-open, limits-make}
 use Rattle.frame_rules.specs.Frame.{validNumber}
 use Rattle.places.specs.Places.{allBelow}
 use Rattle.places.proofs.Laws.{and-both, and-left, and-right, allBelow-at, allBelow-make}
@@ -52,24 +53,20 @@ or-not-use false b h e = absurd (false≢true e)
 record-open : (n own k : ℕ) (r : Record) → recordInside n own k r ≡ true → RecordHolds n own k r
 unfolding recordInside
 record-open n own k r h =
-    let labels = allBelow n (λ j. isLabel (recordLabel r j)) in
-    let one = eqb (r .station) k in
-    let two = eqb k own || countInside n (r .count) in
-    let three = bodyInside (r .body) in
-    let front : (one && two && three) ≡ true = and-left (one && two && three) labels h in
+    let l = limits-open n (eqb k own) r (and-right (eqb (r .station) k) (recordLimits n (eqb k own) r) h) in
     record {
-      station = eqb-true (r .station) k (and-left one two (and-left (one && two) three front));
-      count = and-right one two (and-left (one && two) three front);
-      body = and-right (one && two) three front;
-      labels = allBelow-at n (λ j. isLabel (recordLabel r j)) (and-right (one && two && three) labels h);
+      station = eqb-true (r .station) k (and-left (eqb (r .station) k) (recordLimits n (eqb k own) r) h);
+      count = l .count;
+      body = l .body;
+      labels = l .labels;
     }
 
-record-make : (n own k : ℕ) (r : Record) → RecordHolds n own k r → recordInside n own k r ≡ true
+record-make : (n own k : ℕ) (r : Record) → k < n → RecordHolds n own k r → recordInside n own k r ≡ true
 unfolding recordInside
-record-make n own k r c =
-    and-both
-    (and-both (and-both (eq-eqb (r .station) k (c .station)) (c .count)) (c .body))
-    (allBelow-make n (λ j. isLabel (recordLabel r j)) (c .labels))
+record-make n own k r b c =
+    and-both (eq-eqb (r .station) k (c .station))
+    (limits-make n (eqb k own) r
+    (record { station = rw (c .station) b; count = c .count; body = c .body; labels = c .labels }))
 
 place-open : (s : Station) (k : ℕ) → placeInside s k ≡ true → PlaceHolds s k
 unfolding placeInside
@@ -86,12 +83,12 @@ place-open s k h =
       lane = and-right (label && (not (heldOf s k) || recorded)) lane h;
     }
 
-place-make : (s : Station) (k : ℕ) → PlaceHolds s k → placeInside s k ≡ true
+place-make : (s : Station) (k : ℕ) → k < s .n → PlaceHolds s k → placeInside s k ≡ true
 unfolding placeInside
-place-make s k c =
+place-make s k b c =
     and-both
     (and-both (c .label)
-    (or-not-make (heldOf s k) (recordInside (s .n) (s .own) k (recordOf s k)) (λ e. record-make (s .n) (s .own) k (recordOf s k) (c .held e))))
+    (or-not-make (heldOf s k) (recordInside (s .n) (s .own) k (recordOf s k)) (λ e. record-make (s .n) (s .own) k (recordOf s k) b (c .held e))))
     (c .lane)
 
 pub inside-open : (s : Station) → stationInside s ≡ true → Inside s
@@ -133,4 +130,4 @@ inside-make s c =
     (c .held))
     (c .body))
     (c .waiting))
-    (allBelow-make (s .n) (placeInside s) (λ k l. place-make s k (c .places k l)))
+    (allBelow-make (s .n) (placeInside s) (λ k l. place-make s k l (c .places k l)))

@@ -1,4 +1,5 @@
 -- Document 01, "A station and its calls", Turn: airing, the end of the broadcast and the next start, the own record rewritten.
+use Prim.Native.Nat.{ℕ}
 use mathlib.Core.Bool.{Bool, cond, _&&_}
 use mathlib.Core.List.{List}
 use lib.ListN.{getD, set, replicate}
@@ -16,19 +17,31 @@ use Rattle.station_rules.specs.declared.TurnReport.{TurnReport}
 use Rattle.lanes.specs.Lane.{noLane, pushed, popped}
 use Rattle.lanes.specs.Queue.{noSlot}
 use Rattle.lanes.specs.Waiting.{waitingCount, nextEdit, withoutNext}
-use Rattle.station_rules.specs.State.{labelOf, ackedOf, recordOf, laneAt}
+use Rattle.station_rules.specs.State.{labelOf, ackedOf, recordOf}
+
+-- each of the first n lanes has a body
+abbrev pub eachHasBody : ℕ → List Lane → Bool
+eachHasBody n lanes = allBelow n (λ k. ltb 0 ((getD lanes k noLane) .len))
+
+-- the oldest body of each of the first n lanes
+abbrev pub oldestOfEach : ℕ → List Lane → List Slot
+oldestOfEach n lanes = fill n (λ k. record { body = (getD lanes k noLane) .first }) (replicate 16 noSlot)
+
+-- the lanes without these bodies
+abbrev pub withoutOldest : ℕ → List Lane → List Lane
+withoutOldest n lanes = fill n (λ k. popped (getD lanes k noLane)) lanes
 
 -- every lane has a body, so a row is aired (source document 001, Algorithm 3, lines 5 to 9; H2: there at each delivery, here at the turn, one row)
 unfoldable pub airs : Station → Bool
-airs s = allBelow (s .n) (λ k. ltb 0 ((laneAt s k) .len))
+airs s = eachHasBody (s .n) (s .lanes)
 
--- the oldest body of each lane
+-- the row
 unfoldable pub rowOf : Station → List Slot
-rowOf s = fill (s .n) (λ k. record { body = (laneAt s k) .first }) (replicate 16 noSlot)
+rowOf s = oldestOfEach (s .n) (s .lanes)
 
 -- the lanes after the airing step
 unfoldable pub lanesAfter : Station → List Lane
-lanesAfter s = cond (airs s) (fill (s .n) (λ k. popped (laneAt s k)) (s .lanes)) (s .lanes)
+lanesAfter s = cond (airs s) (withoutOldest (s .n) (s .lanes)) (s .lanes)
 
 -- all N are acknowledged, so the broadcast ends (Algorithm 2, line 18)
 unfoldable pub ends : Station → Bool

@@ -1,7 +1,7 @@
 -- What a turn makes of a station: the answer built from the parts of the turn is the definition's.
-use Prim.Native.Nat.{ℕ, _≤_, _<_, _+_}
+use Prim.Native.Nat.{ℕ, _≤_, _<_}
 use native.Mathlib.Omega.{arith}
-use mathlib.Core.Path.{_≡_, refl, ap, sym, _∙_}
+use mathlib.Core.Path.{_≡_, refl, sym, _∙_}
 use mathlib.Core.Bool.{Bool, true, false, cond, _&&_}
 use mathlib.Core.List.{List}
 use lib.ListN.{getD, set, replicate}
@@ -18,14 +18,13 @@ use Rattle.lanes.specs.declared.Lane.{Lane}
 use Rattle.lanes.specs.declared.Waiting.{Waiting}
 use Rattle.lanes.specs.declared.Slot.{Slot}
 use Rattle.airing.specs.declared.Aired.{Aired}
-use Rattle.airing.specs.Airing.{airing}
 use Rattle.station_rules.specs.declared.Station.{Station}
 use Rattle.station_rules.specs.declared.Turned.{Turned}
 use Rattle.lanes.specs.Lane.{noLane, pushed}
 use Rattle.lanes.specs.Queue.{noSlot}
 use Rattle.lanes.specs.Waiting.{waitingCount, nextEdit, withoutNext}
-use Rattle.station_rules.specs.State.{labelOf, recordOf, laneAt}
-use Rattle.station_rules.specs.Turn.{airs, rowOf, lanesAfter, ends, startedBody, passed, ownRecord, rewritten, afterTurn, turnReport}
+use Rattle.station_rules.specs.State.{labelOf, recordOf}
+use Rattle.station_rules.specs.Turn.{eachHasBody, oldestOfEach, withoutOldest, airs, rowOf, lanesAfter, ends, startedBody, passed, ownRecord, rewritten, afterTurn, turnReport}
 use Rattle.station_rules.specs.Calls.{turnDone}
 
 -- a number or none
@@ -50,18 +49,21 @@ module _ {A : Type 0} where
   set-unless false l k x d = refl
 
 -- what the airing step makes of the station's lanes is what the definition says of the station
-module _ (s : Station) (step : Aired) (e : step ≡ airing (s .n) (s .lanes)) where
+module _ (s : Station) (step : Aired)
+    (e : (step .aired ≡ eachHasBody (s .n) (s .lanes))
+    × (step .row ≡ cond (eachHasBody (s .n) (s .lanes)) (oldestOfEach (s .n) (s .lanes)) (replicate 16 noSlot))
+    × (step .left ≡ cond (eachHasBody (s .n) (s .lanes)) (withoutOldest (s .n) (s .lanes)) (s .lanes))) where
   pub step-aired : step .aired ≡ airs s
-  unfolding airs airing
-  step-aired = ap (λ (x : Aired). x .aired) e
+  unfolding airs
+  step-aired = e .0
 
   pub step-row : step .row ≡ cond (airs s) (rowOf s) (replicate 16 noSlot)
-  unfolding airs rowOf airing
-  step-row = ap (λ (x : Aired). x .row) e
+  unfolding airs rowOf
+  step-row = e .1
 
   pub step-left : step .left ≡ lanesAfter s
-  unfolding airs lanesAfter airing
-  step-left = ap (λ (x : Aired). x .left) e
+  unfolding airs lanesAfter
+  step-left = e .2
 
 starts-of :
     (s : Station) →
