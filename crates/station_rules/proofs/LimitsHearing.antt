@@ -10,8 +10,9 @@ use lib.Dec.{leb, eqb}
 use lib.ListN.{length, length-append}
 use borrow.Author.Tests.{leb-false, eq-eqb, ne-eqb}
 use Rattle.frame_rules.specs.declared.Record.{Record}
+use Rattle.places.specs.Places.{total}
 use Rattle.places.proofs.Laws.{or-left, or-right}
-use Rattle.places.proofs.Total.{total, total-ext, total-gap, total-raised}
+use Rattle.places.proofs.Total.{total-ext, total-gap, total-raised}
 use Rattle.station_rules.specs.declared.Station.{Station}
 use Rattle.station_rules.specs.State.{laneAt}
 use Rattle.station_rules.specs.Limits.{stationInside}
