@@ -4,6 +4,7 @@ use kinds::Body;
 use lines::REFUSED;
 use listing_rules::Applied;
 use listing_rules::Session;
+use station_rules::Setup;
 ghost use mathlib.Core.Path.{_≡_};
 ghost use mathlib.Core.Bool.{cond};
 ghost use lib.Dec.{ltb};
@@ -11,7 +12,7 @@ ghost use Prim.Native.Nat.{_≤_};
 ghost use lib.ListN.{length};
 ghost use Rattle.group_rules.specs.Calls.{freshCall, postCall};
 ghost use Rattle.lines.specs.Lines.{Put};
-ghost use Rattle.listing_rules.specs.Listing.{AnswersPost, postedBody, sizedBy, refusedText};
+ghost use Rattle.listing_rules.specs.Listing.{AnswersPost, postedBody, setupOf, sizedBy, refusedText};
 
 // The body that a post's numbers name; Empty, which is no edit, where they name none.
 pub fn posted_body(kind: u32, event: u32, argument: i32) -> Body
@@ -54,9 +55,9 @@ fn put_post(s: Session, station: usize, refusal: u32, out: &mut [u8]) -> usize
 
 // An `N` line: a new group, of which nothing is printed.
 pub fn apply_size(s: Session, n: usize) -> Applied
-    ensures { λ r. ⌜ (r .session ≡ sizedBy s n (freshCall n)) × (r .len ≡ 0) ⌝ }
+    ensures { λ r. ⌜ (r .session ≡ sizedBy s n (freshCall (setupOf n))) × (r .len ≡ 0) ⌝ }
 {
-    let made = group::fresh(n);
+    let made = group::fresh(Setup { n });
     let group = made.group;
     let session = Session {
         n,

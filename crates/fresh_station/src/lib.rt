@@ -8,12 +8,13 @@ use kinds::Body;
 use lanes::Lane;
 use lanes::Queue;
 use lanes::Slot;
+use station_rules::Setup;
 use station_rules::Station;
 
-// Station own among n, as it begins.
-pub fn fresh_station(n: usize, own: usize) -> Station
+// Station own, as it begins.
+pub fn fresh_station(setup: Setup, own: usize) -> Station
     requires { ⌜ own < 16 ⌝ }
-    ensures { λ r. ⌜ r ≡ freshStation n own ⌝ }
+    ensures { λ r. ⌜ r ≡ freshStation setup own ⌝ }
 {
     let slot = Slot { body: Body::Empty };
     let slots = [slot; 32];
@@ -48,7 +49,7 @@ pub fn fresh_station(n: usize, own: usize) -> Station
     };
     let lanes = [lane; 16];
     Station {
-        n: n,
+        n: setup.n,
         own: own,
         waiting: waiting,
         acked: acked,

@@ -10,24 +10,29 @@ use borrow.Author.Tests.{leb-true, lt-ltb, le-ltb}
 use Rattle.places.proofs.Laws.{and-left}
 use Rattle.kinds.specs.declared.Body.{Body}
 use Rattle.frame_rules.specs.Frame.{validNumber}
+use Rattle.station_rules.specs.declared.Setup.{Setup}
 use Rattle.station_rules.specs.declared.Station.{Station}
 use Rattle.station_rules.specs.declared.Kept.{Kept}
+use Rattle.station_rules.specs.State.{aloneSetup}
 use Rattle.station_rules.specs.Limits.{stationInside}
 use Rattle.station_rules.specs.Calls as station
 use Rattle.station_rules.specs.Calls.{posted, postRefusal}
 use Rattle.station_rules.proofs.StationLimits.{inside-make}
 use Rattle.group_rules.specs.State.{noStation, stationAt, sizeOf, groupInside, freshGroup}
-use Rattle.group_rules.specs.Calls.{freshCall, groupPostRefusal, postCall}
+use Rattle.group_rules.specs.Calls.{groupFreshRefusal, freshCall, groupPostRefusal, postCall}
 use Rattle.group_rules.proofs.Members.{member-at}
 
 -- fresh: 1
-module _ (n : ℕ) (g : List Station) where
-  pub fresh-done : validNumber n 0 ≡ true → g ≡ freshGroup n → record { refusal = 0; group = g } ≡ freshCall n
-  unfolding freshCall
+module _ (setup : Setup) (g : List Station) where
+  abbrev n : ℕ
+  n = setup .n
+
+  pub fresh-done : validNumber n 0 ≡ true → g ≡ freshGroup setup → record { refusal = 0; group = g } ≡ freshCall setup
+  unfolding freshCall groupFreshRefusal
   fresh-done v e = rw (and-left (leb 1 n && leb n 16) (ltb 0 n) v, e)
 
-  pub fresh-refused : validNumber n 0 ≡ false → g ≡ freshGroup 1 → record { refusal = 1; group = g } ≡ freshCall n
-  unfolding freshCall
+  pub fresh-refused : validNumber n 0 ≡ false → g ≡ freshGroup aloneSetup → record { refusal = 1; group = g } ≡ freshCall setup
+  unfolding freshCall groupFreshRefusal
   fresh-refused v e = rw (go (leb 1 n) refl v, e)
     where
       left : (t : Bool) → (t && true) ≡ false → t ≡ false

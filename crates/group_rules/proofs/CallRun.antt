@@ -11,12 +11,14 @@ use lib.ListN.{length, set, length-set}
 use lib.Seq.{getD-set-same, getD-set-other, set-out}
 use Rattle.kinds.specs.declared.Body.{Body}
 use Rattle.kinds.specs.Refusals.{done}
+use Rattle.station_rules.specs.declared.Setup.{Setup}
 use Rattle.station_rules.specs.declared.Station.{Station}
 use Rattle.station_rules.specs.Calls.{posted}
 use Rattle.station_rules.proofs.Shape.{queued-slots}
 use Rattle.group_rules.specs.State.{noStation, stationAt, freshGroup}
 use Rattle.group_rules.specs.Calls.{groupPostRefusal, postCall, afterRound}
 use Rattle.group_rules.specs.History.{Call, post, round}
+use Rattle.group_rules.proofs.Setups.{Accepts}
 use Rattle.group_rules.proofs.Run.{Run, SameButWaiting}
 
 same-refl : (s : Station) → SameButWaiting s s
@@ -115,9 +117,9 @@ masksOf calls zero = []
 masksOf calls (suc u) = nextMasks (callsAfter calls u)
 
 -- the group after round u
-unfoldable pub groupAfter : ℕ → List Call → ℕ → List Station
-groupAfter n calls zero = freshGroup n
-groupAfter n calls (suc u) = afterRound (afterPosts (groupAfter n calls u) (callsAfter calls u)) (masksOf calls (suc u))
+unfoldable pub groupAfter : Setup → List Call → ℕ → List Station
+groupAfter setup calls zero = freshGroup setup
+groupAfter setup calls (suc u) = afterRound (afterPosts (groupAfter setup calls u) (callsAfter calls u)) (masksOf calls (suc u))
 
 -- what a post keeps, the posts between two rounds keep
 pub posts-keep : (P : List Station → Type 0)
@@ -143,27 +145,29 @@ pub length-posts : (g : List Station) (calls : List Call) → length (afterPosts
 length-posts g calls =
     posts-keep (λ (x : List Station). length x ≡ length g) (λ x k b c. length-post x k b ∙ c) g calls refl
 
-pub group-first : (n : ℕ) (calls : List Call) → groupAfter n calls 0 ≡ freshGroup n
+pub group-first : (setup : Setup) (calls : List Call) → groupAfter setup calls 0 ≡ freshGroup setup
 unfolding groupAfter
-group-first n calls = refl
+group-first setup calls = refl
 
-pub group-step : (n : ℕ) (calls : List Call) (u : ℕ)
-    → groupAfter n calls (suc u) ≡ afterRound (afterPosts (groupAfter n calls u) (callsAfter calls u)) (masksOf calls (suc u))
+pub group-step : (setup : Setup) (calls : List Call) (u : ℕ)
+    → groupAfter setup calls (suc u) ≡ afterRound (afterPosts (groupAfter setup calls u) (callsAfter calls u)) (masksOf calls (suc u))
 unfolding groupAfter
-group-step n calls u = refl
+group-step setup calls u = refl
 
 -- the run of a list of calls
-abbrev pub runOf : (n : ℕ) → 1 ≤ n → n ≤ 16 → List Call → Run
-runOf n low high calls =
+abbrev pub runOf : (setup : Setup) → Accepts setup → List Call → Run
+runOf setup ok calls =
     record {
-      n = n;
-      low = low;
-      high = high;
+      setup = setup;
+      n = setup .n;
+      given = refl;
+      low = ok .low;
+      high = ok .high;
       masks = masksOf calls;
-      after = groupAfter n calls;
-      ready = λ u. afterPosts (groupAfter n calls u) (callsAfter calls u);
-      first = group-first n calls;
-      length-ready = λ u. length-posts (groupAfter n calls u) (callsAfter calls u);
-      posts = λ u k. posts-same (groupAfter n calls u) (callsAfter calls u) k;
-      step = λ u. group-step n calls u;
+      after = groupAfter setup calls;
+      ready = λ u. afterPosts (groupAfter setup calls u) (callsAfter calls u);
+      first = group-first setup calls;
+      length-ready = λ u. length-posts (groupAfter setup calls u) (callsAfter calls u);
+      posts = λ u k. posts-same (groupAfter setup calls u) (callsAfter calls u) k;
+      step = λ u. group-step setup calls u;
     }

@@ -23,7 +23,7 @@ use Rattle.station_rules.specs.Calls.{posted}
 use Rattle.lanes.specs.Queue.{noSlot, noneWaiting, queued, unqueued, oldest}
 use Rattle.lanes.specs.Lane.{laneOf, bodies}
 use Rattle.station_rules.specs.Turn.{airs, rowOf, lanesAfter, ends, startedBody, passed, ownRecord, rewritten, afterTurn, turnReport}
-use Rattle.station_rules.specs.State.{freshStation}
+use Rattle.station_rules.specs.State.{aloneSetup, freshStation}
 use Rattle.station_rules.specs.Limits.{stationInside, queueInside, placeInside, recordInside, laneInside}
 use Rattle.places.specs.Places.{allBelow, anyBelow, fill}
 use Rattle.links.specs.Log.{hearsIn}
@@ -45,12 +45,12 @@ module _ (b : Body) (e : isEdit b ≡ true) where
 
   -- the group once the edit is posted
   before : List Station
-  before = set (freshGroup 1) 0 (posted (freshStation 1 0) b)
+  before = set (freshGroup aloneSetup) 0 (posted (freshStation aloneSetup 0) b)
 
   abbrev ready : History
   ready = record { group = before; rounds = []; log = []; accepted = record { source = 0; body = b } ∷ [] }
 
-  post-done : next (begun 1) (post 0 b) ≡ ready
+  post-done : next (begun aloneSetup) (post 0 b) ≡ ready
   unfolding before next begun groupPost groupPostRefusal freshGroup freshStation noneWaiting posted queued groupInside stationInside queueInside placeInside recordInside laneInside allBelow anyBelow numbersInside bodyInside fill
   post-done = simp e
 

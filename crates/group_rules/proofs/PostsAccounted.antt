@@ -13,6 +13,7 @@ use Rattle.kinds.specs.declared.Body.{Body}
 use Rattle.kinds.specs.Refusals.{done}
 use Rattle.places.specs.Places.{fill}
 use Rattle.places.proofs.Laws.{fill-below}
+use Rattle.station_rules.specs.declared.Setup.{Setup}
 use Rattle.station_rules.specs.declared.Station.{Station}
 use Rattle.station_rules.specs.declared.Taking.{Taking}
 use Rattle.lanes.specs.Lane.{bodies, noLane}
@@ -29,6 +30,7 @@ use Rattle.group_rules.specs.declared.RoundDone.{RoundDone}
 use Rattle.group_rules.specs.State.{stationAt, sizeOf}
 use Rattle.group_rules.specs.Calls.{postCall, heard, noReport, reportOf, roundRefusal, roundCall}
 use Rattle.group_rules.specs.History.{History, Call, Call.post, Call.round, next, begun, continued, historyOf, reportIn, collect, takingsOf, editsOf, airedList, onlyEdits}
+use Rattle.group_rules.proofs.Setups.{Accepts}
 use Rattle.group_rules.proofs.Members.{Members, fresh-at}
 use Rattle.group_rules.proofs.MembersPost.{accepted, post-accepted, post-refused, post-refusal, posted-at, posted-other}
 use Rattle.group_rules.proofs.MembersRound.{Runs, runs, run-hears, run-room, after-at, round-done, round-refused}
@@ -227,52 +229,54 @@ unfolding continued
 kept-continued n H [] c = c
 kept-continued n H (call ∷ calls) c = kept-continued n (next H call) calls (kept-next n H call c)
 
-fresh-kept : (n p : ℕ) → p < 16 → kept (freshStation n p) p ≡ []
+fresh-kept : (setup : Setup) (p : ℕ) → p < 16 → kept (freshStation setup p) p ≡ []
 unfolding freshStation bodies onlyEdits
-fresh-kept n p l = rw (getD-replicate 16 p noLane noLane l) waiting-none
+fresh-kept setup p l = rw (getD-replicate 16 p noLane noLane l) waiting-none
 
-pub kept-begun : (n : ℕ) → 1 ≤ n → n ≤ 16 → Kept n (begun n)
+pub kept-begun : (setup : Setup) → Accepts setup → Kept (setup .n) (begun setup)
 unfolding begun
-kept-begun n low high =
+kept-begun setup ok =
     record {
-      members = members-begun n low high;
+      members = members-begun setup ok;
       accounted =
           λ p l. unfold airedList collect takingsOf in
-          (sym (fresh-kept n p (omega arith)) ∙ ap (λ (s : Station). kept s p) (sym (fresh-at n high p l)));
+          (sym (fresh-kept setup p (omega arith)) ∙ ap (λ (s : Station). kept s p) (sym (fresh-at setup (ok .high) p l)));
     }
 
-pub kept-history : (n : ℕ) → 1 ≤ n → n ≤ 16 → (calls : List Call) → Kept n (historyOf n calls)
-kept-history n low high calls = kept-continued n (begun n) calls (kept-begun n low high)
+pub kept-history : (setup : Setup) → Accepts setup → (calls : List Call) → Kept (setup .n) (historyOf setup calls)
+kept-history setup ok calls = kept-continued (setup .n) (begun setup) calls (kept-begun setup ok)
 
 pub posts-accounted :
-    (n : ℕ) → 1 ≤ n → n ≤ 16 → (calls : List Call) → (p : ℕ) → p < n →
-    takingsOf p ((historyOf n calls) .accepted)
-    ≡ takingsOf p (airedList n (historyOf n calls) p)
-    ++ onlyEdits (bodies (laneAt (stationAt ((historyOf n calls) .group) p) p))
-    ++ waitingBodies ((stationAt ((historyOf n calls) .group) p) .waiting)
-posts-accounted n low high calls p l =
-    let H = historyOf n calls in
+    (setup : Setup) → Accepts setup → (calls : List Call) → (p : ℕ) → p < setup .n →
+    takingsOf p ((historyOf setup calls) .accepted)
+    ≡ takingsOf p (airedList (setup .n) (historyOf setup calls) p)
+    ++ onlyEdits (bodies (laneAt (stationAt ((historyOf setup calls) .group) p) p))
+    ++ waitingBodies ((stationAt ((historyOf setup calls) .group) p) .waiting)
+posts-accounted setup ok calls p l =
+    let n = setup .n in
+    let H = historyOf setup calls in
     let s : Station = stationAt (H .group) p in
-    kept-history n low high calls .accounted p l
+    kept-history setup ok calls .accounted p l
     ∙ sym (append-assoc (takingsOf p (airedList n H p)) (onlyEdits (bodies (laneAt s p))) (waitingBodies (s .waiting)))
 
 pub posts-counted :
-    (n : ℕ) → 1 ≤ n → n ≤ 16 → (calls : List Call) → (p : ℕ) → p < n →
-    length (takingsOf p ((historyOf n calls) .accepted))
-    ≡ (stationAt ((historyOf n calls) .group) p) .waiting .len
-    + length (onlyEdits (bodies (laneAt (stationAt ((historyOf n calls) .group) p) p)))
-    + length (takingsOf p (airedList n (historyOf n calls) p))
-posts-counted n low high calls p l =
-    let H = historyOf n calls in
+    (setup : Setup) → Accepts setup → (calls : List Call) → (p : ℕ) → p < setup .n →
+    length (takingsOf p ((historyOf setup calls) .accepted))
+    ≡ (stationAt ((historyOf setup calls) .group) p) .waiting .len
+    + length (onlyEdits (bodies (laneAt (stationAt ((historyOf setup calls) .group) p) p)))
+    + length (takingsOf p (airedList (setup .n) (historyOf setup calls) p))
+posts-counted setup ok calls p l =
+    let n = setup .n in
+    let H = historyOf setup calls in
     let s : Station = stationAt (H .group) p in
-    let members = kept-history n low high calls .members in
+    let members = kept-history setup ok calls .members in
     let aired : List Body = takingsOf p (airedList n H p) in
     let lane : List Body = onlyEdits (bodies (laneAt s p)) in
     let short : s .waiting .len ≤ length (s .waiting .slots) =
     omega (arith, queue-most (s .waiting) (members .member p l .inside .waiting), members .shape .stations p (omega arith) .slots) in
     omega (
       arith,
-      ap length (posts-accounted n low high calls p l),
+      ap length (posts-accounted setup ok calls p l),
       length-append (aired ++ lane) (waitingBodies (s .waiting)),
       length-append aired lane,
       waiting-length (s .waiting) short,

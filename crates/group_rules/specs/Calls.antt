@@ -8,8 +8,9 @@ use Rattle.kinds.specs.declared.Body.{Body}
 use Rattle.kinds.specs.Refusals.{done, badNumber, outsideLimits, laneFull, countTooHigh, refuse}
 use Rattle.links.specs.Log.{hearsIn}
 use Rattle.places.specs.Places.{anyBelow, fill}
+use Rattle.station_rules.specs.declared.Setup.{Setup}
 use Rattle.station_rules.specs.declared.Station.{Station}
-use Rattle.station_rules.specs.State.{sentRecords}
+use Rattle.station_rules.specs.State.{sentRecords, aloneSetup}
 use Rattle.station_rules.specs.Hearing.{Hearing, silent, hearRecords}
 pub use Rattle.station_rules.specs.Frames.{noTaking}
 use Rattle.station_rules.specs.Turn.{afterTurn, turnReport}
@@ -20,11 +21,14 @@ use Rattle.group_rules.specs.declared.RoundDone.{RoundDone}
 use Rattle.group_rules.specs.State.{stationAt, sizeOf, groupInside, freshGroup}
 
 -- group fresh: 1; a refused call returns the fresh group of N = 1
-unfoldable pub freshCall : ℕ → KeptGroup
-freshCall n =
-    cond (leb 1 n && leb n 16)
-    (record { refusal = done; group = freshGroup n })
-    (record { refusal = badNumber; group = freshGroup 1 })
+unfoldable pub groupFreshRefusal : Setup → ℕ
+groupFreshRefusal setup = refuse (not (leb 1 (setup .n) && leb (setup .n) 16)) badNumber done
+
+unfoldable pub freshCall : Setup → KeptGroup
+freshCall setup =
+    cond (eqb (groupFreshRefusal setup) done)
+    (record { refusal = done; group = freshGroup setup })
+    (record { refusal = groupFreshRefusal setup; group = freshGroup aloneSetup })
 
 -- group post: 2, 1, 4, 3
 unfoldable pub groupPostRefusal : List Station → ℕ → Body → ℕ

@@ -10,8 +10,10 @@ use Rattle.links.specs.Relay.{ofLog}
 use Rattle.links.specs.EndRule.{EndsIn}
 use Rattle.lanes.specs.Lane.{bodies}
 use Rattle.lanes.specs.Queue.{waitingBodies}
+use Rattle.station_rules.specs.declared.Setup.{Setup}
 use Rattle.station_rules.specs.State.{heldOf, recordOf, laneAt}
 use Rattle.group_rules.specs.State.{stationAt}
+use Rattle.group_rules.specs.Calls.{groupFreshRefusal}
 use Rattle.group_rules.specs.History.{History, Call, noRound, historyOf, started, takingsOf, takenFrom, airedList, onlyEdits, endsAt, startedIn}
 
 module _ {A : Type 0} where
@@ -57,4 +59,4 @@ pub record Demand (n : ℕ) (H : History) : Type 0 where
 
 -- Demand 3: every fresh group, every list of calls
 abbrev pub DemandThree : Type 0
-DemandThree = (n : ℕ) → 1 ≤ n → n ≤ 16 → (calls : List Call) → Demand n (historyOf n calls)
+DemandThree = (setup : Setup) → groupFreshRefusal setup ≡ done → (calls : List Call) → Demand (setup .n) (historyOf setup calls)

@@ -9,6 +9,7 @@ use Rattle.kinds.specs.Body.{kindOf}
 use Rattle.kind_limits.specs.Limits.{isEdit}
 use Rattle.kinds.specs.Refusals.{done}
 use Rattle.places.specs.Places.{gather}
+use Rattle.station_rules.specs.declared.Setup.{Setup}
 use Rattle.station_rules.specs.declared.Station.{Station}
 use Rattle.lanes.specs.declared.Slot.{Slot}
 use Rattle.station_rules.specs.declared.Taking.{Taking}
@@ -49,16 +50,16 @@ next H (round masks) =
       accepted = H .accepted;
     }
 
-unfoldable pub begun : ℕ → History
-begun n = record { group = freshGroup n; rounds = []; log = []; accepted = [] }
+unfoldable pub begun : Setup → History
+begun setup = record { group = freshGroup setup; rounds = []; log = []; accepted = [] }
 
 unfoldable pub continued : History → List Call → History
 continued H [] = H
 continued H (c ∷ cs) = continued (next H c) cs
 
--- the history of a list of calls from the fresh group of n
-abbrev pub historyOf : ℕ → List Call → History
-historyOf n calls = continued (begun n) calls
+-- the history of a list of calls from a fresh group
+abbrev pub historyOf : Setup → List Call → History
+historyOf setup calls = continued (begun setup) calls
 
 -- a round that is not there
 abbrev pub noRound : RoundDone

@@ -16,7 +16,7 @@ use Rattle.lines.specs.Lines.{Put}
 use Rattle.lines.proofs.Placed.{put-none}
 use Rattle.listing_rules.specs.declared.Session.{Session}
 use Rattle.listing_rules.specs.declared.Applied.{Applied}
-use Rattle.listing_rules.specs.Listing.{Answer, AnswersPost, AnswersRound, after, printed, obeyed, answered, halted, malformedText, sizedBy, postedBody}
+use Rattle.listing_rules.specs.Listing.{Answer, AnswersPost, AnswersRound, after, printed, obeyed, answered, halted, malformedText, setupOf, sizedBy, postedBody}
 
 chosen-first : (t : Bool) (a b : Session) → t ≡ true → cond t a b ≡ a
 chosen-first t a b e = rw e
@@ -50,7 +50,7 @@ by-command s masks k k' l m r e a = rw e a
 
 pub sized :
     (s : Session) (masks : List ℕ) (n : ℕ) (l : List ℕ) (r : Applied) →
-    r .session ≡ sizedBy s n (freshCall n) → r .len ≡ 0 → Answer (obeyed s masks (Size n)) (answered s masks (Size n)) l l r
+    r .session ≡ sizedBy s n (freshCall (setupOf n)) → r .len ≡ 0 → Answer (obeyed s masks (Size n)) (answered s masks (Size n)) l l r
 unfolding obeyed answered
 sized s masks n l r q z = record { session = q; put = go (r .len) z }
   where

@@ -11,6 +11,8 @@ use Rattle.kinds.specs.declared.Body.the-variants.{Empty}
 use Rattle.kinds.specs.Body.{bodyOf}
 use Rattle.kind_limits.specs.Limits.{numbersInside}
 use Rattle.kinds.specs.Refusals.{done, malformedLine}
+use Rattle.station_rules.specs.declared.Setup.{Setup}
+use Rattle.station_rules.specs.State.{aloneSetup}
 use Rattle.group_rules.specs.declared.KeptGroup.{KeptGroup}
 use Rattle.group_rules.specs.declared.RoundDone.{RoundDone}
 use Rattle.group_rules.specs.State.{freshGroup}
@@ -25,7 +27,11 @@ use Rattle.round_lines.specs.Reports.{roundText}
 
 -- before any line is read: no size yet, no round done
 unfoldable pub begun : Session
-begun = record { n = 0; rounds = 0; stopped = false; group = freshGroup 1 }
+begun = record { n = 0; rounds = 0; stopped = false; group = freshGroup aloneSetup }
+
+-- what an `N` line gives the fresh group
+abbrev pub setupOf : ℕ → Setup
+setupOf n = record { n = n }
 
 -- the body that a post's numbers name; numbers that no body has are posted as Empty, which is no edit
 unfoldable pub postedBody : ℕ → ℕ → ℤ → Body
@@ -63,7 +69,7 @@ refusedText s station refusal =
 
 -- the session after a command, whose line has the masks of a round
 unfoldable pub obeyed : Session → List ℕ → Command → Session
-obeyed s masks (Size n) = sizedBy s n (freshCall n)
+obeyed s masks (Size n) = sizedBy s n (freshCall (setupOf n))
 obeyed s masks (Post station kind event argument) = postedBy s (postCall (s .group) station (postedBody kind event argument))
 obeyed s masks Round = cond (ltb (s .rounds) lastRound) (roundedBy s (roundCall (s .group) masks)) (halted s)
 obeyed s masks Malformed = halted s

@@ -5,6 +5,7 @@ ghost use lib.ListN.{length};
 use group_rules::KeptGroup;
 use group_rules::Report;
 use kinds::Body;
+use station_rules::Setup;
 use station_rules::Station;
 use station_sums::mix;
 
@@ -107,7 +108,7 @@ fn posted(g: [Station; 16], n: usize, post: u32) -> KeptGroup
 fn run(schedule: &[u8], n: usize, rounds: u32) -> u32
     requires { ⌜ (1 ≤ n) × (n ≤ 16) × (32 ≤ length (now schedule)) ⌝ }
 {
-    let fresh = group::fresh(n);
+    let fresh = group::fresh(Setup { n });
     let mut g = fresh.group;
     let mut sum: u64 = 0;
     let mut number: u32 = 0;
