@@ -4,16 +4,13 @@ use Prim.Native.Nat.{ℕ}
 use mathlib.Core.Bool.{true, false}
 use mathlib.Core.List.{List, [], _∷_}
 use mathlib.Core.Path.{_≡_, refl, ap}
-use native.Mathlib.Omega.{arith}
-use lib.Dec.{leb, eqb}
 use lib.ListN.{getD, set}
-use borrow.Author.Tests.{le-leb}
 use Rattle.kinds.specs.declared.Body.{Body}
 use Rattle.kinds.specs.declared.Body.the-variants.{Empty, Neutral}
-use Rattle.kinds.specs.Body.{kindOf}
-use Rattle.kind_limits.specs.Limits.{isEdit, bodyInside, numbersInside}
+use Rattle.kinds.specs.Body.{isEmpty}
+use Rattle.kind_limits.specs.Limits.{postable, bodyInside, numbersInside}
 use Rattle.kinds.specs.Refusals.{done}
-use Rattle.kind_limits.proofs.Laws.{edit-inside, edit-kind, edit-not-empty}
+use Rattle.kind_limits.proofs.Laws.{postable-inside, postable-not-empty}
 use Rattle.labels.proofs.Examples as labels
 use Rattle.label_words.proofs.Examples as words
 use Rattle.frame_rules.proofs.FrameTrip as frames
@@ -33,15 +30,12 @@ use Rattle.group_rules.specs.History.{History, Call.post, Call.round, ne
 use Rattle.group_rules.specs.Marked.{Marked, oneStation, turnIn}
 
 -- a group of one in which one edit is posted
-module _ (b : Body) (e : isEdit b ≡ true) where
+module _ (b : Body) (e : postable b ≡ true) where
   inside : bodyInside b ≡ true
-  inside = edit-inside b e
+  inside = postable-inside b e
 
-  kind : eqb (kindOf b) 0 ≡ false
-  kind = edit-not-empty b e
-
-  positive : leb 1 (kindOf b) ≡ true
-  positive = le-leb 1 (kindOf b) (omega (arith, edit-kind b e))
+  kind : isEmpty b ≡ false
+  kind = postable-not-empty b e
 
   -- the group once the edit is posted
   before : List Station
@@ -61,7 +55,7 @@ module _ (b : Body) (e : isEdit b ≡ true) where
 
     two-done : roundRefusal (afterRound before masks₁) masks₂ ≡ done
     unfolding before roundRefusal freshGroup freshStation noneWaiting posted queued groupInside stationInside queueInside placeInside recordInside laneInside allBelow anyBelow numbersInside bodyInside fill afterRound hearing hearsIn afterTurn passed rewritten ownRecord startedBody ends lanesAfter airs oldest unqueued laneOf bodies
-    two-done = simp (kind, inside, positive)
+    two-done = simp (kind, inside)
 
     abbrev ran : History
     ran = continued ready (round masks₁ ∷ round masks₂ ∷ [])

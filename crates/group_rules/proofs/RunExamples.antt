@@ -6,7 +6,7 @@ use lib.IntN.{pos}
 use lib.ListN.{replicate}
 use Rattle.kinds.specs.declared.Body.{Body}
 use Rattle.kinds.specs.declared.Body.the-variants.{Empty, Neutral, Insert}
-use Rattle.kind_limits.specs.Limits.{isEdit, bodyInside, numbersInside}
+use Rattle.kind_limits.specs.Limits.{postable, bodyInside, numbersInside}
 use Rattle.links.specs.Log.{bit, hearsIn}
 use Rattle.places.specs.Places.{allBelow, anyBelow, fill, gather, tabulate}
 use Rattle.frame_rules.specs.Record.{framed}
@@ -50,7 +50,7 @@ pub record Runs : Type 0 where
 
 -- all by computation
 pub runs : Runs
-unfolding seven listing linesOf linesIn isEdit bodyInside numbersInside bit hearsIn allBelow anyBelow fill gather framed isNewer laneOf bodies noneWaiting queued unqueued oldest sentRecords tableRecords freshStation laneInside queueInside recordInside placeInside stationInside replaced heardNewer hearRecord hearRecords airs rowOf lanesAfter ends startedBody passed ownRecord rewritten afterTurn turnReport posted noTurn groupInside freshGroup groupPostRefusal postCall hearing noReport reportOf roundRefusal afterRound roundCall next begun continued editsOf edit run tabulate airedList collect endsAt
+unfolding seven listing linesOf linesIn postable bodyInside numbersInside bit hearsIn allBelow anyBelow fill gather framed isNewer laneOf bodies noneWaiting queued unqueued oldest sentRecords tableRecords freshStation laneInside queueInside recordInside placeInside stationInside replaced heardNewer hearRecord hearRecords airs rowOf lanesAfter ends startedBody passed ownRecord rewritten afterTurn turnReport posted noTurn groupInside freshGroup groupPostRefusal postCall hearing noReport reportOf roundRefusal afterRound roundCall next begun continued editsOf edit run tabulate airedList collect endsAt
 runs =
     record {
       listing-one = refl;

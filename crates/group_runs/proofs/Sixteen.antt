@@ -1,7 +1,7 @@
 -- A run of sixteen stations, computed: everyone hears everyone.
 use mathlib.Core.Path.{_≡_, refl}
 use lib.ListN.{replicate}
-use Rattle.kind_limits.specs.Limits.{isEdit, bodyInside, numbersInside}
+use Rattle.kind_limits.specs.Limits.{postable, bodyInside, numbersInside}
 use Rattle.links.specs.Log.{bit, hearsIn}
 use Rattle.places.specs.Places.{allBelow, anyBelow, fill, gather, tabulate}
 use Rattle.frame_rules.specs.Record.{framed}
@@ -20,5 +20,5 @@ use Rattle.group_rules.specs.History.{next, begun, continued, editsOf, collect,
 use Rattle.group_rules.proofs.RunLines.{linesOf, linesIn, edit, run, seen, mesh}
 
 pub sixteen : seen 16 (run 16 4 (replicate 16 65_535)) ≡ mesh 16
-unfolding linesOf linesIn isEdit bodyInside numbersInside bit hearsIn allBelow anyBelow fill gather framed isNewer laneOf bodies noneWaiting queued unqueued oldest sentRecords tableRecords freshStation laneInside queueInside recordInside placeInside stationInside replaced heardNewer hearRecord hearRecords airs rowOf lanesAfter ends startedBody passed ownRecord rewritten afterTurn turnReport posted noTurn groupInside freshGroup groupPostRefusal postCall hearing noReport reportOf roundRefusal afterRound roundCall next begun continued editsOf edit run tabulate airedList collect
+unfolding linesOf linesIn postable bodyInside numbersInside bit hearsIn allBelow anyBelow fill gather framed isNewer laneOf bodies noneWaiting queued unqueued oldest sentRecords tableRecords freshStation laneInside queueInside recordInside placeInside stationInside replaced heardNewer hearRecord hearRecords airs rowOf lanesAfter ends startedBody passed ownRecord rewritten afterTurn turnReport posted noTurn groupInside freshGroup groupPostRefusal postCall hearing noReport reportOf roundRefusal afterRound roundCall next begun continued editsOf edit run tabulate airedList collect
 sixteen = refl

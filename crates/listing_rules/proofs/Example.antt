@@ -8,7 +8,7 @@ use Rattle.column_writer.specs.Writing.{natColumns}
 use Rattle.lines.specs.Lines.{delivered, airing, ending, turnedDown}
 use Rattle.places.specs.Places.{allBelow, anyBelow, fill, gather, tabulate}
 use Rattle.kinds.specs.Body.{bodyOf}
-use Rattle.kind_limits.specs.Limits.{numbersInside, bodyInside, isEdit}
+use Rattle.kind_limits.specs.Limits.{numbersInside, bodyInside, postable}
 use Rattle.labels.specs.Newer.{isNewer}
 use Rattle.links.specs.Log.{bit, hearsIn}
 use Rattle.frame_rules.specs.Record.{framed}
@@ -55,7 +55,7 @@ pub example :
     ++ lineBytes 3 delivered 1 0 edit
     ++ lineBytes 3 airing 1 0 edit
     ++ endLine
-unfolding headBytes bodyBytes allBelow anyBelow fill gather tabulate bodyOf numbersInside bodyInside isEdit isNewer bit hearsIn framed bodies laneOf noneWaiting queued oldest unqueued sentRecords tableRecords freshStation laneInside queueInside recordInside placeInside stationInside replaced heardNewer hearRecord hearRecords airs rowOf lanesAfter ends startedBody passed ownRecord rewritten afterTurn turnReport posted noTurn groupInside freshGroup groupFreshRefusal freshCall groupPostRefusal postCall hearing noReport reportOf roundRefusal afterRound roundCall started grown next readFrom lead columns fieldOf sizeLine postShaped postLine isMask masksInside roundLine commandOf maskAt masksOf lineBytes endLine joined takenText airedText turnText reportText roundText begun postedBody sizedBy postedBy roundedBy obeyed refusedText answered after printed restText linesOf listed listingOf
+unfolding headBytes bodyBytes allBelow anyBelow fill gather tabulate bodyOf numbersInside bodyInside postable isNewer bit hearsIn framed bodies laneOf noneWaiting queued oldest unqueued sentRecords tableRecords freshStation laneInside queueInside recordInside placeInside stationInside replaced heardNewer hearRecord hearRecords airs rowOf lanesAfter ends startedBody passed ownRecord rewritten afterTurn turnReport posted noTurn groupInside freshGroup groupFreshRefusal freshCall groupPostRefusal postCall hearing noReport reportOf roundRefusal afterRound roundCall started grown next readFrom lead columns fieldOf sizeLine postShaped postLine isMask masksInside roundLine commandOf maskAt masksOf lineBytes endLine joined takenText airedText turnText reportText roundText begun postedBody sizedBy postedBy roundedBy obeyed refusedText answered after printed restText linesOf listed listingOf
 example = refl
 
 -- an empty script, and one whose first line is not `N`: the reading stops, whatever follows

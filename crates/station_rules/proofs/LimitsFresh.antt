@@ -10,7 +10,7 @@ use lib.Seq.{getD-set-same, getD-set-other}
 use borrow.Author.Tests.{leb-true, ltb-true, eq-eqb}
 use Rattle.kinds.specs.declared.Body.{Body}
 use Rattle.kinds.specs.declared.Body.the-variants.{Empty}
-use Rattle.kind_limits.specs.Limits.{isEdit}
+use Rattle.kind_limits.specs.Limits.{postable}
 use Rattle.labels.specs.Label.{isLabel}
 use Rattle.frame_rules.specs.Frame.{validNumber}
 use Rattle.places.proofs.Laws.{and-left, and-right}
@@ -93,7 +93,7 @@ posted-place : (s : Station) (b : Body) (k : ℕ) → PlaceHolds s k → PlaceHo
 unfolding posted
 posted-place s b k c = record { label = c .label; held = c .held; lane = c .lane }
 
-pub posted-holds : (s : Station) (b : Body) → Shaped s → Inside s → isEdit b ≡ true → s .waiting .len < 32 → Inside (posted s b)
+pub posted-holds : (s : Station) (b : Body) → Shaped s → Inside s → postable b ≡ true → s .waiting .len < 32 → Inside (posted s b)
 unfolding posted
 posted-holds s b shape c e l =
     record {
@@ -108,5 +108,5 @@ posted-holds s b shape c e l =
     }
 
 pub posted-inside :
-    (s : Station) (b : Body) → Shaped s → stationInside s ≡ true → isEdit b ≡ true → s .waiting .len < 32 → stationInside (posted s b) ≡ true
+    (s : Station) (b : Body) → Shaped s → stationInside s ≡ true → postable b ≡ true → s .waiting .len < 32 → stationInside (posted s b) ≡ true
 posted-inside s b shape h e l = inside-make (posted s b) (posted-holds s b shape (inside-open s h) e l)

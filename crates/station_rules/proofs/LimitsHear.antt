@@ -7,7 +7,7 @@ use native.Mathlib.Decide.{ℕ-discrete}
 use native.Mathlib.Omega.{arith}
 use lib.Dec.{leb, eqb}
 use borrow.Author.Tests.{leb-false, le-leb, ne-eqb, eqb-false, not-true}
-use Rattle.kinds.specs.Body.{kindOf}
+use Rattle.kinds.specs.Body.{isEmpty}
 use Rattle.kind_limits.specs.Limits.{bodyInside}
 use Rattle.labels.specs.Label.{isLabel, successor}
 use Rattle.labels.specs.Newer.{isNewer}
@@ -46,10 +46,7 @@ heeds-other s r h =
 
 takes-takeable : (s : Station) (r : Record) → bodyInside (r .body) ≡ true → takes s r ≡ true → takeable (r .body) ≡ true
 takes-takeable s r b h =
-    let ne : kindOf (r .body) ≡ 0 → ⊥ =
-    eqb-false (kindOf (r .body)) 0
-    (not-true (eqb (kindOf (r .body)) 0) (and-right (advances s r) (not (eqb (kindOf (r .body)) 0)) h)) in
-    and-both (le-leb 1 (kindOf (r .body)) (omega arith)) b
+    and-both (and-right (advances s r) (not (isEmpty (r .body))) h) b
 
 module _ (s : Station) (r : Record) (shape : Shaped s) (c : Inside s) (carry : Carried (s .n) r) where
   replaced-holds :

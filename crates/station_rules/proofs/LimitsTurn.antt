@@ -12,7 +12,7 @@ use lib.Seq.{getD-set-same, getD-set-other}
 use borrow.Author.Tests.{eq-eqb}
 use Rattle.kinds.specs.declared.Body.{Body}
 use Rattle.kinds.specs.declared.Body.the-variants.{Empty, Neutral}
-use Rattle.kinds.specs.Body.{kindOf}
+use Rattle.kinds.specs.Body.{isEmpty}
 use Rattle.kind_limits.specs.Limits.{bodyInside}
 use Rattle.labels.specs.Label.{isLabel, successor}
 use Rattle.places.specs.Places.{fill}
@@ -27,7 +27,7 @@ use Rattle.frame_rules.specs.Record.{noRecord}
 use Rattle.station_rules.specs.State.{labelOf, heldOf, recordOf, laneAt}
 use Rattle.station_rules.specs.Limits.{laneInside, takeable, queueInside, stationInside}
 use Rattle.station_rules.specs.Turn.{airs, ends, startsEdit, startedBody, passed, ownRecord, rewritten, afterTurn}
-use Rattle.station_rules.proofs.BodyLaws.{edit-takeable, takeable-inside, empty-inside, neutral-takeable}
+use Rattle.station_rules.proofs.BodyLaws.{postable-takeable, takeable-inside, empty-inside, neutral-takeable}
 use Rattle.station_rules.proofs.Shape.{Shaped, lanesAfter-length, passed-shaped}
 use Rattle.station_rules.proofs.LimitsLane.{popped-inside, pushed-inside}
 use Rattle.station_rules.proofs.LimitsQueue.{unqueued-inside, oldest-edit}
@@ -43,7 +43,7 @@ module _ (s : Station) (shape : Shaped s) (c : Inside s) where
     where
       go : Start s → P (startedBody s)
       go (anEdit e room w b) =
-          subst P (sym b) (some (oldest (s .waiting)) (edit-takeable (oldest (s .waiting)) (oldest-edit (s .waiting) (c .waiting) w)) room)
+          subst P (sym b) (some (oldest (s .waiting)) (postable-takeable (oldest (s .waiting)) (oldest-edit (s .waiting) (c .waiting) w)) room)
       go (aNeutral e room b) = subst P (sym b) (some Neutral neutral-takeable room)
       go (nothing e b) = subst P (sym b) none
 
@@ -67,9 +67,9 @@ module _ (s : Station) (shape : Shaped s) (c : Inside s) where
       after-inside (s .own) 1 (c .own) (rw most at (c .places (s .own) (c .own) .lane)) in
       rw (passed-own-lane s (rw (lanesAfter-length s) (fits (s .own) (c .own))))
       (started-cases
-      (λ b. laneInside 1 (cond (eqb (kindOf b) 0) (laneAfter s (s .own)) (pushed (laneAfter s (s .own)) b)) ≡ true)
+      (λ b. laneInside 1 (cond (isEmpty b) (laneAfter s (s .own)) (pushed (laneAfter s (s .own)) b)) ≡ true)
       after
-      (λ b h room. cond-keeps (λ (l : Lane). laneInside 1 l ≡ true) (eqb (kindOf b) 0) (laneAfter s (s .own)) (pushed (laneAfter s (s .own)) b)
+      (λ b h room. cond-keeps (λ (l : Lane). laneInside 1 l ≡ true) (isEmpty b) (laneAfter s (s .own)) (pushed (laneAfter s (s .own)) b)
       after
       (pushed-inside 1 (laneAfter s (s .own)) b after (omega arith) (omega arith) h)))
 

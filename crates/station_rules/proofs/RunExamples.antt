@@ -9,7 +9,7 @@ use lib.IntN.{pos}
 use lib.ListN.{set, replicate}
 use Rattle.kinds.specs.declared.Body.{Body}
 use Rattle.kinds.specs.declared.Body.the-variants.{Empty, Neutral, Insert, Drop}
-use Rattle.kind_limits.specs.Limits.{isEdit, bodyInside, numbersInside}
+use Rattle.kind_limits.specs.Limits.{postable, bodyInside, numbersInside}
 use Rattle.labels.specs.Newer.{isNewer}
 use Rattle.labels.specs.Label.{allLabels}
 use Rattle.label_words.specs.Packing.{packed, unpacked, allZero, wordInside}
@@ -128,11 +128,11 @@ pub record Pair : Type 0 where
 
 -- by computation
 pub alone-runs : Alone
-unfolding postCall posted stationInside queueInside placeInside recordInside laneInside isEdit bodyInside numbersInside freshStation noneWaiting queued oldest unqueued allBelow fill bodies laneOf airs rowOf lanesAfter ends startedBody passed ownRecord rewritten afterTurn turnReport
+unfolding postCall posted stationInside queueInside placeInside recordInside laneInside postable bodyInside numbersInside freshStation noneWaiting queued oldest unqueued allBelow fill bodies laneOf airs rowOf lanesAfter ends startedBody passed ownRecord rewritten afterTurn turnReport
 alone-runs = record { starts = refl; airs-it = refl }
 
 pub posts-runs : Posts
-unfolding posts postCall posted stationInside queueInside placeInside recordInside laneInside isEdit bodyInside numbersInside freshStation noneWaiting queued allBelow bodies laneOf
+unfolding posts postCall posted stationInside queueInside placeInside recordInside laneInside postable bodyInside numbersInside freshStation noneWaiting queued allBelow bodies laneOf
 posts-runs = record { thirty-second = refl; thirty-third = refl }
 
 pub frame-runs : Frame
@@ -140,7 +140,7 @@ unfolding hearCall frameOf sentRecords tableRecords frameBytes recordsBytes reco
 frame-runs = record { is-heard = refl; shows = refl }
 
 pub pair-runs : Pair
-unfolding postCall posted stationInside queueInside placeInside recordInside laneInside isEdit bodyInside numbersInside freshStation noneWaiting queued oldest unqueued waitingBodies allBelow fill bodies laneOf isNewer replaced heardNewer hearRecord airs rowOf lanesAfter ends startedBody passed ownRecord rewritten afterTurn turnReport
+unfolding postCall posted stationInside queueInside placeInside recordInside laneInside postable bodyInside numbersInside freshStation noneWaiting queued oldest unqueued waitingBodies allBelow fill bodies laneOf isNewer replaced heardNewer hearRecord airs rowOf lanesAfter ends startedBody passed ownRecord rewritten afterTurn turnReport
 pair-runs =
     record {
       heard = (refl, refl, refl, refl, refl);

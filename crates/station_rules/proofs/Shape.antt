@@ -9,7 +9,7 @@ use native.Mathlib.Omega.{arith}
 use lib.Dec.{eqb, ltb}
 use borrow.Author.Tests.{ltb-true}
 use Rattle.kinds.specs.declared.Body.{Body}
-use Rattle.kinds.specs.Body.{kindOf}
+use Rattle.kinds.specs.Body.{isEmpty}
 use Rattle.labels.specs.Label.{successor}
 use Rattle.frame_rules.specs.declared.Record.{Record}
 use Rattle.places.specs.Places.{fill}
@@ -124,7 +124,7 @@ passed-shaped s c =
       held = c .held;
       table = c .table;
       lanes =
-          cond-keeps (λ (l : List Lane). length l ≡ 16) (eqb (kindOf (startedBody s)) 0) (lanesAfter s) pushedLanes
+          cond-keeps (λ (l : List Lane). length l ≡ 16) (isEmpty (startedBody s)) (lanesAfter s) pushedLanes
           (lanesAfter-length s ∙ c .lanes)
           (length-set (lanesAfter s) (s .own) (pushed (getD (lanesAfter s) (s .own) noLane) (startedBody s)) ∙ lanesAfter-length s ∙ c .lanes);
       slots = waiting-slots s (c .slots);

@@ -2,12 +2,12 @@
 use Prim.Native.Nat.{ℕ, _<_}
 use mathlib.Core.Bool.{Bool, true, false, cond}
 use mathlib.Core.Path.{_≡_, refl}
-use lib.Dec.{ltb, eqb}
+use lib.Dec.{ltb}
 use lib.ListN.{getD, set, length}
 use lib.Seq.{getD-set-same, getD-set-other}
 use borrow.Author.Tests.{ltb-true, eqb-true}
 use Rattle.kinds.specs.declared.Body.the-variants.{Empty, Neutral}
-use Rattle.kinds.specs.Body.{kindOf}
+use Rattle.kinds.specs.Body.{isEmpty}
 use Rattle.places.proofs.Laws.{fill-below}
 use Rattle.lanes.specs.declared.Lane.{Lane}
 use Rattle.station_rules.specs.declared.Station.{Station}
@@ -53,9 +53,9 @@ passed-waiting s = refl
 pub passed-own-lane :
     (s : Station) → s .own < length (lanesAfter s) →
     laneAt (passed s) (s .own)
-    ≡ cond (eqb (kindOf (startedBody s)) 0) (laneAfter s (s .own)) (pushed (laneAfter s (s .own)) (startedBody s))
+    ≡ cond (isEmpty (startedBody s)) (laneAfter s (s .own)) (pushed (laneAfter s (s .own)) (startedBody s))
 unfolding passed
-passed-own-lane s b = go (eqb (kindOf (startedBody s)) 0)
+passed-own-lane s b = go (isEmpty (startedBody s))
   where
     own-lane : Lane
     own-lane = pushed (laneAfter s (s .own)) (startedBody s)
@@ -69,7 +69,7 @@ passed-own-lane s b = go (eqb (kindOf (startedBody s)) 0)
 -- the others do not
 pub passed-other-lane : (s : Station) (k : ℕ) → (k ≡ s .own → ⊥) → laneAt (passed s) k ≡ laneAfter s k
 unfolding passed
-passed-other-lane s k ne = go (eqb (kindOf (startedBody s)) 0)
+passed-other-lane s k ne = go (isEmpty (startedBody s))
   where
     own-lane : Lane
     own-lane = pushed (laneAfter s (s .own)) (startedBody s)

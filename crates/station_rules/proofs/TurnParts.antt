@@ -3,11 +3,11 @@ use mathlib.Core.Bool.{Bool, true, false, cond, not}
 use mathlib.Core.Path.{_≡_, refl, sym, ap, _∙_}
 use Prim.Native.Nat.{ℕ, _<_, _≤_}
 use native.Mathlib.Omega.{arith}
-use lib.Dec.{ltb, eqb}
+use lib.Dec.{ltb}
 use lib.ListN.{getD, length, replicate}
 use Rattle.kinds.specs.declared.Body.{Body}
 use Rattle.kinds.specs.declared.Body.the-variants.{Empty}
-use Rattle.kinds.specs.Body.{kindOf}
+use Rattle.kinds.specs.Body.{isEmpty}
 use Rattle.places.specs.Places.{allBelow, fill}
 use Rattle.places.proofs.Laws.{cond-not, fill-below}
 use Rattle.lanes.specs.declared.Slot.{Slot}
@@ -84,11 +84,11 @@ lane-other s k d = passed-other-lane s k d
 
 pub lane-own : (s : Station) → s .own < length (s .lanes)
     → laneAt (afterTurn s) (s .own)
-    ≡ cond (not (eqb (kindOf (startedBody s)) 0)) (pushed (laneAfter s (s .own)) (startedBody s)) (laneAfter s (s .own))
+    ≡ cond (not (isEmpty (startedBody s))) (pushed (laneAfter s (s .own)) (startedBody s)) (laneAfter s (s .own))
 unfolding afterTurn rewritten
 lane-own s l =
     passed-own-lane s (rw (lanesAfter-length s) l)
-    ∙ sym (cond-not (eqb (kindOf (startedBody s)) 0) (pushed (laneAfter s (s .own)) (startedBody s)) (laneAfter s (s .own)))
+    ∙ sym (cond-not (isEmpty (startedBody s)) (pushed (laneAfter s (s .own)) (startedBody s)) (laneAfter s (s .own)))
 
 -- the row that is aired
 pub row-at : (s : Station) (k : ℕ) → k < s .n → s .n ≤ 16 → (getD (rowOf s) k noSlot) .body ≡ (laneAt s k) .first

@@ -5,7 +5,7 @@ use lib.ListN.{getD, set, replicate}
 use lib.Dec.{ltb, eqb}
 use Rattle.kinds.specs.declared.Body.{Body}
 use Rattle.kinds.specs.declared.Body.the-variants.{Empty, Neutral}
-use Rattle.kinds.specs.Body.{kindOf}
+use Rattle.kinds.specs.Body.{isEmpty}
 use Rattle.labels.specs.Label.{successor}
 use Rattle.frame_rules.specs.declared.Record.{Record}
 use Rattle.places.specs.Places.{allBelow, fill}
@@ -61,7 +61,7 @@ passed s =
       held = s .held;
       table = s .table;
       lanes =
-          cond (eqb (kindOf (startedBody s)) 0)
+          cond (isEmpty (startedBody s))
           (lanesAfter s)
           (set (lanesAfter s) (s .own) (pushed (getD (lanesAfter s) (s .own) noLane) (startedBody s)));
     }

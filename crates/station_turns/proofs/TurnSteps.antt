@@ -10,7 +10,7 @@ use lib.Dec.{ltb, eqb}
 use borrow.Author.Tests.{ltb-true}
 use Rattle.kinds.specs.declared.Body.{Body}
 use Rattle.kinds.specs.declared.Body.the-variants.{Empty, Neutral}
-use Rattle.kinds.specs.Body.{kindOf}
+use Rattle.kinds.specs.Body.{isEmpty}
 use Rattle.labels.specs.Label.{successor}
 use Rattle.places.specs.Places.{fill}
 use Rattle.places.proofs.Laws.{and-right}
@@ -112,7 +112,7 @@ module _
       count ≡ cond ended 0 (s .count) →
       next ≡ cond ended (successor (labelOf s (s .own))) (labelOf s (s .own)) →
       over ≡ fill (s .n) (λ k. getD (set (s .labels) (s .own) next) k 0) ((recordOf s (s .own)) .labels) →
-      lane ≡ cond (eqb (kindOf started) 0) (getD left (s .own) noLane) (pushed (getD left (s .own) noLane) started) →
+      lane ≡ cond (isEmpty started) (getD left (s .own) noLane) (pushed (getD left (s .own) noLane) started) →
       answer ≡ turnDone s
   unfolding afterTurn rewritten passed ownRecord turnReport
   turn-made a e r l o b t w k y g m x v p =
@@ -133,5 +133,5 @@ module _
         r,
         l,
         set-if (ends s) (s .labels) (s .own) (successor (labelOf s (s .own))) 0,
-        set-unless (eqb (kindOf (startedBody s)) 0) (lanesAfter s) (s .own) (pushed (getD (lanesAfter s) (s .own) noLane) (startedBody s)) noLane,
+        set-unless (isEmpty (startedBody s)) (lanesAfter s) (s .own) (pushed (getD (lanesAfter s) (s .own) noLane) (startedBody s)) noLane,
       )
