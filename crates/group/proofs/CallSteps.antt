@@ -18,6 +18,7 @@ use Rattle.station_rules.specs.Limits.{stationInside}
 use Rattle.station_rules.specs.Calls as station
 use Rattle.station_rules.specs.Calls.{posted, postRefusal}
 use Rattle.station_rules.proofs.StationLimits.{inside-make}
+use Rattle.group_rules.specs.declared.Post.{Post}
 use Rattle.group_rules.specs.State.{noStation, stationAt, sizeOf, groupInside, freshGroup}
 use Rattle.group_rules.specs.Calls.{groupFreshRefusal, freshCall, groupPostRefusal, postCall}
 use Rattle.group_rules.proofs.Members.{member-at}
@@ -44,13 +45,19 @@ module _ (setup : Setup) (g : List Station) where
       go false p v = rw p
 
 -- post: 2, 1, and then what the station answers
-module _ (g : List Station) (k : ℕ) (b : Body) where
-  pub post-outside : groupInside g ≡ false → record { refusal = 2; group = g } ≡ postCall g k b
+module _ (g : List Station) (x : Post) where
+  abbrev k : ℕ
+  k = x .station
+
+  abbrev b : Body
+  b = x .body
+
+  pub post-outside : groupInside g ≡ false → record { refusal = 2; group = g } ≡ postCall g x
   unfolding postCall groupPostRefusal
   post-outside i = rw i
 
   module _ (i : groupInside g ≡ true) where
-    pub post-nobody : sizeOf g ≤ k → record { refusal = 1; group = g } ≡ postCall g k b
+    pub post-nobody : sizeOf g ≤ k → record { refusal = 1; group = g } ≡ postCall g x
     unfolding postCall groupPostRefusal
     post-nobody l = rw (i, le-ltb k (sizeOf g) l)
 
@@ -67,7 +74,7 @@ module _ (g : List Station) (k : ℕ) (b : Body) where
       put false = set-getD g k noStation
 
       pub post-there :
-          (kept : Kept) → kept ≡ station.postCall s b → record { refusal = kept .refusal; group = set g k (kept .station) } ≡ postCall g k b
+          (kept : Kept) → kept ≡ station.postCall s b → record { refusal = kept .refusal; group = set g k (kept .station) } ≡ postCall g x
       unfolding postCall groupPostRefusal station.postCall
       post-there kept e =
           rw (e, inside, i, lt-ltb k (sizeOf g) l)

@@ -6,7 +6,7 @@ ghost use Rattle.group_rules.specs.State.{freshGroup};
 ghost use Rattle.group_rules.specs.Calls.{freshCall, postCall};
 use fresh_station::fresh_station;
 use group_rules::KeptGroup;
-use kinds::Body;
+use group_rules::Post;
 use kinds::refusals::BAD_NUMBER;
 use kinds::refusals::DONE;
 use kinds::refusals::OUTSIDE_LIMITS;
@@ -46,9 +46,9 @@ pub fn fresh(setup: Setup) -> KeptGroup
     }
 }
 
-// Group post: one more waiting edit at station k, where the station does not refuse it.
-pub fn post(g: [Station; 16], k: usize, body: Body) -> KeptGroup
-    ensures { λ r. ⌜ r ≡ postCall g k body ⌝ }
+// Group post: one more waiting edit at the post's station, where the station does not refuse it.
+pub fn post(g: [Station; 16], post: Post) -> KeptGroup
+    ensures { λ r. ⌜ r ≡ postCall g post ⌝ }
 {
     let mut z = KeptGroup {
         refusal: DONE,
@@ -59,10 +59,12 @@ pub fn post(g: [Station; 16], k: usize, body: Body) -> KeptGroup
         return z;
     }
     let first = z.group[0];
+    let k = post.station;
     if first.n <= k {
         z.refusal = BAD_NUMBER;
         return z;
     }
+    let body = post.body;
     let kept = station::post(z.group[k], body);
     let station = kept.station;
     z.refusal = kept.refusal;

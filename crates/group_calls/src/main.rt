@@ -2,6 +2,7 @@
 // the round reports, and one over every number of the group that it leaves. tests/model_rounds.py prints the same from the model.
 
 ghost use Prim.Native.Nat.{_≤_};
+use group_rules::Post;
 use station_rules::Setup;
 
 mod draws;
@@ -18,7 +19,13 @@ fn run(n: u32, rounds: u32)
     while round < rounds {
         let post = draws::post(state, n as usize);
         let body = post.body;
-        let kept = group::post(g, post.station, body);
+        let kept = group::post(
+            g,
+            Post {
+                station: post.station,
+                body,
+            },
+        );
         let before = kept.group;
         let drawn = draws::masks(post.state);
         let masks = drawn.masks;

@@ -24,7 +24,7 @@ use Rattle.group_rules.proofs.MembersRound.{Runs, after-members}
 use Rattle.group_rules.proofs.Lanes.{never-overfull}
 use Rattle.group_rules.proofs.CallRun.{runOf, callsAfter, groupAfter, group-first, group-step, posts-keep}
 use Rattle.group_rules.proofs.HistoryRun.{Unrefused, history-group}
-use Rattle.group_rules.proofs.PostsAccounted.{posts-accounted, posts-counted}
+use Rattle.group_rules.proofs.PostsAccounted.{posts-started, starts-aired, starts-reported, posts-accounted, posts-counted}
 use Rattle.group_rules.proofs.HistoryInside.{lanes-bounded}
 use Rattle.group_rules.proofs.FromRun as from-run
 
@@ -42,7 +42,7 @@ module _ (setup : Setup) (accepted : groupFreshRefusal setup ≡ done) (calls : 
   H = historyOf setup calls
 
   ready-members : (u : ℕ) → Members n (groupAfter setup calls u) → Members n (R .ready u)
-  ready-members u c = posts-keep (Members n) (λ g k b m. post-members n g m k b) (groupAfter setup calls u) (callsAfter calls u) c
+  ready-members u c = posts-keep (Members n) (λ g x m. post-members n g m x) (groupAfter setup calls u) (callsAfter calls u) c
 
   round-runs : (u : ℕ) → Members n (R .ready u) → Runs (R .ready u) (R .masks (suc u))
   round-runs u c =
@@ -93,6 +93,9 @@ module _ (setup : Setup) (accepted : groupFreshRefusal setup ≡ done) (calls : 
         own-count-bounded = own-count;
         held-count-bounded = held-count;
         lanes-bounded = lanes-bounded setup ok calls;
+        posts-started = posts-started setup ok calls;
+        starts-aired = starts-aired setup ok calls;
+        starts-reported = starts-reported setup ok calls;
         posts-accounted = posts-accounted setup ok calls;
         posts-counted = posts-counted setup ok calls;
         ends-exactly = from-run.ends-exactly setup ok calls free;

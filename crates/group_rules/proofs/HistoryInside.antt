@@ -18,7 +18,7 @@ use Rattle.group_rules.proofs.MembersRound.{round-members}
 
 pub members-next : (n : ℕ) (H : History) (call : Call) → Members n (H .group) → Members n ((next H call) .group)
 unfolding next
-members-next n H (post k b) c = post-members n (H .group) c k b
+members-next n H (post x) c = post-members n (H .group) c x
 members-next n H (round masks) c = round-members n (H .group) c masks
 
 members-continued : (n : ℕ) (H : History) (calls : List Call) → Members n (H .group) → Members n ((continued H calls) .group)

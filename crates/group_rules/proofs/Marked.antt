@@ -42,9 +42,9 @@ module _ (b : Body) (e : postable b ≡ true) where
   before = set (freshGroup aloneSetup) 0 (posted (freshStation aloneSetup 0) b)
 
   abbrev ready : History
-  ready = record { group = before; rounds = []; log = []; accepted = record { source = 0; body = b } ∷ [] }
+  ready = record { group = before; rounds = []; log = []; accepted = record { station = 0; body = b } ∷ []; starts = [] }
 
-  post-done : next (begun aloneSetup) (post 0 b) ≡ ready
+  post-done : next (begun aloneSetup) (post (record { station = 0; body = b })) ≡ ready
   unfolding before next begun groupPost groupPostRefusal freshGroup freshStation noneWaiting posted queued groupInside stationInside queueInside placeInside recordInside laneInside allBelow anyBelow numbersInside bodyInside fill
   post-done = simp e
 

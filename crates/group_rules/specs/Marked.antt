@@ -23,7 +23,7 @@ use Rattle.group_rules.specs.History.{History, post, round, noRound, his
 
 -- a group of one, one edit posted and two rounds with any masks
 abbrev pub oneStation : Body → List ℕ → List ℕ → History
-oneStation b masks₁ masks₂ = historyOf aloneSetup (post 0 b ∷ round masks₁ ∷ round masks₂ ∷ [])
+oneStation b masks₁ masks₂ = historyOf aloneSetup (post (record { station = 0; body = b }) ∷ round masks₁ ∷ round masks₂ ∷ [])
 
 -- the turn that its only station reports in one of the two rounds
 abbrev pub turnIn : History → ℕ → TurnReport

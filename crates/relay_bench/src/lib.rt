@@ -3,6 +3,7 @@
 ghost use Prim.Native.Nat.{_+_, _≤_, _<_};
 ghost use lib.ListN.{length};
 use group_rules::KeptGroup;
+use group_rules::Post;
 use group_rules::Report;
 use kinds::Body;
 use station_rules::Setup;
@@ -101,7 +102,11 @@ fn masks_of(schedule: &[u8], number: u32) -> [u16; 16]
 fn posted(g: [Station; 16], n: usize, post: u32) -> KeptGroup
     requires { ⌜ 1 ≤ n ⌝ }
 {
-    group::post(g, place_of(post, n), body_of(post))
+    let made = Post {
+        station: place_of(post, n),
+        body: body_of(post),
+    };
+    group::post(g, made)
 }
 
 // From fresh, so many rounds; gives a checksum of what they report.
