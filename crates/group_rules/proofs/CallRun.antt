@@ -14,7 +14,7 @@ use Rattle.kinds.specs.Refusals.{done}
 use Rattle.station_rules.specs.declared.Setup.{Setup}
 use Rattle.station_rules.specs.declared.Station.{Station}
 use Rattle.station_rules.specs.Calls.{posted}
-use Rattle.station_rules.proofs.Shape.{queued-slots}
+use Rattle.lanes.proofs.WaitingLaws.{posted-sized}
 use Rattle.group_rules.specs.declared.Post.{Post}
 use Rattle.group_rules.specs.State.{noStation, stationAt, freshGroup}
 use Rattle.group_rules.specs.Calls.{groupPostRefusal, afterPost, postCall, afterRound}
@@ -24,7 +24,7 @@ use Rattle.group_rules.proofs.Run.{Run, SameButWaiting}
 
 same-refl : (s : Station) → SameButWaiting s s
 same-refl s =
-    record { n = refl; own = refl; acked = refl; body = refl; count = refl; labels = refl; held = refl; table = refl; lanes = refl; slots = refl }
+    record { n = refl; own = refl; acked = refl; body = refl; count = refl; labels = refl; held = refl; table = refl; lanes = refl; waiting = λ h. h }
 
 same-trans : (s t r : Station) → SameButWaiting s t → SameButWaiting t r → SameButWaiting s r
 same-trans s t r a b =
@@ -38,7 +38,7 @@ same-trans s t r a b =
       held = a .held ∙ b .held;
       table = a .table ∙ b .table;
       lanes = a .lanes ∙ b .lanes;
-      slots = a .slots ∙ b .slots;
+      waiting = λ h. b .waiting (a .waiting h);
     }
 
 posted-same : (s : Station) (b : Body) → SameButWaiting s (posted s b)
@@ -54,7 +54,7 @@ posted-same s b =
       held = refl;
       table = refl;
       lanes = refl;
-      slots = sym (queued-slots (s .waiting) b);
+      waiting = posted-sized (s .waiting) b;
     }
 
 set-same : (g : List Station) (x : Post) (i : ℕ) → SameButWaiting (stationAt g i) (stationAt (afterPost g x) i)

@@ -17,11 +17,12 @@ use Rattle.frame_rules.proofs.FrameTrip as frames
 use Rattle.station_rules.proofs.Examples as station
 use Rattle.station_rules.specs.declared.Station.{Station}
 use Rattle.station_rules.specs.Calls.{posted}
-use Rattle.lanes.specs.Queue.{noSlot, noneWaiting, queued, unqueued, oldest}
+use Rattle.lanes.specs.Queue.{noSlot, emptyQueue, queued, unqueued, oldest, queueInside}
+use Rattle.lanes.specs.Waiting.{noneWaiting, waitingCount, hasRoom, withPosted, nextEdit, withoutNext, waitingInside}
 use Rattle.lanes.specs.Lane.{laneOf, bodies}
 use Rattle.station_rules.specs.Turn.{airs, rowOf, lanesAfter, ends, startedBody, passed, ownRecord, rewritten, afterTurn, turnReport}
 use Rattle.station_rules.specs.State.{aloneSetup, freshStation}
-use Rattle.station_rules.specs.Limits.{stationInside, queueInside, placeInside, recordInside, laneInside}
+use Rattle.station_rules.specs.Limits.{stationInside, placeInside, recordInside, laneInside}
 use Rattle.places.specs.Places.{allBelow, anyBelow, fill}
 use Rattle.links.specs.Log.{hearsIn}
 use Rattle.group_rules.specs.State.{stationAt, freshGroup, groupInside}
@@ -45,16 +46,16 @@ module _ (b : Body) (e : postable b ≡ true) where
   ready = record { group = before; rounds = []; log = []; accepted = record { station = 0; body = b } ∷ []; starts = [] }
 
   post-done : next (begun aloneSetup) (post (record { station = 0; body = b })) ≡ ready
-  unfolding before next begun groupPost groupPostRefusal freshGroup freshStation noneWaiting posted queued groupInside stationInside queueInside placeInside recordInside laneInside allBelow anyBelow numbersInside bodyInside fill
+  unfolding before next begun groupPost groupPostRefusal freshGroup freshStation noneWaiting emptyQueue posted withPosted queued waitingCount hasRoom groupInside stationInside waitingInside queueInside placeInside recordInside laneInside allBelow anyBelow numbersInside bodyInside fill
   post-done = simp e
 
   module _ (masks₁ masks₂ : List ℕ) where
     one-done : roundRefusal before masks₁ ≡ done
-    unfolding before roundRefusal hearing hearsIn freshGroup freshStation noneWaiting posted queued groupInside stationInside queueInside placeInside recordInside laneInside allBelow anyBelow numbersInside bodyInside fill
+    unfolding before roundRefusal hearing hearsIn freshGroup freshStation noneWaiting emptyQueue posted withPosted queued waitingCount hasRoom groupInside stationInside waitingInside queueInside placeInside recordInside laneInside allBelow anyBelow numbersInside bodyInside fill
     one-done = simp e
 
     two-done : roundRefusal (afterRound before masks₁) masks₂ ≡ done
-    unfolding before roundRefusal freshGroup freshStation noneWaiting posted queued groupInside stationInside queueInside placeInside recordInside laneInside allBelow anyBelow numbersInside bodyInside fill afterRound hearing hearsIn afterTurn passed rewritten ownRecord startedBody ends lanesAfter airs oldest unqueued laneOf bodies
+    unfolding before roundRefusal freshGroup freshStation noneWaiting emptyQueue posted withPosted queued waitingCount hasRoom groupInside stationInside waitingInside queueInside placeInside recordInside laneInside allBelow anyBelow numbersInside bodyInside fill afterRound hearing hearsIn afterTurn passed rewritten ownRecord startedBody ends lanesAfter airs nextEdit oldest withoutNext unqueued laneOf bodies
     two-done = simp (kind, inside)
 
     abbrev ran : History
@@ -65,23 +66,23 @@ module _ (b : Body) (e : postable b ≡ true) where
     post-first = ap (λ (H : History). continued H (round masks₁ ∷ round masks₂ ∷ [])) post-done
 
     turn-one : turnIn ran 0 ≡ turnReport (stationAt before 0)
-    unfolding before continued next roundCall reportOf hearing hearsIn fill freshGroup freshStation noneWaiting posted queued
+    unfolding before continued next roundCall reportOf hearing hearsIn fill freshGroup freshStation noneWaiting emptyQueue posted withPosted queued waitingCount hasRoom
     turn-one = rw one-done
 
     turn-two : turnIn ran 1 ≡ turnReport (stationAt (afterRound before masks₁) 0)
-    unfolding before continued next roundCall reportOf fill freshGroup freshStation noneWaiting posted queued afterRound hearing hearsIn afterTurn passed rewritten ownRecord startedBody ends lanesAfter airs oldest unqueued laneOf bodies
+    unfolding before continued next roundCall reportOf fill freshGroup freshStation noneWaiting emptyQueue posted withPosted queued waitingCount hasRoom afterRound hearing hearsIn afterTurn passed rewritten ownRecord startedBody ends lanesAfter airs nextEdit oldest withoutNext unqueued laneOf bodies
     turn-two = rw (one-done, two-done)
 
     starts :
         let t = turnIn (oneStation b masks₁ masks₂) 0 in
         (t .aired ≡ false) × (t .ended ≡ true) × (t .«ended_body» ≡ Empty) × (t .«started_body» ≡ b)
-    unfolding before turnReport freshGroup freshStation noneWaiting posted queued startedBody ends lanesAfter airs oldest allBelow fill
+    unfolding before turnReport freshGroup freshStation noneWaiting emptyQueue posted withPosted queued waitingCount hasRoom startedBody ends lanesAfter airs nextEdit oldest allBelow fill
     starts = rw (post-first, turn-one) (refl, refl, refl, refl)
 
     aired :
         let t = turnIn (oneStation b masks₁ masks₂) 1 in
         (t .aired ≡ true) × ((getD (t .row) 0 noSlot) .body ≡ b) × (t .ended ≡ true) × (t .«ended_body» ≡ b) × (t .«started_body» ≡ Neutral)
-    unfolding before turnReport rowOf freshGroup freshStation noneWaiting posted queued afterRound hearing hearsIn afterTurn passed rewritten ownRecord startedBody ends lanesAfter airs oldest unqueued laneOf bodies allBelow fill
+    unfolding before turnReport rowOf freshGroup freshStation noneWaiting emptyQueue posted withPosted queued waitingCount hasRoom afterRound hearing hearsIn afterTurn passed rewritten ownRecord startedBody ends lanesAfter airs nextEdit oldest withoutNext unqueued laneOf bodies allBelow fill
     aired = rw (post-first, turn-two) (simp kind (refl, refl, refl, refl, refl))
 
 pub marked : Marked

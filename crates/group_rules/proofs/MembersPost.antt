@@ -6,13 +6,14 @@ use mathlib.Core.List.{List}
 use mathlib.Core.Path.{_≡_, refl, sym, subst, _∙_}
 use native.Mathlib.Decide.{ℕ-discrete}
 use native.Mathlib.Omega.{arith}
-use lib.Dec.{eqb, leb, ltb}
+use lib.Dec.{eqb, ltb}
 use lib.ListN.{set, length-set}
 use lib.Seq.{getD-set-same, getD-set-other}
-use borrow.Author.Tests.{ltb-true, leb-false}
+use borrow.Author.Tests.{ltb-true}
 use Rattle.kind_limits.specs.Limits.{postable}
 use Rattle.kinds.specs.Refusals.{done}
 use Rattle.places.proofs.Keeps.{set-keeps}
+use Rattle.lanes.specs.Waiting.{hasRoom}
 use Rattle.station_rules.specs.declared.Station.{Station}
 use Rattle.station_rules.specs.Calls.{posted}
 use Rattle.station_rules.proofs.Shape.{Shaped, posted-shaped}
@@ -27,18 +28,18 @@ pub record Accepted (g : List Station) (x : Post) : Type 0 where
   pub inside : groupInside g ≡ true
   pub below : x .station < sizeOf g
   pub edit : postable (x .body) ≡ true
-  pub room : stationAt g (x .station) .waiting .len < 32
+  pub room : hasRoom (stationAt g (x .station) .waiting) ≡ true
 
 pub accepted : (g : List Station) (x : Post) → eqb (groupPostRefusal g x) done ≡ true → Accepted g x
 unfolding groupPostRefusal
-accepted g x h = go (groupInside g) (ltb (x .station) (sizeOf g)) (postable (x .body)) (leb 32 (stationAt g (x .station) .waiting .len)) refl refl refl refl h
+accepted g x h = go (groupInside g) (ltb (x .station) (sizeOf g)) (postable (x .body)) (hasRoom (stationAt g (x .station) .waiting)) refl refl refl refl h
   where
     go :
-        (a c d e : Bool) → groupInside g ≡ a → ltb (x .station) (sizeOf g) ≡ c → postable (x .body) ≡ d → leb 32 (stationAt g (x .station) .waiting .len) ≡ e →
-        eqb (cond (not a) 2 (cond (not c) 1 (cond (not d) 4 (cond e 3 0)))) 0 ≡ true → Accepted g x
-    go true true true false p q r s z =
-        record { inside = p; below = ltb-true (x .station) (sizeOf g) q; edit = r; room = leb-false 32 (stationAt g (x .station) .waiting .len) s }
-    go true true true true p q r s z = absurd (false≢true z)
+        (a c d e : Bool) → groupInside g ≡ a → ltb (x .station) (sizeOf g) ≡ c → postable (x .body) ≡ d → hasRoom (stationAt g (x .station) .waiting) ≡ e →
+        eqb (cond (not a) 2 (cond (not c) 1 (cond (not d) 4 (cond (not e) 3 0)))) 0 ≡ true → Accepted g x
+    go true true true true p q r s z =
+        record { inside = p; below = ltb-true (x .station) (sizeOf g) q; edit = r; room = s }
+    go true true true false p q r s z = absurd (false≢true z)
     go true true false e p q r s z = absurd (false≢true z)
     go true false d e p q r s z = absurd (false≢true z)
     go false c d e p q r s z = absurd (false≢true z)
@@ -65,7 +66,7 @@ module _ (n : ℕ) (g : List Station) (c : Members n g) (x : Post) where
     pub posted-other : (j : ℕ) → (j ≡ x .station → ⊥) → stationAt (afterPost g x) j ≡ stationAt g j
     posted-other j ne = getD-set-other g (x .station) j (posted (stationAt g (x .station)) (x .body)) noStation ne
 
-    posted-member : postable (x .body) ≡ true → stationAt g (x .station) .waiting .len < 32 → (j : ℕ) → j < n → Member n (afterPost g x) j
+    posted-member : postable (x .body) ≡ true → hasRoom (stationAt g (x .station) .waiting) ≡ true → (j : ℕ) → j < n → Member n (afterPost g x) j
     posted-member edit room j l =
         elim (ℕ-discrete j (x .station)) [
           | yes same ↦ subst (Member n (afterPost g x)) (sym same) here
@@ -88,7 +89,7 @@ module _ (n : ℕ) (g : List Station) (c : Members n g) (x : Post) where
               own = rw posted-at (unfold posted in (m .own));
             }
 
-    set-members : postable (x .body) ≡ true → stationAt g (x .station) .waiting .len < 32 → Members n (afterPost g x)
+    set-members : postable (x .body) ≡ true → hasRoom (stationAt g (x .station) .waiting) ≡ true → Members n (afterPost g x)
     set-members edit room =
         record {
           low = c .low;

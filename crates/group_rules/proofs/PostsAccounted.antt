@@ -22,10 +22,10 @@ use Rattle.lanes.specs.Lane.{bodies, noLane}
 use Rattle.station_rules.specs.State.{laneAt, freshStation}
 use Rattle.station_rules.specs.Hearing.{silent}
 use Rattle.station_rules.specs.Turn.{airs, rowOf, startedBody, turnReport, afterTurn}
-use Rattle.lanes.specs.Queue.{noSlot, waitingBodies}
-use Rattle.lanes.proofs.QueueLaws.{waiting-none, waiting-length, waiting-queued}
+use Rattle.lanes.specs.Queue.{noSlot}
+use Rattle.lanes.specs.Waiting.{waitingEdits, waitingCount, hasRoom}
+use Rattle.lanes.proofs.WaitingLaws.{WaitingSized, none-edits, edits-count, posted-edits}
 use Rattle.station_rules.specs.Calls.{posted, noTurn}
-use Rattle.station_rules.proofs.LimitsQueue.{queue-most}
 use Rattle.station_rules.proofs.LimitsHearing.{Hears}
 use Rattle.group_rules.specs.declared.Post.{Post}
 use Rattle.group_rules.specs.declared.Report.{Report}
@@ -54,7 +54,7 @@ airedOf n r = cond (r .turn .aired) (editsOf n (r .turn .row)) []
 
 -- what waits at a station, and the edits in its own lane
 abbrev waits : List Station → ℕ → List Body
-waits g p = waitingBodies (stationAt g p .waiting)
+waits g p = waitingEdits (stationAt g p .waiting)
 
 abbrev ownEdits : List Station → ℕ → List Body
 ownEdits g p = onlyEdits (bodies (laneAt (stationAt g p) p))
@@ -62,10 +62,10 @@ ownEdits g p = onlyEdits (bodies (laneAt (stationAt g p) p))
 -- a post
 
 posted-waits :
-    (s : Station) (b : Body) → s .waiting .len < length (s .waiting .slots) →
-    waitingBodies ((posted s b) .waiting) ≡ waitingBodies (s .waiting) ++ (b ∷ [])
+    (s : Station) (b : Body) → WaitingSized (s .waiting) → hasRoom (s .waiting) ≡ true →
+    waitingEdits ((posted s b) .waiting) ≡ waitingEdits (s .waiting) ++ (b ∷ [])
 unfolding posted
-posted-waits s b l = waiting-queued (s .waiting) b l
+posted-waits s b c l = posted-edits (s .waiting) b c l
 
 -- the posts that a call adds to the accepted ones
 abbrev accepts : List Station → Post → List Post
@@ -84,17 +84,16 @@ module _ (n : ℕ) (g : List Station) (c : Members n g) (x : Post) (p : ℕ) whe
           let k = x .station in
           let made = accepted g x (rw (post-refusal g x) at e) in
           let below : k < n = omega (arith, c .size, made .below) in
-          let room : stationAt g k .waiting .len < length (stationAt g k .waiting .slots) =
-          omega (arith, made .room, c .shape .stations k (omega (arith, c .high)) .slots) in
+          let sized : WaitingSized (stationAt g k .waiting) = c .shape .stations k (omega (arith, c .high)) .waiting in
           ap (λ (h : List Station). waits h p) (post-accepted g x e)
           ∙ elim (ℕ-discrete p k) [
             | yes same ↦
                 subst (λ (j : ℕ). waits (afterPost g x) j ≡ waits g j ++ postsAt j (x ∷ [])) (sym same)
-                (ap (λ (s : Station). waitingBodies (s .waiting)) (posted-at n g c x below)
-                ∙ posted-waits (stationAt g k) (x .body) room
+                (ap (λ (s : Station). waitingEdits (s .waiting)) (posted-at n g c x below)
+                ∙ posted-waits (stationAt g k) (x .body) sized (made .room)
                 ∙ ap (λ (l : List Body). waits g k ++ l) (sym (post-here x)))
             | no ne ↦
-                ap (λ (s : Station). waitingBodies (s .waiting)) (posted-other n g c x below p ne)
+                ap (λ (s : Station). waitingEdits (s .waiting)) (posted-other n g c x below p ne)
                 ∙ sym (append-nil (waits g p))
                 ∙ ap (λ (l : List Body). waits g p ++ l) (sym (post-other p x (λ z. ne (sym z))))
           ]
@@ -196,9 +195,9 @@ module _ (n : ℕ) (g : List Station) (c : Members n g) (masks : List ℕ) (p : 
     unfolding s
     waits-done =
         let inside = hears .inside (run-room n g c masks (runs g masks e) p below) in
-        ap waitingBodies (sym (hears .waiting))
+        ap waitingEdits (sym (hears .waiting))
         ∙ turn-waiting s (hears .shaped) inside
-        ∙ (λ i. sym starts-done i ++ waitingBodies ((sym after i) .waiting))
+        ∙ (λ i. sym starts-done i ++ waitingEdits ((sym after i) .waiting))
 
     lane-done :
         ownEdits g p ++ postsAt p (startsIn (sizeOf g) (roundCall g masks))
@@ -340,9 +339,9 @@ unfolding continued
 kept-continued n H [] c = c
 kept-continued n H (call ∷ calls) c = kept-continued n (next H call) calls (kept-next n H call c)
 
-fresh-waits : (setup : Setup) (p : ℕ) → waitingBodies (freshStation setup p .waiting) ≡ []
+fresh-waits : (setup : Setup) (p : ℕ) → waitingEdits (freshStation setup p .waiting) ≡ []
 unfolding freshStation
-fresh-waits setup p = waiting-none
+fresh-waits setup p = none-edits
 
 fresh-lane : (setup : Setup) (p : ℕ) → p < 16 → onlyEdits (bodies (laneAt (freshStation setup p) p)) ≡ []
 unfolding freshStation bodies onlyEdits
@@ -355,7 +354,7 @@ kept-begun setup ok =
       members = members-begun setup ok;
       waiting =
           λ p l. unfold postsAt in
-          (sym (fresh-waits setup p) ∙ ap (λ (s : Station). waitingBodies (s .waiting)) (sym (fresh-at setup (ok .high) p l)));
+          (sym (fresh-waits setup p) ∙ ap (λ (s : Station). waitingEdits (s .waiting)) (sym (fresh-at setup (ok .high) p l)));
       lane =
           λ p l. unfold airedList collect takingsOf postsAt in
           (sym (fresh-lane setup p (omega arith))
@@ -376,7 +375,7 @@ module _ (setup : Setup) (ok : Accepts setup) (calls : List Call) where
   whole : Kept n H
   whole = kept-history setup ok calls
 
-  pub posts-started : (p : ℕ) → p < n → postsAt p (H .accepted) ≡ postsAt p (H .starts) ++ waitingBodies ((stationAt (H .group) p) .waiting)
+  pub posts-started : (p : ℕ) → p < n → postsAt p (H .accepted) ≡ postsAt p (H .starts) ++ waitingEdits ((stationAt (H .group) p) .waiting)
   posts-started = whole .waiting
 
   pub starts-aired :
@@ -391,13 +390,13 @@ module _ (setup : Setup) (ok : Accepts setup) (calls : List Call) where
       postsAt p (H .accepted)
       ≡ takingsOf p (airedList n H p)
       ++ onlyEdits (bodies (laneAt (stationAt (H .group) p) p))
-      ++ waitingBodies ((stationAt (H .group) p) .waiting)
+      ++ waitingEdits ((stationAt (H .group) p) .waiting)
   posts-accounted p l = posts-started p l ∙ ap (λ (z : List Body). z ++ waits (H .group) p) (starts-aired p l)
 
   pub posts-counted :
       (p : ℕ) → p < n →
       length (postsAt p (H .accepted))
-      ≡ (stationAt (H .group) p) .waiting .len
+      ≡ waitingCount ((stationAt (H .group) p) .waiting)
       + length (onlyEdits (bodies (laneAt (stationAt (H .group) p) p)))
       + length (takingsOf p (airedList n H p))
   posts-counted p l =
@@ -405,12 +404,10 @@ module _ (setup : Setup) (ok : Accepts setup) (calls : List Call) where
       let members = whole .members in
       let aired : List Body = takingsOf p (airedList n H p) in
       let lane : List Body = onlyEdits (bodies (laneAt s p)) in
-      let short : s .waiting .len ≤ length (s .waiting .slots) =
-      omega (arith, queue-most (s .waiting) (members .member p l .inside .waiting), members .shape .stations p (omega arith) .slots) in
       omega (
         arith,
         ap length (posts-accounted p l),
-        length-append (aired ++ lane) (waitingBodies (s .waiting)),
+        length-append (aired ++ lane) (waitingEdits (s .waiting)),
         length-append aired lane,
-        waiting-length (s .waiting) short,
+        edits-count (s .waiting) (members .shape .stations p (omega arith) .waiting) (members .member p l .inside .waiting),
       )

@@ -61,7 +61,7 @@ module _ (R : Run) where
                     held = ap length (sym (e .held)) ∙ c .held;
                     table = ap length (sym (e .table)) ∙ c .table;
                     lanes = ap length (sym (e .lanes)) ∙ c .lanes;
-                    slots = sym (e .slots) ∙ c .slots;
+                    waiting = e .waiting (c .waiting);
                     record-labels =
                         λ q l. ap (λ (x : List Record). length ((getD x q noRecord) .labels)) (sym (e .table)) ∙ c .record-labels q l;
                   });

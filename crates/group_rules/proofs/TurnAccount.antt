@@ -19,15 +19,15 @@ use Rattle.lanes.specs.declared.Slot.{Slot}
 use Rattle.station_rules.specs.declared.Station.{Station}
 use Rattle.station_rules.specs.declared.Taking.{Taking}
 use Rattle.lanes.specs.Lane.{bodies, laneOf, pushed, popped}
-use Rattle.lanes.specs.Queue.{noSlot, waitingBodies, oldest, unqueued}
-use Rattle.lanes.proofs.QueueLaws.{waiting-unqueued}
+use Rattle.lanes.specs.Queue.{noSlot}
+use Rattle.lanes.specs.Waiting.{waitingEdits, waitingCount, nextEdit, withoutNext}
+use Rattle.lanes.proofs.WaitingLaws.{next-postable, started-edits}
 use Rattle.station_rules.specs.State.{laneAt}
 use Rattle.station_rules.specs.Turn.{airs, rowOf, startsEdit, startedBody, passed, rewritten, afterTurn}
 use Rattle.kinds.proofs.Laws.{edit-not-empty}
 use Rattle.kind_limits.proofs.Laws.{postable-edit}
 use Rattle.station_rules.proofs.Shape.{Shaped, lanesAfter-length}
 use Rattle.station_rules.proofs.LimitsLane.{lane-most}
-use Rattle.station_rules.proofs.LimitsQueue.{queue-most, oldest-edit}
 use Rattle.station_rules.proofs.StationLimits.{Inside}
 use Rattle.station_rules.proofs.TurnParts.{airs-each}
 use Rattle.station_rules.proofs.TurnLaws.{laneAfter, after-aired, after-kept, Start, Start.anEdit, Start.aNeutral, Start.nothing, start, passed-waiting, passed-own-lane}
@@ -76,8 +76,8 @@ module _ (s : Station) (shape : Shaped s) (c : Inside s) where
       ltb-true 0 ((laneAt s (s .own)) .len)
       (allBelow-at (s .n) (λ k. ltb 0 ((laneAt s k) .len)) (sym (airs-each s) ∙ e) (s .own) (c .own))
 
-  oldest-is-edit : 0 < s .waiting .len → isEdit (oldest (s .waiting)) ≡ true
-  oldest-is-edit w = postable-edit (oldest (s .waiting)) (oldest-edit (s .waiting) (c .waiting) w)
+  next-is-edit : 0 < waitingCount (s .waiting) → isEdit (nextEdit (s .waiting)) ≡ true
+  next-is-edit w = postable-edit (nextEdit (s .waiting)) (next-postable (s .waiting) (c .waiting) w)
 
   -- the airing step
   aired-account :
@@ -93,15 +93,15 @@ module _ (s : Station) (shape : Shaped s) (c : Inside s) where
       go false e = rw (after-kept s (s .own) e)
 
   -- the start: what starts leaves the waiting edits for the own lane, which is empty then
-  started-waiting : waitingBodies (s .waiting) ≡ ifEdit (startedBody s) ++ waitingBodies ((passed s) .waiting)
+  started-waiting : waitingEdits (s .waiting) ≡ ifEdit (startedBody s) ++ waitingEdits ((passed s) .waiting)
   started-waiting = rw (passed-waiting s) (go (start s))
     where
       go :
           Start s →
-          waitingBodies (s .waiting) ≡ ifEdit (startedBody s) ++ waitingBodies (cond (startsEdit s) (unqueued (s .waiting)) (s .waiting))
+          waitingEdits (s .waiting) ≡ ifEdit (startedBody s) ++ waitingEdits (cond (startsEdit s) (withoutNext (s .waiting)) (s .waiting))
       go (anEdit e room w b) =
-          rw (e, b, oldest-is-edit w)
-          (waiting-unqueued (s .waiting) w (omega (arith, queue-most (s .waiting) (c .waiting), shape .slots)))
+          rw (e, b, next-is-edit w)
+          (started-edits (s .waiting) (shape .waiting) (c .waiting) w)
       go (aNeutral e room b) = rw (e, b)
       go (nothing e b) = rw (e, b)
 
@@ -116,7 +116,7 @@ module _ (s : Station) (shape : Shaped s) (c : Inside s) where
           onlyEdits (bodies after) ++ ifEdit (startedBody s)
           ≡ onlyEdits (bodies (cond (isEmpty (startedBody s)) after (pushed after (startedBody s))))
       go (anEdit e room w b) =
-          rw (b, edit-not-empty (oldest (s .waiting)) (oldest-is-edit w), pushed-edits after (oldest (s .waiting)) room, none-edits after room)
+          rw (b, edit-not-empty (nextEdit (s .waiting)) (next-is-edit w), pushed-edits after (nextEdit (s .waiting)) room, none-edits after room)
       go (aNeutral e room b) = rw (b, pushed-edits after Neutral room, none-edits after room)
       go (nothing e b) = rw b (append-nil (onlyEdits (bodies after)))
 
@@ -129,7 +129,7 @@ module _ (s : Station) (shape : Shaped s) (c : Inside s) where
   unfolding afterTurn rewritten
   rewritten-lane = refl
 
-  pub turn-waiting : waitingBodies (s .waiting) ≡ ifEdit (startedBody s) ++ waitingBodies ((afterTurn s) .waiting)
+  pub turn-waiting : waitingEdits (s .waiting) ≡ ifEdit (startedBody s) ++ waitingEdits ((afterTurn s) .waiting)
   turn-waiting = rw rewritten-waiting started-waiting
 
   own-lane :

@@ -9,7 +9,7 @@ use Rattle.kinds.specs.Refusals.{done}
 use Rattle.links.specs.Relay.{ofLog}
 use Rattle.links.specs.EndRule.{EndsIn}
 use Rattle.lanes.specs.Lane.{bodies}
-use Rattle.lanes.specs.Queue.{waitingBodies}
+use Rattle.lanes.specs.Waiting.{waitingEdits, waitingCount}
 use Rattle.station_rules.specs.declared.Setup.{Setup}
 use Rattle.station_rules.specs.State.{heldOf, recordOf, laneAt}
 use Rattle.group_rules.specs.State.{stationAt}
@@ -39,7 +39,7 @@ pub record Demand (n : ℕ) (H : History) : Type 0 where
   pub lanes-bounded : (p s : ℕ) → p < n → s < n → (laneAt (stationAt (H .group) p) s) .len ≤ 2
   -- accepted posts in their order: the edits that started, then those that wait
   pub posts-started :
-      (p : ℕ) → p < n → postsAt p (H .accepted) ≡ postsAt p (H .starts) ++ waitingBodies ((stationAt (H .group) p) .waiting)
+      (p : ℕ) → p < n → postsAt p (H .accepted) ≡ postsAt p (H .starts) ++ waitingEdits ((stationAt (H .group) p) .waiting)
   -- the edits that started in their order: the own edits that were aired, then those in the own lane
   pub starts-aired :
       (p : ℕ) → p < n → postsAt p (H .starts) ≡ takingsOf p (airedList n H p) ++ onlyEdits (bodies (laneAt (stationAt (H .group) p) p))
@@ -51,12 +51,12 @@ pub record Demand (n : ℕ) (H : History) : Type 0 where
       postsAt p (H .accepted)
       ≡ takingsOf p (airedList n H p)
       ++ onlyEdits (bodies (laneAt (stationAt (H .group) p) p))
-      ++ waitingBodies ((stationAt (H .group) p) .waiting)
+      ++ waitingEdits ((stationAt (H .group) p) .waiting)
   -- and so in number: accepted posts = waiting + edits in the own lane + own edits aired
   pub posts-counted :
       (p : ℕ) → p < n →
       length (postsAt p (H .accepted))
-      ≡ (stationAt (H .group) p) .waiting .len
+      ≡ waitingCount ((stationAt (H .group) p) .waiting)
       + length (onlyEdits (bodies (laneAt (stationAt (H .group) p) p)))
       + length (takingsOf p (airedList n H p))
   -- a broadcast ends in round u + 1 exactly when that is the first after its start by which every other station had a relay from the sender and then

@@ -6,6 +6,7 @@ use lib.ListN.{getD, replicate}
 use lib.Dec.{eqb}
 use Rattle.kinds.specs.declared.Body.the-variants.{Empty}
 use Rattle.places.specs.Places.{allBelow, fill}
+use Rattle.lanes.specs.Waiting.{absentWaiting}
 use Rattle.station_rules.specs.declared.Setup.{Setup}
 use Rattle.station_rules.specs.declared.Station.{Station}
 use Rattle.station_rules.specs.State.{aloneSetup, freshStation}
@@ -17,7 +18,7 @@ noStation =
     record {
       n = 0;
       own = 0;
-      waiting = record { len = 0; slots = [] };
+      waiting = absentWaiting;
       acked = [];
       body = Empty;
       count = 0;

@@ -14,9 +14,10 @@ use Rattle.links.specs.Log.{bit, hearsIn}
 use Rattle.frame_rules.specs.Record.{framed}
 use Rattle.frame_rules.specs.Calls.{tableRecords}
 use Rattle.lanes.specs.Lane.{bodies, laneOf}
-use Rattle.lanes.specs.Queue.{noneWaiting, queued, oldest, unqueued}
+use Rattle.lanes.specs.Queue.{emptyQueue, queued, unqueued, oldest, queueInside}
+use Rattle.lanes.specs.Waiting.{noneWaiting, waitingCount, hasRoom, withPosted, nextEdit, withoutNext, waitingInside}
 use Rattle.station_rules.specs.State.{sentRecords, freshStation}
-use Rattle.station_rules.specs.Limits.{laneInside, queueInside, recordInside, placeInside, stationInside}
+use Rattle.station_rules.specs.Limits.{laneInside, recordInside, placeInside, stationInside}
 use Rattle.station_rules.specs.Hearing.{replaced, heardNewer, hearRecord, hearRecords}
 use Rattle.station_rules.specs.Turn.{airs, rowOf, lanesAfter, ends, startedBody, passed, ownRecord, rewritten, afterTurn, turnReport}
 use Rattle.station_rules.specs.Calls.{posted, noTurn}
@@ -55,7 +56,7 @@ pub example :
     ++ lineBytes 3 delivered 1 0 edit
     ++ lineBytes 3 airing 1 0 edit
     ++ endLine
-unfolding headBytes bodyBytes allBelow anyBelow fill gather tabulate bodyOf numbersInside bodyInside postable isNewer bit hearsIn framed bodies laneOf noneWaiting queued oldest unqueued sentRecords tableRecords freshStation laneInside queueInside recordInside placeInside stationInside replaced heardNewer hearRecord hearRecords airs rowOf lanesAfter ends startedBody passed ownRecord rewritten afterTurn turnReport posted noTurn groupInside freshGroup groupFreshRefusal freshCall groupPostRefusal postCall hearing noReport reportOf roundRefusal afterRound roundCall started grown next readFrom lead columns fieldOf sizeLine postShaped postLine isMask masksInside roundLine commandOf maskAt masksOf lineBytes endLine joined takenText airedText turnText reportText roundText begun postedBody sizedBy postedBy roundedBy obeyed refusedText answered after printed restText linesOf listed listingOf
+unfolding headBytes bodyBytes allBelow anyBelow fill gather tabulate bodyOf numbersInside bodyInside postable isNewer bit hearsIn framed bodies laneOf noneWaiting emptyQueue withPosted queued waitingCount hasRoom nextEdit oldest withoutNext unqueued sentRecords tableRecords freshStation laneInside waitingInside queueInside recordInside placeInside stationInside replaced heardNewer hearRecord hearRecords airs rowOf lanesAfter ends startedBody passed ownRecord rewritten afterTurn turnReport posted noTurn groupInside freshGroup groupFreshRefusal freshCall groupPostRefusal postCall hearing noReport reportOf roundRefusal afterRound roundCall started grown next readFrom lead columns fieldOf sizeLine postShaped postLine isMask masksInside roundLine commandOf maskAt masksOf lineBytes endLine joined takenText airedText turnText reportText roundText begun postedBody sizedBy postedBy roundedBy obeyed refusedText answered after printed restText linesOf listed listingOf
 example = refl
 
 -- an empty script, and one whose first line is not `N`: the reading stops, whatever follows

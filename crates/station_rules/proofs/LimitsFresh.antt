@@ -18,15 +18,15 @@ use Rattle.places.proofs.Keeps.{set-keeps}
 use Rattle.station_rules.specs.declared.Setup.{Setup}
 use Rattle.station_rules.specs.declared.Station.{Station}
 use Rattle.lanes.specs.Lane.{noLane}
-use Rattle.lanes.specs.Queue.{noneWaiting}
+use Rattle.lanes.specs.Waiting.{hasRoom}
+use Rattle.lanes.proofs.WaitingLaws as waiting
 use Rattle.frame_rules.specs.Record.{noRecord, zeroRecord}
 use Rattle.station_rules.specs.State.{heldOf, recordOf, freshLabels, freshStation}
-use Rattle.station_rules.specs.Limits.{queueInside, stationInside}
+use Rattle.station_rules.specs.Limits.{stationInside}
 use Rattle.station_rules.specs.Calls.{posted}
 use Rattle.station_rules.proofs.BodyLaws.{empty-inside}
 use Rattle.station_rules.proofs.Shape.{Shaped}
 use Rattle.station_rules.proofs.LimitsLane.{lane-none}
-use Rattle.station_rules.proofs.LimitsQueue.{queued-inside}
 use Rattle.station_rules.proofs.StationLimits.{RecordHolds, PlaceHolds, Inside, inside-open, inside-make}
 
 freshLabels-label : (own k : ℕ) → k < 16 → isLabel (getD (freshLabels own) k 0) ≡ true
@@ -68,7 +68,7 @@ module _ (setup : Setup) (own : ℕ) (high : setup .n ≤ 16) (below : own < set
       }
 
   pub fresh-holds : Inside (freshStation setup own)
-  unfolding freshStation noneWaiting queueInside Rattle.places.specs.Places.allBelow
+  unfolding freshStation
   fresh-holds =
       record {
         low = omega arith;
@@ -77,7 +77,7 @@ module _ (setup : Setup) (own : ℕ) (high : setup .n ≤ 16) (below : own < set
         acked = getD-set-same (replicate 16 false) own true false (omega arith);
         held = getD-set-same (replicate 16 false) own true false (omega arith);
         body = empty-inside;
-        waiting = refl;
+        waiting = waiting.none-inside;
         places = fresh-place;
       }
 
@@ -93,7 +93,7 @@ posted-place : (s : Station) (b : Body) (k : ℕ) → PlaceHolds s k → PlaceHo
 unfolding posted
 posted-place s b k c = record { label = c .label; held = c .held; lane = c .lane }
 
-pub posted-holds : (s : Station) (b : Body) → Shaped s → Inside s → postable b ≡ true → s .waiting .len < 32 → Inside (posted s b)
+pub posted-holds : (s : Station) (b : Body) → Shaped s → Inside s → postable b ≡ true → hasRoom (s .waiting) ≡ true → Inside (posted s b)
 unfolding posted
 posted-holds s b shape c e l =
     record {
@@ -103,10 +103,10 @@ posted-holds s b shape c e l =
       acked = c .acked;
       held = c .held;
       body = c .body;
-      waiting = queued-inside (s .waiting) b (shape .slots) (c .waiting) l e;
+      waiting = waiting.posted-inside (s .waiting) b (shape .waiting) (c .waiting) l e;
       places = λ k m. posted-place s b k (c .places k m);
     }
 
 pub posted-inside :
-    (s : Station) (b : Body) → Shaped s → stationInside s ≡ true → postable b ≡ true → s .waiting .len < 32 → stationInside (posted s b) ≡ true
+    (s : Station) (b : Body) → Shaped s → stationInside s ≡ true → postable b ≡ true → hasRoom (s .waiting) ≡ true → stationInside (posted s b) ≡ true
 posted-inside s b shape h e l = inside-make (posted s b) (posted-holds s b shape (inside-open s h) e l)

@@ -19,18 +19,18 @@ use Rattle.places.specs.Places.{fill}
 use Rattle.places.proofs.Laws.{fill-below}
 use Rattle.places.proofs.Keeps.{cond-keeps, set-keeps}
 use Rattle.lanes.specs.declared.Lane.{Lane}
-use Rattle.lanes.specs.declared.Queue.{Queue}
+use Rattle.lanes.specs.declared.Waiting.{Waiting}
 use Rattle.station_rules.specs.declared.Station.{Station}
 use Rattle.lanes.specs.Lane.{pushed}
-use Rattle.lanes.specs.Queue.{oldest, unqueued}
+use Rattle.lanes.specs.Waiting.{nextEdit, withoutNext, waitingInside}
+use Rattle.lanes.proofs.WaitingLaws as waiting
 use Rattle.frame_rules.specs.Record.{noRecord}
 use Rattle.station_rules.specs.State.{labelOf, heldOf, recordOf, laneAt}
-use Rattle.station_rules.specs.Limits.{laneInside, takeable, queueInside, stationInside}
+use Rattle.station_rules.specs.Limits.{laneInside, takeable, stationInside}
 use Rattle.station_rules.specs.Turn.{airs, ends, startsEdit, startedBody, passed, ownRecord, rewritten, afterTurn}
 use Rattle.station_rules.proofs.BodyLaws.{postable-takeable, takeable-inside, empty-inside, neutral-takeable}
 use Rattle.station_rules.proofs.Shape.{Shaped, lanesAfter-length, passed-shaped}
 use Rattle.station_rules.proofs.LimitsLane.{popped-inside, pushed-inside}
-use Rattle.station_rules.proofs.LimitsQueue.{unqueued-inside, oldest-edit}
 use Rattle.station_rules.proofs.StationLimits.{RecordHolds, PlaceHolds, Inside, inside-open, inside-make}
 use Rattle.station_rules.proofs.LimitsHear.{successor-label}
 use Rattle.station_rules.proofs.TurnLaws.{laneAfter, after-aired, after-kept, Start, Start.anEdit, Start.aNeutral, Start.nothing, start, passed-own-lane, passed-other-lane}
@@ -43,7 +43,7 @@ module _ (s : Station) (shape : Shaped s) (c : Inside s) where
     where
       go : Start s → P (startedBody s)
       go (anEdit e room w b) =
-          subst P (sym b) (some (oldest (s .waiting)) (postable-takeable (oldest (s .waiting)) (oldest-edit (s .waiting) (c .waiting) w)) room)
+          subst P (sym b) (some (nextEdit (s .waiting)) (postable-takeable (nextEdit (s .waiting)) (waiting.next-postable (s .waiting) (c .waiting) w)) room)
       go (aNeutral e room b) = subst P (sym b) (some Neutral neutral-takeable room)
       go (nothing e b) = subst P (sym b) none
 
@@ -120,8 +120,8 @@ module _ (s : Station) (shape : Shaped s) (c : Inside s) where
         held = c .held;
         body = cond-keeps (λ (b : Body). bodyInside b ≡ true) (ends s) (startedBody s) (s .body) started-inside (c .body);
         waiting =
-            cond-keeps (λ (q : Queue). queueInside q ≡ true) (startsEdit s) (unqueued (s .waiting)) (s .waiting)
-            (unqueued-inside (s .waiting) (shape .slots) (c .waiting)) (c .waiting);
+            cond-keeps (λ (w : Waiting). waitingInside w ≡ true) (startsEdit s) (withoutNext (s .waiting)) (s .waiting)
+            (waiting.started-inside (s .waiting) (shape .waiting) (c .waiting)) (c .waiting);
         places = passed-place;
       }
 

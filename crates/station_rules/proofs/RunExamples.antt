@@ -22,11 +22,12 @@ use Rattle.frame_rules.specs.Record.{recordOf, recordBytes, bytesInside, framed
 use Rattle.frame_rules.specs.Frame.{shapeWrong, addressWrong, recordsInside, frameRefusal, recordsOf, recordsBytes, frameBytes}
 use Rattle.frame_rules.specs.Calls.{tableRecords}
 use Rattle.lanes.specs.Lane.{bodies, laneOf}
-use Rattle.lanes.specs.Queue.{noSlot, noneWaiting, queued, oldest, unqueued, waitingBodies}
+use Rattle.lanes.specs.Queue.{queueCapacity, noSlot, emptyQueue, queued, oldest, unqueued, queueBodies, queueInside}
+use Rattle.lanes.specs.Waiting.{noneWaiting, waitingEdits, waitingCount, hasRoom, withPosted, nextEdit, withoutNext, waitingInside}
 use Rattle.station_rules.specs.declared.Station.{Station}
 use Rattle.station_rules.specs.declared.TurnReport.{TurnReport}
 use Rattle.station_rules.specs.State.{sentRecords, aloneSetup, freshStation, labelOf, ackedOf, heldOf, laneAt}
-use Rattle.station_rules.specs.Limits.{stationInside, queueInside, placeInside, recordInside, laneInside}
+use Rattle.station_rules.specs.Limits.{stationInside, placeInside, recordInside, laneInside}
 use Rattle.station_rules.specs.Hearing.{Hearing, silent, replaced, heardNewer, hearRecord, hearRecords}
 use Rattle.station_rules.specs.Turn.{airs, rowOf, lanesAfter, ends, startedBody, passed, ownRecord, rewritten, afterTurn, turnReport}
 use Rattle.station_rules.specs.Calls.{posted, postCall, frameOf, hearCall}
@@ -62,7 +63,7 @@ posts (suc k) = with-edit (posts k) edit
 
 pub record Posts : Type 0 where
   pub thirty-second : (postCall (posts 31) edit) .refusal ≡ done
-  pub thirty-third : (postCall (posts 32) edit) .refusal ≡ queueFull
+  pub thirty-third : (postCall (posts queueCapacity) edit) .refusal ≡ queueFull
 
 -- a frame that comes is heard
 pub record Frame : Type 0 where
@@ -107,7 +108,7 @@ pub record Pair : Type 0 where
   pub acknowledges : (ackedOf (second .station) 1 ≡ true) × (second .station .count ≡ 1) × (labelOf (second .station) 1 ≡ 1)
   -- all are acknowledged: the turn starts the first edit, and the other waits
   pub starts : turnReport (second .station) ≡ ending Empty edit
-  pub waits : waitingBodies (afterTurn (second .station) .waiting) ≡ other ∷ []
+  pub waits : waitingEdits (afterTurn (second .station) .waiting) ≡ other ∷ []
   -- that one ends while it stands in the own lane: Empty starts
   pub full : turnReport (third .station) ≡ ending edit Empty
   -- a body of station 1 is taken and fills the row
@@ -128,19 +129,19 @@ pub record Pair : Type 0 where
 
 -- by computation
 pub alone-runs : Alone
-unfolding postCall posted stationInside queueInside placeInside recordInside laneInside postable bodyInside numbersInside freshStation noneWaiting queued oldest unqueued allBelow fill bodies laneOf airs rowOf lanesAfter ends startedBody passed ownRecord rewritten afterTurn turnReport
+unfolding postCall posted stationInside waitingInside queueInside placeInside recordInside laneInside postable bodyInside numbersInside freshStation noneWaiting emptyQueue withPosted hasRoom waitingCount queued nextEdit oldest withoutNext unqueued allBelow fill bodies laneOf airs rowOf lanesAfter ends startedBody passed ownRecord rewritten afterTurn turnReport
 alone-runs = record { starts = refl; airs-it = refl }
 
 pub posts-runs : Posts
-unfolding posts postCall posted stationInside queueInside placeInside recordInside laneInside postable bodyInside numbersInside freshStation noneWaiting queued allBelow bodies laneOf
+unfolding posts postCall posted stationInside waitingInside queueInside placeInside recordInside laneInside postable bodyInside numbersInside freshStation noneWaiting emptyQueue withPosted hasRoom waitingCount queued allBelow bodies laneOf
 posts-runs = record { thirty-second = refl; thirty-third = refl }
 
 pub frame-runs : Frame
-unfolding hearCall frameOf sentRecords tableRecords frameBytes recordsBytes recordBytes recordOf recordsOf wordBytes wordAt signed unsigned packed unpacked allLabels allZero wordInside frameRefusal shapeWrong addressWrong recordsInside bytesInside bodyOf gather tabulate anyBelow framed stationInside queueInside placeInside recordInside laneInside bodyInside numbersInside freshStation noneWaiting allBelow fill isNewer replaced heardNewer hearRecord hearRecords
+unfolding hearCall frameOf sentRecords tableRecords frameBytes recordsBytes recordBytes recordOf recordsOf wordBytes wordAt signed unsigned packed unpacked allLabels allZero wordInside frameRefusal shapeWrong addressWrong recordsInside bytesInside bodyOf gather tabulate anyBelow framed stationInside waitingInside queueInside placeInside recordInside laneInside bodyInside numbersInside freshStation noneWaiting emptyQueue allBelow fill isNewer replaced heardNewer hearRecord hearRecords
 frame-runs = record { is-heard = refl; shows = refl }
 
 pub pair-runs : Pair
-unfolding postCall posted stationInside queueInside placeInside recordInside laneInside postable bodyInside numbersInside freshStation noneWaiting queued oldest unqueued waitingBodies allBelow fill bodies laneOf isNewer replaced heardNewer hearRecord airs rowOf lanesAfter ends startedBody passed ownRecord rewritten afterTurn turnReport
+unfolding postCall posted stationInside waitingInside queueInside placeInside recordInside laneInside postable bodyInside numbersInside freshStation noneWaiting emptyQueue withPosted hasRoom waitingCount queued nextEdit oldest withoutNext unqueued queueBodies waitingEdits allBelow fill bodies laneOf isNewer replaced heardNewer hearRecord airs rowOf lanesAfter ends startedBody passed ownRecord rewritten afterTurn turnReport
 pair-runs =
     record {
       heard = (refl, refl, refl, refl, refl);

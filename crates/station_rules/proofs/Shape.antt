@@ -1,4 +1,4 @@
--- The lengths that a station's arrays have by their types: sixteen places, thirty-two slots, sixteen labels in each record of the table. Every step of
+-- The lengths that a station's arrays have by their types: sixteen places, the slots of the waiting edits, sixteen labels in each record of the table. Every step of
 -- a station keeps them, for it only changes entries.
 use Prim.Native.Nat.{ℕ, _<_}
 use mathlib.Core.Bool.{Bool, true, false, cond, _&&_}
@@ -16,12 +16,13 @@ use Rattle.places.specs.Places.{fill}
 use Rattle.places.proofs.Laws.{and-right, length-fill}
 use Rattle.places.proofs.Keeps.{set-keeps, cond-keeps}
 use Rattle.lanes.specs.declared.Lane.{Lane}
-use Rattle.lanes.specs.declared.Queue.{Queue}
+use Rattle.lanes.specs.declared.Waiting.{Waiting}
 use Rattle.station_rules.specs.declared.Setup.{Setup}
 use Rattle.station_rules.specs.declared.Station.{Station}
 use Rattle.lanes.specs.Lane.{noLane, pushed, popped}
-use Rattle.lanes.specs.Queue.{queued, unqueued, noneWaiting}
-use Rattle.lanes.proofs.QueueLaws.{unqueued-slots}
+use Rattle.lanes.specs.Waiting.{waitingCount, withoutNext}
+use Rattle.lanes.proofs.WaitingLaws as laws
+use Rattle.lanes.proofs.WaitingLaws.{WaitingSized}
 use Rattle.frame_rules.specs.Record.{noRecord, zeroRecord}
 use Rattle.station_rules.specs.State.{recordOf, recordLabel, labelOf, laneAt, freshStation}
 use Rattle.station_rules.specs.Hearing.{replaced, heardNewer}
@@ -34,14 +35,14 @@ pub record Shaped (s : Station) : Type 0 where
   pub held : length (s .held) ≡ 16
   pub table : length (s .table) ≡ 16
   pub lanes : length (s .lanes) ≡ 16
-  pub slots : length (s .waiting .slots) ≡ 32
+  pub waiting : WaitingSized (s .waiting)
   pub record-labels : (k : ℕ) → k < 16 → length ((recordOf s k) .labels) ≡ 16
 
 abbrev LabelsShaped : Record → Type 0
 LabelsShaped r = length (r .labels) ≡ 16
 
 pub fresh-shaped : (setup : Setup) (own : ℕ) → Shaped (freshStation setup own)
-unfolding freshStation noneWaiting
+unfolding freshStation
 fresh-shaped setup own =
     record {
       acked = simp length-set;
@@ -49,25 +50,21 @@ fresh-shaped setup own =
       held = simp length-set;
       table = simp length-set;
       lanes = refl;
-      slots = refl;
+      waiting = laws.none-sized;
       record-labels =
           λ k h. set-keeps LabelsShaped (replicate 16 zeroRecord) own _ noRecord k h
           (rw (getD-replicate 16 k zeroRecord noRecord h)) (simp length-set);
     }
 
-pub queued-slots : (q : Queue) (b : Body) → length ((queued q b) .slots) ≡ length (q .slots)
-unfolding queued
-queued-slots q b = length-set (q .slots) (q .len) (record { body = b })
-
 -- the waiting edits after a turn
-waiting-slots : (s : Station) → length (s .waiting .slots) ≡ 32 → length ((cond (startsEdit s) (unqueued (s .waiting)) (s .waiting)) .slots) ≡ 32
-waiting-slots s e = go (startsEdit s) refl
+waiting-sized : (s : Station) → WaitingSized (s .waiting) → WaitingSized (cond (startsEdit s) (withoutNext (s .waiting)) (s .waiting))
+waiting-sized s e = go (startsEdit s) refl
   where
-    go : (t : Bool) → startsEdit s ≡ t → length ((cond t (unqueued (s .waiting)) (s .waiting)) .slots) ≡ 32
+    go : (t : Bool) → startsEdit s ≡ t → WaitingSized (cond t (withoutNext (s .waiting)) (s .waiting))
     go true h =
-        let waits = ltb 0 (s .waiting .len) in
-        let some : 0 < s .waiting .len = ltb-true 0 (s .waiting .len) (and-right (mayStart s) waits (and-right (ends s) (mayStart s && waits) h)) in
-        unqueued-slots (s .waiting) some (omega arith) ∙ e
+        let waits = ltb 0 (waitingCount (s .waiting)) in
+        let some = ltb-true 0 (waitingCount (s .waiting)) (and-right (mayStart s) waits (and-right (ends s) (mayStart s && waits) h)) in
+        laws.started-sized (s .waiting) some e
     go false h = e
 
 pub posted-shaped : (s : Station) (b : Body) → Shaped s → Shaped (posted s b)
@@ -79,7 +76,7 @@ posted-shaped s b c =
       held = c .held;
       table = c .table;
       lanes = c .lanes;
-      slots = queued-slots (s .waiting) b ∙ c .slots;
+      waiting = laws.posted-sized (s .waiting) b (c .waiting);
       record-labels = c .record-labels;
     }
 
@@ -96,7 +93,7 @@ heardNewer-shaped s r b c =
       held = length-set (s .held) (r .station) _ ∙ c .held;
       table = length-set (s .table) (r .station) _ ∙ c .table;
       lanes = length-set (s .lanes) (r .station) _ ∙ c .lanes;
-      slots = c .slots;
+      waiting = c .waiting;
       record-labels =
           λ k h. set-keeps LabelsShaped (s .table) (r .station) _ noRecord k (rw (c .table) h) (c .record-labels k h)
           (replaced-labels (s .n) (recordOf s (r .station)) r (c .record-labels (r .station) b));
@@ -127,7 +124,7 @@ passed-shaped s c =
           cond-keeps (λ (l : List Lane). length l ≡ 16) (isEmpty (startedBody s)) (lanesAfter s) pushedLanes
           (lanesAfter-length s ∙ c .lanes)
           (length-set (lanesAfter s) (s .own) (pushed (getD (lanesAfter s) (s .own) noLane) (startedBody s)) ∙ lanesAfter-length s ∙ c .lanes);
-      slots = waiting-slots s (c .slots);
+      waiting = waiting-sized s (c .waiting);
       record-labels = c .record-labels;
     }
 
@@ -144,7 +141,7 @@ rewritten-shaped s b c =
       held = c .held;
       table = length-set (s .table) (s .own) (ownRecord s) ∙ c .table;
       lanes = c .lanes;
-      slots = c .slots;
+      waiting = c .waiting;
       record-labels =
           λ k h. set-keeps LabelsShaped (s .table) (s .own) (ownRecord s) noRecord k (rw (c .table) h) (c .record-labels k h)
           (ownRecord-labels s b c);

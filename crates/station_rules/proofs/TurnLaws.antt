@@ -12,7 +12,7 @@ use Rattle.places.proofs.Laws.{fill-below}
 use Rattle.lanes.specs.declared.Lane.{Lane}
 use Rattle.station_rules.specs.declared.Station.{Station}
 use Rattle.lanes.specs.Lane.{noLane, pushed, popped}
-use Rattle.lanes.specs.Queue.{oldest, unqueued}
+use Rattle.lanes.specs.Waiting.{waitingCount, nextEdit, withoutNext}
 use Rattle.station_rules.specs.State.{laneAt}
 use Rattle.station_rules.specs.Turn.{airs, lanesAfter, ends, mayStart, startsEdit, startedBody, passed}
 
@@ -28,24 +28,24 @@ pub after-kept : (s : Station) (k : ℕ) → airs s ≡ false → laneAfter s k 
 unfolding lanesAfter
 after-kept s k e = rw e
 
--- what a turn starts: the oldest waiting edit, Neutral, or nothing
+-- what a turn starts: the next edit, Neutral, or nothing
 pub data Start (s : Station) : Type 0 where
-  anEdit : startsEdit s ≡ true → (laneAfter s (s .own)) .len ≡ 0 → 0 < s .waiting .len → startedBody s ≡ oldest (s .waiting) → Start s
+  anEdit : startsEdit s ≡ true → (laneAfter s (s .own)) .len ≡ 0 → 0 < waitingCount (s .waiting) → startedBody s ≡ nextEdit (s .waiting) → Start s
   aNeutral : startsEdit s ≡ false → (laneAfter s (s .own)) .len ≡ 0 → startedBody s ≡ Neutral → Start s
   nothing : startsEdit s ≡ false → startedBody s ≡ Empty → Start s
 
 pub start : (s : Station) → Start s
 unfolding startedBody
-start s = go (ends s) (mayStart s) (ltb 0 (s .waiting .len)) refl refl refl
+start s = go (ends s) (mayStart s) (ltb 0 (waitingCount (s .waiting))) refl refl refl
   where
-    go : (a b c : Bool) → ends s ≡ a → mayStart s ≡ b → ltb 0 (s .waiting .len) ≡ c → Start s
+    go : (a b c : Bool) → ends s ≡ a → mayStart s ≡ b → ltb 0 (waitingCount (s .waiting)) ≡ c → Start s
     go true true true e m w =
-        anEdit (rw (e, m, w)) (eqb-true ((laneAfter s (s .own)) .len) 0 m) (ltb-true 0 (s .waiting .len) w) (rw (e, m, w))
+        anEdit (rw (e, m, w)) (eqb-true ((laneAfter s (s .own)) .len) 0 m) (ltb-true 0 (waitingCount (s .waiting)) w) (rw (e, m, w))
     go true true false e m w = aNeutral (rw (e, m, w)) (eqb-true ((laneAfter s (s .own)) .len) 0 m) (rw (e, m, w))
     go true false c e m w = nothing (rw (e, m)) (rw (e, m))
     go false b c e m w = nothing (rw e) (rw e)
 
-pub passed-waiting : (s : Station) → (passed s) .waiting ≡ cond (startsEdit s) (unqueued (s .waiting)) (s .waiting)
+pub passed-waiting : (s : Station) → (passed s) .waiting ≡ cond (startsEdit s) (withoutNext (s .waiting)) (s .waiting)
 unfolding passed
 passed-waiting s = refl
 

@@ -11,7 +11,7 @@ use Rattle.lanes.specs.declared.Lane.{Lane}
 use Rattle.station_rules.specs.declared.Setup.{Setup}
 use Rattle.station_rules.specs.declared.Station.{Station}
 use Rattle.lanes.specs.Lane.{noLane}
-use Rattle.lanes.specs.Queue.{noneWaiting}
+use Rattle.lanes.specs.Waiting.{noneWaiting}
 
 -- the label for station k
 abbrev pub labelOf : Station → ℕ → ℕ

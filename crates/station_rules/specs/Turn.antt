@@ -14,7 +14,8 @@ use Rattle.lanes.specs.declared.Slot.{Slot}
 use Rattle.station_rules.specs.declared.Station.{Station}
 use Rattle.station_rules.specs.declared.TurnReport.{TurnReport}
 use Rattle.lanes.specs.Lane.{noLane, pushed, popped}
-use Rattle.lanes.specs.Queue.{noSlot, oldest, unqueued}
+use Rattle.lanes.specs.Queue.{noSlot}
+use Rattle.lanes.specs.Waiting.{waitingCount, nextEdit, withoutNext}
 use Rattle.station_rules.specs.State.{labelOf, ackedOf, recordOf, laneAt}
 
 -- every lane has a body, so a row is aired (source document 001, Algorithm 3, lines 5 to 9; H2: there at each delivery, here at the turn, one row)
@@ -39,13 +40,13 @@ mayStart s = eqb ((getD (lanesAfter s) (s .own) noLane) .len) 0
 
 -- an edit waits, and may start
 abbrev pub startsEdit : Station → Bool
-startsEdit s = ends s && (mayStart s && ltb 0 ((s .waiting) .len))
+startsEdit s = ends s && (mayStart s && ltb 0 (waitingCount (s .waiting)))
 
 -- what starts where the broadcast ends: the oldest waiting edit, Neutral where none waits (Algorithm 3, line 11), Empty where the own lane is not
 -- empty (Algorithm 2, lines 21 to 24)
 unfoldable pub startedBody : Station → Body
 startedBody s =
-    cond (ends s) (cond (mayStart s) (cond (ltb 0 ((s .waiting) .len)) (oldest (s .waiting)) Neutral) Empty) Empty
+    cond (ends s) (cond (mayStart s) (cond (ltb 0 (waitingCount (s .waiting))) (nextEdit (s .waiting)) Neutral) Empty) Empty
 
 -- the station after the airing, the end and the start, before its own record is rewritten (lines 19 and 20 for acknowledged, count and label)
 unfoldable pub passed : Station → Station
@@ -53,7 +54,7 @@ passed s =
     record {
       n = s .n;
       own = s .own;
-      waiting = cond (startsEdit s) (unqueued (s .waiting)) (s .waiting);
+      waiting = cond (startsEdit s) (withoutNext (s .waiting)) (s .waiting);
       acked = cond (ends s) (fill (s .n) (λ k. eqb k (s .own)) (s .acked)) (s .acked);
       body = cond (ends s) (startedBody s) (s .body);
       count = cond (ends s) 0 (s .count);

@@ -3,8 +3,8 @@
 use frame_rules::Record;
 use kinds::Body;
 use lanes::Lane;
-use lanes::Queue;
 use lanes::Slot;
+use lanes::Waiting;
 
 // What a fresh station or group is given: N.
 pub struct Setup {
@@ -15,7 +15,7 @@ pub struct Setup {
 pub struct Station {
     pub n: usize,
     pub own: usize,
-    pub waiting: Queue,
+    pub waiting: Waiting,
     pub acked: [bool; 16],
     pub body: Body,
     pub count: u8,

@@ -15,14 +15,15 @@ use Rattle.labels.specs.Label.{successor}
 use Rattle.places.specs.Places.{fill}
 use Rattle.places.proofs.Laws.{and-right}
 use Rattle.lanes.specs.declared.Lane.{Lane}
-use Rattle.lanes.specs.declared.Queue.{Queue}
+use Rattle.lanes.specs.declared.Waiting.{Waiting}
 use Rattle.lanes.specs.declared.Slot.{Slot}
 use Rattle.airing.specs.declared.Aired.{Aired}
 use Rattle.airing.specs.Airing.{airing}
 use Rattle.station_rules.specs.declared.Station.{Station}
 use Rattle.station_rules.specs.declared.Turned.{Turned}
 use Rattle.lanes.specs.Lane.{noLane, pushed}
-use Rattle.lanes.specs.Queue.{noSlot, oldest, unqueued}
+use Rattle.lanes.specs.Queue.{noSlot}
+use Rattle.lanes.specs.Waiting.{waitingCount, nextEdit, withoutNext}
 use Rattle.station_rules.specs.State.{labelOf, recordOf, laneAt}
 use Rattle.station_rules.specs.Turn.{airs, rowOf, lanesAfter, ends, startedBody, passed, ownRecord, rewritten, afterTurn, turnReport}
 use Rattle.station_rules.specs.Calls.{turnDone}
@@ -65,7 +66,7 @@ module _ (s : Station) (step : Aired) (e : step ≡ airing (s .n) (s .lanes)) wh
 starts-of :
     (s : Station) →
     startedBody s
-    ≡ cond (ends s) (cond (eqb ((getD (lanesAfter s) (s .own) noLane) .len) 0) (cond (ltb 0 (s .waiting .len)) (oldest (s .waiting)) Neutral) Empty) Empty
+    ≡ cond (ends s) (cond (eqb ((getD (lanesAfter s) (s .own) noLane) .len) 0) (cond (ltb 0 (waitingCount (s .waiting))) (nextEdit (s .waiting)) Neutral) Empty) Empty
 unfolding startedBody
 starts-of s = refl
 
@@ -75,7 +76,7 @@ waits ended may starts n e h = ltb-true 0 n (and-right may (ltb 0 n) (and-right 
 
 -- the answer of a turn, by its parts
 module _
-    (s : Station) (aired ended starts : Bool) (row : List Slot) (left : List Lane) (old started body gone : Body) (waiting : Queue) (acked : List Bool)
+    (s : Station) (aired ended starts : Bool) (row : List Slot) (left : List Lane) (old : Body) (many : ℕ) (started body gone : Body) (waiting : Waiting) (acked : List Bool)
     (count next : ℕ) (over : List ℕ) (lane : Lane) where
   abbrev answer : Turned
   answer =
@@ -102,10 +103,11 @@ module _
 
   pub turn-made :
       aired ≡ airs s → ended ≡ ends s → row ≡ cond (airs s) (rowOf s) (replicate 16 noSlot) → left ≡ lanesAfter s →
-      old ≡ oldest (s .waiting) →
-      started ≡ cond ended (cond may (cond (ltb 0 (s .waiting .len)) old Neutral) Empty) Empty →
-      starts ≡ (ended && (may && ltb 0 (s .waiting .len))) →
-      waiting ≡ cond starts (unqueued (s .waiting)) (s .waiting) →
+      old ≡ nextEdit (s .waiting) →
+      many ≡ waitingCount (s .waiting) →
+      started ≡ cond ended (cond may (cond (ltb 0 many) old Neutral) Empty) Empty →
+      starts ≡ (ended && (may && ltb 0 many)) →
+      waiting ≡ cond starts (withoutNext (s .waiting)) (s .waiting) →
       acked ≡ cond ended (fill (s .n) (λ k. eqb k (s .own)) (s .acked)) (s .acked) →
       body ≡ cond ended started (s .body) →
       gone ≡ cond ended (s .body) Empty →
@@ -115,13 +117,14 @@ module _
       lane ≡ cond (isEmpty started) (getD left (s .own) noLane) (pushed (getD left (s .own) noLane) started) →
       answer ≡ turnDone s
   unfolding afterTurn rewritten passed ownRecord turnReport
-  turn-made a e r l o b t w k y g m x v p =
-      let f : started ≡ startedBody s = b ∙ rw (e, l, o) (sym (starts-of s)) in
+  turn-made a e r l o z b t w k y g m x v p =
+      let f : started ≡ startedBody s = b ∙ rw (e, l, o, z) (sym (starts-of s)) in
       rw (
         p,
         v,
         w,
         t,
+        z,
         k,
         y,
         g,
