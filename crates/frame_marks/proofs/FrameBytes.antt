@@ -8,7 +8,7 @@ use lib.Seq.{drop-drop}
 use Rattle.frame_rules.specs.Record.{recordOf}
 use Rattle.frame_rules.specs.Frame.{part}
 use Rattle.places.proofs.Laws.{allBelow-at}
-use Rattle.station_rules.specs.Frames.{FrameAt}
+use Rattle.station_rules.specs.Inner.Frames.{FrameAt}
 use Rattle.station_rules.proofs.LimitsHear.{Carried}
 use Rattle.station_rules.proofs.LimitsCalls.{bytes-carried}
 use Rattle.frame_marks.specs.Marks.{recordAt}

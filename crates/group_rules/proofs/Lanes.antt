@@ -19,6 +19,7 @@ use Rattle.links.proofs.Clock.{news-own, news-other, news-start}
 use Rattle.places.specs.Places.{allBelow}
 use Rattle.places.proofs.Laws.{allBelow-ext, anyBelow-none}
 use Rattle.lanes.specs.declared.Lane.{Lane}
+use Rattle.station_rules.specs.declared.Setup.{Setup}
 use Rattle.station_rules.specs.declared.Station.{Station}
 use Rattle.lanes.specs.Lane.{noLane, pushed, popped}
 use Rattle.station_rules.specs.State.{laneAt, freshStation}
@@ -60,9 +61,9 @@ ltb-sub a b =
       | no h ↦ le-ltb 0 (a - b) (omega arith) ∙ sym (le-ltb b a (omega arith))
     ]
 
-fresh-lane : (n p s : ℕ) → s < 16 → laneAt (freshStation n p) s ≡ noLane
+fresh-lane : (setup : Setup) (p s : ℕ) → s < 16 → laneAt (freshStation setup p) s ≡ noLane
 unfolding freshStation
-fresh-lane n p s l = getD-replicate 16 s noLane noLane l
+fresh-lane setup p s l = getD-replicate 16 s noLane noLane l
 
 module _ (R : Run) where
   abbrev L : Links
@@ -298,7 +299,7 @@ module _ (R : Run) where
             };
         lanes =
             λ p s lp ls.
-            rw (first-at R p lp, fresh-lane (R .n) p s (omega (arith, R .high)), rowsBy-none p, had-none p s) holds-none;
+            rw (first-at R p lp, fresh-lane (R .setup) p s (omega (arith, R .high)), rowsBy-none p, had-none p s) holds-none;
       }
   carried (suc u) =
       let c = carried u in

@@ -21,14 +21,14 @@ use Rattle.lanes.specs.Queue.{noSlot, emptyQueue, queued, unqueued, oldest, que
 use Rattle.lanes.specs.Waiting.{noneWaiting, waitingCount, hasRoom, withPosted, nextEdit, withoutNext, waitingInside}
 use Rattle.lanes.specs.Lane.{laneOf, bodies}
 use Rattle.station_rules.specs.Turn.{airs, rowOf, lanesAfter, ends, startedBody, passed, ownRecord, rewritten, afterTurn, turnReport}
-use Rattle.station_rules.specs.State.{freshStation}
+use Rattle.station_rules.specs.State.{aloneSetup, freshStation}
 use Rattle.station_rules.specs.Limits.{stationInside, placeInside, recordInside, laneInside}
 use Rattle.places.specs.Places.{allBelow, anyBelow, fill}
 use Rattle.links.specs.Log.{hearsIn}
 use Rattle.group_rules.specs.State.{stationAt, freshGroup, groupInside}
 use Rattle.group_rules.specs.Calls.{groupPostRefusal, roundRefusal, hearing, afterRound, reportOf, roundCall, postCall as groupPost}
 use Rattle.group_rules.specs.History.{History, Call.post, Call.round, next, begun, continued}
-use Rattle.group_rules.specs.Marked.{Marked, oneStation, turnIn}
+use Rattle.group_rules.proofs.MarkedStatement.{Marked, oneStation, turnIn}
 
 -- a group of one in which one edit is posted
 module _ (b : Body) (e : postable b ≡ true) where
@@ -40,12 +40,12 @@ module _ (b : Body) (e : postable b ≡ true) where
 
   -- the group once the edit is posted
   before : List Station
-  before = set (freshGroup 1) 0 (posted (freshStation 1 0) b)
+  before = set (freshGroup aloneSetup) 0 (posted (freshStation aloneSetup 0) b)
 
   abbrev ready : History
-  ready = record { group = before; rounds = []; log = []; accepted = record { source = 0; body = b } ∷ [] }
+  ready = record { group = before; rounds = []; log = []; accepted = record { station = 0; body = b } ∷ []; starts = [] }
 
-  post-done : next (begun 1) (post 0 b) ≡ ready
+  post-done : next (begun aloneSetup) (post (record { station = 0; body = b })) ≡ ready
   unfolding before next begun groupPost groupPostRefusal freshGroup freshStation noneWaiting emptyQueue posted withPosted queued waitingCount hasRoom groupInside stationInside waitingInside queueInside placeInside recordInside laneInside allBelow anyBelow numbersInside bodyInside fill
   post-done = simp e
 

@@ -80,8 +80,8 @@ module _ (R : Run) where
 
   -- the fresh group
   module _ (p : ℕ) (lp : p < R .n) where
-    pub first-at : stationAt (R .after 0) p ≡ freshStation (R .n) p
-    first-at = ap (λ g. stationAt g p) (R .first) ∙ fresh-at (R .n) (R .high) p lp
+    pub first-at : stationAt (R .after 0) p ≡ freshStation (R .setup) p
+    first-at = ap (λ g. stationAt g p) (R .first) ∙ fresh-at (R .setup) (omega (arith, R .given, R .high)) p (omega (arith, R .given))
 
     fresh-labels : (q : ℕ) → q < R .n → Dec (q ≡ p) → getD (set (replicate 16 0) p 1) q 0 ≡ got L 0 p q % 3
     fresh-labels q l (yes e) =
@@ -95,13 +95,13 @@ module _ (R : Run) where
 
     fresh-cell :
         (q : ℕ) → q < R .n → Dec (q ≡ p) →
-        CellAt R 0 p q (news L 0 p q) (freshStation (R .n) p)
+        CellAt R 0 p q (news L 0 p q) (freshStation (R .setup) p)
     unfolding freshStation gotOf numOf
     fresh-cell q l (yes e) =
         let high = R .high in
-        subst (λ i. CellAt R 0 p i (news L 0 p i) (freshStation (R .n) p))
+        subst (λ i. CellAt R 0 p i (news L 0 p i) (freshStation (R .setup) p))
         (sym e)
-        (subst (λ v. CellAt R 0 p p v (freshStation (R .n) p))
+        (subst (λ v. CellAt R 0 p p v (freshStation (R .setup) p))
         (sym (news-own L 0 p))
         (record {
           is-held = one-here false true false p (omega arith);
@@ -109,7 +109,7 @@ module _ (R : Run) where
           is-label = one-here 0 1 0 p (omega arith) ∙ ap (λ (i : ℕ). i % 3) (sym (num-zero L p));
           stands =
               λ w f.
-              subst (λ i. Stands R (recordOf (freshStation (R .n) p) p) p i) (omega (arith, f))
+              subst (λ i. Stands R (recordOf (freshStation (R .setup) p) p) p i) (omega (arith, f))
               (subst (λ r. Stands R r p 0) (sym (one-here zeroRecord _ noRecord p (omega arith)))
               (record {
                 station = refl;
@@ -122,7 +122,7 @@ module _ (R : Run) where
         }))
     fresh-cell q l (no d) =
         let high = R .high in
-        subst (λ v. CellAt R 0 p q v (freshStation (R .n) p))
+        subst (λ v. CellAt R 0 p q v (freshStation (R .setup) p))
         (sym (news-start L p q (λ e. d (sym e))))
         (record {
           is-held = one-other false true false p (omega arith) q (omega arith) d;
@@ -132,9 +132,9 @@ module _ (R : Run) where
           stands = λ w f. absurd (omega (arith, f));
         })
 
-    fresh-formed : Formed R p (freshStation (R .n) p)
+    fresh-formed : Formed R p (freshStation (R .setup) p)
     unfolding freshStation
-    fresh-formed = record { size = refl; own = refl; shape = fresh-shaped (R .n) p }
+    fresh-formed = record { size = R .given; own = refl; shape = fresh-shaped (R .setup) p }
 
     fresh-after : After R 0 p (stationAt (R .after 0) p)
     unfolding freshStation
@@ -151,7 +151,7 @@ module _ (R : Run) where
 
   -- sixteen stations
   pub after-length : (u : ℕ) → length (R .after u) ≡ 16
-  after-length zero = ap length (R .first) ∙ fresh-shape (R .n) (R .high) .places
+  after-length zero = ap length (R .first) ∙ fresh-shape (R .setup) (omega (arith, R .given, R .high)) .places
   after-length (suc u) =
       ap length (R .step u) ∙ round-length (R .ready u) (R .masks (suc u)) ∙ R .length-ready u ∙ after-length u
 

@@ -7,8 +7,9 @@ use lib.Dec.{eqb}
 use Rattle.kinds.specs.declared.Body.the-variants.{Empty}
 use Rattle.places.specs.Places.{allBelow, fill}
 use Rattle.lanes.specs.Waiting.{absentWaiting}
+use Rattle.station_rules.specs.declared.Setup.{Setup}
 use Rattle.station_rules.specs.declared.Station.{Station}
-use Rattle.station_rules.specs.State.{freshStation}
+use Rattle.station_rules.specs.State.{aloneSetup, freshStation}
 use Rattle.station_rules.specs.Limits.{stationInside}
 
 -- what stands past the end of a group
@@ -44,6 +45,6 @@ memberInside g k =
 unfoldable pub groupInside : List Station → Bool
 groupInside g = memberInside g 0 && allBelow (sizeOf g) (memberInside g)
 
--- the fresh group of n; a station alone, fresh, stands at each place from n up
-unfoldable pub freshGroup : ℕ → List Station
-freshGroup n = fill n (freshStation n) (replicate 16 (freshStation 1 0))
+-- the fresh group; a station alone, fresh, stands at each place from N up
+unfoldable pub freshGroup : Setup → List Station
+freshGroup setup = fill (setup .n) (freshStation setup) (replicate 16 (freshStation aloneSetup 0))

@@ -22,7 +22,7 @@ use Rattle.station_rules.specs.Hearing.{replaced, heardNewer, hearRecord, hearR
 use Rattle.station_rules.specs.Turn.{airs, rowOf, lanesAfter, ends, startedBody, passed, ownRecord, rewritten, afterTurn, turnReport}
 use Rattle.station_rules.specs.Calls.{posted, noTurn}
 use Rattle.group_rules.specs.State.{groupInside, freshGroup}
-use Rattle.group_rules.specs.Calls.{freshCall, groupPostRefusal, postCall, hearing, noReport, reportOf, roundRefusal, afterRound, roundCall}
+use Rattle.group_rules.specs.Calls.{groupFreshRefusal, freshCall, groupPostRefusal, postCall, hearing, noReport, reportOf, roundRefusal, afterRound, roundCall}
 use Rattle.column_reader.specs.Reading.{started, grown, next, readFrom}
 use Rattle.column_writer.specs.Writing.{lead, columns}
 use Rattle.script.specs.Line.{fieldOf, sizeLine, postShaped, postLine, isMask, masksInside, roundLine, commandOf, maskAt, masksOf}
@@ -56,7 +56,7 @@ pub example :
     ++ lineBytes 3 delivered 1 0 edit
     ++ lineBytes 3 airing 1 0 edit
     ++ endLine
-unfolding headBytes bodyBytes allBelow anyBelow fill gather tabulate bodyOf numbersInside bodyInside postable isNewer bit hearsIn framed bodies laneOf noneWaiting emptyQueue withPosted queued waitingCount hasRoom nextEdit oldest withoutNext unqueued sentRecords tableRecords freshStation laneInside waitingInside queueInside recordInside placeInside stationInside replaced heardNewer hearRecord hearRecords airs rowOf lanesAfter ends startedBody passed ownRecord rewritten afterTurn turnReport posted noTurn groupInside freshGroup freshCall groupPostRefusal postCall hearing noReport reportOf roundRefusal afterRound roundCall started grown next readFrom lead columns fieldOf sizeLine postShaped postLine isMask masksInside roundLine commandOf maskAt masksOf lineBytes endLine joined takenText airedText turnText reportText roundText begun postedBody sizedBy postedBy roundedBy obeyed refusedText answered after printed restText linesOf listed listingOf
+unfolding headBytes bodyBytes allBelow anyBelow fill gather tabulate bodyOf numbersInside bodyInside postable isNewer bit hearsIn framed bodies laneOf noneWaiting emptyQueue withPosted queued waitingCount hasRoom nextEdit oldest withoutNext unqueued sentRecords tableRecords freshStation laneInside waitingInside queueInside recordInside placeInside stationInside replaced heardNewer hearRecord hearRecords airs rowOf lanesAfter ends startedBody passed ownRecord rewritten afterTurn turnReport posted noTurn groupInside freshGroup groupFreshRefusal freshCall groupPostRefusal postCall hearing noReport reportOf roundRefusal afterRound roundCall started grown next readFrom lead columns fieldOf sizeLine postShaped postLine isMask masksInside roundLine commandOf maskAt masksOf lineBytes endLine joined takenText airedText turnText reportText roundText begun postedBody sizedBy postedBy roundedBy obeyed refusedText answered after printed restText linesOf listed listingOf
 example = refl
 
 -- an empty script, and one whose first line is not `N`: the reading stops, whatever follows

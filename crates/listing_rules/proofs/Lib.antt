@@ -2,3 +2,5 @@ pub mod Answers
 pub mod Example
 pub mod Stopped
 pub mod Overlong
+pub mod Commands
+pub mod ScriptCalls

@@ -15,6 +15,7 @@ use Rattle.labels.specs.Label.{isLabel}
 use Rattle.frame_rules.specs.Frame.{validNumber}
 use Rattle.places.proofs.Laws.{and-left, and-right}
 use Rattle.places.proofs.Keeps.{set-keeps}
+use Rattle.station_rules.specs.declared.Setup.{Setup}
 use Rattle.station_rules.specs.declared.Station.{Station}
 use Rattle.lanes.specs.Lane.{noLane}
 use Rattle.lanes.specs.Waiting.{hasRoom}
@@ -32,14 +33,14 @@ freshLabels-label : (own k : ℕ) → k < 16 → isLabel (getD (freshLabels own)
 freshLabels-label own k l =
     set-keeps (λ (x : ℕ). isLabel x ≡ true) (replicate 16 0) own 1 0 k l (rw (getD-replicate {A = ℕ} 16 k 0 0 l)) refl
 
-module _ (n own : ℕ) (high : n ≤ 16) (below : own < n) where
-  fresh-record : recordOf (freshStation n own) own ≡ record { station = own; count = 0; body = Empty; labels = freshLabels own }
+module _ (setup : Setup) (own : ℕ) (high : setup .n ≤ 16) (below : own < setup .n) where
+  fresh-record : recordOf (freshStation setup own) own ≡ record { station = own; count = 0; body = Empty; labels = freshLabels own }
   unfolding freshStation
   fresh-record =
       getD-set-same (replicate 16 zeroRecord) own (record { station = own; count = 0; body = Empty; labels = freshLabels own }) noRecord
       (omega arith)
 
-  fresh-own : RecordHolds n own own (recordOf (freshStation n own) own)
+  fresh-own : RecordHolds (setup .n) own own (recordOf (freshStation setup own) own)
   fresh-own =
       rw fresh-record
       (record {
@@ -49,24 +50,24 @@ module _ (n own : ℕ) (high : n ≤ 16) (below : own < n) where
         labels = λ j l. freshLabels-label own j (omega arith);
       })
 
-  fresh-other : (k : ℕ) → k < n → (k ≡ own → ⊥) → heldOf (freshStation n own) k ≡ false
+  fresh-other : (k : ℕ) → k < setup .n → (k ≡ own → ⊥) → heldOf (freshStation setup own) k ≡ false
   unfolding freshStation
   fresh-other k l ne = getD-set-other (replicate 16 false) own k true false ne ∙ getD-replicate 16 k false false (omega arith)
 
-  fresh-place : (k : ℕ) → k < n → PlaceHolds (freshStation n own) k
+  fresh-place : (k : ℕ) → k < setup .n → PlaceHolds (freshStation setup own) k
   unfolding freshStation
   fresh-place k l =
       record {
         label = freshLabels-label own k (omega arith);
         held =
             λ e. elim (ℕ-discrete k own) [
-              | yes same ↦ subst (λ (j : ℕ). RecordHolds n own j (recordOf (freshStation n own) j)) (sym same) fresh-own
+              | yes same ↦ subst (λ (j : ℕ). RecordHolds (setup .n) own j (recordOf (freshStation setup own) j)) (sym same) fresh-own
               | no ne ↦ absurd (true≢false (sym e ∙ fresh-other k l ne))
             ];
         lane = rw (getD-replicate 16 k noLane noLane (omega arith)) (lane-none (cond (eqb k own) 1 2) Empty Empty);
       }
 
-  pub fresh-holds : Inside (freshStation n own)
+  pub fresh-holds : Inside (freshStation setup own)
   unfolding freshStation
   fresh-holds =
       record {
@@ -80,10 +81,11 @@ module _ (n own : ℕ) (high : n ≤ 16) (below : own < n) where
         places = fresh-place;
       }
 
-pub fresh-inside : (n own : ℕ) → validNumber n own ≡ true → stationInside (freshStation n own) ≡ true
-fresh-inside n own h =
-    inside-make (freshStation n own)
-    (fresh-holds n own
+pub fresh-inside : (setup : Setup) (own : ℕ) → validNumber (setup .n) own ≡ true → stationInside (freshStation setup own) ≡ true
+fresh-inside setup own h =
+    let n = setup .n in
+    inside-make (freshStation setup own)
+    (fresh-holds setup own
     (leb-true n 16 (and-right (leb 1 n) (leb n 16) (and-left (leb 1 n && leb n 16) (ltb own n) h)))
     (ltb-true own n (and-right (leb 1 n && leb n 16) (ltb own n) h)))
 

@@ -17,6 +17,7 @@ use Rattle.places.proofs.Laws.{and-right, length-fill}
 use Rattle.places.proofs.Keeps.{set-keeps, cond-keeps}
 use Rattle.lanes.specs.declared.Lane.{Lane}
 use Rattle.lanes.specs.declared.Waiting.{Waiting}
+use Rattle.station_rules.specs.declared.Setup.{Setup}
 use Rattle.station_rules.specs.declared.Station.{Station}
 use Rattle.lanes.specs.Lane.{noLane, pushed, popped}
 use Rattle.lanes.specs.Waiting.{waitingCount, withoutNext}
@@ -40,9 +41,9 @@ pub record Shaped (s : Station) : Type 0 where
 abbrev LabelsShaped : Record → Type 0
 LabelsShaped r = length (r .labels) ≡ 16
 
-pub fresh-shaped : (n own : ℕ) → Shaped (freshStation n own)
+pub fresh-shaped : (setup : Setup) (own : ℕ) → Shaped (freshStation setup own)
 unfolding freshStation
-fresh-shaped n own =
+fresh-shaped setup own =
     record {
       acked = simp length-set;
       labels = simp length-set;
