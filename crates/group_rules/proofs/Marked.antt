@@ -28,7 +28,7 @@ use Rattle.links.specs.Log.{hearsIn}
 use Rattle.group_rules.specs.State.{stationAt, freshGroup, groupInside}
 use Rattle.group_rules.specs.Calls.{groupPostRefusal, roundRefusal, hearing, afterRound, reportOf, roundCall, postCall as groupPost}
 use Rattle.group_rules.specs.History.{History, Call.post, Call.round, next, begun, continued}
-use Rattle.group_rules.specs.Marked.{Marked, oneStation, turnIn}
+use Rattle.group_rules.proofs.MarkedStatement.{Marked, oneStation, turnIn}
 
 -- a group of one in which one edit is posted
 module _ (b : Body) (e : postable b ≡ true) where

@@ -11,7 +11,7 @@ use Rattle.station_rules.specs.declared.Setup.{Setup}
 use Rattle.station_rules.specs.declared.Station.{Station}
 use Rattle.station_rules.specs.State.{sentRecords, aloneSetup}
 use Rattle.station_rules.specs.Hearing.{Hearing, silent, hearRecords}
-pub use Rattle.station_rules.specs.Frames.{noTaking}
+pub use Rattle.station_rules.specs.Hearing.{noTaking}
 use Rattle.station_rules.specs.Turn.{afterTurn, turnReport}
 use Rattle.station_rules.specs.Calls.{posted, postRefusal, ownCountInside, noTurn}
 use Rattle.group_rules.specs.declared.Post.{Post}

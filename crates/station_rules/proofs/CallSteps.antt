@@ -19,7 +19,8 @@ use Rattle.station_rules.specs.declared.Setup.{Setup}
 use Rattle.station_rules.specs.declared.Station.{Station}
 use Rattle.station_rules.specs.declared.Taking.{Taking}
 use Rattle.station_rules.specs.Hearing.{Hearing, silent, hearRecords}
-use Rattle.station_rules.specs.Frames.{hearFrames, FrameAt, noTaking}
+use Rattle.station_rules.specs.Inner.Frames.{hearFrames, FrameAt}
+use Rattle.station_rules.specs.Hearing.{noTaking}
 use Rattle.station_rules.specs.State.{aloneSetup, freshStation}
 use Rattle.station_rules.specs.Limits.{stationInside}
 use Rattle.station_rules.specs.Calls.{freshCall, posted, postCall, sourcesOf, hearCall}

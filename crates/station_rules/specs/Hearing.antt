@@ -4,6 +4,7 @@ use mathlib.Core.Bool.{Bool, true, false, cond, not, _&&_, _||_}
 use mathlib.Core.List.{List, [], _∷_, _++_}
 use lib.ListN.{set}
 use lib.Dec.{leb, ltb, eqb}
+use Rattle.kinds.specs.declared.Body.the-variants.{Empty}
 use Rattle.kinds.specs.Body.{isEmpty}
 use Rattle.labels.specs.Label.{successor}
 use Rattle.labels.specs.Newer.{isNewer}
@@ -55,6 +56,10 @@ heardNewer s r =
       table = set (s .table) k (replaced (s .n) (recordOf s k) r);
       lanes = set (s .lanes) k (cond (takes s r) (pushed (laneAt s k) (r .body)) (laneAt s k));
     }
+
+-- an entry that no taking uses
+abbrev pub noTaking : Taking
+noTaking = record { source = 0; body = Empty }
 
 -- a station while it hears: what it took so far, in the order heard, and whether a lane that held two would have got a third
 pub record Hearing : Type 0 where
