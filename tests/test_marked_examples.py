@@ -69,8 +69,8 @@ class Posts(unittest.TestCase):
         self.assertEqual(self.refusal(SHIFT, 1, -90_001), refusals.NOT_AN_EDIT)
 
     def test_m10(self):
-        self.assertEqual(self.refusal(INSERT, 1, 2_159_999), refusals.DONE)
-        self.assertEqual(self.refusal(INSERT, 1, 2_160_000), refusals.NOT_AN_EDIT)
+        self.assertEqual(self.refusal(INSERT, 1, 2_699_999), refusals.DONE)
+        self.assertEqual(self.refusal(INSERT, 1, 2_700_000), refusals.NOT_AN_EDIT)
 
     def test_other_limits(self):
         for kind, event, argument, inside in (

@@ -142,7 +142,7 @@ class WrongLimits(Broken):
                 self.assert_test_fails(test_marked_examples.Posts, "test_m9")
 
     def test_start_off_by_one(self):
-        for most in (2_160_000, 2_159_998):
+        for most in (2_700_000, 2_159_998):
             with self.with_row(INSERT, argument_most=most):
                 self.assert_test_fails(test_marked_examples.Posts, "test_m10")
 
