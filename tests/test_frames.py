@@ -75,7 +75,7 @@ class EveryByte(unittest.TestCase):
         {2}, {0}, {2}, {0},                          # N, sender, records, zero
         {0}, {0, 1, 2}, {INSERT, SHIFT}, {0},        # station, count, kind, zero
         ANY - {0}, ANY, ANY, set(range(6)),          # event, up to 99,999,999
-        ANY, ANY, set(range(33)), {0},               # start, up to 2,699,999
+        ANY, ANY, set(range(42)), {0},               # start, up to 2,699,999
         PAIR, {0}, {0}, {0},                         # labels
         {1}, {0, 1, 2}, {0, 1}, {0},                 # station, count, Empty or Neutral, zero
         {0}, {0}, {0}, {0}, {0}, {0}, {0}, {0},      # no event, no argument

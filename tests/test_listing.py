@@ -53,6 +53,7 @@ class Posts(unittest.TestCase):
     def test_accepted_posts_print_nothing(self):
         self.assertEqual(self.listing_of(), b"END\n")
         self.assertEqual(self.listing_of(self.post(1, 4, 9, -90_000)), b"END\n")
+        self.assertEqual(self.listing_of(self.post(0, 2, 1, 2_699_999)), b"END\n")
 
     def test_refused_posts(self):
         for numbers, station, refusal in (
