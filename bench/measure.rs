@@ -122,7 +122,7 @@ fn frame(n: u8, seed: u32) -> Vec<u8> {
             1 | 2 => (1, 0, 0),
             3 => (3, 1 + mixed, 0),
             4 => (4, 1 + mixed, (mixed % 180_001) as i32 - 90_000),
-            _ => (2, 1 + mixed, (mixed % 2_160_000) as i32),
+            _ => (2, 1 + mixed, (mixed % 1_000_000) as i32),
         };
         let labels = (0..n).fold(0, |word, k| word | (mixed >> (k % 7)) % 3 << (2 * k));
         bytes.extend([station, (mixed % (2 * u32::from(n) - 1)) as u8, kind, 0]);

@@ -1,24 +1,19 @@
 -- One record there and back. A record inside its limits is written as bytes that are inside theirs, and read back as the frame carries it; bytes
 -- inside their limits are the bytes of the record that they hold.
 use mathlib.Core.Path.{_≡_, refl, sym, ap, _∙_}
-use mathlib.Core.Bool.{true, _&&_, false≢true}
+use mathlib.Core.Bool.{true, _&&_}
 use mathlib.Core.List.{List, [], _∷_, _++_}
 use Prim.Native.Nat.{ℕ, zero, suc, _+_, _-_, _≤_, _<_}
 use native.Mathlib.Omega.{arith}
-use lib.Dec.{ltb, leb, eqb}
-use lib.Signed.{leZ}
-use lib.IntN.{ℤ, pos, negsuc}
+use lib.Dec.{ltb, eqb}
+use lib.IntN.{ℤ}
 use lib.ListN.{getD, take, drop, length, replicate, length-drop, length-replicate, getD-replicate, take-append-drop, length-take}
 use lib.Seq.{ext-getD, getD-drop, getD-take, length-take-le}
-use borrow.Author.Tests.{ltb-true, leb-true, eqb-true, lt-ltb}
-use mir.Syntax.{w32}
-use mir.Val.{SFits}
-use Rattle.kinds.specs.declared.Body.{Body}
-use Rattle.kinds.specs.declared.Body.the-variants.{Empty, Neutral, Insert, Drop, Shift}
+use borrow.Author.Tests.{ltb-true, eqb-true, lt-ltb}
 use Rattle.kinds.specs.Body.{kindOf, eventOf, argumentOf, bodyOf}
 use Rattle.kind_limits.specs.Limits.{numbersInside, bodyInside}
 use Rattle.kinds.proofs.Laws.{body-back}
-use Rattle.kind_limits.proofs.Laws.{kind-back, event-back, argument-back, inside-back}
+use Rattle.kind_limits.proofs.Laws.{kind-back, event-back, argument-back, inside-back, event-fits, argument-fits}
 use Rattle.labels.specs.Label.{allLabels}
 use Rattle.label_words.specs.Packing.{packed, unpacked, allZero, wordInside}
 use Rattle.labels.proofs.Laws.{all-at, at-all}
@@ -100,42 +95,11 @@ framed-fits n r few h =
     let f = fits n r h in
     and-both (and-both (and-both (lt-ltb _ _ (f .station-below)) (f .count-below)) (f .body-inside)) (carried-labels n (r .labels) few (f .labels-right))
 
--- an event and an argument inside the limits of their kind fit a word
-most : (e : ℕ) → (leb 1 e && leb e 99_999_999) ≡ true → e < 4_294_967_296
-most e h = omega (arith, leb-true e 99_999_999 (and-right (leb 1 e) (leb e 99_999_999) h))
-
-event-small : (b : Body) → bodyInside b ≡ true → eventOf b < 4_294_967_296
-unfolding bodyInside numbersInside
-event-small Empty h = omega arith
-event-small Neutral h = omega arith
-event-small (Insert e z) h = most e (and-left (leb 1 e && leb e 99_999_999) (leZ (pos 0) z && leZ z (pos 2_159_999)) h)
-event-small (Drop e) h = most e (and-left (leb 1 e && leb e 99_999_999) (leZ (pos 0) (pos 0) && leZ (pos 0) (pos 0)) h)
-event-small (Shift e z) h = most e (and-left (leb 1 e && leb e 99_999_999) (leZ (negsuc 89_999) z && leZ z (pos 90_000)) h)
-
-between : (z : ℤ) (low high : ℕ) → low < 2_147_483_648 → high < 2_147_483_648 → (leZ (negsuc low) z && leZ z (pos high)) ≡ true → SFits w32 z
-between (pos m) low high p q h = record { sfits = omega (arith, leb-true m high h) }
-between (negsuc m) low high p q h = record { sfits = omega (arith, leb-true m low (and-left (leb m low) true h)) }
-
-from-zero : (z : ℤ) (high : ℕ) → high < 2_147_483_648 → (leZ (pos 0) z && leZ z (pos high)) ≡ true → SFits w32 z
-from-zero (pos m) high q h = record { sfits = omega (arith, leb-true m high (and-right (leb 0 m) (leb m high) h)) }
-from-zero (negsuc m) high q h = absurd (false≢true h)
-
-argument-fits : (b : Body) → bodyInside b ≡ true → SFits w32 (argumentOf b)
-unfolding bodyInside numbersInside
-argument-fits Empty h = record { sfits = omega arith }
-argument-fits Neutral h = record { sfits = omega arith }
-argument-fits (Insert e z) h =
-    from-zero z 2_159_999 (omega arith) (and-right (leb 1 e && leb e 99_999_999) (leZ (pos 0) z && leZ z (pos 2_159_999)) h)
-argument-fits (Drop e) h = record { sfits = omega arith }
-argument-fits (Shift e z) h =
-    between z 89_999 90_000 (omega arith) (omega arith)
-    (and-right (leb 1 e && leb e 99_999_999) (leZ (negsuc 89_999) z && leZ z (pos 90_000)) h)
-
 module _ (n : ℕ) (r : Record) (few : n ≤ 16) (h : recordFits n r ≡ true) where
   -- the words of its bytes
   event-word : wordAt (recordBytes n r) 4 ≡ eventOf (r .body)
   unfolding wordAt recordBytes wordBytes
-  event-word = bytes-back (eventOf (r .body)) (event-small (r .body) ((fits n r h) .body-inside))
+  event-word = bytes-back (eventOf (r .body)) (event-fits (r .body) ((fits n r h) .body-inside))
 
   argument-word : wordAt (recordBytes n r) 8 ≡ unsigned (argumentOf (r .body))
   unfolding wordAt recordBytes wordBytes
@@ -228,6 +192,9 @@ module _ (n : ℕ) (p : List ℕ) (h : bytesInside n p ≡ true) where
       and-both
       (and-both (and-left a numbers h₁) (inside-back (getD p 2 0) (wordAt p 4) (signed (wordAt p 8)) (f .numbers-inside)))
       (inside-labels n (wordAt p 12) (f .labels-inside))
+
+  pub held-numbers : numbersInside (getD p 2 0) (wordAt p 4) (signed (wordAt p 8)) ≡ true
+  held-numbers = (inside n p h) .numbers-inside
 
   pub held-zeros : (k : ℕ) → n ≤ k → getD ((recordOf p) .labels) k 0 ≡ 0
   unfolding recordOf

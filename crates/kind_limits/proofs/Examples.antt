@@ -1,4 +1,5 @@
--- The limits behind document 01's marked examples M9 and M10, for every event that the table allows.
+-- The limits behind document 01's marked examples M9 and M10, for every event that the table allows. M10 is read with
+-- the numbers of request A6.
 use Prim.Native.Nat.{ℕ, _≤_}
 use mathlib.Core.Bool.{true, false}
 use mathlib.Core.Path.{_≡_, refl}
@@ -6,6 +7,7 @@ use lib.IntN.{pos, negsuc}
 use borrow.Author.Tests.{le-leb}
 use Rattle.kinds.specs.declared.Body.the-variants.{Insert, Shift}
 use Rattle.kind_limits.specs.Limits.{isEdit, bodyInside, numbersInside}
+use Rattle.kind_limits.proofs.Laws.{argument-outside}
 
 module _ (event : ℕ) (least : 1 ≤ event) (most : event ≤ 99_999_999) where
   -- a shift of -90,000 is an edit, one of -90,001 is not
@@ -13,7 +15,12 @@ module _ (event : ℕ) (least : 1 ≤ event) (most : event ≤ 99_999_999) where
   unfolding isEdit bodyInside numbersInside
   m9 = simp (le-leb _ _ least, le-leb _ _ most) (refl, refl)
 
-  -- a start of 2,159,999 is an edit's, 2,160,000 is not
-  pub m10 : (isEdit (Insert event (pos 2_159_999)) ≡ true) × (isEdit (Insert event (pos 2_160_000)) ≡ false)
+  -- a start of 2,699,999 is an edit's, 2,700,000 is not
+  pub m10 : (isEdit (Insert event (pos 2_699_999)) ≡ true) × (isEdit (Insert event (pos 2_700_000)) ≡ false)
   unfolding isEdit bodyInside numbersInside
   m10 = simp (le-leb _ _ least, le-leb _ _ most) (refl, refl)
+
+-- whatever the event, no body has a start of 2,700,000
+pub m10-outside : (event : ℕ) → bodyInside (Insert event (pos 2_700_000)) ≡ false
+unfolding bodyInside
+m10-outside event = argument-outside 2 event (pos 2_700_000) refl

@@ -1,14 +1,17 @@
--- Laws of the limits, for the crates above. Numbers inside their limits are those of their body, by the cases of the table, since where a
--- row's least is its most the number can be no other.
-use Prim.Native.Nat.{ℕ, zero, suc, _<_, _≤_}
+-- Laws of the limits, for the crates above. Numbers inside their limits are those of their body, by the cases of the
+-- table, since where a row's least is its most the number can be no other. Every limit is a number of 32 bits, and so is
+-- all that lies between two of them. No law names a limit: a row can change, and the laws stand.
+use Prim.Native.Nat.{ℕ, zero, suc, _^_, _<_, _≤_}
 use native.Mathlib.Omega.{arith}
-use mathlib.Core.Bool.{true, false, _&&_}
+use mathlib.Core.Bool.{Bool, true, false, _&&_, false≢true}
 use mathlib.Core.Path.{_≡_, refl, ap, _∙_}
 use lib.Dec.{ltb, leb}
 use lib.IntN.{ℤ, pos, negsuc}
 use lib.ListN.{length}
-use lib.Signed.{leZ}
+use lib.Signed.{leZ, mag}
 use borrow.Author.Tests.{leb-true, ltb-true, ne-eqb}
+use mir.Syntax.{w32}
+use mir.Val.{SFits}
 use Rattle.places.proofs.Laws.{both}
 use Rattle.kinds.specs.declared.Body.{Body}
 use Rattle.kinds.specs.Body.{kindOf, eventOf, argumentOf, bodyOf, isEmpty}
@@ -90,3 +93,61 @@ edit-kind b h = leb-true 2 (kindOf b) (both (leb 2 (kindOf b)) (bodyInside b) h 
 -- so it is not Empty
 pub edit-not-empty : (b : Body) → isEdit b ≡ true → isEmpty b ≡ false
 edit-not-empty b h = ne-eqb (kindOf b) 0 (λ z. omega (arith, edit-kind b h))
+
+-- an argument outside its kind's limits puts the numbers outside, whatever the event
+last-no : (a b c : Bool) → c ≡ false → (a && (b && c)) ≡ false
+last-no true true c h = h
+last-no true false c h = refl
+last-no false b c h = refl
+
+pub argument-outside :
+    (k e : ℕ) (a : ℤ) → (leZ (limitsOf k .«least_argument») a && leZ a (limitsOf k .«most_argument»)) ≡ false →
+    numbersInside k e a ≡ false
+unfolding numbersInside
+argument-outside k e a h =
+    let l = limitsOf k in
+    last-no (ltb k (length kinds)) (leb (l .«least_event») e && leb e (l .«most_event»)) _ h
+
+-- the limits of arguments have 32 bits
+small : {a b : ℤ} → mag a < 2 ^ 31 → mag b < 2 ^ 31 → SFits w32 a × SFits w32 b
+small p q = (record { sfits = p }, record { sfits = q })
+
+pub limits-fit : (k : ℕ) → SFits w32 (limitsOf k .«least_argument») × SFits w32 (limitsOf k .«most_argument»)
+limits-fit zero = small (omega arith) (omega arith)
+limits-fit (suc zero) = small (omega arith) (omega arith)
+limits-fit (suc (suc zero)) = small (omega arith) (omega arith)
+limits-fit (suc (suc (suc zero))) = small (omega arith) (omega arith)
+limits-fit (suc (suc (suc (suc zero)))) = small (omega arith) (omega arith)
+limits-fit (suc (suc (suc (suc (suc k))))) = small (omega arith) (omega arith)
+
+-- and so have those of events
+events-fit : (k : ℕ) → limitsOf k .«most_event» < 4_294_967_296
+events-fit zero = omega arith
+events-fit (suc zero) = omega arith
+events-fit (suc (suc zero)) = omega arith
+events-fit (suc (suc (suc zero))) = omega arith
+events-fit (suc (suc (suc (suc zero)))) = omega arith
+events-fit (suc (suc (suc (suc (suc k))))) = omega arith
+
+-- what lies between two numbers of 32 bits has 32 bits
+between-fits : (low high a : ℤ) → SFits w32 low → SFits w32 high → (leZ low a && leZ a high) ≡ true → SFits w32 a
+between-fits low (pos n) (pos m) p q h =
+    record { sfits = omega (arith, q .sfits, leb-true m n (both (leZ low (pos m)) (leb m n) h .1)) }
+between-fits low (negsuc n) (pos m) p q h = absurd (false≢true (both (leZ low (pos m)) false h .1))
+between-fits (pos l) high (negsuc m) p q h = absurd (false≢true (both false (leZ (negsuc m) high) h .0))
+between-fits (negsuc l) high (negsuc m) p q h =
+    record { sfits = omega (arith, p .sfits, leb-true m l (both (leb m l) (leZ (negsuc m) high) h .0)) }
+
+-- the event and the argument of a body inside its limits have 32 bits
+module _ (b : Body) (h : bodyInside b ≡ true) where
+  within : Inside (kindOf b) (eventOf b) (argumentOf b)
+  unfolding bodyInside
+  within = inside (kindOf b) (eventOf b) (argumentOf b) h
+
+  pub event-fits : eventOf b < 4_294_967_296
+  event-fits = omega (arith, within .most, events-fit (kindOf b))
+
+  pub argument-fits : SFits w32 (argumentOf b)
+  argument-fits =
+      let f = limits-fit (kindOf b) in
+      between-fits _ _ (argumentOf b) (f .0) (f .1) (within .argument)
