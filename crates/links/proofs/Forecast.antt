@@ -78,9 +78,9 @@ module _ (L : Links) where
             ];
       }
 
-  pub forecast-only : (rounds s count last : ℕ) → ForecastByRelays L rounds s count last
+  pub station-only : (rounds s count last : ℕ) → ForecastByRelays L rounds s count last
       → (count ≡ endCount L rounds s) × (last ≡ lastEnd L rounds s)
-  forecast-only rounds s count last f =
+  station-only rounds s count last f =
       let k = num-starts L s (suc count) last (f .starts) in
       let h =
       from-on (λ w. w ≤ rounds → (num L w s ≡ suc count) × (start L w s ≡ last)) last (λ l. k)

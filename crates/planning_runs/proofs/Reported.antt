@@ -75,7 +75,7 @@ no-round : (n : ℕ) (a b : List (List ℕ)) (p j : ℕ) → hearsIn n (masksIn 
 unfolding masksIn
 no-round n a b p j = refl
 
-masks-at : (a : List (List ℕ)) (u i : ℕ) → getD (masksIn a (suc u)) i 0 ≡ getD (getD a u []) i 0
+pub masks-at : (a : List (List ℕ)) (u i : ℕ) → getD (masksIn a (suc u)) i 0 ≡ getD (getD a u []) i 0
 unfolding masksIn
 masks-at a u i = refl
 

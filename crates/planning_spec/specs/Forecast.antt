@@ -1,11 +1,12 @@
 -- Document 02, A1: the forecast of a link log. Its ends are those of `links`, by relays alone.
 use mathlib.Core.Bool.{cond}
 use mathlib.Core.List.{List}
-use Prim.Native.Nat.{ℕ}
+use mathlib.Core.Path.{_≡_}
+use Prim.Native.Nat.{ℕ, _<_, _≤_}
 use lib.Dec.{eqb}
-use lib.ListN.{length, replicate}
+use lib.ListN.{getD, length, replicate}
 use Rattle.kinds.specs.Refusals.{done}
-use Rattle.links.specs.Forecast.{endCount, lastEnd}
+use Rattle.links.specs.Forecast.{endCount, lastEnd, ForecastByRelays}
 use Rattle.places.specs.Places.{fill}
 use Rattle.planning_spec.specs.declared.ForecastAnswer.{ForecastAnswer}
 use Rattle.planning_spec.specs.LinkLog.{roundsOf, linksOf, logRefusal}
@@ -24,3 +25,18 @@ forecastCall n log =
       last = perStation n (λ s. lastEnd (linksOf n log) (roundsOf n log) s);
     })
     (record { refusal = logRefusal n (length log); ends = replicate 16 0; last = replicate 16 0 })
+
+-- The same answer said by relays and the end rule alone, without a count: a reader may believe either. `forecast-relays` shows that the call's answer is
+-- such a one, and `forecast-only` that no other is.
+pub record RelayForecast (n : ℕ) (log : List ℕ) (a : ForecastAnswer) : Type 0 where
+  pub refusal : a .refusal ≡ logRefusal n (length log)
+  pub size-ends : length (a .ends) ≡ 16
+  pub size-last : length (a .last) ≡ 16
+  -- of a log that is not refused, each station's entries are those of the end rule
+  pub each :
+      a .refusal ≡ done → (s : ℕ) → s < n
+      → ForecastByRelays (linksOf n log) (roundsOf n log) s (getD (a .ends) s 0) (getD (a .last) s 0)
+  -- and entries from n up are 0
+  pub above : a .refusal ≡ done → (s : ℕ) → n ≤ s → (getD (a .ends) s 0 ≡ 0) × (getD (a .last) s 0 ≡ 0)
+  -- a refused call has zeros
+  pub refused : (a .refusal ≡ done → ⊥) → (s : ℕ) → (getD (a .ends) s 0 ≡ 0) × (getD (a .last) s 0 ≡ 0)
