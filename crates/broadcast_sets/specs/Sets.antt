@@ -7,7 +7,6 @@ use lib.Bits.{bitAnd, bitOr}
 use lib.Dec.{eqb}
 use lib.ListN.{getD, length, set}
 use Rattle.links.specs.Log.{bit}
-use Rattle.planning_spec.specs.LinkLog.{maskHears}
 
 abbrev pub cell : List ℕ → ℕ → ℕ → ℕ
 cell sets p s = getD sets (16 * p + s) 0
@@ -39,9 +38,9 @@ united (suc k) heard f x = cond (heard k) (bitOr (united k heard f x) (f k)) (un
 unfoldable pub withReceiver : ℕ → ℕ → ℕ → ℕ
 withReceiver p s x = cond (bit x s) (bitOr x (2 ^ p)) x
 
--- What a round makes of the set of s at p, before the ends are looked at.
+-- What a round makes of the set of s at p, before the ends are looked at: the sets of those in its mask, as they stood, are united. Its own bit adds nothing.
 unfoldable pub learntSet : ℕ → (ℕ → ℕ) → List ℕ → ℕ → ℕ → ℕ
-learntSet n mask sets p s = withReceiver p s (united n (maskHears (mask p) p) (λ j. cell sets j s) (cell sets p s))
+learntSet n mask sets p s = withReceiver p s (united n (bit (mask p)) (λ j. cell sets j s) (cell sets p s))
 
 -- The rows below done are those that a round makes, and the others stay.
 pub record Learnt (done n : ℕ) (mask : ℕ → ℕ) (before after : List ℕ) : Type 0 where

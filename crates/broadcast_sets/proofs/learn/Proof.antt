@@ -1,12 +1,9 @@
-use Prim.Native.Nat.{ℕ, _+_, _*_, _-_, _<_, _≤_}
+-- The loop keeps `Learnt` up to its counter: the rows before it are what a round makes of the sets as they stood, for `before` is never written.
+use Prim.Native.Nat.{_+_, _-_, _≤_}
 use native.Mathlib.Omega.{arith}
-use mathlib.Core.Bool.{cond}
-use mathlib.Core.Path.{_≡_, refl, sym, ap, _∙_}
+use mathlib.Core.Path.{_≡_, refl}
 use borrow.Author.Needs.{needs}
-use lib.Bits.{bitOr}
-use Rattle.broadcast_sets.specs.Sets.{cell, RowIs, ColumnIs, united, withReceiver, firstSet, learntSet, Learnt}
-use Rattle.planning_spec.specs.LinkLog.{maskHears}
-use Rattle.broadcast_sets.proofs.Rows.{row-start, row-next, row-more, united-zero, united-more, column-start, column-more}
+use Rattle.broadcast_sets.specs.Sets.{Learnt}
 use lib.ListN.{getD}
 use Rattle.broadcast_sets.proofs.Rows.{learnt-start, learnt-more}
 use Rattle.broadcast_sets.proofs.learn.Statement.{statement}

@@ -1,14 +1,12 @@
-use Prim.Native.Nat.{ℕ, _+_, _*_, _-_, _<_, _≤_}
+-- The four steps one after the other: the row of p, united with those heard, with p itself, and put in its place. What each does to a set is composed.
+use Prim.Native.Nat.{ℕ}
 use native.Mathlib.Omega.{arith}
-use mathlib.Core.Bool.{cond}
-use mathlib.Core.Path.{_≡_, refl, sym, ap, _∙_}
+use mathlib.Core.Path.{ap, _∙_}
 use borrow.Author.Needs.{needs}
-use borrow.Author.Tests.{not-true, not-false}
 use lib.Bits.{bitOr}
-use lib.ListN.{getD}
-use Rattle.broadcast_sets.specs.Sets.{cell, FirstAre, RowIs, united, withReceiver}
-use Rattle.planning_spec.specs.LinkLog.{maskHears}
-use Rattle.broadcast_sets.proofs.Rows.{row-start, row-more, row-ext, first-start, first-next, first-more, first-then, first-ext, first-same, united-zero, united-more}
+use Rattle.broadcast_sets.specs.Sets.{cell, united, withReceiver}
+use Rattle.links.specs.Log.{bit}
+use Rattle.broadcast_sets.proofs.Rows.{row-ext}
 use Rattle.broadcast_sets.proofs.Stands.{zeros-at}
 use Rattle.broadcast_sets.proofs.learn_row.Statement.{statement}
 use Rattle.broadcast_sets.proofs.learn_row.Tie as tie
@@ -39,7 +37,7 @@ returns c =
     c .before .before .before .add-receiver .ensures .first s h
     ∙ ap (λ (x : ℕ). withReceiver (a .p) s x)
     (c .before .before .before .before .before .listen .ensures .first s h
-    ∙ ap (λ (x : ℕ). united (a .n) (maskHears (a .mask) (a .p)) (λ j. cell (a .before .now) j s) x)
+    ∙ ap (λ (x : ℕ). united (a .n) (bit (a .mask)) (λ j. cell (a .before .now) j s) x)
     (c .before .before .before .before .before .before .before .unite .ensures .first s h
     ∙ ap (λ (x : ℕ). bitOr x (cell (a .before .now) (a .p) s)) (zeros-at 16 s))))
 
