@@ -1,11 +1,11 @@
 -- Document 02, A1: the forecast of a link log. Its ends are those of `links`, by relays alone.
-use mathlib.Core.Bool.{cond}
+use mathlib.Core.Bool.{cond, not}
 use mathlib.Core.List.{List}
 use mathlib.Core.Path.{_≡_}
 use Prim.Native.Nat.{ℕ, _<_, _≤_}
-use lib.Dec.{eqb}
+use lib.Dec.{eqb, ltb}
 use lib.ListN.{getD, length, replicate}
-use Rattle.kinds.specs.Refusals.{done}
+use Rattle.kinds.specs.Refusals.{done, shortBuffer, refuse}
 use Rattle.links.specs.Forecast.{endCount, lastEnd, ForecastByRelays}
 use Rattle.places.specs.Places.{fill}
 use Rattle.planning_spec.specs.declared.ForecastAnswer.{ForecastAnswer}
@@ -40,3 +40,14 @@ pub record RelayForecast (n : ℕ) (log : List ℕ) (a : ForecastAnswer) : Type 
   pub above : a .refusal ≡ done → (s : ℕ) → n ≤ s → (getD (a .ends) s 0 ≡ 0) × (getD (a .last) s 0 ≡ 0)
   -- a refused call has zeros
   pub refused : (a .refusal ≡ done → ⊥) → (s : ℕ) → (getD (a .ends) s 0 ≡ 0) × (getD (a .last) s 0 ≡ 0)
+
+-- forecast into two lent buffers: 1, 12, and 9 where one of them has no room for sixteen entries
+unfoldable pub forecastIntoRefusal : ℕ → List ℕ → List ℕ → List ℕ → ℕ
+forecastIntoRefusal n log ends last =
+    refuse (not (eqb (logRefusal n (length log)) done)) (logRefusal n (length log))
+    (refuse (ltb (length ends) 16) shortBuffer
+    (refuse (ltb (length last) 16) shortBuffer done))
+
+-- a lent buffer afterwards: the answer's sixteen entries and then what stood there; all of it as it was where the call was refused
+unfoldable pub writtenInto : ℕ → List ℕ → List ℕ → List ℕ
+writtenInto refusal entries buffer = cond (eqb refusal done) (fill 16 (λ k. getD entries k 0) buffer) buffer
