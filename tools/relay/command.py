@@ -15,11 +15,8 @@ EPILOG = """example:
     ./relay listing examples/two-stations.script
 
 ./relay SUBCOMMAND --help tells more of a subcommand, with an example.
-exit status:
-  0      done
-  1      the input is malformed or refused; standard error says where and why
-  2      the command was used wrongly, or a file or a program is missing
-  128+s  ended by signal s"""
+exit status: 0 done; 1 the input is malformed or refused, which standard error
+explains; 2 wrong use, or a file or a program is missing; 128 + s by signal s"""
 
 
 def subcommands():
@@ -33,7 +30,7 @@ def subcommands():
 def parser_of(modules):
     form = {"formatter_class": argparse.RawDescriptionHelpFormatter, "allow_abbrev": False}
     parser = argparse.ArgumentParser(prog="./relay", description=DESCRIPTION, epilog=EPILOG, **form)
-    choices = parser.add_subparsers(dest="subcommand", metavar="SUBCOMMAND", required=True)
+    choices = parser.add_subparsers(title="subcommands", dest="subcommand", metavar="SUBCOMMAND", required=True)
     for name, module in modules.items():
         summary, _, rest = module.__doc__.partition("\n")
         one = choices.add_parser(name, help=summary.rstrip("."), description=summary, epilog=rest.strip(), **form)
