@@ -81,21 +81,18 @@ fn store(sets: &mut [u16; 256], row: &[u16; 16], p: usize)
     }
 }
 
-// A round for p. The row is a local of its own, so that it stays in registers. The own bit of the mask adds nothing, for the row begins as that of p.
-fn learn_row(sets: &mut [u16; 256], before: &[u16; 256], mask: u16, n: usize, p: usize)
-    requires { ⌜ (p < 16) × (n ≤ 16) × (length (now sets) ≡ 256) ⌝ }
-    ensures { λ _. ⌜ RowIs 16 (now (sets .entry)) (now (sets .exit)) p (λ s.
-        withReceiver p s
-        (united n (bit mask) (λ j. cell (now (before .entry)) j s) (cell (now (before .entry)) p s))) ⌝ }
+// The sets of p, a row of their own.
+fn row_of(sets: &[u16; 256], p: usize) -> [u16; 16]
+    requires { ⌜ p < 16 ⌝ }
+    ensures { λ r. ⌜ (length r ≡ 16) × ((s : ℕ) → s < 16 → getD r s 0 ≡ cell (now (sets .entry)) p s) ⌝ }
 {
     let mut row = [0u16; 16];
-    unite(&mut row, before, p);
-    listen(&mut row, before, mask, n);
-    add_receiver(&mut row, p);
-    store(sets, &row, p);
+    unite(&mut row, sets, p);
+    row
 }
 
-// A round for all, before the ends are looked at; the masks stand in the log from `at` on. Everyone hears the sets as they stood before the round.
+// A round for all, before the ends are looked at; the masks stand in the log from `at` on. Everyone hears the sets as they stood before the round. A row is a local,
+// so that it stays in registers. The own bit of a mask adds nothing, for the row begins as that of its station.
 pub fn learn(sets: &mut [u16; 256], log: &[u16], at: usize, n: usize)
     requires { ⌜ (n ≤ 16) × (at + n ≤ length (now log)) × (length (now sets) ≡ 256) ⌝ }
     ensures { λ _. ⌜ Learnt n n (λ p. getD (now (log .entry)) (at + p) 0)
@@ -104,7 +101,10 @@ pub fn learn(sets: &mut [u16; 256], log: &[u16], at: usize, n: usize)
     let before = *sets;
     let mut p: usize = 0;
     while p < n {
-        learn_row(sets, &before, log[at + p], n, p);
+        let mut row = row_of(&before, p);
+        listen(&mut row, &before, log[at + p], n);
+        add_receiver(&mut row, p);
+        store(sets, &row, p);
         p += 1;
     }
 }

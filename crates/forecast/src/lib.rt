@@ -22,8 +22,8 @@ fn of_rounds(log: &[u16], n: usize, rounds: usize) -> ForecastAnswer
     let mut u: usize = 0;
     while u < rounds {
         learn(&mut sets, log, u * n, n);
+        close(&mut sets, &mut ends, &mut last, n, (u + 1) as u16);
         u += 1;
-        close(&mut sets, &mut ends, &mut last, n, u as u16);
     }
     ForecastAnswer {
         refusal: DONE,
