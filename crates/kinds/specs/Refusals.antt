@@ -49,6 +49,10 @@ countTooHigh = 10
 abbrev pub malformedLine : ℕ
 malformedLine = 11
 
+-- a link log is not whole rounds, or has more rounds than may be (document 02, A1)
+abbrev pub badLinkLog : ℕ
+badLinkLog = 12
+
 -- the first refusal that applies decides: where the test holds its number is the answer, else what comes after it
 abbrev pub refuse : Bool → ℕ → ℕ → ℕ
 refuse test number rest = cond test number rest

@@ -1,6 +1,6 @@
 -- Facts is what is claimed, and Examples what it comes to on small links. The others are why: first relays and clocks (Relay, Clock), then broadcast
 -- numbers (Number, Got, Tally, Bounds), then the end rule (EndRule); Version and Hearing say the same for what is in flight within a round; Prefix
--- and Log are about logs as lists.
+-- and Log are about logs as lists. Know is the end rule by sets without a history, and Forecast counts ends.
 pub mod Clock
 pub mod Number
 pub mod Got
@@ -11,6 +11,8 @@ pub mod EndRule
 pub mod Version
 pub mod Hearing
 pub mod Prefix
+pub mod Know
+pub mod Forecast
 pub mod Log
 pub mod Examples
 pub mod Facts

@@ -1,0 +1,2 @@
+pub mod LinkLog
+pub mod Forecast
