@@ -2,3 +2,4 @@ pub mod Text
 pub mod Steps
 pub mod Answers
 pub mod WholeScript
+pub mod Host

@@ -66,7 +66,7 @@ writes-whole n seed count text (head-first _ _ buffer rest e more) =
     ∙ sym (text-append (sizeLine n ∷ []) (roundsLines seed n count))
 
 -- a call in a buffer of that many bytes
-fits : (state n due : ℕ) (head : Bool) → n ≤ 16 → length (callText state n due head) ≤ enough
+pub fits : (state n due : ℕ) (head : Bool) → n ≤ 16 → length (callText state n due head) ≤ enough
 fits state n due true h = omega (arith, ap length (size-text state n due), length-size n)
 fits state n zero false h = omega (arith, ap length (no-text state n))
 fits state n (suc due) false h =

@@ -1,4 +1,6 @@
-// What the host that moves frames, a C program, calls. The declarations for C are in include/relay_host.h.
+// What C programs call. The declarations for C are in include/relay_host.h.
+
+mod load;
 
 ghost use mathlib.Core.Path.{_≡_};
 ghost use Rattle.frame_rules.specs.Frame.{checkRefusal};
