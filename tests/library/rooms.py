@@ -11,7 +11,7 @@ NO_ACCESS = 0
 class Room:
     """Memory for one lent buffer, with such a page before it and one after it."""
 
-    def __init__(self, size=1 << 17):
+    def __init__(self, size=1 << 18):
         self.size = size
         self.memory = mmap.mmap(-1, size + 2 * mmap.PAGESIZE)
         start = ctypes.addressof(ctypes.c_char.from_buffer(self.memory))
@@ -23,6 +23,7 @@ class Room:
     def lend(self, values, at_end):
         """Copies an array to the start or the end of the room; gives its address and length."""
         size = values.itemsize * len(values)
+        assert size <= self.size
         address = self.first + (self.size - size if at_end else 0)
         ctypes.memmove(address, values.buffer_info()[0], size)
         return address, len(values)
