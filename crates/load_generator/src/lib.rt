@@ -123,7 +123,8 @@ fn put_post_line(out: &mut [u8], at: usize, station: usize, draw: u32) -> usize
 // The same where the draw posts.
 fn put_post(out: &mut [u8], at: usize, station: usize, draw: u32) -> usize
     requires { ⌜ at + length (textOf (cond (posts draw) (postLine station draw ∷ []) [])) ≤ length (now out) ⌝ }
-    ensures { λ r. ⌜ Put (now (out .entry)) (now (out .exit)) at r (textOf (cond (posts draw) (postLine station draw ∷ []) [])) ⌝ }
+    ensures { λ r.
+        ⌜ Put (now (out .entry)) (now (out .exit)) at r (textOf (cond (posts draw) (postLine station draw ∷ []) [])) ⌝ }
 {
     if posts(draw) {
         return put_post_line(out, at, station, draw);
@@ -206,7 +207,8 @@ pub fn numbers_fit(n: usize, due: u32) -> bool
 // The next round where it fits: 9, or its length and the state after it.
 fn generate_round(out: &mut [u8], state: u32, n: usize) -> Generated
     requires { ⌜ n ≤ 16 ⌝ }
-    ensures { λ r. ⌜ Writes (textOf (roundLines state n)) state (afterRound n state) (now (out .entry)) (now (out .exit)) r ⌝ }
+    ensures { λ r.
+        ⌜ Writes (textOf (roundLines state n)) state (afterRound n state) (now (out .entry)) (now (out .exit)) r ⌝ }
 {
     let len = posts_len(state, n) + 9 * n + 2;
     if out.len() < len {
@@ -243,7 +245,8 @@ fn generate_size(out: &mut [u8], state: u32, n: usize) -> Generated
     }
 }
 
-// A call of the generator: 1, 9, or the `N` line where it is wanted, else the lines of the next round, put at the front of the lent buffer.
+// A call of the generator: 1, 9, or the `N` line where it is wanted, else the lines of the next round, put at the
+// front of the lent buffer.
 pub fn generate(out: &mut [u8], state: u32, n: usize, due: u32, head: bool) -> Generated
     ensures { λ r.
         ⌜ (r ≡ generated state n due head (length (now (out .entry))))

@@ -1,4 +1,5 @@
--- What the three kinds of lines say: each field is the number that was written, and each number is inside its limits, for a draw is at most 65,535.
+-- What the three kinds of lines say: each field is the number that was written, and each number is inside its limits,
+-- for a draw is at most 65,535.
 use mathlib.Core.Path.{_≡_, refl, sym, ap, _∙_}
 use mathlib.Core.Bool.{Bool, true, false, cond, _&&_}
 use mathlib.Core.List.{List, [], _∷_}
@@ -15,21 +16,10 @@ use Rattle.column_reader.specs.declared.Reading.the-variants.{Number}
 use Rattle.script.specs.declared.Command.{Command}
 use Rattle.script.specs.declared.Command.the-variants.{Size, Post, Round, Malformed}
 use Rattle.script.specs.Line.{naturalOf, fieldOf, shaped, sizeLine as readSize, postShaped, postLine as readPost, isMask, masksInside, roundLine, commandOf}
-use Rattle.load_spec.specs.Draws.{nextState, steps, drawOf, postDraw, maskDraw}
+use Rattle.load_spec.specs.Draws.{maskDraw}
+use Rattle.load_spec.proofs.Draws.{mask-draw-small}
 use Rattle.load_spec.specs.Script.{lineOf, sizeLine, postLine, maskLine}
 use Rattle.load_reading.proofs.Fields.{length-numbers, first-letter, field-read}
-
-draw-small : (s : ℕ) → drawOf (nextState s) ≤ 65535
-unfolding nextState
-draw-small s = omega arith
-
-pub post-draw-small : (s p : ℕ) → postDraw s p ≤ 65535
-unfolding postDraw steps
-post-draw-small s p = let e : 2 * p + 1 ≡ suc (2 * p) = omega arith in rw e (draw-small (steps (2 * p) s))
-
-pub mask-draw-small : (s p : ℕ) → maskDraw s p ≤ 65535
-unfolding maskDraw steps
-mask-draw-small s p = let e : 2 * p + 2 ≡ suc (suc (2 * p)) = omega arith in rw e (draw-small (nextState (steps (2 * p) s)))
 
 -- a line of this letter and so many numbers
 is-shaped : (letter n : ℕ) (numbers : List ℕ) → length numbers ≡ n → shaped (lineOf letter numbers) letter n ≡ true

@@ -1,5 +1,6 @@
--- A generated script is read to its end. Every line is one of three, and leaves a session of n stations that has not stopped and whose group is inside its limits; so a
--- post is accepted or meets a full queue. Rounds are counted by the induction, which never passes the last that a listing numbers.
+-- A generated script is read to its end. Every line is one of three, and leaves a session of n stations that has not
+-- stopped and whose group is inside its limits; so a post is accepted or meets a full queue. Rounds are counted by
+-- the induction, which never passes the last that a listing numbers.
 use mathlib.Core.Path.{_≡_, refl, sym, ap, subst, _∙_}
 use mathlib.Core.Bool.{Bool, true, false, cond, not, _&&_, _||_}
 use mathlib.Core.List.{List, [], _∷_, _++_}
@@ -29,9 +30,10 @@ use Rattle.listing_rules.specs.declared.Session.{Session}
 use Rattle.listing_rules.specs.Listing.{begun, postedBody, sizedBy, postedBy, roundedBy, halted, obeyed, after, malformedText, restText, lastRound}
 use Rattle.load_spec.specs.Draws.{postDraw, posts, afterRound}
 use Rattle.load_spec.specs.Script.{sizeLine, postLine, maskLine, postLines, roundLines, roundsLines, scriptLines, scriptOf, lineOf}
+use Rattle.load_spec.proofs.Draws.{post-draw-small}
 use Rattle.load_reading.specs.Reading.{postAnswer, Fine, Through, at-end, past, ReadWhole, LoadsRead}
 use Rattle.load_reading.proofs.Ends.{noEnd, NoEnds, no-line, one-more, noEnds-append, noEnd-line, allLines, lines-found}
-use Rattle.load_reading.proofs.Commands.{post-draw-small, size-said, post-said, round-said}
+use Rattle.load_reading.proofs.Commands.{size-said, post-said, round-said}
 
 -- a session of n stations that has done r rounds
 record At (n r : ℕ) (s : Session) : Type 0 where

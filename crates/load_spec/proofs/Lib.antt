@@ -1,3 +1,5 @@
+pub mod Draws
+pub mod Example
 pub mod Text
 pub mod Steps
 pub mod Answers

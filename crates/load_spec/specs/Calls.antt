@@ -1,5 +1,5 @@
--- Document 02, A5: what a call of the generator writes and returns. It is given the seed or the state that the call before returned, N, the number of rounds still
--- due, whether the `N` line is wanted, and a buffer.
+-- Document 02, A5: what a call of the generator writes and returns. It is given the seed or the state that the call
+-- before returned, N, the number of rounds still due, whether the `N` line is wanted, and a buffer.
 use Prim.Native.Nat.{ℕ}
 use mathlib.Core.Path.{_≡_}
 use mathlib.Core.Bool.{Bool, cond, not, _&&_, _||_}
@@ -20,7 +20,7 @@ mostRounds = 999_999
 unfoldable pub numbersFit : ℕ → ℕ → Bool
 numbersFit n due = (leb 1 n && leb n 16) && leb due mostRounds
 
--- the lines that are written: the `N` line where it is wanted, else those of the next round, and none where no round is due
+-- the lines that are written: the `N` line where it is wanted, else the next round's, and none where no round is due
 unfoldable pub callLines : ℕ → ℕ → ℕ → Bool → List (List ℕ)
 callLines state n due head = cond head (sizeLine n ∷ []) (cond (eqb due 0) [] (roundLines state n))
 
@@ -48,7 +48,12 @@ unfoldable pub bufferAfter : ℕ → ℕ → ℕ → Bool → List ℕ → List 
 bufferAfter state n due head buffer =
     cond (eqb (callRefusal state n due head (length buffer)) done) (placed buffer 0 (callText state n due head)) buffer
 
--- The call from C lends two places more, for the next state and the length. Fewer than two are a buffer too short. The refusal is what it returns.
+-- The call from C names what is wanted by a number: the `N` line for any but 0.
+abbrev pub wanted : ℕ → Bool
+wanted head = not (eqb head 0)
+
+-- It lends two places more, for the next state and the length; fewer than two are a buffer too short. It returns the
+-- refusal.
 unfoldable pub hostRefusal : ℕ → ℕ → ℕ → Bool → ℕ → ℕ → ℕ
 hostRefusal state n due head room places =
     refuse (not (numbersFit n due)) badNumber
@@ -57,7 +62,9 @@ hostRefusal state n due head room places =
 -- the buffer and the two places after that call
 unfoldable pub hostBuffer : ℕ → ℕ → ℕ → Bool → ℕ → List ℕ → List ℕ
 hostBuffer state n due head places buffer =
-    cond (eqb (hostRefusal state n due head (length buffer) places) done) (placed buffer 0 (callText state n due head)) buffer
+    cond (eqb (hostRefusal state n due head (length buffer) places) done)
+    (placed buffer 0 (callText state n due head))
+    buffer
 
 unfoldable pub hostPlaces : ℕ → ℕ → ℕ → Bool → ℕ → List ℕ → List ℕ
 hostPlaces state n due head room next =
@@ -65,7 +72,8 @@ hostPlaces state n due head room next =
     (set (set next 0 (callState state n due head)) 1 (length (callText state n due head)))
     next
 
--- what a part of the call promises: its text, where it fits, at the front of the buffer and the state after it; else 9, the buffer and the state as given
+-- what a part of the call promises: its text, where it fits, at the front of the buffer and the state after it; else
+-- 9, the buffer and the state as given
 pub record Writes (text : List ℕ) (state after : ℕ) (entry exit : List ℕ) (r : Generated) : Type 0 where
   pub answer :
       r

@@ -1,4 +1,5 @@
--- Document 02, A5: the script of a seed, a group's size and a number of rounds, in the form that document 01 gives for the listing's input.
+-- Document 02, A5: the script of a seed, a group's size and a number of rounds, in the form that document 01 gives
+-- for the listing's input.
 use Prim.Native.Nat.{ℕ, zero, suc, _+_}
 use mathlib.Core.Bool.{cond}
 use mathlib.Core.List.{List, [], _∷_, _++_}

@@ -5,27 +5,34 @@ use mathlib.Core.Bool.{Bool, true, false}
 use mathlib.Core.List.{List, [], _++_}
 use lib.ListN.{length, take}
 use Rattle.kinds.specs.Refusals.{done}
+use Rattle.load_spec.specs.declared.Generated.{Generated}
 use Rattle.load_spec.specs.Script.{scriptOf}
 use Rattle.load_spec.specs.Calls.{mostRounds, generated, bufferAfter}
 
--- Calls that write so many rounds, and what they write. The state is that of the first call. Each call lends a buffer of its own, is given the state that the call before
--- returned and one round fewer as due, and is done.
+-- a call in a buffer: its answer, and the bytes of which the answer gives the length
+abbrev pub answerIn : ℕ → ℕ → ℕ → Bool → List ℕ → Generated
+answerIn state n due head buffer = generated state n due head (length buffer)
+
+abbrev pub writtenIn : ℕ → ℕ → ℕ → Bool → List ℕ → List ℕ
+writtenIn state n due head buffer = take ((answerIn state n due head buffer) .len) (bufferAfter state n due head buffer)
+
+-- Calls that write the rounds due, and all that they write. The state is that of the first call. Each call lends a
+-- buffer of its own and is done; the next is given the state that it returned and one round fewer as due.
 pub data Rounds (n : ℕ) : ℕ → ℕ → List ℕ → Type 0 where
   none-due : (state : ℕ) → Rounds n state 0 []
   then-call :
       (state due : ℕ) (buffer text : List ℕ) →
-      (generated state n (suc due) false (length buffer)) .refusal ≡ done →
-      Rounds n ((generated state n (suc due) false (length buffer)) .state) due text →
-      Rounds n state (suc due)
-      (take ((generated state n (suc due) false (length buffer)) .len) (bufferAfter state n (suc due) false buffer) ++ text)
+      (answerIn state n (suc due) false buffer) .refusal ≡ done →
+      Rounds n ((answerIn state n (suc due) false buffer) .state) due text →
+      Rounds n state (suc due) (writtenIn state n (suc due) false buffer ++ text)
 
 -- The same behind a call that writes the `N` line.
 pub data Calls (n : ℕ) : ℕ → ℕ → List ℕ → Type 0 where
   head-first :
       (seed count : ℕ) (buffer text : List ℕ) →
-      (generated seed n count true (length buffer)) .refusal ≡ done →
-      Rounds n ((generated seed n count true (length buffer)) .state) count text →
-      Calls n seed count (take ((generated seed n count true (length buffer)) .len) (bufferAfter seed n count true buffer) ++ text)
+      (answerIn seed n count true buffer) .refusal ≡ done →
+      Rounds n ((answerIn seed n count true buffer) .state) count text →
+      Calls n seed count (writtenIn seed n count true buffer ++ text)
 
 -- All that such calls write is the script of the seed.
 abbrev pub WritesWhole : Type 0

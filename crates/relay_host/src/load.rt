@@ -4,12 +4,11 @@ use kinds::refusals::BAD_NUMBER;
 use kinds::refusals::DONE;
 use kinds::refusals::SHORT_BUFFER;
 ghost use mathlib.Core.Path.{_≡_};
-ghost use mathlib.Core.Bool.{not};
-ghost use lib.Dec.{eqb};
 ghost use lib.ListN.{length};
-ghost use Rattle.load_spec.specs.Calls.{hostRefusal, hostBuffer, hostPlaces};
+ghost use Rattle.load_spec.specs.Calls.{wanted, hostRefusal, hostBuffer, hostPlaces};
 
-// A call of the generator: 1, 9, or 0 with the lines in the buffer, the next state in next[0] and their length in next[1]. The `N` line is wanted where head is not 0.
+// A call of the generator: 1, 9, or 0 with the lines in the buffer, the next state in next[0] and their length in
+// next[1]. The `N` line is wanted where head is not 0.
 #[no_mangle]
 pub extern "C" fn relay_load(
     state: u32,
@@ -20,9 +19,9 @@ pub extern "C" fn relay_load(
     next: &mut [u32],
 ) -> u32
     ensures { λ r.
-        ⌜ (r ≡ hostRefusal state n due (not (eqb head 0)) (length (now (buffer .entry))) (length (now (next .entry))))
-        × (now (buffer .exit) ≡ hostBuffer state n due (not (eqb head 0)) (length (now (next .entry))) (now (buffer .entry)))
-        × (now (next .exit) ≡ hostPlaces state n due (not (eqb head 0)) (length (now (buffer .entry))) (now (next .entry))) ⌝ }
+        ⌜ (r ≡ hostRefusal state n due (wanted head) (length (now (buffer .entry))) (length (now (next .entry))))
+        × (now (buffer .exit) ≡ hostBuffer state n due (wanted head) (length (now (next .entry))) (now (buffer .entry)))
+        × (now (next .exit) ≡ hostPlaces state n due (wanted head) (length (now (buffer .entry))) (now (next .entry))) ⌝ }
 {
     if !load_generator::numbers_fit(n as usize, due) {
         return BAD_NUMBER;
