@@ -141,9 +141,9 @@ fn put_posts(out: &mut [u8], state: u32, n: usize) -> usize
     let mut end = 0;
     let mut p = 0;
     while p < n {
-        let drawn = next_state(s);
-        end = put_post(out, end, p, draw_of(drawn));
-        s = next_state(drawn);
+        let first = next_state(s);
+        end = put_post(out, end, p, draw_of(first));
+        s = next_state(first);
         p += 1;
     }
     end
@@ -160,7 +160,8 @@ fn put_masks(out: &mut [u8], at: usize, state: u32, n: usize) -> u32
     let mut end = at;
     let mut p = 0;
     while p < n {
-        s = next_state(next_state(s));
+        let post = next_state(s);
+        s = next_state(post);
         end = put_field(out, end, draw_of(s) as u64);
         p += 1;
     }
@@ -204,6 +205,17 @@ pub fn numbers_fit(n: usize, due: u32) -> bool
     due <= MOST_ROUNDS
 }
 
+// The answer of a call that is refused: the state as given.
+fn refused(refusal: u32, state: u32) -> Generated
+    ensures { λ r. ⌜ r ≡ record { refusal = refusal; len = 0; state = state } ⌝ }
+{
+    Generated {
+        refusal,
+        len: 0,
+        state,
+    }
+}
+
 // The next round where it fits: 9, or its length and the state after it.
 fn generate_round(out: &mut [u8], state: u32, n: usize) -> Generated
     requires { ⌜ n ≤ 16 ⌝ }
@@ -212,11 +224,7 @@ fn generate_round(out: &mut [u8], state: u32, n: usize) -> Generated
 {
     let len = posts_len(state, n) + 9 * n + 2;
     if out.len() < len {
-        return Generated {
-            refusal: SHORT_BUFFER,
-            len: 0,
-            state,
-        };
+        return refused(SHORT_BUFFER, state);
     }
     let after = put_round(out, state, n);
     Generated {
@@ -231,11 +239,7 @@ fn generate_size(out: &mut [u8], state: u32, n: usize) -> Generated
     ensures { λ r. ⌜ Writes (textOf (sizeLine n ∷ [])) state state (now (out .entry)) (now (out .exit)) r ⌝ }
 {
     if out.len() < SIZE_LEN {
-        return Generated {
-            refusal: SHORT_BUFFER,
-            len: 0,
-            state,
-        };
+        return refused(SHORT_BUFFER, state);
     }
     put_size(out, n);
     Generated {
@@ -253,11 +257,7 @@ pub fn generate(out: &mut [u8], state: u32, n: usize, due: u32, head: bool) -> G
         × (now (out .exit) ≡ bufferAfter state n due head (now (out .entry))) ⌝ }
 {
     if !numbers_fit(n, due) {
-        return Generated {
-            refusal: BAD_NUMBER,
-            len: 0,
-            state,
-        };
+        return refused(BAD_NUMBER, state);
     }
     if head {
         return generate_size(out, state, n);

@@ -11,9 +11,10 @@ use Rattle.load_generator.proofs.generate.Tie as tie
 
 returns : tie.Need-returns
 returns c =
-    let a = c .before .before .before .args in
-    let out = outside (a .state) (a .n) (a .due) (a .head) (a .out .now) (sym (c .before .numbers-fit .ensures) ∙ not-true _ (c .if1 .taken)) in
-    (sym (out .0), sym (out .1))
+    let a = c .before .before .before .before .args in
+    let unfit = sym (c .before .before .numbers-fit .ensures) ∙ not-true _ (c .before .if1 .taken) in
+    let out = outside (a .state) (a .n) (a .due) (a .head) (a .out .now) unfit in
+    (c .refused .ensures ∙ sym (out .0), sym (out .1))
 
 returns-2 : tie.Need-returns-2
 returns-2 c =
@@ -50,6 +51,7 @@ pub generate-spec : {M : Type 1} → statement M
 generate-spec =
     tie.close
     (tie.spec
+    (λ c κs. search needs)
     (λ c κs. search needs)
     returns
     (λ c κs. search needs)

@@ -13,8 +13,10 @@ use Rattle.load_generator.proofs.generate_round.Tie as tie
 
 returns : tie.Need-returns
 returns c =
-    let a = c .before .before .before .args in
-    too-long _ (a .state) _ (a .out .now) (omega (arith, c .if1 .taken, c .before .posts-len .ensures .0, length-round (a .state) (a .n)))
+    let a = c .before .before .before .before .args in
+    let posts = c .before .before .posts-len in
+    rw (c .refused .ensures)
+    (too-long _ (a .state) _ (a .out .now) (omega (arith, c .before .if1 .taken, posts .ensures .0, length-round (a .state) (a .n))))
 
 put-round-requires : tie.Need-put-round-requires
 put-round-requires c κs =
@@ -38,6 +40,7 @@ generate-round-spec =
     (λ c. search needs)
     (λ c. search needs)
     (λ c. search needs)
+    (λ c κs. search needs)
     returns
     put-round-requires
     (λ c. search needs)

@@ -9,8 +9,8 @@ use Rattle.load_generator.proofs.generate_size.Tie as tie
 
 returns : tie.Need-returns
 returns c =
-    let a = c .before .before .args in
-    too-long _ (a .state) _ (a .out .now) (omega (arith, length-size (a .n)))
+    let a = c .before .before .before .args in
+    rw (c .refused .ensures) (too-long _ (a .state) _ (a .out .now) (omega (arith, length-size (a .n))))
 
 returns-2 : tie.Need-returns-2
 returns-2 c =
@@ -19,4 +19,4 @@ returns-2 c =
     (c .before .before .put-size .ensures)
 
 pub generate-size-spec : {M : Type 1} → statement M
-generate-size-spec = tie.close (tie.spec returns (λ c κs. search needs) (λ c. search needs) returns-2)
+generate-size-spec = tie.close (tie.spec (λ c κs. search needs) returns (λ c κs. search needs) (λ c. search needs) returns-2)
