@@ -28,17 +28,17 @@ uint32_t relay_frame_check(const uint8_t *bytes, size_t len, uint32_t n, uint32_
 #define RELAY_LOAD_ENOUGH 754
 
 /* Writes the next lines of a script that is drawn from a seed, so that everyone can repeat it.
-   `state` is the seed, or what the call before put into next[0]. n is the number of stations, and `due` how many rounds are
-   still to be written. Where `head` is not 0 the N line is written, which draws nothing; else the lines of the next round
-   are, and none where `due` is 0. A whole script is one call with `head`, and then a call for each round, with one round
-   fewer due each time.
-   `buffer` points at buffer_len bytes and `next` at next_len places, both writable and neither null. The lines stand at the
-   front of the buffer, and its other bytes are kept. next[0] is the state for the next call, and next[1] the number of bytes
-   written.
+   `state` is the seed, or what the call before put into next[0]. n is the number of stations, and `due` how many rounds
+   are still to be written. Where `head` is not 0 the N line is written, which draws nothing; else the lines of the next
+   round are, and none where `due` is 0. A whole script is one call with `head`, and then a call for each round, with one
+   round fewer due each time.
+   `buffer` points at buffer_len bytes and `next` at next_len places; both are writable and neither is null. The lines
+   stand at the front of the buffer, and its other bytes are kept. next[0] is the state for the next call, and next[1]
+   the number of bytes written.
    Returns RELAY_DONE, RELAY_BAD_NUMBER, or RELAY_SHORT_BUFFER where the lines do not fit or there are fewer than two
    places. A refused call changes nothing. Any values may be given, and no memory is kept. */
-uint32_t relay_load(uint32_t state, uint32_t n, uint32_t due, uint32_t head, uint8_t *buffer, size_t buffer_len, uint32_t *next,
-                    size_t next_len);
+uint32_t relay_load(uint32_t state, uint32_t n, uint32_t due, uint32_t head, uint8_t *buffer, size_t buffer_len,
+                    uint32_t *next, size_t next_len);
 
 #ifdef __cplusplus
 }

@@ -2,6 +2,7 @@
 
 import os
 import pty
+import re
 import subprocess
 import unittest
 
@@ -21,12 +22,19 @@ def peak(rounds):
 class Load(unittest.TestCase):
     def test_scripts(self):
         for seed, n, rounds in ((0, 1, 0), (7, 2, 3), (4_294_967_295, 16, 40), (2_026, 5, 513), (1, 3, 1_025)):
-            self.assertEqual(run("load", str(seed), str(n), str(rounds)), (0, load.script(seed, n, rounds).decode(), ""))
+            script = load.script(seed, n, rounds).decode()
+            self.assertEqual(run("load", str(seed), str(n), str(rounds)), (0, script, ""))
 
     def test_into_a_listing(self):
         script = run("load", "2026", "5", "40")[1].encode()
         status, text, words = run("listing", "-", given=script)
         self.assertEqual((status, text, words), (0, listing.listing(script).decode(), ""))
+
+    def test_the_document_s(self):
+        """The block marked `load` of docs/SCRIPTS.md is what the command beside it writes."""
+        text = (ROOT / "docs" / "SCRIPTS.md").read_text(encoding="utf-8")
+        (words, block), = re.findall(r"`\./relay load ([\d ]+)` writes:\n\n```load\n(.*?)```", text, re.DOTALL)
+        self.assertEqual(run("load", *words.split()), (0, block, ""))
 
     def test_refused(self):
         words = "relay load: refused with 1: N must be 1 to 16 and ROUNDS 0 to 999,999\n"
@@ -43,7 +51,8 @@ class Load(unittest.TestCase):
     def test_progress(self):
         """It is told where standard error is a terminal and standard output is not, and else not."""
         terminal, other = pty.openpty()
-        done = subprocess.run([ROOT / "relay", "load", "1", "2", "3000"], stdout=subprocess.PIPE, stderr=other, check=False)
+        done = subprocess.run([ROOT / "relay", "load", "1", "2", "3000"], stdout=subprocess.PIPE, stderr=other,
+                              check=False)
         os.close(other)
         text = os.read(terminal, 4096).decode()
         os.close(terminal)
@@ -54,7 +63,8 @@ class Load(unittest.TestCase):
         self.assertLess(peak(60_000) - peak(100), 4_096)
 
     def test_broken_pipe(self):
-        done = subprocess.run("./relay load 1 16 100000 | head -n 1", shell=True, cwd=ROOT, capture_output=True, check=False)
+        done = subprocess.run("./relay load 1 16 100000 | head -n 1", shell=True, cwd=ROOT, capture_output=True,
+                              check=False)
         self.assertEqual((done.stdout, done.stderr), (load.size_line(16), b""))
 
 

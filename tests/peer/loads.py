@@ -26,5 +26,6 @@ def compare():
         refusal, after = load.call(state, n, due, head, list(buffer), list(places))
         expected = (refusal, *map(list, after))
         got = built.load(state, n, due, head, buffer, places)
-        found.append((f"{state} {n} {due} {head}, {room} bytes, {count} places", expected, (got, list(buffer), list(places))))
+        name = f"{state} {n} {due} {head}, {room} bytes, {count} places"
+        found.append((name, expected, (got, list(buffer), list(places))))
     agree("loads", [("refusals met", {0, 1, 9}, {expected[0] for _, expected, _ in found}), *found])
