@@ -83,7 +83,7 @@ fn post_len(station: usize, draw: u32) -> usize
 // The bytes of a round's posts.
 fn posts_len(state: u32, n: usize) -> usize
     requires { ⌜ n ≤ 16 ⌝ }
-    ensures { λ r. ⌜ (r ≡ length (textOf (postLines state n))) × (r ≤ 608) ⌝ }
+    ensures { λ r. ⌜ r ≡ length (textOf (postLines state n)) ⌝ }
 {
     let mut s = state;
     let mut len = 0;

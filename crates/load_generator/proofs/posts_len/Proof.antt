@@ -43,8 +43,7 @@ loop-again c =
 returns : tie.Need-returns Inv-loop μ-loop
 returns c =
     let all : c .before .loop .p ≡ c .before .before .args .n = omega arith in
-    let e = rw all at (c .before .loop .inv .2) in
-    (e, omega (arith, posts-at-most (c .before .before .args .state) (c .before .before .args .n)))
+    rw all at (c .before .loop .inv .2)
 
 pub posts-len-spec : {M : Type 1} → statement M
 posts-len-spec =
