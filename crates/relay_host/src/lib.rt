@@ -1,6 +1,6 @@
 // What C programs call. The declarations for C are in include/relay_host.h.
 
-mod load;
+mod relay_load;
 
 ghost use mathlib.Core.Path.{_≡_};
 ghost use Rattle.frame_rules.specs.Frame.{checkRefusal};

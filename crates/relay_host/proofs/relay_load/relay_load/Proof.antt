@@ -1,4 +1,4 @@
--- `relay_host::load::relay_load` judges its numbers and the two places, and then is the generator's call.
+-- `relay_host::relay_load::relay_load` judges its numbers and the two places, and then is the generator's call.
 use mathlib.Core.Path.{_≡_, sym, ap, _∙_}
 use mathlib.Core.Bool.{not}
 use native.Mathlib.Omega.{arith}
@@ -7,8 +7,8 @@ use borrow.Author.Needs.{needs}
 use borrow.Author.Tests.{not-true, not-false}
 use Rattle.load_spec.specs.declared.Generated.{Generated}
 use Rattle.load_spec.proofs.Host.{host-outside, host-short, length-small, host-refused, host-done}
-use Rattle.relay_host.proofs.load.relay_load.Statement.{statement}
-use Rattle.relay_host.proofs.load.relay_load.Tie as tie
+use Rattle.relay_host.proofs.relay_load.relay_load.Statement.{statement}
+use Rattle.relay_host.proofs.relay_load.relay_load.Tie as tie
 
 returns : tie.Need-returns
 returns c =
