@@ -16,6 +16,7 @@ use Rattle.kinds.specs.declared.Body.the-variants.{Insert}
 use Rattle.kinds.specs.Body.{bodyOf}
 use Rattle.kinds.specs.Refusals.{done, queueFull, refuse}
 use Rattle.kind_limits.specs.Limits.{numbersInside, bodyInside, isEdit}
+use Rattle.kind_limits.proofs.Examples.{insert-small}
 use Rattle.places.specs.Places.{gather}
 use Rattle.station_rules.specs.declared.Station.{Station}
 use Rattle.group_rules.specs.State.{stationAt, sizeOf, groupInside}
@@ -44,14 +45,7 @@ record At (n r : ℕ) (s : Session) : Type 0 where
 
 -- what a draw posts is an edit
 insert-inside : (d : ℕ) → d ≤ 65535 → numbersInside 2 (d + 1) (pos d) ≡ true
-unfolding numbersInside
-insert-inside d h =
-    rw (
-      le-leb 1 (d + 1) (omega arith),
-      le-leb (d + 1) 99_999_999 (omega arith),
-      le-leb 0 d (omega arith),
-      le-leb d 2_159_999 (omega arith),
-    )
+insert-inside d h = insert-small (d + 1) d (omega arith) (omega arith) h
 
 insert-made : (d : ℕ) → d ≤ 65535 → postedBody 2 (d + 1) (pos d) ≡ Insert (d + 1) (pos d)
 unfolding postedBody bodyOf

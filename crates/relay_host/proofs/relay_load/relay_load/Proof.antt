@@ -1,4 +1,4 @@
--- `relay_host::load::relay_load` judges its numbers and the two places, and then is the generator's call.
+-- `relay_host::relay_load::relay_load` judges its numbers and the two places, and then is the generator's call.
 use mathlib.Core.Path.{_≡_, sym, ap, _∙_}
 use mathlib.Core.Bool.{not}
 use native.Mathlib.Omega.{arith}
