@@ -6,7 +6,7 @@ use std::hint::black_box;
 use std::process::ExitCode;
 use std::time::{Duration, Instant};
 
-use relay_peer::{forecast, frames, measured, refusals};
+use relay_peer::{forecast, frames, load, measured, refusals};
 
 /// A slice and two numbers in, a number out: the form of everything that is measured but the forecast.
 type Function = unsafe extern "C" fn(*const u8, usize, u32, u32) -> u32;
@@ -32,6 +32,12 @@ const PROJECT_ROUNDS: Option<Function> = Some(relay_bench_rounds);
 #[cfg(not(relay_bench))]
 const PROJECT_ROUNDS: Option<Function> = None;
 
+/// The load generator of crate relay_host.
+#[cfg(relay_host)]
+const PROJECT_LOAD: Option<Function> = Some(load_project);
+#[cfg(not(relay_host))]
+const PROJECT_LOAD: Option<Function> = None;
+
 const CHECK_PEERS: &[(&str, Function)] = &[
     ("Rust", frame_check_rust),
     #[cfg(gcc)]
@@ -46,6 +52,8 @@ unsafe extern "C" {
     fn relay_frame_check(bytes: *const u8, len: usize, n: u32, own: u32) -> u32;
     #[cfg(relay_host)]
     fn relay_forecast(log: *const u16, len: usize, n: u32, ends: *mut u16, ends_len: usize, last: *mut u16, last_len: usize) -> u32;
+    #[cfg(relay_host)]
+    fn relay_load(state: u32, n: u32, due: u32, head: u32, buffer: *mut u8, len: usize, next: *mut u32, places: usize) -> u32;
     #[cfg(relay_bench)]
     fn relay_bench_rounds(schedule: *const u8, len: usize, n: u32, rounds: u32) -> u32;
     #[cfg(gcc)]
@@ -78,9 +86,33 @@ extern "C" fn forecast_rust(log: *const u16, len: usize, n: u32, ends: *mut u16,
     refusals::number(&answer)
 }
 
+/// The rounds of a script, call by call; the sum has the length and the state of each round, and one of its bytes, another in each.
+fn load_rounds(rounds: u32, call: impl Fn(u32, u32, &mut [u8], &mut [u32; 2]) -> u32) -> u32 {
+    let (mut buffer, mut next, mut sum) = ([0; load::ENOUGH], [1, 0], 0u32);
+    for due in (1..=rounds).rev() {
+        let refusal = call(next[0], due, &mut buffer, &mut next);
+        let byte = buffer[(due % next[1].max(1)) as usize];
+        sum = sum.wrapping_mul(31).wrapping_add(refusal + next[1] + u32::from(byte)).wrapping_add(next[0]);
+    }
+    sum
+}
+
+extern "C" fn load_rust(_bytes: *const u8, _len: usize, n: u32, rounds: u32) -> u32 {
+    load_rounds(rounds, |state, due, buffer, next| load::call(black_box(state), n, due, black_box(0), buffer, next))
+}
+
+#[cfg(relay_host)]
+extern "C" fn load_project(_bytes: *const u8, _len: usize, n: u32, rounds: u32) -> u32 {
+    load_rounds(rounds, |state, due, buffer, next| {
+        // SAFETY: pointers and lengths are those of slices that live through the call.
+        unsafe { relay_load(state, n, due, 0, buffer.as_mut_ptr(), buffer.len(), next.as_mut_ptr(), next.len()) }
+    })
+}
+
 /// What one sample runs: about a millisecond, so that on a busy machine some samples stay undisturbed.
 const CHECKS: u32 = 25_600;
 const STATION_ROUNDS: u32 = 2_048;
+const LOAD_STATIONS: u32 = 65_536;
 
 fn call(function: Function, bytes: &[u8], first: u32, second: u32) -> u32 {
     // SAFETY: pointer and length are those of a slice that lives through the call.
@@ -233,5 +265,11 @@ fn main() -> ExitCode {
     let work = |function| call(function, &full_mesh(16), 16, many);
     let name = format!("full-mesh round, N = 16, {many} rounds in one run");
     agree &= Measure { name, units: many, work: &work }.print(PROJECT_ROUNDS, rounds_rust, span);
+    for n in [2, 8, 16] {
+        let rounds = LOAD_STATIONS / n;
+        let work = |function| call(function, &[], n, rounds);
+        let name = format!("load of a round, N = {n}");
+        agree &= Measure { name, units: rounds, work: &work }.print(PROJECT_LOAD, load_rust, span);
+    }
     if agree { ExitCode::SUCCESS } else { ExitCode::FAILURE }
 }

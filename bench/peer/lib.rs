@@ -9,6 +9,7 @@ pub mod frames;
 pub mod group;
 pub mod labels;
 pub mod listing;
+pub mod load;
 pub mod measured;
 pub mod queues;
 pub mod refusals;

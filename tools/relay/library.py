@@ -94,3 +94,9 @@ def forecast(n, log):
     """For each of sixteen stations how many broadcasts end, and the round of the last. The log is an array of masks."""
     ends, last = array("H", [0] * PLACES), array("H", [0] * PLACES)
     return call("relay_forecast", log, n, ends, last), (list(ends), list(last))
+
+
+def load(state, n, due, head, buffer):
+    """Writes the next lines of a generated script into the buffer, an array; gives their length and the next state."""
+    after = array("I", [0, 0])
+    return call("relay_load", state, n, due, int(head), buffer, after), (after[1], after[0])

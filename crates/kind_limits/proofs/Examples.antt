@@ -3,6 +3,7 @@
 use Prim.Native.Nat.{ℕ, _≤_}
 use mathlib.Core.Bool.{true, false}
 use mathlib.Core.Path.{_≡_, refl}
+use native.Mathlib.Omega.{arith}
 use lib.IntN.{pos, negsuc}
 use borrow.Author.Tests.{le-leb}
 use Rattle.kinds.specs.declared.Body.the-variants.{Insert, Shift}
@@ -24,3 +25,14 @@ module _ (event : ℕ) (least : 1 ≤ event) (most : event ≤ 99_999_999) where
 pub m10-outside : (event : ℕ) → bodyInside (Insert event (pos 2_700_000)) ≡ false
 unfolding bodyInside
 m10-outside event = argument-outside 2 event (pos 2_700_000) refl
+
+-- an event up to 65,536 and a start of 16 bits are an insert's
+pub insert-small : (event start : ℕ) → 1 ≤ event → event ≤ 65_536 → start ≤ 65_535 → numbersInside 2 event (pos start) ≡ true
+unfolding numbersInside
+insert-small event start least most h =
+    rw (
+      le-leb 1 event least,
+      le-leb event 99_999_999 (omega arith),
+      le-leb 0 start (omega arith),
+      le-leb start 2_699_999 (omega arith),
+    )
