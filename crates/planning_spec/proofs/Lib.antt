@@ -1,4 +1,6 @@
 pub mod LinkLog
+pub mod Masks
 pub mod Forecast
+pub mod Merge
 pub mod Examples
 pub mod ForecastInto
