@@ -4,3 +4,4 @@ pub mod Forecast
 pub mod Merge
 pub mod Examples
 pub mod ForecastInto
+pub mod MergeInto
