@@ -4,6 +4,7 @@ use mathlib.Core.List.{List, [], _∷_, _++_}
 use mathlib.Core.Path.{_≡_, refl, sym, ap, _∙_}
 use Prim.Native.Nat.{ℕ, zero, suc, max, _+_, _-_, _<_, _≤_}
 use native.Mathlib.Decide.{ℕ-discrete, decLe}
+use native.Mathlib.Nat.{mul-le-mul-right}
 use native.Mathlib.Omega.{arith}
 use borrow.Author.Tests.{eq-eqb, ne-eqb, lt-ltb, le-ltb}
 use lib.ListN.{getD, length, set, drop, length-append, length-drop, List·getD-append}
@@ -13,7 +14,8 @@ use Rattle.places.proofs.Laws.{length-fill, fill-below, fill-above, length-tabu
 use Rattle.planning_spec.specs.declared.MergeAnswer.{MergeAnswer}
 use Rattle.planning_spec.specs.LinkLog.{logRefusal}
 use Rattle.planning_spec.specs.Merge.{mergedMask, mergedLog, logsRefusal, mergeRefusal, mergeCall, frontWritten, mergeIntoRefusal}
-use Rattle.planning_spec.proofs.Merge.{merged-length}
+use Rattle.planning_spec.proofs.LinkLog.{Accepted}
+use Rattle.planning_spec.proofs.Merge.{merged-length, both-accepted}
 
 module _ (n first second : ℕ) where
   pub logs-first : (logRefusal n first ≡ 0 → ⊥) → logsRefusal n first second ≡ logRefusal n first
@@ -131,3 +133,96 @@ module _ (n : ℕ) (first second buffer : List ℕ) where
       → mergeCall n first second (length buffer) .masks ≡ length (mergedLog n first second)
   unfolding mergeCall
   call-masks e = rw (eq-eqb (mergeRefusal n (length first) (length second) (length buffer)) 0 e)
+
+  logs-taken : mergeRefusal n (length first) (length second) (length buffer) ≡ 0 → logsRefusal n (length first) (length second) ≡ 0
+  logs-taken e =
+      elim (ℕ-discrete (logsRefusal n (length first) (length second)) 0) [
+        | yes z ↦ z
+        | no d ↦ absurd (d (sym (room-refused n (length first) (length second) (length buffer) d) ∙ e))
+      ]
+
+  -- A log has at most 2,048 rounds of sixteen masks.
+  log-small : (masks : ℕ) → Accepted n masks → masks ≤ 32768
+  log-small masks a = omega (arith, a .whole, a .few, mul-le-mul-right n (a .rounds))
+
+  pub masks-small : mergeCall n first second (length buffer) .refusal ≡ 0 → mergeCall n first second (length buffer) .masks ≤ 32768
+  masks-small e =
+      let z = sym call-refusal ∙ e in
+      let t = both-accepted n (length first) (length second) (logs-taken z) in
+      omega (arith, call-masks z, merged-length n first second, log-small (length first) (t .one), log-small (length second) (t .two))
+
+one-put : (b : List ℕ) (x : ℕ) → 1 ≤ length b → set b 0 x ≡ x ∷ drop 1 b
+one-put [] x l = absurd (omega arith)
+one-put (a ∷ rest) x l = refl
+
+-- The call from C, which also writes the number of masks.
+module _ (n : ℕ) (first second merged masks : List ℕ) where
+  abbrev room : ℕ
+  room = length merged
+
+  abbrev count : List ℕ
+  count = length (mergedLog n first second) ∷ []
+
+  pub no-room-refused : (refusal : ℕ) → refusal ≡ logsRefusal n (length first) (length second) → (refusal ≡ 0 → ⊥)
+      → (refusal ≡ mergeIntoRefusal n first second merged masks)
+      × (merged ≡ frontWritten refusal (mergedLog n first second) merged)
+      × (masks ≡ frontWritten refusal count masks)
+  unfolding mergeIntoRefusal
+  no-room-refused refusal e d =
+      let r = room-refused n (length first) (length second) room (λ h. d (e ∙ h)) in (
+        e ∙ sym r ∙ rw (ne-eqb (mergeRefusal n (length first) (length second) room) 0 (λ h. d (e ∙ sym r ∙ h))),
+        front-refused refusal (mergedLog n first second) merged d,
+        front-refused refusal count masks d,
+      )
+
+  pub no-room : logsRefusal n (length first) (length second) ≡ 0 → length masks < 1
+      → (9 ≡ mergeIntoRefusal n first second merged masks)
+      × (merged ≡ frontWritten 9 (mergedLog n first second) merged)
+      × (masks ≡ frontWritten 9 count masks)
+  unfolding mergeIntoRefusal
+  no-room e h = (
+    elim (decLe (max (length first) (length second)) room) [
+      | yes l ↦ rw (room-done n (length first) (length second) room e l, lt-ltb (length masks) 1 h)
+      | no g ↦ rw (room-short n (length first) (length second) room e (omega arith))
+    ],
+    front-refused 9 (mergedLog n first second) merged (λ x. absurd (omega arith)),
+    front-refused 9 count masks (λ x. absurd (omega arith)),
+  )
+
+  module _ (answer : MergeAnswer) (after : List ℕ) (is : answer ≡ mergeCall n first second room)
+      (wrote : after ≡ frontWritten (answer .refusal) (mergedLog n first second) merged) where
+    same-refusal : answer .refusal ≡ mergeRefusal n (length first) (length second) room
+    same-refusal = ap (λ (a : MergeAnswer). a .refusal) is ∙ call-refusal n first second merged
+
+    pub into-refused : (answer .refusal ≡ 0 → ⊥)
+        → (answer .refusal ≡ mergeIntoRefusal n first second merged masks)
+        × (after ≡ frontWritten (answer .refusal) (mergedLog n first second) merged)
+        × (masks ≡ frontWritten (answer .refusal) count masks)
+    unfolding mergeIntoRefusal
+    into-refused d = (
+      same-refusal ∙ rw (ne-eqb (mergeRefusal n (length first) (length second) room) 0 (λ h. d (same-refusal ∙ h))),
+      wrote,
+      front-refused (answer .refusal) count masks d,
+    )
+
+    pub into-small : answer .refusal ≡ 0 → answer .masks ≤ 32768
+    into-small e =
+        omega (
+          arith,
+          ap (λ (a : MergeAnswer). a .masks) is,
+          masks-small n first second merged (sym (ap (λ (a : MergeAnswer). a .refusal) is) ∙ e),
+        )
+
+    pub into-done : answer .refusal ≡ 0 → 1 ≤ length masks
+        → (0 ≡ mergeIntoRefusal n first second merged masks)
+        × (after ≡ frontWritten 0 (mergedLog n first second) merged)
+        × (set masks 0 (answer .masks) ≡ frontWritten 0 count masks)
+    unfolding mergeIntoRefusal
+    into-done e h =
+        let z = sym same-refusal ∙ e in (
+          rw (eq-eqb (mergeRefusal n (length first) (length second) room) 0 z, le-ltb (length masks) 1 h),
+          wrote ∙ ap (λ (r : ℕ). frontWritten r (mergedLog n first second) merged) e,
+          ap (λ (k : ℕ). set masks 0 k) (ap (λ (a : MergeAnswer). a .masks) is ∙ call-masks n first second merged z)
+              ∙ one-put masks (length (mergedLog n first second)) h
+              ∙ front-done count masks,
+        )
