@@ -38,8 +38,8 @@ cast-masks c =
           omega (
             arith,
             into-small (a .n) (a .first .now) (a .second .now) (a .merged .now) (a .masks .now) _ _ (z .merge .ensures .0) (z .merge .ensures .1)
-            (c .before .if3 .left),
-          )
+                (c .before .if3 .left),
+          );
     }
 
 returns-4 : tie.Need-returns-4
