@@ -94,3 +94,10 @@ def forecast(n, log):
     """For each of sixteen stations how many broadcasts end, and the round of the last. The log is an array of masks."""
     ends, last = array("H", [0] * PLACES), array("H", [0] * PLACES)
     return call("relay_forecast", log, n, ends, last), (list(ends), list(last))
+
+
+def merge(n, first, second):
+    """The log of two carriers together; logs are arrays of masks."""
+    merged, masks = array("H", [0] * max(len(first), len(second))), array("I", [0])
+    refusal = call("relay_merge", first, second, n, merged, masks)
+    return refusal, merged[:masks[0]]
