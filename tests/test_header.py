@@ -24,9 +24,9 @@ def archive():
 
 def examples():
     """The code of each example in a comment, and what its lines are said to print."""
-    for block in re.findall(r"(?m)^   Example: .*\n\n((?:       .*\n)+(?:       .*\*/)?)", TEXT):
-        code = re.sub(r"   prints .*", "", block.replace("*/", ""))
-        yield code, re.findall(r"   prints ([^:\n]*)", block)
+    for block in re.findall(r"(?m)^   Example: .*\n(?:   \w.*\n)*\n((?:       .*\n)+)", TEXT):
+        block = block.replace(" */", "")
+        yield re.sub(r"   prints .*", "", block), re.findall(r"   prints (.*)", block)
 
 
 def run(code, folder):
@@ -44,11 +44,16 @@ class Header(unittest.TestCase):
         self.assertEqual(set(re.findall(r"(?m)^uint32_t (\w+)\(", TEXT)), set(re.findall(r" T (\w+)", symbols.stdout)))
 
     def test_examples(self):
+        """A printed line is what is said of it, to the end or to a colon and what it means."""
         found = list(examples())
+        self.assertEqual(len(found), TEXT.count("   Example: "))
         self.assertGreaterEqual(len(found), 1)
         with tempfile.TemporaryDirectory() as folder:
-            for code, printed in found:
-                self.assertEqual(run(code, folder).split("\n"), printed + [""], code)
+            for code, said in found:
+                printed = run(code, folder).splitlines()
+                self.assertEqual(len(printed), len(said), code)
+                for line, words in zip(printed, said):
+                    self.assertTrue(words == line or words.startswith(f"{line}: "), (line, words))
 
 
 if __name__ == "__main__":

@@ -19,6 +19,7 @@ Read it beside document 01, in this order:
 Of the later requests, document 02:
 
     forecast.py   A1: the ends of all broadcasts, from a link log
+    merge.py      A10: two link logs merged
     load.py       A5: a script drawn from a seed
 
 For tests only:

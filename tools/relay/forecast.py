@@ -13,10 +13,7 @@ import csv
 import sys
 
 from . import forecast_picture, library, plans
-from .faults import Missing, Wrong
-
-MOST_ROUNDS = 2_048  # for the words of a refusal only: the library judges
-
+from .faults import Missing
 
 def arguments(parser):
     parser.add_argument("plan", metavar="PLAN", help="the plan's file; '-' is standard input")
@@ -28,15 +25,8 @@ def answer(plan):
     """How many broadcasts of each station end, and the round of each one's last."""
     refusal, (ends, last) = library.forecast(plan.n, plan.log)
     if refusal:
-        raise Wrong(f"{plans.shown(plan.name)}: {refusal_words(refusal, plan)}")
+        raise plans.refused(refusal, plan)
     return ends[:plan.n], last[:plan.n]
-
-
-def refusal_words(refusal, plan):
-    if refusal == 12:
-        rounds = plans.counted(plan.rounds, "round")
-        return f"refused with 12: the plan has {rounds}, and at most {MOST_ROUNDS:,} are taken"
-    return f"refused with {refusal}"
 
 
 def all_ends(plan):

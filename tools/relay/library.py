@@ -96,6 +96,13 @@ def forecast(n, log):
     return call("relay_forecast", log, n, ends, last), (list(ends), list(last))
 
 
+def merge(n, first, second):
+    """The log of two carriers together; logs are arrays of masks."""
+    merged, masks = array("H", [0] * max(len(first), len(second))), array("I", [0])
+    refusal = call("relay_merge", first, second, n, merged, masks)
+    return refusal, merged[:masks[0]]
+
+
 def load(state, n, due, head, buffer):
     """Writes the next lines of a generated script into the buffer, an array; gives their length and the next state."""
     after = array("I", [0, 0])

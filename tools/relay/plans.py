@@ -8,7 +8,8 @@ from script_faults import ScriptReader
 
 from .faults import Missing, Wrong
 
-PART = 1 << 16  # bytes
+PART = 1 << 16       # bytes
+MOST_ROUNDS = 2_048  # for the words of a refusal only: the library judges
 
 
 class Plan(NamedTuple):
@@ -53,6 +54,21 @@ def read(name):
     if reader.fault:
         raise Wrong(f"{shown(name)}, line {reader.lines + 1}: {reader.fault}")
     return Plan(name, reader.n, reader.log)
+
+
+def refused(refusal, *plans):
+    """What the library's refusal of some of these plans means."""
+    longest = max(plans, key=lambda plan: plan.rounds)
+    words = f"refused with {refusal}"
+    if refusal == 12:
+        words += f": the plan has {counted(longest.rounds, 'round')}, and at most {MOST_ROUNDS:,} are taken"
+    return Wrong(f"{shown(longest.name)}: {words}")
+
+
+def text(n, log):
+    """The lines of a plan."""
+    rounds = (log[at:at + n] for at in range(0, len(log), n))
+    return f"N{n:9d}\n" + "".join("R" + "".join(f"{mask:9d}" for mask in masks) + "\n" for masks in rounds)
 
 
 def shown(name):

@@ -1,2 +1,4 @@
 pub mod Reported
 pub mod Forecast
+pub mod Merge
+pub mod Examples
