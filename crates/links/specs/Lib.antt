@@ -5,4 +5,5 @@ pub mod Clock
 pub mod Number
 pub mod Know
 pub mod Forecast
+pub mod Question
 pub mod Examples
