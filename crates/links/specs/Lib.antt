@@ -5,5 +5,6 @@ pub mod Clock
 pub mod Number
 pub mod Know
 pub mod Forecast
+pub mod Part
 pub mod Question
 pub mod Examples

@@ -70,7 +70,7 @@ hearsIn-ext n a b p j e =
       | no g ↦ hearsIn-hearer n a p j (omega arith) ∙ sym (hearsIn-hearer n b p j (omega arith))
     ]
 
-no-round : (n : ℕ) (a b : List (List ℕ)) (p j : ℕ) → hearsIn n (masksIn a 0) p j ≡ hearsIn n (masksIn b 0) p j
+pub no-round : (n : ℕ) (a b : List (List ℕ)) (p j : ℕ) → hearsIn n (masksIn a 0) p j ≡ hearsIn n (masksIn b 0) p j
 unfolding masksIn
 no-round n a b p j = refl
 

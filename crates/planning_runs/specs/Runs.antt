@@ -1,6 +1,6 @@
--- The ends that the rounds of a list of calls report, and the link log that those rounds have.
-use Prim.Native.Nat.{ℕ, zero, suc, _+_, _*_, _<_}
-use mathlib.Core.Bool.{cond}
+-- The ends that the rounds of a list of calls report, and the link log that those rounds have or follow.
+use Prim.Native.Nat.{ℕ, zero, suc, _+_, _*_, _<_, _≤_}
+use mathlib.Core.Bool.{true, cond}
 use mathlib.Core.List.{List, []}
 use mathlib.Core.Path.{_≡_}
 use lib.ListN.{getD, length}
@@ -19,4 +19,20 @@ lastReported H s (suc u) = cond (endsAt H s (suc u)) (suc u) (lastReported H s u
 -- the rounds of a list of calls have this log: it is as many rounds, and each round was given its masks for the stations below n
 pub record RoundsHave (n : ℕ) (H : History) (log : List ℕ) : Type 0 where
   pub whole : length log ≡ length (H .rounds) * n
+  pub masks : (u p : ℕ) → u < length (H .rounds) → p < n → getD (getD (H .log) u []) p 0 ≡ getD log (u * n + p) 0
+
+-- the k-th end that s reports is in round u
+pub record EndReported (H : History) (s k u : ℕ) : Type 0 where
+  pub within : u ≤ length (H .rounds)
+  pub reported : endsAt H s u ≡ true
+  pub number : endsReported H s u ≡ k
+
+-- it is in round u or in an earlier one
+pub record EndReportedBy (H : History) (s k u : ℕ) : Type 0 where
+  pub round : ℕ
+  pub by : round ≤ u
+  pub reports : EndReported H s k round
+
+-- the rounds of a list of calls, however many, were given the masks of this log; past its end nobody heard anybody
+pub record RoundsFollow (n : ℕ) (H : History) (log : List ℕ) : Type 0 where
   pub masks : (u p : ℕ) → u < length (H .rounds) → p < n → getD (getD (H .log) u []) p 0 ≡ getD log (u * n + p) 0

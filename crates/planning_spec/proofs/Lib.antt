@@ -1,4 +1,7 @@
 pub mod LinkLog
+pub mod Masks
 pub mod Forecast
+pub mod Merge
 pub mod Examples
 pub mod ForecastInto
+pub mod MergeInto

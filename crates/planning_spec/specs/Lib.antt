@@ -1,2 +1,3 @@
 pub mod LinkLog
 pub mod Forecast
+pub mod Merge

@@ -6,3 +6,9 @@ pub struct ForecastAnswer {
     pub ends: [u16; 16],
     pub last: [u16; 16],
 }
+
+// How many masks a merged log has.
+pub struct MergeAnswer {
+    pub refusal: u32,
+    pub masks: usize,
+}
