@@ -1,0 +1,66 @@
+-- Document 02, A11: a page of questions for one log. A page is a list of numbers, three to a question: sender, receiver and the number of the broadcast.
+use mathlib.Core.Bool.{Bool, cond, not, _||_}
+use mathlib.Core.List.{List}
+use mathlib.Core.Option.{Option, none, some}
+use Prim.Native.Nat.{ℕ, _+_, _*_, _/_, _%_}
+use lib.Dec.{eqb, leb, ltb}
+use lib.ListN.{getD, length, replicate}
+use Rattle.kinds.specs.Refusals.{done, badQuestion, refuse}
+use Rattle.places.specs.Places.{anyBelow, fill}
+use Rattle.links.specs.Question.{answerIn}
+use Rattle.planning_spec.specs.declared.Arrival.{Arrival}
+use Rattle.planning_spec.specs.declared.Arrival.the-variants.{Never, InRound}
+use Rattle.planning_spec.specs.declared.QuestionAnswer.{QuestionAnswer}
+use Rattle.planning_spec.specs.declared.PageAnswer.{PageAnswer}
+use Rattle.planning_spec.specs.LinkLog.{roundsOf, linksOf, logRefusal}
+
+-- By which round has station `receiver` received broadcast number `number` of station `sender`?
+pub record Question : Type 0 where
+  pub sender : ℕ
+  pub receiver : ℕ
+  pub number : ℕ
+
+-- question i of a page, from 0
+unfoldable pub questionAt : List ℕ → ℕ → Question
+questionAt page i =
+    record { sender = getD page (3 * i) 0; receiver = getD page (3 * i + 1) 0; number = getD page (3 * i + 2) 0 }
+
+-- how many questions a page has
+abbrev pub questionCount : List ℕ → ℕ
+questionCount page = length page / 3
+
+-- a question that names a station not below n, or has a number below 1
+unfoldable pub isBad : ℕ → Question → Bool
+isBad n q = leb n (q .sender) || (leb n (q .receiver) || eqb (q .number) 0)
+
+-- the refusals of a page: 18 for a question that is not whole, one past the 64th, or a bad one
+unfoldable pub pageRefusal : ℕ → List ℕ → ℕ
+pageRefusal n page =
+    refuse (not (eqb (length page % 3) 0)) badQuestion
+    (refuse (ltb 64 (questionCount page)) badQuestion
+    (refuse (anyBelow (questionCount page) (λ i. isBad n (questionAt page i))) badQuestion done))
+
+-- 1, 12, 18
+unfoldable pub questionsRefusal : ℕ → List ℕ → List ℕ → ℕ
+questionsRefusal n log page =
+    refuse (not (eqb (logRefusal n (length log)) done)) (logRefusal n (length log)) (pageRefusal n page)
+
+-- the number and values of an answer: a round, or never
+unfoldable pub arrivalOf : Option ℕ → Arrival
+arrivalOf none = Never
+arrivalOf (some u) = InRound u
+
+-- the answer to one question, put alone
+unfoldable pub answerTo : ℕ → List ℕ → Question → QuestionAnswer
+answerTo n log q =
+    record { arrival = arrivalOf (answerIn (linksOf n log) (q .receiver) (q .sender) (q .number) (roundsOf n log)) }
+
+abbrev pub never : QuestionAnswer
+never = record { arrival = Never }
+
+-- questions: each question of the page has its own answer, whatever the others are; Never stands past the page, and everywhere where it is refused
+unfoldable pub questionsCall : ℕ → List ℕ → List ℕ → PageAnswer
+questionsCall n log page =
+    cond (eqb (questionsRefusal n log page) done)
+    (record { refusal = done; answers = fill (questionCount page) (λ i. answerTo n log (questionAt page i)) (replicate 64 never) })
+    (record { refusal = questionsRefusal n log page; answers = replicate 64 never })
