@@ -22,7 +22,8 @@ fn write_entries(buffer: &mut [u16], entries: &[u16; 16])
     }
 }
 
-// The forecast of a log into two lent buffers, sixteen entries each: 0, or the refusal, and then neither buffer changes.
+// The forecast of a log into two lent buffers, sixteen entries each: 0, or the refusal, and then neither buffer
+// changes.
 #[no_mangle]
 pub extern "C" fn relay_forecast(log: &[u16], n: u32, ends: &mut [u16], last: &mut [u16]) -> u32
     ensures { λ r. ⌜ (r ≡ forecastIntoRefusal n (now (log .entry)) (now (ends .entry)) (now (last .entry)))

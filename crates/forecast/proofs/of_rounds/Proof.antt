@@ -102,5 +102,6 @@ of-rounds-spec =
     cast-close
     close-requires
     (λ c. search needs)
+    (λ c. search needs)
     loop-again
     returns)
