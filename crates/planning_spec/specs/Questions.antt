@@ -1,13 +1,14 @@
 -- Document 02, A11: a page of questions for one log. A page is a list of numbers, three to a question: sender, receiver and the number of the broadcast.
 use mathlib.Core.Bool.{Bool, cond, not, _||_}
-use mathlib.Core.List.{List}
+use mathlib.Core.List.{List, [], _∷_}
 use mathlib.Core.Option.{Option, none, some}
-use Prim.Native.Nat.{ℕ, _+_, _*_, _/_, _%_}
+use mathlib.Core.Path.{_≡_}
+use Prim.Native.Nat.{ℕ, _+_, _*_, _/_, _%_, _<_, _≤_}
 use lib.Dec.{eqb, leb, ltb}
 use lib.ListN.{getD, length, replicate}
 use Rattle.kinds.specs.Refusals.{done, badQuestion, refuse}
 use Rattle.places.specs.Places.{anyBelow, fill}
-use Rattle.links.specs.Question.{answerIn}
+use Rattle.links.specs.Question.{answerIn, Answered, Extends}
 use Rattle.planning_spec.specs.declared.Arrival.{Arrival}
 use Rattle.planning_spec.specs.declared.Arrival.the-variants.{Never, InRound}
 use Rattle.planning_spec.specs.declared.QuestionAnswer.{QuestionAnswer}
@@ -45,7 +46,15 @@ unfoldable pub questionsRefusal : ℕ → List ℕ → List ℕ → ℕ
 questionsRefusal n log page =
     refuse (not (eqb (logRefusal n (length log)) done)) (logRefusal n (length log)) (pageRefusal n page)
 
--- the number and values of an answer: a round, or never
+-- the first questions of a page are whole, few, name stations below n, and have numbers from 1: so they are where the page is not refused
+pub record Asked (n count : ℕ) (page : List ℕ) : Type 0 where
+  pub few : count ≤ 64
+  pub whole : 3 * count ≤ length page
+  pub senders : (i : ℕ) → i < count → questionAt page i .sender < n
+  pub receivers : (i : ℕ) → i < count → questionAt page i .receiver < n
+  pub numbers : (i : ℕ) → i < count → 1 ≤ questionAt page i .number
+
+-- an answer as it is given out: a round, or never
 unfoldable pub arrivalOf : Option ℕ → Arrival
 arrivalOf none = Never
 arrivalOf (some u) = InRound u
@@ -64,3 +73,22 @@ questionsCall n log page =
     cond (eqb (questionsRefusal n log page) done)
     (record { refusal = done; answers = fill (questionCount page) (λ i. answerTo n log (questionAt page i)) (replicate 64 never) })
     (record { refusal = questionsRefusal n log page; answers = replicate 64 never })
+
+-- The same answer said by relays alone: a reader may believe either. `call-relays` (proofs/Questions) shows that each answer of a page is such a one, and
+-- `relay-only` that no other is.
+pub record RelayAnswer (n : ℕ) (log : List ℕ) (q : Question) (a : QuestionAnswer) : Type 0 where
+  pub round : Option ℕ
+  pub given : a ≡ record { arrival = arrivalOf round }
+  pub by-relays : Answered (linksOf n log) (q .receiver) (q .sender) (q .number) (roundsOf n log) round
+
+-- What rounds added at the end make of an answer: a round stays, and never stays or becomes one of the rounds added (`call-extends`).
+pub record LaterAnswer (last more : ℕ) (a b : QuestionAnswer) : Type 0 where
+  pub before : Option ℕ
+  pub after : Option ℕ
+  pub given : a ≡ record { arrival = arrivalOf before }
+  pub later : b ≡ record { arrival = arrivalOf after }
+  pub extends : Extends last more before after
+
+-- a page with one question: its answer is the question's on any page (`put-alone`)
+abbrev pub onePage : Question → List ℕ
+onePage q = q .sender ∷ q .receiver ∷ q .number ∷ []

@@ -32,14 +32,6 @@ settled reply number received u = cond (eqb reply 0) (cond (leb number received)
 unfoldable pub receivedIn : List ℕ → List ℕ → ℕ → ℕ → ℕ
 receivedIn sets ends r s = getD ends s 0 + cond (bit (cell sets r s) s) 1 0
 
--- the first questions of a page are whole, name stations below n, and have numbers from 1
-pub record Asked (n count : ℕ) (page : List ℕ) : Type 0 where
-  pub few : count ≤ 64
-  pub whole : 3 * count ≤ length page
-  pub senders : (i : ℕ) → i < count → questionAt page i .sender < n
-  pub receivers : (i : ℕ) → i < count → questionAt page i .receiver < n
-  pub numbers : (i : ℕ) → i < count → 1 ≤ questionAt page i .number
-
 -- the first replies are settled in round u, and the others stay
 pub record Settled (done : ℕ) (page sets ends : List ℕ) (u : ℕ) (before after : List ℕ) : Type 0 where
   pub size : length after ≡ length before

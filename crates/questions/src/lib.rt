@@ -1,11 +1,11 @@
 // A page of questions for one log (document 02, A11): by which round has a station received a broadcast? One pass over the log answers the whole page.
 ghost use mathlib.Core.Path.{_≡_};
-ghost use Prim.Native.Nat.{ℕ, _+_, _*_, _/_, _<_, _≤_};
+ghost use Prim.Native.Nat.{ℕ, _*_, _<_, _≤_};
 ghost use lib.ListN.{length, getD};
-ghost use Rattle.places.specs.Places.{anyBelow, fill};
+ghost use Rattle.places.specs.Places.{anyBelow};
 ghost use Rattle.planning_spec.specs.LinkLog.{roundsOf, linksOf, logRefusal};
-ghost use Rattle.planning_spec.specs.Questions.{questionAt, questionCount, isBad, pageRefusal, questionsRefusal, never, questionsCall};
-ghost use Rattle.questions.specs.Replies.{settled, receivedIn, answerOf, Asked, Settled, Replied};
+ghost use Rattle.planning_spec.specs.Questions.{questionAt, isBad, pageRefusal, questionsRefusal, Asked, never, questionsCall};
+ghost use Rattle.questions.specs.Replies.{settled, receivedIn, answerOf, Settled, Replied};
 use broadcast_sets::begin_all;
 use broadcast_sets::close;
 use broadcast_sets::learn;
