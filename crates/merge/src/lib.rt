@@ -81,7 +81,7 @@ pub fn logs_refusal(first: usize, second: usize, n: usize) -> u32
 pub fn merge(first: &[u16], second: &[u16], n: usize, merged: &mut [u16]) -> MergeAnswer
     ensures { λ r. ⌜ (r ≡ mergeCall n (now (first .entry)) (now (second .entry)) (length (now (merged .entry))))
         × (now (merged .exit) ≡ frontWritten (r .refusal) (mergedLog n (now (first .entry)) (now (second .entry)))
-            (now (merged .entry))) ⌝ }
+        (now (merged .entry))) ⌝ }
 {
     let refusal = logs_refusal(first.len(), second.len(), n);
     if refusal != DONE {

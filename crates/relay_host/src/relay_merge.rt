@@ -19,7 +19,7 @@ pub extern "C" fn relay_merge(
     ensures { λ r. ⌜ (r ≡ mergeIntoRefusal n (now (first .entry)) (now (second .entry)) (now (merged .entry)) (now (masks .entry)))
         × (now (merged .exit) ≡ frontWritten r (mergedLog n (now (first .entry)) (now (second .entry))) (now (merged .entry)))
         × (now (masks .exit)
-            ≡ frontWritten r (length (mergedLog n (now (first .entry)) (now (second .entry))) ∷ []) (now (masks .entry))) ⌝ }
+        ≡ frontWritten r (length (mergedLog n (now (first .entry)) (now (second .entry))) ∷ []) (now (masks .entry))) ⌝ }
 {
     if masks.len() < 1 {
         let refusal = merge::logs_refusal(first.len(), second.len(), n as usize);
