@@ -6,13 +6,16 @@ use std::hint::black_box;
 use std::process::ExitCode;
 use std::time::{Duration, Instant};
 
-use relay_peer::{forecast, frames, measured, refusals};
+use relay_peer::{forecast, frames, measured, merge, refusals};
 
-/// A slice and two numbers in, a number out: the form of everything that is measured but the forecast.
+/// A slice and two numbers in, a number out: the form of everything that is measured but the forecast and the merge.
 type Function = unsafe extern "C" fn(*const u8, usize, u32, u32) -> u32;
 
 /// The forecast: a log and N in, the counts of ends and the rounds of the last into two buffers.
 type Forecast = unsafe extern "C" fn(*const u16, usize, u32, *mut u16, usize, *mut u16, usize) -> u32;
+
+/// The merge: two logs and N in, the merged log and its number of masks into two buffers.
+type Merge = unsafe extern "C" fn(*const u16, usize, *const u16, usize, u32, *mut u16, usize, *mut u32, usize) -> u32;
 
 /// The frame check of crate relay_host.
 #[cfg(relay_host)]
@@ -25,6 +28,12 @@ const PROJECT_CHECK: Option<Function> = None;
 const PROJECT_FORECAST: Option<Forecast> = Some(relay_forecast);
 #[cfg(not(relay_host))]
 const PROJECT_FORECAST: Option<Forecast> = None;
+
+/// The merge of crate relay_host.
+#[cfg(relay_host)]
+const PROJECT_MERGE: Option<Merge> = Some(relay_merge);
+#[cfg(not(relay_host))]
+const PROJECT_MERGE: Option<Merge> = None;
 
 /// The rounds of crate relay_bench.
 #[cfg(relay_bench)]
@@ -46,6 +55,18 @@ unsafe extern "C" {
     fn relay_frame_check(bytes: *const u8, len: usize, n: u32, own: u32) -> u32;
     #[cfg(relay_host)]
     fn relay_forecast(log: *const u16, len: usize, n: u32, ends: *mut u16, ends_len: usize, last: *mut u16, last_len: usize) -> u32;
+    #[cfg(relay_host)]
+    fn relay_merge(
+        first: *const u16,
+        first_len: usize,
+        second: *const u16,
+        second_len: usize,
+        n: u32,
+        merged: *mut u16,
+        merged_len: usize,
+        masks: *mut u32,
+        masks_len: usize,
+    ) -> u32;
     #[cfg(relay_bench)]
     fn relay_bench_rounds(schedule: *const u8, len: usize, n: u32, rounds: u32) -> u32;
     #[cfg(gcc)]
@@ -78,6 +99,33 @@ extern "C" fn forecast_rust(log: *const u16, len: usize, n: u32, ends: *mut u16,
     refusals::number(&answer)
 }
 
+#[allow(clippy::too_many_arguments)]
+extern "C" fn merge_rust(
+    first: *const u16,
+    first_len: usize,
+    second: *const u16,
+    second_len: usize,
+    n: u32,
+    merged: *mut u16,
+    merged_len: usize,
+    masks: *mut u32,
+    _: usize,
+) -> u32 {
+    // SAFETY: the measures below hand in two whole slices, a whole buffer, and room for one number.
+    let (first, second, merged) = unsafe {
+        (
+            std::slice::from_raw_parts(first, first_len),
+            std::slice::from_raw_parts(second, second_len),
+            std::slice::from_raw_parts_mut(merged, merged_len),
+        )
+    };
+    let answer = merge::merge(first, second, n as usize, merged);
+    if let Ok(count) = answer {
+        unsafe { masks.write(count as u32) };
+    }
+    refusals::number(&answer)
+}
+
 /// What one sample runs: about a millisecond, so that on a busy machine some samples stay undisturbed.
 const CHECKS: u32 = 25_600;
 const STATION_ROUNDS: u32 = 2_048;
@@ -98,6 +146,31 @@ fn foretell(function: Forecast, log: &[u16], n: u32, times: u32) -> u32 {
         sum = entries.iter().fold(sum.wrapping_add(refusal), |sum, &entry| sum.wrapping_mul(31).wrapping_add(entry.into()));
     }
     sum
+}
+
+/// A checksum of so many merges of two logs.
+fn join(function: Merge, first: &[u16], second: &[u16], n: u32, times: u32) -> u32 {
+    let mut merged = vec![0u16; first.len().max(second.len()) + 1];
+    let mut masks = [0u32];
+    let mut sum = 0u32;
+    for _ in 0..times {
+        // SAFETY: the logs are slices that live through the call, and each buffer has its length.
+        let refusal = unsafe {
+            function(
+                first.as_ptr(),
+                first.len(),
+                second.as_ptr(),
+                second.len(),
+                n,
+                black_box(merged.as_mut_ptr()),
+                merged.len(),
+                masks.as_mut_ptr(),
+                1,
+            )
+        };
+        sum = sum.wrapping_add(refusal).wrapping_mul(31).wrapping_add(masks[0]);
+    }
+    merged.iter().fold(sum, |sum, &mask| sum.wrapping_mul(31).wrapping_add(mask.into()))
 }
 
 /// What this process has had of its processor: on a busy machine the clock on the wall also counts others.
@@ -228,6 +301,15 @@ fn main() -> ExitCode {
         let work = |function| foretell(function, &log, n, times);
         let name = format!("forecast, {rounds} {links} rounds, N = {n}, a round");
         agree &= Measure { name, units: times * rounds as u32, work: &work }.print(PROJECT_FORECAST, forecast_rust as Forecast, span);
+    }
+    for (shorter, n) in [(2048, 16), (1024, 16), (2048, 8), (2048, 3), (2048, 2)] {
+        let masks = 2048 * n as usize;
+        let drawn = drawn_log(masks + shorter * n as usize);
+        let (first, second) = drawn.split_at(masks);
+        let times = (1_048_576 / masks) as u32;
+        let work = |function| join(function, first, second, n, times);
+        let name = format!("merge, 2048 rounds and {shorter}, N = {n}, a round");
+        agree &= Measure { name, units: times * 2048, work: &work }.print(PROJECT_MERGE, merge_rust as Merge, span);
     }
     let many = if quick { 2_000 } else { 20_000 };
     let work = |function| call(function, &full_mesh(16), 16, many);

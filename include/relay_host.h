@@ -1,5 +1,5 @@
-/* What the edit relay offers to C: the frame check, for the host that moves frames, and the forecast,
-   for planners. Link with the archive that `rt staticlib relay_host` makes,
+/* What the edit relay offers to C: the frame check, for the host that moves frames, and the forecast
+   and the merge of link logs, for planners. Link with the archive that `rt staticlib relay_host` makes,
    target/staticlib/librelay_host.a.
 
    Memory that a call is lent stays the caller's: no call keeps a pointer, allocates, or writes outside
@@ -59,6 +59,38 @@ uint32_t relay_frame_check(const uint8_t *bytes, size_t len, uint32_t n, uint32_
            printf("%d %d\n", ends[0], last[0]);   prints 1 2: one end, in round 2 */
 uint32_t relay_forecast(const uint16_t *log, size_t log_len, uint32_t n,
                         uint16_t *ends, size_t ends_len, uint16_t *last, size_t last_len);
+
+/* Merges two link logs: a hearing is there in a round if either log has it. The merged log is as long
+   as the longer one; the other is silent past its end. Bits that are no hearing, the own bit and bits
+   from n up, are 0 in it.
+
+   first, first_len    a log: n masks a round, from station 0 up, round after round
+   second, second_len  another
+   n                   the number of stations, 1 to 16
+   merged, merged_len  where the merged log goes: room for at least as many masks as the longer log has.
+                       Entries past the merged log are not touched.
+   masks, masks_len    where its number of masks goes: room for at least 1. Entry 0 becomes the number,
+                       and the others are not touched.
+
+   At every station the k-th end under the merged log comes no later than under either log, for every k
+   that comes there. That is said of ends alone: rows may be aired later.
+
+   Returns 0, or, and then neither buffer changes, in this order:
+       1    n is not 1 to 16
+       12   first_len or second_len is not a multiple of n, or a log has more than 2,048 rounds
+       9    merged_len is less than first_len or second_len, or masks_len is 0
+
+   Example: two stations; the first log has one round, in which 0 hears 1, the second has two, and in
+   each 1 hears 0.
+
+       const uint16_t first[] = {2, 0}, second[] = {0, 1, 0, 1};
+       uint16_t merged[4];
+       uint32_t masks;
+       if (relay_merge(first, 2, second, 4, 2, merged, 4, &masks, 1) == RELAY_DONE)
+           printf("%u: %d %d\n", (unsigned)masks, merged[0], merged[1]);   prints 4: 2 1 */
+uint32_t relay_merge(const uint16_t *first, size_t first_len, const uint16_t *second,
+                     size_t second_len, uint32_t n, uint16_t *merged, size_t merged_len,
+                     uint32_t *masks, size_t masks_len);
 
 #ifdef __cplusplus
 }

@@ -15,8 +15,7 @@ pub struct Forecast {
 type Sets = [[u16; PLACES]; PLACES];
 
 pub fn forecast(log: &[u16], n: usize) -> Result<Forecast, Refusal> {
-    require((1..=PLACES).contains(&n), Refusal::BadNumber)?;
-    require(log.len() % n == 0 && log.len() / n <= MOST_ROUNDS, Refusal::BadLinkLog)?;
+    check_log(log, n)?;
     let all = u16::MAX >> (PLACES - n);
     let mut forecast = Forecast::default();
     let mut sets = [[0; PLACES]; PLACES];
@@ -35,6 +34,12 @@ pub fn forecast(log: &[u16], n: usize) -> Result<Forecast, Refusal> {
         }
     }
     Ok(forecast)
+}
+
+/// Refuses a number of stations, or a log that is not whole rounds or has too many.
+pub fn check_log(log: &[u16], n: usize) -> Result<(), Refusal> {
+    require((1..=PLACES).contains(&n), Refusal::BadNumber)?;
+    require(log.len() % n == 0 && log.len() / n <= MOST_ROUNDS, Refusal::BadLinkLog)
 }
 
 /// The row of p after a round with this mask.

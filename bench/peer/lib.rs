@@ -10,6 +10,7 @@ pub mod group;
 pub mod labels;
 pub mod listing;
 pub mod measured;
+pub mod merge;
 pub mod queues;
 pub mod refusals;
 pub mod script;

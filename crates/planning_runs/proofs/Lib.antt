@@ -1,3 +1,4 @@
 pub mod Reported
 pub mod Forecast
 pub mod Merge
+pub mod Examples

@@ -1,14 +1,15 @@
--- Forecasts, computed: that the definitions are about something. Document 01's listing; a single station; three in a chain; one that is never heard; refusals.
+-- Forecasts and merges, computed: that the definitions are about something. Document 01's listing; a single station; three in a chain; one that is never heard; refusals.
 use mathlib.Core.List.{[], _∷_}
 use mathlib.Core.Path.{_≡_, refl}
 use lib.ListN.{replicate}
-use Rattle.places.specs.Places.{allBelow, fill}
+use Rattle.places.specs.Places.{allBelow, fill, tabulate}
 use Rattle.links.specs.Log.{bit, hearsIn, masksIn, cut}
 use Rattle.links.specs.Clock.{latest, news}
 use Rattle.links.specs.Number.{answers, full, start, ends}
 use Rattle.links.specs.Forecast.{endCount, lastEnd}
 use Rattle.planning_spec.specs.LinkLog.{logRefusal}
 use Rattle.planning_spec.specs.Forecast.{forecastCall}
+use Rattle.planning_spec.specs.Merge.{maskOf, mergedMask, mergedLog, logsRefusal, mergeRefusal, mergeCall, frontWritten}
 
 pub record Forecasts : Type 0 where
   -- the three rounds of the listing: both stations end in round 2
@@ -43,4 +44,34 @@ forecasts =
       not-whole = refl;
       most = refl;
       too-many = refl;
+    }
+
+pub record Merges : Type 0 where
+  -- 0 hears 1 by the first log, 1 hears 0 by the second, which has a round more
+  pub union : mergedLog 2 (2 ∷ 0 ∷ []) (0 ∷ 1 ∷ 0 ∷ 1 ∷ []) ≡ 2 ∷ 1 ∷ 0 ∷ 1 ∷ []
+  -- own bits and bits from N up are no hearings
+  pub cleaned : mergedLog 2 (65_535 ∷ 65_535 ∷ []) [] ≡ 2 ∷ 1 ∷ []
+  pub nothing : mergedLog 3 [] [] ≡ []
+  -- what stands past the merged log stays
+  pub past : frontWritten 0 (mergedLog 2 (2 ∷ 0 ∷ []) (0 ∷ 1 ∷ [])) (7 ∷ 7 ∷ 7 ∷ []) ≡ 2 ∷ 1 ∷ 7 ∷ []
+  -- N, then the logs, then the buffer
+  pub no-stations : mergeCall 0 (2 ∷ []) [] 0 ≡ record { refusal = 1; masks = 0 }
+  pub first-not-whole : mergeCall 2 (2 ∷ []) (0 ∷ 1 ∷ []) 0 ≡ record { refusal = 12; masks = 0 }
+  pub second-not-whole : mergeCall 2 (2 ∷ 0 ∷ []) (0 ∷ []) 0 ≡ record { refusal = 12; masks = 0 }
+  pub short : mergeCall 2 (2 ∷ 0 ∷ []) (0 ∷ 1 ∷ 0 ∷ 1 ∷ []) 3 ≡ record { refusal = 9; masks = 0 }
+  pub exact : mergeCall 2 (2 ∷ 0 ∷ []) (0 ∷ 1 ∷ 0 ∷ 1 ∷ []) 4 ≡ record { refusal = 0; masks = 4 }
+
+pub merges : Merges
+unfolding maskOf mergedMask mergedLog logsRefusal mergeRefusal mergeCall frontWritten logRefusal tabulate hearsIn bit masksIn cut
+merges =
+    record {
+      union = refl;
+      cleaned = refl;
+      nothing = refl;
+      past = refl;
+      no-stations = refl;
+      first-not-whole = refl;
+      second-not-whole = refl;
+      short = refl;
+      exact = refl;
     }

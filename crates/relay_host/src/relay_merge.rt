@@ -7,7 +7,8 @@ ghost use Rattle.planning_spec.specs.Merge.{mergedLog, frontWritten, mergeIntoR
 use kinds::refusals::DONE;
 use kinds::refusals::SHORT_BUFFER;
 
-// The merged log into a lent buffer, and its number of masks into another: 0, or the refusal, and then neither buffer changes.
+// The merged log into a lent buffer, and its number of masks into another: 0, or the refusal, and then neither buffer
+// changes.
 #[no_mangle]
 pub extern "C" fn relay_merge(
     first: &[u16],
@@ -16,10 +17,12 @@ pub extern "C" fn relay_merge(
     merged: &mut [u16],
     masks: &mut [u32],
 ) -> u32
-    ensures { λ r. ⌜ (r ≡ mergeIntoRefusal n (now (first .entry)) (now (second .entry)) (now (merged .entry)) (now (masks .entry)))
-        × (now (merged .exit) ≡ frontWritten r (mergedLog n (now (first .entry)) (now (second .entry))) (now (merged .entry)))
-        × (now (masks .exit)
-        ≡ frontWritten r (length (mergedLog n (now (first .entry)) (now (second .entry))) ∷ []) (now (masks .entry))) ⌝ }
+    ensures { λ r. ⌜ (r ≡ mergeIntoRefusal n (now (first .entry)) (now (second .entry)) (now (merged .entry))
+        (now (masks .entry)))
+        × (now (merged .exit) ≡ frontWritten r (mergedLog n (now (first .entry)) (now (second .entry)))
+        (now (merged .entry)))
+        × (now (masks .exit) ≡ frontWritten r (length (mergedLog n (now (first .entry)) (now (second .entry))) ∷ [])
+        (now (masks .entry))) ⌝ }
 {
     if masks.len() < 1 {
         let refusal = merge::logs_refusal(first.len(), second.len(), n as usize);
