@@ -6,3 +6,4 @@ pub mod Questions
 pub mod Examples
 pub mod ForecastInto
 pub mod MergeInto
+pub mod QuestionsInto

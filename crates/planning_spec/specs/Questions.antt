@@ -6,8 +6,8 @@ use mathlib.Core.Path.{_≡_}
 use Prim.Native.Nat.{ℕ, _+_, _*_, _/_, _%_, _<_, _≤_}
 use lib.Dec.{eqb, leb, ltb}
 use lib.ListN.{getD, length, replicate}
-use Rattle.kinds.specs.Refusals.{done, badQuestion, refuse}
-use Rattle.places.specs.Places.{anyBelow, fill}
+use Rattle.kinds.specs.Refusals.{done, shortBuffer, badQuestion, refuse}
+use Rattle.places.specs.Places.{anyBelow, fill, tabulate}
 use Rattle.links.specs.Question.{answerIn, Answered, Extends}
 use Rattle.planning_spec.specs.declared.Arrival.{Arrival}
 use Rattle.planning_spec.specs.declared.Arrival.the-variants.{Never, InRound}
@@ -92,3 +92,18 @@ pub record LaterAnswer (last more : ℕ) (a b : QuestionAnswer) : Type 0 where
 -- a page with one question: its answer is the question's on any page (`put-alone`)
 abbrev pub onePage : Question → List ℕ
 onePage q = q .sender ∷ q .receiver ∷ q .number ∷ []
+
+-- an answer as C has it: the round, or 4294967295 for never
+unfoldable pub arrivalNumber : Arrival → ℕ
+arrivalNumber Never = 4294967295
+arrivalNumber (InRound u) = u
+
+-- the answers of a page as C has them, one a question
+unfoldable pub answerNumbers : ℕ → List ℕ → List ℕ → List ℕ
+answerNumbers n log page = tabulate (questionCount page) (λ i. arrivalNumber (answerTo n log (questionAt page i) .arrival))
+
+-- the call from C, which needs room for an answer a question: 1, 12, 18, 9
+unfoldable pub questionsIntoRefusal : ℕ → List ℕ → List ℕ → List ℕ → ℕ
+questionsIntoRefusal n log page answers =
+    refuse (not (eqb (questionsRefusal n log page) done)) (questionsRefusal n log page)
+    (refuse (ltb (length answers) (questionCount page)) shortBuffer done)
