@@ -11,6 +11,7 @@ pub mod labels;
 pub mod listing;
 pub mod measured;
 pub mod merge;
+pub mod questions;
 pub mod queues;
 pub mod refusals;
 pub mod script;
