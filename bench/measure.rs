@@ -360,7 +360,7 @@ fn main() -> ExitCode {
         let masks = 2048 * n as usize;
         let drawn = drawn_log(masks + shorter * n as usize);
         let (first, second) = drawn.split_at(masks);
-        let times = (1_048_576 / masks) as u32;
+        let times = (8_388_608 / masks) as u32;
         let work = |function| join(function, first, second, n, times);
         let name = format!("merge, 2048 rounds and {shorter}, N = {n}, a round");
         agree &= Measure { name, units: times * 2048, work: &work }.print(PROJECT_MERGE, merge_rust as Merge, span);

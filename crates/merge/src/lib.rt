@@ -1,9 +1,10 @@
 // Two link logs merged: a hearing is there in a round if either log has it (document 02, A10).
 ghost use mathlib.Core.Path.{_≡_};
 ghost use Prim.Native.Nat.{max, _+_, _-_, _%_, _^_, _<_, _≤_};
-ghost use lib.Bits.{bitXor};
-ghost use lib.ListN.{length, getD};
+ghost use lib.Bits.{bitAnd, bitOr, bitXor};
+ghost use lib.ListN.{length, getD, replicate};
 ghost use Rattle.places.specs.Places.{fill};
+ghost use Rattle.merge.specs.Rounds.{fillFrom};
 ghost use Rattle.planning_spec.specs.Merge.{mergedMask, mergedLog, logsRefusal, mergeCall, frontWritten};
 use kinds::refusals::DONE;
 use kinds::refusals::SHORT_BUFFER;
@@ -18,41 +19,81 @@ fn others(n: usize, p: usize) -> u16
     (((1u32 << n) - 1) as u16) ^ (1u16 << p)
 }
 
-// The mask at a place; a log is silent past its end.
-fn mask_at(log: &[u16], x: usize) -> u16
-    ensures { λ r. ⌜ r ≡ getD (now (log .entry)) x 0 ⌝ }
+// The same for each station below n.
+fn all_others(n: usize) -> [u16; 16]
+    requires { ⌜ n ≤ 16 ⌝ }
+    ensures { λ r. ⌜ r ≡ fill n (λ p. bitXor (2 ^ n - 1) (2 ^ p)) (replicate 16 0) ⌝ }
 {
-    if x >= log.len() {
-        return 0;
+    let mut table = [0u16; 16];
+    let mut p: usize = 0;
+    while p < n {
+        table[p] = others(n, p);
+        p += 1;
     }
-    log[x]
+    table
 }
 
-// The station whose mask comes after that of p: after the last station of a round comes the first.
-fn next_station(p: usize, n: usize) -> usize
-    requires { ⌜ p < n ⌝ }
-    ensures { λ r. ⌜ r ≡ (p + 1) % n ⌝ }
+// Writes a round whose masks stand in both logs from place `at` on.
+fn unite_round(
+    first: &[u16],
+    second: &[u16],
+    others: &[u16; 16],
+    at: usize,
+    n: usize,
+    merged: &mut [u16],
+)
+    requires { ⌜ (n ≤ 16) × (at + n ≤ length (now first)) × (at + n ≤ length (now second))
+        × (at + n ≤ length (now merged)) ⌝ }
+    ensures { λ _. ⌜ now (merged .exit) ≡ fillFrom at n (λ p.
+        bitAnd (bitOr (getD (now (first .entry)) (at + p) 0) (getD (now (second .entry)) (at + p) 0))
+        (getD (now (others .entry)) p 0)) (now (merged .entry)) ⌝ }
 {
-    if p + 1 == n {
-        return 0;
+    let mut p: usize = 0;
+    while p < n {
+        merged[at + p] = (first[at + p] | second[at + p]) & others[p];
+        p += 1;
     }
-    p + 1
 }
 
-// Writes the masks of the merged log to the front of a buffer. The station p is counted along, for a division at each
-// place would take longer than the rest.
+// Writes the round at place `at` of the merged log. A log that has ended is silent, so that the other one is taken twice.
+fn write_round(
+    first: &[u16],
+    second: &[u16],
+    others: &[u16; 16],
+    at: usize,
+    n: usize,
+    merged: &mut [u16],
+)
+    requires { ⌜ (logsRefusal n (length (now first)) (length (now second)) ≡ 0) × (at % n ≡ 0)
+        × (at < max (length (now first)) (length (now second)))
+        × (max (length (now first)) (length (now second)) ≤ length (now merged))
+        × (now others ≡ fill n (λ p. bitXor (2 ^ n - 1) (2 ^ p)) (replicate 16 0)) ⌝ }
+    ensures { λ _. ⌜ now (merged .exit) ≡ fillFrom at n (λ p.
+        mergedMask n (now (first .entry)) (now (second .entry)) (at + p)) (now (merged .entry)) ⌝ }
+{
+    if at >= first.len() {
+        unite_round(second, second, others, at, n, merged);
+        return;
+    }
+    if at >= second.len() {
+        unite_round(first, first, others, at, n, merged);
+        return;
+    }
+    unite_round(first, second, others, at, n, merged);
+}
+
+// Writes the masks of the merged log to the front of a buffer, round by round.
 fn write_masks(first: &[u16], second: &[u16], n: usize, count: usize, merged: &mut [u16])
-    requires { ⌜ (logsRefusal n (length (now first)) (length (now second)) ≡ 0) × (count ≤ length (now merged)) ⌝ }
+    requires { ⌜ (logsRefusal n (length (now first)) (length (now second)) ≡ 0)
+        × (count ≡ max (length (now first)) (length (now second))) × (count ≤ length (now merged)) ⌝ }
     ensures { λ _. ⌜ now (merged .exit)
         ≡ fill count (mergedMask n (now (first .entry)) (now (second .entry))) (now (merged .entry)) ⌝ }
 {
-    let mut x: usize = 0;
-    let mut p: usize = 0;
-    while x < count {
-        let heard = mask_at(first, x) | mask_at(second, x);
-        merged[x] = heard & others(n, p);
-        p = next_station(p, n);
-        x += 1;
+    let others = all_others(n);
+    let mut at: usize = 0;
+    while at < count {
+        write_round(first, second, &others, at, n, merged);
+        at += n;
     }
 }
 

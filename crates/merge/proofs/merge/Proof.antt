@@ -28,6 +28,7 @@ returns-2 c =
 write-masks-requires : tie.Need-write-masks-requires
 write-masks-requires c κs = (
   sym (c .before .before .before .before .logs-refusal .ensures) ∙ c .before .before .before .if1 .left,
+  c .before .before .longer .ensures,
   c .before .if2 .left,
 )
 
