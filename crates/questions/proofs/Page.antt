@@ -130,7 +130,9 @@ unfolding anyBelow
 bad-start n page = refl
 
 pub bad-more : (n : ℕ) (page : List ℕ) (i : ℕ)
-    → anyBelow (i + 1) (λ k. isBad n (questionAt page k)) ≡ (anyBelow i (λ k. isBad n (questionAt page k)) || isBad n (record { sender = getD page (3 * i) 0; receiver = getD page (3 * i + 1) 0; number = getD page (3 * i + 2) 0 }))
+    → anyBelow (i + 1) (λ k. isBad n (questionAt page k))
+    ≡ (anyBelow i (λ k. isBad n (questionAt page k))
+    || isBad n (record { sender = getD page (3 * i) 0; receiver = getD page (3 * i + 1) 0; number = getD page (3 * i + 2) 0 }))
 unfolding anyBelow questionAt
 bad-more n page i = rw (add-one i)
 

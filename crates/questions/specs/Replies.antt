@@ -1,5 +1,5 @@
--- Replies while the rounds of a log go, which the functions' contracts speak of: 0 for none yet, else one more than the round. What a page is, and what its
--- answers are, says `planning_spec`.
+-- Replies while the rounds of a log go, which the functions' contracts speak of: 0 for none yet, else one more than the
+-- round. What a page is, and what its answers are, says `planning_spec`.
 use mathlib.Core.Bool.{cond}
 use mathlib.Core.List.{List}
 use mathlib.Core.Option.{Option, none, some}
@@ -38,7 +38,8 @@ pub record Settled (done : ℕ) (page sets ends : List ℕ) (u : ℕ) (before af
   pub first :
       (i : ℕ) → i < done
       → getD after i 0
-      ≡ settled (getD before i 0) (questionAt page i .number) (receivedIn sets ends (questionAt page i .receiver) (questionAt page i .sender)) u
+      ≡ settled (getD before i 0) (questionAt page i .number)
+      (receivedIn sets ends (questionAt page i .receiver) (questionAt page i .sender)) u
   pub rest : (i : ℕ) → done ≤ i → getD after i 0 ≡ getD before i 0
 
 -- the replies are those of the answers within u rounds, and 0 past the page

@@ -1,10 +1,12 @@
-// A page of questions for one log (document 02, A11): by which round has a station received a broadcast? One pass over the log answers the whole page.
+// A page of questions for one log (document 02, A11): by which round has a station received a broadcast? One pass over
+// the log answers the whole page.
 ghost use mathlib.Core.Path.{_≡_};
 ghost use Prim.Native.Nat.{ℕ, _*_, _<_, _≤_};
 ghost use lib.ListN.{length, getD};
 ghost use Rattle.places.specs.Places.{anyBelow};
 ghost use Rattle.planning_spec.specs.LinkLog.{roundsOf, linksOf, logRefusal};
-ghost use Rattle.planning_spec.specs.Questions.{questionAt, isBad, pageRefusal, questionsRefusal, Asked, never, questionsCall};
+ghost use Rattle.planning_spec.specs.Questions.{questionAt, isBad, pageRefusal, questionsRefusal, Asked};
+ghost use Rattle.planning_spec.specs.Questions.{never, questionsCall};
 ghost use Rattle.questions.specs.Replies.{settled, receivedIn, answerOf, Settled, Replied};
 use broadcast_sets::begin_all;
 use broadcast_sets::close;
@@ -23,7 +25,8 @@ const PARTS: usize = 3;
 
 const MOST_QUESTIONS: usize = 64;
 
-// A reply after a round. While the rounds go a reply is 0 for none yet, else one more than its round; what is replied stays.
+// A reply after a round. While the rounds go a reply is 0 for none yet, else one more than its round; what is replied
+// stays.
 fn settle(reply: u16, number: u32, received: u16, round: u16) -> u16
     requires { ⌜ round ≤ 2048 ⌝ }
     ensures { λ r. ⌜ r ≡ settled reply number received round ⌝ }
@@ -75,8 +78,10 @@ fn settle_all(
 
 // The replies for a log and a page that are not refused.
 fn reply_all(log: &[u16], n: usize, rounds: usize, page: &[u32], count: usize) -> [u16; 64]
-    requires { ⌜ Asked n count (now page) × (logRefusal n (length (now log)) ≡ 0) × (rounds ≡ roundsOf n (now log)) ⌝ }
-    ensures { λ r. ⌜ Replied (linksOf n (now (log .entry))) (roundsOf n (now (log .entry))) count (now (page .entry)) r ⌝ }
+    requires { ⌜ Asked n count (now page) × (logRefusal n (length (now log)) ≡ 0)
+        × (rounds ≡ roundsOf n (now log)) ⌝ }
+    ensures { λ r. ⌜ Replied (linksOf n (now (log .entry))) (roundsOf n (now (log .entry))) count
+        (now (page .entry)) r ⌝ }
 {
     let mut ends = [0u16; 16];
     let mut last = [0u16; 16];
@@ -179,9 +184,9 @@ fn answers_of(replies: [u16; 64]) -> [QuestionAnswer; 64]
     answers
 }
 
-// The answers to a page of questions for a log of n masks a round. A question is three numbers: sender, receiver, and the number of the broadcast.
-// 1: n is not 1 to 16. 12: the log is not whole rounds, or has more than 2,048. 18: a question names a station not below n, has a number below 1, is not whole,
-// or is past the 64th.
+// The answers to a page of questions for a log of n masks a round. A question is three numbers: sender, receiver, and
+// the number of the broadcast. 1: n is not 1 to 16. 12: the log is not whole rounds, or has more than 2,048. 18: a
+// question names a station not below n, has a number below 1, is not whole, or is past the 64th.
 pub fn answer(log: &[u16], n: usize, page: &[u32]) -> PageAnswer
     ensures { λ r. ⌜ r ≡ questionsCall n (now (log .entry)) (now (page .entry)) ⌝ }
 {

@@ -30,7 +30,8 @@ fn number_of(arrival: Arrival) -> u32
 // Writes the first answers to the front of a buffer.
 fn write_answers(buffer: &mut [u32], answers: [QuestionAnswer; 64], count: usize)
     requires { ⌜ (count ≤ 64) × (count ≤ length (now buffer)) ⌝ }
-    ensures { λ _. ⌜ now (buffer .exit) ≡ fill count (λ i. arrivalNumber (getD answers i never .arrival)) (now (buffer .entry)) ⌝ }
+    ensures { λ _. ⌜ now (buffer .exit)
+        ≡ fill count (λ i. arrivalNumber (getD answers i never .arrival)) (now (buffer .entry)) ⌝ }
 {
     let mut i: usize = 0;
     while i < count {
@@ -47,7 +48,7 @@ fn write_answers(buffer: &mut [u32], answers: [QuestionAnswer; 64], count: usize
 pub extern "C" fn relay_questions(log: &[u16], n: u32, page: &[u32], answers: &mut [u32]) -> u32
     ensures { λ r. ⌜ (r ≡ questionsIntoRefusal n (now (log .entry)) (now (page .entry)) (now (answers .entry)))
         × (now (answers .exit)
-            ≡ frontWritten r (answerNumbers n (now (log .entry)) (now (page .entry))) (now (answers .entry))) ⌝ }
+        ≡ frontWritten r (answerNumbers n (now (log .entry)) (now (page .entry))) (now (answers .entry))) ⌝ }
 {
     let answer = questions::answer(log, n as usize, page);
     if answer.refusal != DONE {
