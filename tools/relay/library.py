@@ -101,3 +101,14 @@ def merge(n, first, second):
     merged, masks = array("H", [0] * max(len(first), len(second))), array("I", [0])
     refusal = call("relay_merge", first, second, n, merged, masks)
     return refusal, merged[:masks[0]]
+
+
+NEVER = 2 ** 32 - 1     # in the answers of C
+MOST_QUESTIONS = 64     # in one call
+
+
+def questions(n, log, asked):
+    """For each question (s, r, k) the round by which r has the k-th broadcast of s, or None for never."""
+    answers = array("I", [0] * len(asked))
+    refusal = call("relay_questions", log, n, array("I", [number for one in asked for number in one]), answers)
+    return refusal, [None if one == NEVER else one for one in answers]
