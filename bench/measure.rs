@@ -6,9 +6,9 @@ use std::hint::black_box;
 use std::process::ExitCode;
 use std::time::{Duration, Instant};
 
-use relay_peer::{forecast, frames, load, measured, merge, refusals};
+use relay_peer::{forecast, frames, load, measured, merge, questions, refusals};
 
-/// A slice and two numbers in, a number out: the form of everything that is measured but the forecast and the merge.
+/// A slice and two numbers in, a number out: the form of everything that is measured but the forecast, the merge and the questions.
 type Function = unsafe extern "C" fn(*const u8, usize, u32, u32) -> u32;
 
 /// The forecast: a log and N in, the counts of ends and the rounds of the last into two buffers.
@@ -16,6 +16,9 @@ type Forecast = unsafe extern "C" fn(*const u16, usize, u32, *mut u16, usize, *m
 
 /// The merge: two logs and N in, the merged log and its number of masks into two buffers.
 type Merge = unsafe extern "C" fn(*const u16, usize, *const u16, usize, u32, *mut u16, usize, *mut u32, usize) -> u32;
+
+/// The questions: a log, N and a page in, an answer a question into a buffer.
+type Questions = unsafe extern "C" fn(*const u16, usize, u32, *const u32, usize, *mut u32, usize) -> u32;
 
 /// The frame check of crate relay_host.
 #[cfg(relay_host)]
@@ -34,6 +37,12 @@ const PROJECT_FORECAST: Option<Forecast> = None;
 const PROJECT_MERGE: Option<Merge> = Some(relay_merge);
 #[cfg(not(relay_host))]
 const PROJECT_MERGE: Option<Merge> = None;
+
+/// The questions of crate relay_host.
+#[cfg(relay_host)]
+const PROJECT_QUESTIONS: Option<Questions> = Some(relay_questions);
+#[cfg(not(relay_host))]
+const PROJECT_QUESTIONS: Option<Questions> = None;
 
 /// The rounds of crate relay_bench.
 #[cfg(relay_bench)]
@@ -74,6 +83,16 @@ unsafe extern "C" {
         merged_len: usize,
         masks: *mut u32,
         masks_len: usize,
+    ) -> u32;
+    #[cfg(relay_host)]
+    fn relay_questions(
+        log: *const u16,
+        len: usize,
+        n: u32,
+        page: *const u32,
+        page_len: usize,
+        answers: *mut u32,
+        answers_len: usize,
     ) -> u32;
     #[cfg(relay_bench)]
     fn relay_bench_rounds(schedule: *const u8, len: usize, n: u32, rounds: u32) -> u32;
@@ -157,6 +176,26 @@ extern "C" fn merge_rust(
     refusals::number(&answer)
 }
 
+extern "C" fn questions_rust(
+    log: *const u16,
+    len: usize,
+    n: u32,
+    page: *const u32,
+    page_len: usize,
+    answers: *mut u32,
+    answers_len: usize,
+) -> u32 {
+    // SAFETY: the measures below hand in two whole slices and a whole buffer.
+    let (log, page, answers) = unsafe {
+        (
+            std::slice::from_raw_parts(log, len),
+            std::slice::from_raw_parts(page, page_len),
+            std::slice::from_raw_parts_mut(answers, answers_len),
+        )
+    };
+    refusals::number(&questions::answer(log, n as usize, page, answers))
+}
+
 /// What one sample runs: about a millisecond, so that on a busy machine some samples stay undisturbed.
 const CHECKS: u32 = 25_600;
 const STATION_ROUNDS: u32 = 2_048;
@@ -203,6 +242,21 @@ fn join(function: Merge, first: &[u16], second: &[u16], n: u32, times: u32) -> u
         sum = sum.wrapping_add(refusal).wrapping_mul(31).wrapping_add(masks[0]);
     }
     merged.iter().fold(sum, |sum, &mask| sum.wrapping_mul(31).wrapping_add(mask.into()))
+}
+
+/// A checksum of the answers to a page.
+fn ask(function: Questions, log: &[u16], n: u32, page: &[u32]) -> u32 {
+    let mut answers = [0u32; 64];
+    // SAFETY: log and page are slices that live through the call, and the buffer has its length.
+    let refusal = unsafe {
+        function(log.as_ptr(), log.len(), n, page.as_ptr(), page.len(), black_box(answers.as_mut_ptr()), answers.len())
+    };
+    answers.iter().fold(refusal, |sum, &answer| sum.wrapping_mul(31).wrapping_add(answer))
+}
+
+/// Sixty-four questions about n stations, with numbers up to a most.
+fn page_of_questions(n: u32, most: u32) -> Vec<u32> {
+    (0..64).flat_map(|i| [i % n, i / 7 % n, 1 + i * most / 63]).collect()
 }
 
 /// What this process has had of its processor: on a busy machine the clock on the wall also counts others.
@@ -342,6 +396,22 @@ fn main() -> ExitCode {
         let work = |function| join(function, first, second, n, times);
         let name = format!("merge, 2048 rounds and {shorter}, N = {n}, a round");
         agree &= Measure { name, units: times * 2048, work: &work }.print(PROJECT_MERGE, merge_rust as Merge, span);
+    }
+    for (links, most) in [("drawn", 1000), ("full-mesh", 1100), ("drawn", 10)] {
+        let log = if links == "drawn" { drawn_log(2048 * 16) } else { vec![0xFFFF; 2048 * 16] };
+        let page = page_of_questions(16, most);
+        let work = |function| ask(function, &log, 16, &page);
+        let name = format!("64 questions up to number {}, 2048 {links} rounds, N = 16, a round", 1 + most);
+        agree &= Measure { name, units: 2048, work: &work }.print(PROJECT_QUESTIONS, questions_rust as Questions, span);
+        if let (Some(questions), Some(forecast)) = (PROJECT_QUESTIONS, PROJECT_FORECAST) {
+            // Here the peer is the project's own forecast of the same log.
+            let work = |asked| {
+                black_box(if asked { ask(questions, &log, 16, &page) } else { foretell(forecast, &log, 16, 1) });
+                0
+            };
+            let name = format!("64 questions up to number {}, 2048 {links} rounds, N = 16, a round, peer the forecast alone", 1 + most);
+            agree &= Measure { name, units: 2048, work: &work }.print(Some(true), false, span);
+        }
     }
     let many = if quick { 2_000 } else { 20_000 };
     let work = |function| call(function, &full_mesh(16), 16, many);

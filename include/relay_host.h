@@ -24,7 +24,8 @@ enum relay_refusal {
     RELAY_BAD_ADDRESS = 6, /* the frame is for another n, or its sender is own or not below n */
     RELAY_BAD_RECORD = 7,  /* a record is outside its limits */
     RELAY_SHORT_BUFFER = 9, /* a lent buffer has no room for what is to be written */
-    RELAY_BAD_LINK_LOG = 12 /* a link log is not whole rounds, or has more than 2,048 */
+    RELAY_BAD_LINK_LOG = 12, /* a link log is not whole rounds, or has more than 2,048 */
+    RELAY_BAD_QUESTION = 18 /* a question is bad, is not whole, or is past the 64th */
 };
 
 /* Checks the len bytes at `bytes` as a frame heard by station `own` among n stations.
@@ -107,6 +108,44 @@ uint32_t relay_load(uint32_t state, uint32_t n, uint32_t due, uint32_t head, uin
 uint32_t relay_merge(const uint16_t *first, size_t first_len, const uint16_t *second,
                      size_t second_len, uint32_t n, uint16_t *merged, size_t merged_len,
                      uint32_t *masks, size_t masks_len);
+
+/* The answer to a question where the log does not bring the broadcast. No round has this number. */
+#define RELAY_NEVER 4294967295u
+
+/* Answers a page of questions about one link log: by which round has a station received a broadcast of
+   another? Rounds are numbered from 1; a station has its own broadcast in the round in which it starts
+   it, and its first in round 0.
+
+   log, log_len              the log: n masks a round, from station 0 up, round after round
+   n                         the number of stations, 1 to 16
+   questions, questions_len  the page: three numbers a question, one question after the other: the
+                             sender, the receiver, and the number of the broadcast, counted from 1
+   answers, answers_len      where the answers go: room for one a question. Entry i becomes the answer
+                             to question i, a round from 0 up or RELAY_NEVER; entries past the last
+                             question are not touched.
+
+   An answer does not depend on the other questions. Rounds added at the end of the log change none
+   but RELAY_NEVER, which may become one of those rounds.
+
+   Returns 0, or, and then the buffer does not change, in this order:
+       1    n is not 1 to 16
+       12   log_len is not a multiple of n, or the log has more than 2,048 rounds
+       18   a question names a station not below n, has number 0, has fewer than three numbers, or is
+            past the 64th
+       9    answers_len is less than the number of questions
+
+   Example: two stations that hear each other for two rounds. Station 1 has the first broadcast of 0 in
+   round 1; 0 starts its second in round 2; and 1 does not have that one.
+
+       const uint16_t log[] = {2, 1, 2, 1};
+       const uint32_t questions[] = {0, 1, 1, 0, 0, 2, 0, 1, 2};
+       uint32_t answers[3];
+       if (relay_questions(log, 4, 2, questions, 9, answers, 3) == RELAY_DONE)
+           printf("%u %u %d\n", (unsigned)answers[0], (unsigned)answers[1],
+                  answers[2] == RELAY_NEVER);   prints 1 2 1 */
+uint32_t relay_questions(const uint16_t *log, size_t log_len, uint32_t n,
+                         const uint32_t *questions, size_t questions_len,
+                         uint32_t *answers, size_t answers_len);
 
 #ifdef __cplusplus
 }

@@ -12,7 +12,7 @@ pub struct Forecast {
 }
 
 /// Entry s of row p is the set of stations of which p knows that they have the present broadcast of s.
-type Sets = [[u16; PLACES]; PLACES];
+pub type Sets = [[u16; PLACES]; PLACES];
 
 pub fn forecast(log: &[u16], n: usize) -> Result<Forecast, Refusal> {
     check_log(log, n)?;
@@ -43,7 +43,7 @@ pub fn check_log(log: &[u16], n: usize) -> Result<(), Refusal> {
 }
 
 /// The row of p after a round with this mask.
-fn learnt(before: &Sets, mask: u16, p: usize) -> [u16; PLACES] {
+pub fn learnt(before: &Sets, mask: u16, p: usize) -> [u16; PLACES] {
     let mut row = before[p];
     let mut rest = mask;
     while rest != 0 {
@@ -59,7 +59,7 @@ fn learnt(before: &Sets, mask: u16, p: usize) -> [u16; PLACES] {
 }
 
 /// A broadcast of s begins: s alone has it, and s alone knows.
-fn begin(sets: &mut Sets, s: usize) {
+pub fn begin(sets: &mut Sets, s: usize) {
     for row in sets.iter_mut() {
         row[s] = 0;
     }

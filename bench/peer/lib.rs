@@ -12,6 +12,7 @@ pub mod listing;
 pub mod load;
 pub mod measured;
 pub mod merge;
+pub mod questions;
 pub mod queues;
 pub mod refusals;
 pub mod script;

@@ -14,6 +14,7 @@ pub enum Refusal {
     CountTooHigh = 10,
     MalformedLine = 11,
     BadLinkLog = 12,
+    BadQuestion = 18,
 }
 
 /// The number of an answer: 0 where it is done.

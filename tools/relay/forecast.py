@@ -30,16 +30,14 @@ def answer(plan):
 
 
 def all_ends(plan):
-    """The rounds of all ends of each station, from the last ones back.
-
-    The latest are the forecast's; those before them are the latest of the plan cut before that round.
-    """
+    """The rounds of all ends of each station: those in which it has its second broadcast, its third and so on."""
+    ends, _ = answer(plan)
+    asked = [(station, station, k + 2) for station in range(plan.n) for k in range(ends[station])]
     found = [[] for _ in range(plan.n)]
-    while latest := max(last := answer(plan)[1]):
-        for station, number in enumerate(last):
-            if number == latest:
-                found[station].insert(0, number)
-        plan = plan._replace(log=plan.log[:(latest - 1) * plan.n])
+    for at in range(0, len(asked), library.MOST_QUESTIONS):
+        page = asked[at:at + library.MOST_QUESTIONS]
+        for (station, _, _), number in zip(page, library.questions(plan.n, plan.log, page)[1]):
+            found[station].append(number)
     return found
 
 

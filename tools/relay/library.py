@@ -103,6 +103,17 @@ def merge(n, first, second):
     return refusal, merged[:masks[0]]
 
 
+NEVER = 2 ** 32 - 1     # in the answers of C
+MOST_QUESTIONS = 64     # in one call
+
+
+def questions(n, log, asked):
+    """For each question (s, r, k) the round by which r has the k-th broadcast of s, or None for never."""
+    answers = array("I", [0] * len(asked))
+    refusal = call("relay_questions", log, n, array("I", [number for one in asked for number in one]), answers)
+    return refusal, [None if one == NEVER else one for one in answers]
+
+
 def load(state, n, due, head, buffer):
     """Writes the next lines of a generated script into the buffer, an array; gives their length and the next state."""
     after = array("I", [0, 0])

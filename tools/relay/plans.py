@@ -71,6 +71,12 @@ def text(n, log):
     return f"N{n:9d}\n" + "".join("R" + "".join(f"{mask:9d}" for mask in masks) + "\n" for masks in rounds)
 
 
+def number(word, most):
+    """The number that a word is, or None where it is no number or a larger one."""
+    short = word.isascii() and word.isdigit() and len(word) <= len(str(most))
+    return int(word) if short and int(word) <= most else None
+
+
 def shown(name):
     return "standard input" if name == "-" else name
 

@@ -53,6 +53,10 @@ malformedLine = 11
 abbrev pub badLinkLog : ℕ
 badLinkLog = 12
 
+-- a question names a station that is not among N, has a number below 1, is not whole, or is past the 64th (document 02, A11)
+abbrev pub badQuestion : ℕ
+badQuestion = 18
+
 -- the first refusal that applies decides: where the test holds its number is the answer, else what comes after it
 abbrev pub refuse : Bool → ℕ → ℕ → ℕ
 refuse test number rest = cond test number rest

@@ -6,4 +6,5 @@ pub mod Number
 pub mod Know
 pub mod Forecast
 pub mod Part
+pub mod Question
 pub mod Examples

@@ -36,4 +36,4 @@ pub record EndReportedBy (H : History) (s k u : ℕ) : Type 0 where
 
 -- the rounds of a list of calls, however many, were given the masks of this log; past its end nobody heard anybody
 pub record RoundsFollow (n : ℕ) (H : History) (log : List ℕ) : Type 0 where
-  pub masks : (u p : ℕ) → u < length (H .rounds) → p < n → getD (getD (H .log) u []) p 0 ≡ getD log (u * n + p) 0
+  pub masks : (v p : ℕ) → v < length (H .rounds) → p < n → getD (getD (H .log) v []) p 0 ≡ getD log (v * n + p) 0

@@ -1,15 +1,19 @@
--- Forecasts and merges, computed: that the definitions are about something. Document 01's listing; a single station; three in a chain; one that is never heard; refusals.
+-- Forecasts, merges and pages of questions, computed: that the definitions are about something. Document 01's listing; a single station; three in a chain; one that is never heard; refusals.
 use mathlib.Core.List.{[], _∷_}
 use mathlib.Core.Path.{_≡_, refl}
 use lib.ListN.{replicate}
-use Rattle.places.specs.Places.{allBelow, fill, tabulate}
+use Rattle.places.specs.Places.{allBelow, anyBelow, fill, tabulate}
 use Rattle.links.specs.Log.{bit, hearsIn, masksIn, cut}
 use Rattle.links.specs.Clock.{latest, news}
-use Rattle.links.specs.Number.{answers, full, start, ends}
+use Rattle.links.specs.Number.{answers, full, start, ends, num, numOf, got, gotOf}
+use Rattle.links.specs.Question.{otherwise, answerIn}
 use Rattle.links.specs.Forecast.{endCount, lastEnd}
+use Rattle.planning_spec.specs.declared.Arrival.the-variants.{InRound}
 use Rattle.planning_spec.specs.LinkLog.{logRefusal}
 use Rattle.planning_spec.specs.Forecast.{forecastCall}
 use Rattle.planning_spec.specs.Merge.{maskOf, mergedMask, mergedLog, logsRefusal, mergeRefusal, mergeCall, frontWritten}
+use Rattle.planning_spec.specs.Questions.{questionAt, isBad, pageRefusal, questionsRefusal, arrivalOf, answerTo, never, questionsCall}
+use Rattle.planning_spec.specs.Questions.{arrivalNumber, answerNumbers, questionsIntoRefusal}
 
 pub record Forecasts : Type 0 where
   -- the three rounds of the listing: both stations end in round 2
@@ -74,4 +78,47 @@ merges =
       second-not-whole = refl;
       short = refl;
       exact = refl;
+    }
+
+pub record Questions : Type 0 where
+  -- two stations that hear each other for two rounds: 1 has the first broadcast of 0 in round 1, 0 has its own first in round 0 and its second in round 2,
+  -- and 1 does not have that one
+  pub page :
+      questionsCall 2 (2 ∷ 1 ∷ 2 ∷ 1 ∷ []) (0 ∷ 1 ∷ 1 ∷ 0 ∷ 0 ∷ 1 ∷ 0 ∷ 0 ∷ 2 ∷ 0 ∷ 1 ∷ 2 ∷ [])
+      ≡ record {
+        refusal = 0;
+        answers = record { arrival = InRound 1 } ∷ record { arrival = InRound 0 } ∷ record { arrival = InRound 2 } ∷ replicate 61 never;
+      }
+  -- a round more brings it
+  pub added :
+      answerNumbers 2 (2 ∷ 1 ∷ 2 ∷ 1 ∷ 2 ∷ 1 ∷ []) (0 ∷ 1 ∷ 1 ∷ 0 ∷ 0 ∷ 2 ∷ 0 ∷ 1 ∷ 2 ∷ []) ≡ 1 ∷ 2 ∷ 3 ∷ []
+  -- no page, no answer
+  pub nothing : questionsCall 2 [] [] ≡ record { refusal = 0; answers = replicate 64 never }
+  -- N, then the log, then the page, then the buffer
+  pub no-stations : questionsIntoRefusal 0 [] (0 ∷ []) [] ≡ 1
+  pub log-first : questionsIntoRefusal 2 (2 ∷ []) (0 ∷ []) [] ≡ 12
+  pub not-whole : questionsIntoRefusal 2 [] (0 ∷ 1 ∷ []) [] ≡ 18
+  pub no-sender : questionsIntoRefusal 2 [] (2 ∷ 1 ∷ 1 ∷ []) [] ≡ 18
+  pub no-receiver : questionsIntoRefusal 2 [] (1 ∷ 2 ∷ 1 ∷ []) [] ≡ 18
+  pub no-number : questionsIntoRefusal 2 [] (0 ∷ 1 ∷ 1 ∷ 0 ∷ 1 ∷ 0 ∷ []) [] ≡ 18
+  pub most : pageRefusal 2 (replicate 192 1) ≡ 0
+  pub too-many : pageRefusal 2 (replicate 195 1) ≡ 18
+  pub short : questionsIntoRefusal 2 [] (0 ∷ 1 ∷ 1 ∷ []) [] ≡ 9
+
+pub questions : Questions
+unfolding questionsCall questionsRefusal pageRefusal isBad questionAt arrivalOf answerTo arrivalNumber answerNumbers questionsIntoRefusal logRefusal answerIn otherwise got gotOf num numOf ends start full allBelow anyBelow fill tabulate answers news latest hearsIn bit masksIn cut
+questions =
+    record {
+      page = refl;
+      added = refl;
+      nothing = refl;
+      no-stations = refl;
+      log-first = refl;
+      not-whole = refl;
+      no-sender = refl;
+      no-receiver = refl;
+      no-number = refl;
+      most = refl;
+      too-many = refl;
+      short = refl;
     }

@@ -52,7 +52,7 @@ unfolding frontWritten
 front-done entries buffer = refl
 
 -- A list filled in its first places.
-fill-front : (count : ℕ) (f : ℕ → ℕ) (l : List ℕ) → count ≤ length l → fill count f l ≡ tabulate count f ++ drop count l
+pub fill-front : (count : ℕ) (f : ℕ → ℕ) (l : List ℕ) → count ≤ length l → fill count f l ≡ tabulate count f ++ drop count l
 fill-front count f l h =
     ext-getD 0 (fill count f l) (tabulate count f ++ drop count l) same at
   where

@@ -13,3 +13,20 @@ pub struct MergeAnswer {
     pub refusal: u32,
     pub masks: usize,
 }
+
+// By which round a station has received a broadcast: the round, or never.
+pub enum Arrival {
+    Never,
+    InRound { round: u16 },
+}
+
+// One answer of a page.
+pub struct QuestionAnswer {
+    pub arrival: Arrival,
+}
+
+// The answers of a page of up to 64 questions; Never past its last.
+pub struct PageAnswer {
+    pub refusal: u32,
+    pub answers: [QuestionAnswer; 64],
+}

@@ -6,6 +6,7 @@ ghost use Rattle.frame_rules.specs.Frame.{checkRefusal};
 mod relay_forecast;
 mod relay_load;
 mod relay_merge;
+mod relay_questions;
 
 // The frame check: 0, or the refusal, for any bytes and any two numbers.
 #[no_mangle]
