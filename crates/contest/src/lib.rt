@@ -154,7 +154,8 @@ pub fn contest(n: usize, s: usize, masks: &[u16], rounds: usize) -> ContestAnswe
     let count = masks.len() / n;
     let pick = first_pick(masks, n, s, count, rounds - 1);
     if pick < count {
-        return ContestAnswer::Keeper { pick };
+        let lowest = pick as u32;
+        return ContestAnswer::Keeper { pick: lowest };
     }
     ContestAnswer::Breaker
 }

@@ -4,5 +4,5 @@
 pub enum ContestAnswer {
     Refused { number: u32 },
     Breaker,
-    Keeper { pick: usize },
+    Keeper { pick: u32 },
 }

@@ -3,6 +3,8 @@
 ghost use mathlib.Core.Path.{_≡_};
 ghost use Rattle.frame_rules.specs.Frame.{checkRefusal};
 
+mod relay_contest;
+
 // The frame check: 0, or the refusal, for any bytes and any two numbers.
 #[no_mangle]
 pub extern "C" fn relay_frame_check(bytes: &[u8], n: u32, own: u32) -> u32

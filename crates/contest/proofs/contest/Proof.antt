@@ -36,6 +36,14 @@ first-pick-requires c κs =
     let inside = unrefused-inside (a .n) (a .s) (length (a .masks .now)) (a .rounds) free in
     (inside .few, inside .own, inside .whole)
 
+cast-lowest : tie.Need-cast-lowest
+cast-lowest c =
+    let b = c .before .before .before .before in
+    let a = b .before .before .args in
+    let free : contestRefusal (a .n) (a .s) (length (a .masks .now)) (a .rounds) ≡ 0 = sym (b .refusal-of .ensures) ∙ c .before .before .before .if1 .left in
+    let inside = unrefused-inside (a .n) (a .s) (length (a .masks .now)) (a .rounds) free in
+    record { fits = omega (arith, inside .few-sets, c .if3 .taken) }
+
 returns-3 : tie.Need-returns-3
 returns-3 c =
     let b = c .before .before .before .before in
@@ -64,5 +72,6 @@ contest-spec =
     div-count
     (λ c. search needs)
     first-pick-requires
+    cast-lowest
     returns-3
     returns-4)
