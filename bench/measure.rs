@@ -6,16 +6,25 @@ use std::hint::black_box;
 use std::process::ExitCode;
 use std::time::{Duration, Instant};
 
-use relay_peer::{frames, measured, refusals};
+use relay_peer::{forecast, frames, measured, refusals};
 
-/// A slice and two numbers in, a number out: the form of everything that is measured.
+/// A slice and two numbers in, a number out: the form of everything that is measured but the forecast.
 type Function = unsafe extern "C" fn(*const u8, usize, u32, u32) -> u32;
+
+/// The forecast: a log and N in, the counts of ends and the rounds of the last into two buffers.
+type Forecast = unsafe extern "C" fn(*const u16, usize, u32, *mut u16, usize, *mut u16, usize) -> u32;
 
 /// The frame check of crate relay_host.
 #[cfg(relay_host)]
 const PROJECT_CHECK: Option<Function> = Some(relay_frame_check);
 #[cfg(not(relay_host))]
 const PROJECT_CHECK: Option<Function> = None;
+
+/// The forecast of crate relay_host.
+#[cfg(relay_host)]
+const PROJECT_FORECAST: Option<Forecast> = Some(relay_forecast);
+#[cfg(not(relay_host))]
+const PROJECT_FORECAST: Option<Forecast> = None;
 
 /// The rounds of crate relay_bench.
 #[cfg(relay_bench)]
@@ -35,6 +44,8 @@ unsafe extern "C" {
     fn clock() -> c_long;
     #[cfg(relay_host)]
     fn relay_frame_check(bytes: *const u8, len: usize, n: u32, own: u32) -> u32;
+    #[cfg(relay_host)]
+    fn relay_forecast(log: *const u16, len: usize, n: u32, ends: *mut u16, ends_len: usize, last: *mut u16, last_len: usize) -> u32;
     #[cfg(relay_bench)]
     fn relay_bench_rounds(schedule: *const u8, len: usize, n: u32, rounds: u32) -> u32;
     #[cfg(gcc)]
@@ -54,6 +65,19 @@ extern "C" fn rounds_rust(schedule: *const u8, len: usize, n: u32, rounds: u32) 
     measured::rounds(unsafe { std::slice::from_raw_parts(schedule, len) }, n, rounds)
 }
 
+extern "C" fn forecast_rust(log: *const u16, len: usize, n: u32, ends: *mut u16, _: usize, last: *mut u16, _: usize) -> u32 {
+    // SAFETY: the measures below hand in a whole slice, and two buffers of sixteen entries.
+    let log = unsafe { std::slice::from_raw_parts(log, len) };
+    let answer = forecast::forecast(log, n as usize);
+    if let Ok(forecast) = answer {
+        unsafe {
+            ends.cast::<[u16; 16]>().write(forecast.ends);
+            last.cast::<[u16; 16]>().write(forecast.last);
+        }
+    }
+    refusals::number(&answer)
+}
+
 /// What one sample runs: about a millisecond, so that on a busy machine some samples stay undisturbed.
 const CHECKS: u32 = 25_600;
 const STATION_ROUNDS: u32 = 2_048;
@@ -63,6 +87,19 @@ fn call(function: Function, bytes: &[u8], first: u32, second: u32) -> u32 {
     unsafe { function(bytes.as_ptr(), bytes.len(), first, second) }
 }
 
+/// A checksum of so many forecasts of a log.
+fn foretell(function: Forecast, log: &[u16], n: u32, times: u32) -> u32 {
+    let mut entries = [0u16; 32];
+    let mut sum = 0u32;
+    for _ in 0..times {
+        let (ends, last) = entries.split_at_mut(16);
+        // SAFETY: the log is a slice that lives through the call, and each buffer has its sixteen entries.
+        let refusal = unsafe { function(log.as_ptr(), log.len(), n, ends.as_mut_ptr(), 16, last.as_mut_ptr(), 16) };
+        sum = entries.iter().fold(sum.wrapping_add(refusal), |sum, &entry| sum.wrapping_mul(31).wrapping_add(entry.into()));
+    }
+    sum
+}
+
 /// What this process has had of its processor: on a busy machine the clock on the wall also counts others.
 fn processor_time() -> Duration {
     // SAFETY: the C library's function has no conditions; POSIX sets its unit to a microsecond.
@@ -70,21 +107,21 @@ fn processor_time() -> Duration {
 }
 
 /// One measure: the work is some units of `function`, and gives a checksum.
-struct Measure<'a> {
+struct Measure<'a, F> {
     name: String,
     units: u32,
-    work: &'a dyn Fn(Function) -> u32,
+    work: &'a dyn Fn(F) -> u32,
 }
 
-impl Measure<'_> {
-    fn time(&self, function: Function) -> Duration {
+impl<F: Copy> Measure<'_, F> {
+    fn time(&self, function: F) -> Duration {
         let begun = processor_time();
         black_box((self.work)(function));
         processor_time() - begun
     }
 
     /// Prints the line; false if the project and the peer do not give the same answer.
-    fn print(&self, project: Option<Function>, peer: Function, span: Duration) -> bool {
+    fn print(&self, project: Option<F>, peer: F, span: Duration) -> bool {
         let name = &self.name;
         if let Some(project) = project
             && (self.work)(project) != (self.work)(peer)
@@ -144,6 +181,15 @@ fn sparse(n: usize) -> Vec<u8> {
     (0..n).flat_map(masks).collect()
 }
 
+/// A log of so many rounds in which each bit of each mask is drawn.
+fn drawn_log(masks: usize) -> Vec<u16> {
+    let draw = |state: &mut u32| {
+        *state = state.wrapping_mul(1_664_525).wrapping_add(1_013_904_223);
+        Some((*state >> 16) as u16)
+    };
+    std::iter::repeat(()).scan(1, |state, ()| draw(state)).take(masks).collect()
+}
+
 fn main() -> ExitCode {
     let quick = std::env::args().any(|word| word == "quick");
     let span = Duration::from_millis(if quick { 100 } else { 1500 });
@@ -166,6 +212,22 @@ fn main() -> ExitCode {
             let name = format!("{links} round, N = {n}");
             agree &= Measure { name, units: rounds, work: &work }.print(PROJECT_ROUNDS, rounds_rust, span);
         }
+    }
+    for (links, rounds, n) in [
+        ("full-mesh", 2048, 16),
+        ("full-mesh", 2048, 8),
+        ("full-mesh", 2048, 2),
+        ("full-mesh", 256, 16),
+        ("drawn", 2048, 16),
+        ("drawn", 2048, 8),
+        ("drawn", 2048, 2),
+    ] {
+        let masks = rounds * n as usize;
+        let log = if links == "drawn" { drawn_log(masks) } else { vec![0xFFFF; masks] };
+        let times = (32_768 / masks).max(1) as u32;
+        let work = |function| foretell(function, &log, n, times);
+        let name = format!("forecast, {rounds} {links} rounds, N = {n}, a round");
+        agree &= Measure { name, units: times * rounds as u32, work: &work }.print(PROJECT_FORECAST, forecast_rust as Forecast, span);
     }
     let many = if quick { 2_000 } else { 20_000 };
     let work = |function| call(function, &full_mesh(16), 16, many);

@@ -1,5 +1,10 @@
-/* The frame check of the edit relay, for the host that moves frames.
-   Link with the archive that `rt staticlib relay_host` makes, target/staticlib/librelay_host.a. */
+/* What the edit relay offers to C: the frame check, for the host that moves frames, and the forecast,
+   for planners. Link with the archive that `rt staticlib relay_host` makes,
+   target/staticlib/librelay_host.a.
+
+   Memory that a call is lent stays the caller's: no call keeps a pointer, allocates, or writes outside
+   what its text names. Pointers are not null, also where a length is 0. Two buffers of one call must
+   not overlap. A call that is refused changes nothing. */
 #ifndef RELAY_HOST_H
 #define RELAY_HOST_H
 
@@ -10,18 +15,79 @@
 extern "C" {
 #endif
 
-/* What relay_frame_check returns. Where several apply, the first in this order. */
+/* What a call returns. The text of a call lists those that it can give; where several apply, the
+   first of that list is given. */
 enum relay_refusal {
-    RELAY_DONE = 0,        /* the frame is accepted */
-    RELAY_BAD_NUMBER = 1,  /* n is not 1 to 16, or own is not below n */
+    RELAY_DONE = 0,        /* nothing is wrong */
+    RELAY_BAD_NUMBER = 1,  /* n is not 1 to 16, or a station is not below n */
     RELAY_BAD_SHAPE = 5,   /* the length, byte 2 or byte 3 is wrong */
     RELAY_BAD_ADDRESS = 6, /* the frame is for another n, or its sender is own or not below n */
-    RELAY_BAD_RECORD = 7   /* a record is outside its limits */
+    RELAY_BAD_RECORD = 7,  /* a record is outside its limits */
+    RELAY_SHORT_BUFFER = 9, /* a lent buffer has no room for what is to be written */
+    RELAY_BAD_LINK_LOG = 12, /* a link log is not whole rounds, or has more than 2,048 */
+    RELAY_BAD_CONTEST = 20 /* a contest has too many stations, sets or rounds, no set, or masks that are not whole sets */
 };
 
 /* Checks the len bytes at `bytes` as a frame heard by station `own` among n stations.
-   Any values of n and own may be given. `bytes` points at len readable bytes and is not null. No byte is changed. */
+   Any values of n and own may be given. `bytes` points at len readable bytes and is not null. No byte is changed.
+   Returns 0 where the frame is accepted, else, in this order, 1, 5, 6 or 7. */
 uint32_t relay_frame_check(const uint8_t *bytes, size_t len, uint32_t n, uint32_t own);
+
+/* The forecast of a link log: for each station how many of its broadcasts end, and the round of the
+   last end, for links that are known ahead. Rounds are numbered from 1.
+
+   log, log_len    the log: n masks a round, from station 0 up, round after round. Bit j of the mask of
+                   station i is 1 where i hears j in that round; the own bit and bits from n up say
+                   nothing. A log of length 0 has no rounds, and nothing ends.
+   n               the number of stations, 1 to 16
+   ends, ends_len  where the counts go: room for at least 16 entries, also where n is smaller. Entry s
+                   becomes the number of ends of station s.
+   last, last_len  where the rounds go: room for at least 16 entries. Entry s becomes the round of the
+                   last end of station s, or 0 where none of its broadcasts ends.
+
+   Entries from n to 15 become 0. Entries from 16 up are not touched.
+
+   Returns 0, or, and then neither buffer changes, in this order:
+       1    n is not 1 to 16
+       12   log_len is not a multiple of n, or the log has more than 2,048 rounds
+       9    ends_len or last_len is less than 16
+
+   Example: two stations that hear each other for three rounds.
+
+       const uint16_t log[] = {2, 1, 2, 1, 2, 1};
+       uint16_t ends[16], last[16];
+       if (relay_forecast(log, 6, 2, ends, 16, last, 16) == RELAY_DONE)
+           printf("%d %d\n", ends[0], last[0]);   prints 1 2: one end, in round 2 */
+uint32_t relay_forecast(const uint16_t *log, size_t log_len, uint32_t n,
+                        uint16_t *ends, size_t ends_len, uint16_t *last, size_t last_len);
+
+/* The link contest: a keeper wants station s to end its first broadcast, a breaker does not. In odd
+   rounds the keeper picks the set of links that holds, in even rounds the breaker, each knowing the
+   picks before. Tells which of the two can force the result against every play of the other.
+
+   n               the number of stations, at most 4
+   s               the station whose first broadcast it is about
+   sets, sets_len  the sets, numbered from 0: n masks a set, from station 0 up, one to four sets. Masks are
+                   those of a link log.
+   rounds          how many rounds are played, at most 6. With none the breaker wins.
+   answer,         where the answer goes: room for at least two numbers. answer[0] becomes 0 where the
+   answer_len      breaker can force the result and 1 where the keeper can; answer[1] becomes the
+                   keeper's first pick, the lowest from which it still can, or 0 for the breaker.
+                   Numbers past these two are not touched.
+
+   Returns 0, or, and then the buffer does not change, in this order:
+       1    n is not 1 to 16, or s is not below n
+       20   n is above 4, the masks are not one to four whole sets, or there are more than 6 rounds
+       9    answer_len is less than 2
+
+   Example: two stations; in set 0 nobody hears, in set 1 both hear each other; three rounds.
+
+       const uint16_t sets[] = {0, 0, 2, 1};
+       uint32_t answer[2];
+       if (relay_contest(2, 0, sets, 4, 3, answer, 2) == RELAY_DONE)
+           printf("%u %u\n", answer[0], answer[1]);   prints 1 1: the keeper, by picking set 1 */
+uint32_t relay_contest(uint32_t n, uint32_t s, const uint16_t *sets, size_t sets_len, uint32_t rounds,
+                       uint32_t *answer, size_t answer_len);
 
 #ifdef __cplusplus
 }

@@ -1,19 +1,20 @@
 -- Bits of masks: of a union, of a power of two, and of a set that has all stations below n. A set is full where its lowest n bits, as a number, are
 -- 2 ^ n - 1; that is one bit more at each step.
 use mathlib.Core.Bool.{Bool, true, false, _||_, _&&_, and-false}
-use mathlib.Core.Path.{_≡_, refl, sym, ap, ap₂, _∙_}
-use Prim.Native.Nat.{ℕ, zero, suc, _+_, _-_, _*_, _/_, _%_, _^_, _<_, _≤_, max}
+use mathlib.Core.Path.{_≡_, sym, ap, _∙_}
+use Prim.Native.Nat.{ℕ, zero, suc, _+_, _-_, _*_, _/_, _%_, _^_, _<_, _≤_, max, min}
 use native.Mathlib.Decide.{ℕ-discrete, decLe}
 use native.Mathlib.Nat.{one-mul, zero-mul, mod-eq-of-lt, pow-suc, pow-succ', mul-comm, mod-lt, mod-one, div-self, le-refl}
 use native.Mathlib.Omega.{arith}
-use borrow.Author.Tests.{eq-eqb, ne-eqb, eqb-true, eqb-false}
+use borrow.Author.Tests.{eq-eqb, ne-eqb, lt-ltb, le-ltb}
 use lib.Arith.{mod-mul}
-use lib.Bits.{bitAnd, bitOr, or-shr, or-step, and-mask}
-use lib.Dec.{eqb}
+use lib.Bits.{bitAnd, bitOr, and-shr, and-step, or-shr, or-step, and-mask}
+use lib.Dec.{eqb, ltb}
 use lib.Pow.{pow-pos, pow-lt, pow-add, shl-shr}
 use Rattle.places.specs.Places.{allBelow}
+use Rattle.places.proofs.Laws.{allBelow-at}
 use Rattle.links.specs.Log.{bit}
-use Rattle.links.proofs.Log.{bit-high, bit-zero}
+use Rattle.links.proofs.Log.{bit-high}
 use Rattle.broadcast_sets.specs.Sets.{isFull}
 
 pub shifted16 : (p : ℕ) → p < 16 → (1 * 2 ^ p) % 65536 ≡ 2 ^ p
@@ -44,6 +45,21 @@ bit-or a b j =
     let y = b / (2 ^ j) in
     let e : bitOr x y % 2 ≡ max (x % 2) (y % 2) = omega (arith, or-step x y) in
     ap (λ (z : ℕ). eqb (z % 2) 1) (or-shr a b j) ∙ ap (λ (z : ℕ). eqb z 1) e ∙ digit x y
+
+digit-and : (a b : ℕ) → eqb (min (a % 2) (b % 2)) 1 ≡ (eqb (a % 2) 1 && eqb (b % 2) 1)
+digit-and a b =
+    elim (ℕ-discrete (a % 2) 1) [
+      | yes e ↦ (let m : min (a % 2) (b % 2) ≡ b % 2 = omega arith in rw (eq-eqb (a % 2) 1 e, m))
+      | no d ↦ (let m : min (a % 2) (b % 2) ≡ 0 = omega arith in rw (ne-eqb (a % 2) 1 d, m))
+    ]
+
+pub bit-and : (a b j : ℕ) → bit (bitAnd a b) j ≡ (bit a j && bit b j)
+unfolding bit
+bit-and a b j =
+    let x = a / (2 ^ j) in
+    let y = b / (2 ^ j) in
+    let e : bitAnd x y % 2 ≡ min (x % 2) (y % 2) = omega (arith, and-step x y) in
+    ap (λ (z : ℕ). eqb (z % 2) 1) (and-shr a b j) ∙ ap (λ (z : ℕ). eqb z 1) e ∙ digit-and x y
 
 pow-same : (r : ℕ) → bit (2 ^ r) r ≡ true
 unfolding bit
@@ -96,3 +112,19 @@ lowest (suc n) x =
 pub isFull-bits : (n x : ℕ) → isFull n x ≡ allBelow n (λ r. bit x r)
 unfolding isFull
 isFull-bits n x = ap (λ (y : ℕ). eqb y (2 ^ n - 1)) (and-mask x n) ∙ lowest n x
+
+-- The bits of n ones, and of a mask's lowest n.
+pub bit-ones : (n j : ℕ) → bit (2 ^ n - 1) j ≡ ltb j n
+unfolding isFull
+bit-ones n j =
+    elim (decLe (suc j) n) [
+      | yes l ↦
+          (let p = pow-pos n in
+          let e : isFull n (2 ^ n - 1) ≡ true =
+          eq-eqb (bitAnd (2 ^ n - 1) (2 ^ n - 1)) (2 ^ n - 1) (and-mask (2 ^ n - 1) n ∙ mod-eq-of-lt (omega arith)) in
+          allBelow-at n (λ r. bit (2 ^ n - 1) r) (sym (isFull-bits n (2 ^ n - 1)) ∙ e) j l ∙ sym (lt-ltb j n l))
+      | no g ↦ (let p = pow-pos n in bit-high (2 ^ n - 1) n j (omega arith) (omega arith) ∙ sym (le-ltb j n (omega arith)))
+    ]
+
+pub bit-below : (mask n j : ℕ) → bit (bitAnd mask (2 ^ n - 1)) j ≡ (bit mask j && ltb j n)
+bit-below mask n j = bit-and mask (2 ^ n - 1) j ∙ ap (λ (b : Bool). bit mask j && b) (bit-ones n j)

@@ -1,8 +1,8 @@
 -- Lists, rows and columns that are changed place by place. Each record has a count of the places done, and is the invariant of the loop that does them.
-use mathlib.Core.Bool.{Bool, cond}
+use mathlib.Core.Bool.{Bool, false, cond}
 use mathlib.Core.List.{List}
 use mathlib.Core.Path.{_≡_, refl, sym, ap, _∙_}
-use Prim.Native.Nat.{ℕ, zero, suc, _+_, _*_, _<_, _≤_}
+use Prim.Native.Nat.{ℕ, suc, _+_, _*_, _<_, _≤_}
 use native.Mathlib.Decide.{ℕ-discrete}
 use native.Mathlib.Nat.{le-refl}
 use native.Mathlib.Numerals.{add-one}
@@ -10,8 +10,9 @@ use native.Mathlib.Omega.{arith}
 use lib.Bits.{bitOr}
 use lib.ListN.{getD, set, length, length-set}
 use lib.Seq.{getD-set-same, getD-set-other}
+use Rattle.places.proofs.Later.{from-on}
 use Rattle.broadcast_sets.specs.Sets.{cell, FirstAre, RowIs, ColumnIs, united, withReceiver, learntSet, Learnt}
-use Rattle.planning_spec.specs.LinkLog.{maskHears}
+use Rattle.links.specs.Log.{bit}
 
 -- Two places are different.
 apart : (p s q k : ℕ) → s < 16 → k < 16 → (q ≡ p → k ≡ s → ⊥) → 16 * q + k ≡ 16 * p + s → ⊥
@@ -86,6 +87,18 @@ pub united-more : (heard : ℕ → Bool) (f : ℕ → ℕ) (x k : ℕ)
 unfolding united
 united-more heard f x k = rw add-one
 
+-- Where none is heard from k up to m, nothing is added.
+pub united-silent : (heard : ℕ → Bool) (f : ℕ → ℕ) (x k m : ℕ) → k ≤ m → ((j : ℕ) → k ≤ j → j < m → heard j ≡ false)
+    → united m heard f x ≡ united k heard f x
+united-silent heard f x k m l none = from-on (λ i. i ≤ m → united i heard f x ≡ united k heard f x) k (λ h. refl) more m l (le-refl m)
+  where
+    more : (i : ℕ) → k ≤ i → (i ≤ m → united i heard f x ≡ united k heard f x) → suc i ≤ m → united (suc i) heard f x ≡ united k heard f x
+    more i h before e =
+        ap (λ (j : ℕ). united j heard f x) (sym (add-one i))
+        ∙ united-more heard f x i
+        ∙ ap (λ (b : Bool). cond b (bitOr (united i heard f x) (f i)) (united i heard f x)) (none i h (omega arith))
+        ∙ before (omega arith)
+
 -- Columns.
 module _ (l : List ℕ) (s : ℕ) (f : ℕ → ℕ) where
   pub column-start : ColumnIs 0 l l s f
@@ -113,7 +126,7 @@ module _ (n : ℕ) (mask : ℕ → ℕ) (l : List ℕ) where
   learnt-start = record { size = refl; sets = λ p s h i. absurd (omega arith); rest = λ p s h i. refl }
 
   pub learnt-more : (m k : List ℕ) (p : ℕ) → Learnt p n mask l m
-      → RowIs 16 m k p (λ s. withReceiver p s (united n (maskHears (mask p) p) (λ j. cell l j s) (cell l p s))) → Learnt (p + 1) n mask l k
+      → RowIs 16 m k p (λ s. withReceiver p s (united n (bit (mask p)) (λ j. cell l j s) (cell l p s))) → Learnt (p + 1) n mask l k
   unfolding learntSet
   learnt-more m k p a r =
       record {

@@ -1,9 +1,9 @@
 -- A round keeps the sets standing for what is known. A bit of a set that a round makes is `learnt` of the links, bit by bit; so a set at its own station
 -- is full exactly where the links end a broadcast, and what `close` makes of the sets is `knows` after the round.
-use mathlib.Core.Bool.{Bool, true, false, cond, not, _&&_, _||_, or-false}
+use mathlib.Core.Bool.{Bool, true, false, cond, _&&_, _||_, or-false}
 use mathlib.Core.List.{List}
 use mathlib.Core.Path.{_≡_, refl, sym, ap, ap₂, _∙_}
-use Prim.Native.Nat.{ℕ, zero, suc, _+_, _-_, _*_, _/_, _^_, _<_, _≤_}
+use Prim.Native.Nat.{ℕ, zero, suc, _+_, _*_, _^_, _<_, _≤_}
 use native.Mathlib.Decide.{ℕ-discrete}
 use native.Mathlib.Numerals.{add-one}
 use native.Mathlib.Omega.{arith}
@@ -17,10 +17,10 @@ use Rattle.links.specs.Log.{bit}
 use Rattle.links.specs.Relay.{Links}
 use Rattle.links.specs.Number.{ends}
 use Rattle.links.specs.Know.{knows, either, brought, learnt, newly}
-use Rattle.links.specs.Forecast.{endCount, lastEnd}
+use Rattle.links.specs.Forecast.{endCount}
 use Rattle.links.proofs.Log.{bit-zero}
 use Rattle.links.proofs.Forecast.{endCount-zero, endCount-step, endCount-most, lastEnd-zero, lastEnd-step}
-use Rattle.links.proofs.Know.{knows-zero, knows-step, ends-learnt}
+use Rattle.links.proofs.Know.{either-true, knows-zero, knows-step, ends-learnt}
 use Rattle.broadcast_sets.specs.Sets.{cell, united, withReceiver, learntSet, firstSet, isFull, Learnt, Closed, AllBegun}
 use Rattle.planning_spec.specs.LinkLog.{roundsOf, linksOf, maskHears}
 use Rattle.planning_spec.proofs.LinkLog.{log-hears}
@@ -44,6 +44,25 @@ unfolding either
 either-ext zero h₁ h₂ f g x y a b e = e
 either-ext (suc k) h₁ h₂ f g x y a b e =
     rw (either-ext k h₁ h₂ f g x y (λ j l. a j (omega arith)) (λ j l. b j (omega arith)) e, a k (omega arith), b k (omega arith))
+
+-- Where f p is x anyway, whether p is heard says nothing.
+either-own : (k p : ℕ) (h g f : ℕ → Bool) (x : Bool) → ((j : ℕ) → (j ≡ p → ⊥) → h j ≡ g j) → f p ≡ x → either k h f x ≡ either k g f x
+unfolding either
+either-own zero p h g f x e q = refl
+either-own (suc k) p h g f x e q =
+    rw (either-own k p h g f x e q)
+    (elim (ℕ-discrete k p) [
+      | no d ↦ rw (e k d)
+      | yes y ↦ both (ap f y ∙ q) (h k) ∙ sym (both (ap f y ∙ q) (g k))
+    ])
+  where
+    absorbed : (b : Bool) → b ≡ x → (either k g f x || b) ≡ either k g f x
+    absorbed true c = rw (sym c) (rw (either-true k g f))
+    absorbed false c = or-false (either k g f x)
+
+    both : f k ≡ x → (b : Bool) → cond b (either k g f x || f k) (either k g f x) ≡ either k g f x
+    both c true = absorbed (f k) c
+    both c false = refl
 
 pub withReceiver-bit : (p s x r : ℕ) → bit (withReceiver p s x) r ≡ (bit x r || (eqb p r && bit x s))
 unfolding withReceiver
@@ -74,6 +93,10 @@ firstSet-bit p s r = go (eqb p s)
     go true = bit-pow s r ∙ eqb-turned s r
     go false = bit-zero r
 
+hears-other : (mask p j : ℕ) → (j ≡ p → ⊥) → bit mask j ≡ maskHears mask p j
+unfolding maskHears
+hears-other mask p j d = rw (ne-eqb p j (λ e. d (sym e)))
+
 choose-bit : (b : Bool) (x y r : ℕ) → bit (cond b x y) r ≡ cond b (bit x r) (bit y r)
 choose-bit true x y r = refl
 choose-bit false x y r = refl
@@ -84,14 +107,15 @@ module _ (L : Links) (u : ℕ) (mask : ℕ → ℕ) (few : L .size ≤ 16)
       → bit (learntSet (L .size) mask sets p s) r ≡ learnt L u s p r
   unfolding learntSet learnt brought
   learnt-bit sets ends last k p s r hp hs hr =
-      withReceiver-bit p s (united (L .size) (maskHears (mask p) p) (λ j. cell sets j s) (cell sets p s)) r
+      withReceiver-bit p s (united (L .size) (bit (mask p)) (λ j. cell sets j s) (cell sets p s)) r
       ∙ ap₂ (λ (a b : Bool). a || (eqb p r && b)) (one r hr) (one s hs)
     where
       one : (r : ℕ) → r < L .size
-          → bit (united (L .size) (maskHears (mask p) p) (λ j. cell sets j s) (cell sets p s)) r
+          → bit (united (L .size) (bit (mask p)) (λ j. cell sets j s) (cell sets p s)) r
           ≡ either (L .size) (λ j. L .hears (suc u) p j) (λ j. knows L u s j r) (knows L u s p r)
       one r hr =
-          united-bit (L .size) (maskHears (mask p) p) (λ j. cell sets j s) (cell sets p s) r
+          united-bit (L .size) (bit (mask p)) (λ j. cell sets j s) (cell sets p s) r
+          ∙ either-own (L .size) p (bit (mask p)) (maskHears (mask p) p) (λ j. bit (cell sets j s) r) (bit (cell sets p s) r) (hears-other (mask p) p) refl
           ∙ either-ext (L .size) (maskHears (mask p) p) (λ j. L .hears (suc u) p j) (λ j. bit (cell sets j s) r) (λ j. knows L u s j r)
           (bit (cell sets p s) r) (knows L u s p r) (λ j l. masks p j hp l) (λ j l. k .each j s r l hs hr) (k .each p s r hp hs hr)
 

@@ -1,4 +1,5 @@
--- Sets of stations as 16-bit masks, sixteen sets a station: the set of s at p stands at place 16 p + s. What each function makes of them.
+-- Sets of stations as 16-bit masks, sixteen sets a station: the set of s at p stands at place 16 p + s. What each
+-- function makes of them.
 use mathlib.Core.Bool.{Bool, cond, _&&_}
 use mathlib.Core.List.{List}
 use mathlib.Core.Path.{_≡_}
@@ -7,7 +8,6 @@ use lib.Bits.{bitAnd, bitOr}
 use lib.Dec.{eqb}
 use lib.ListN.{getD, length, set}
 use Rattle.links.specs.Log.{bit}
-use Rattle.planning_spec.specs.LinkLog.{maskHears}
 
 abbrev pub cell : List ℕ → ℕ → ℕ → ℕ
 cell sets p s = getD sets (16 * p + s) 0
@@ -39,9 +39,10 @@ united (suc k) heard f x = cond (heard k) (bitOr (united k heard f x) (f k)) (un
 unfoldable pub withReceiver : ℕ → ℕ → ℕ → ℕ
 withReceiver p s x = cond (bit x s) (bitOr x (2 ^ p)) x
 
--- What a round makes of the set of s at p, before the ends are looked at.
+-- What a round makes of the set of s at p, before the ends are looked at: the sets of those in its mask, as they
+-- stood, are united. Its own bit adds nothing.
 unfoldable pub learntSet : ℕ → (ℕ → ℕ) → List ℕ → ℕ → ℕ → ℕ
-learntSet n mask sets p s = withReceiver p s (united n (maskHears (mask p) p) (λ j. cell sets j s) (cell sets p s))
+learntSet n mask sets p s = withReceiver p s (united n (bit (mask p)) (λ j. cell sets j s) (cell sets p s))
 
 -- The rows below done are those that a round makes, and the others stay.
 pub record Learnt (done n : ℕ) (mask : ℕ → ℕ) (before after : List ℕ) : Type 0 where
@@ -70,7 +71,8 @@ pub record Closed (done n round : ℕ) (before after ends ends′ last last′ :
   pub size-ends : length ends′ ≡ length ends
   pub size-last : length last′ ≡ length last
   pub sets :
-      (p s : ℕ) → p < 16 → s < 16 → s < done → cell after p s ≡ cond (isFull n (cell before s s)) (firstSet p s) (cell before p s)
+      (p s : ℕ) → p < 16 → s < 16 → s < done
+      → cell after p s ≡ cond (isFull n (cell before s s)) (firstSet p s) (cell before p s)
   pub rest : (p s : ℕ) → p < 16 → s < 16 → done ≤ s → cell after p s ≡ cell before p s
   pub count :
       (s : ℕ) → s < done → getD ends′ s 0 ≡ cond (isFull n (cell before s s)) (getD ends s 0 + 1) (getD ends s 0)

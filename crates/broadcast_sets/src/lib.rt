@@ -1,12 +1,12 @@
-// What stations know of each other's broadcasts, as sets in masks: bit r of the set of s at p is 1 where p knows that r has the present broadcast of s.
-// The sets of all stand in 256 masks, the set of s at p at place 16 p + s.
+// What stations know of each other's broadcasts, as sets in masks: bit r of the set of s at p is 1 where p knows that
+// r has the present broadcast of s. The sets of all stand in 256 masks, the set of s at p at place 16 p + s.
 ghost use mathlib.Core.Path.{_≡_};
-ghost use mathlib.Core.Bool.{cond};
-ghost use Prim.Native.Nat.{ℕ, _+_, _<_, _≤_};
+ghost use Prim.Native.Nat.{ℕ, _+_, _-_, _^_, _<_, _≤_};
 ghost use lib.ListN.{length, getD};
-ghost use lib.Bits.{bitOr};
-ghost use Rattle.planning_spec.specs.LinkLog.{maskHears};
-ghost use Rattle.broadcast_sets.specs.Sets.{cell, FirstAre, RowIs, ColumnIs, united, withReceiver, firstSet, isFull, Learnt, OneClosed, Closed, AllBegun};
+ghost use lib.Bits.{bitAnd, bitOr};
+ghost use Rattle.links.specs.Log.{bit};
+ghost use Rattle.broadcast_sets.specs.Sets.{cell, FirstAre, RowIs, ColumnIs, united, withReceiver, firstSet};
+ghost use Rattle.broadcast_sets.specs.Sets.{isFull, Learnt, OneClosed, Closed, AllBegun};
 
 // No group has more stations, and no mask more bits.
 const PLACES: usize = 16;
@@ -24,29 +24,25 @@ fn unite(row: &mut [u16; 16], before: &[u16; 256], j: usize)
     }
 }
 
-// The same where p hears j.
-fn unite_heard(row: &mut [u16; 16], before: &[u16; 256], mask: u16, p: usize, j: usize)
-    requires { ⌜ (j < 16) × (length (now row) ≡ 16) ⌝ }
-    ensures { λ _. ⌜ FirstAre 16 (now (row .entry)) (now (row .exit)) (λ s.
-        cond (maskHears mask p j)
-        (bitOr (getD (now (row .entry)) s 0) (cell (now (before .entry)) j s)) (getD (now (row .entry)) s 0)) ⌝ }
+// The bits of a mask below n.
+fn below(mask: u16, n: usize) -> u16
+    requires { ⌜ n ≤ 16 ⌝ }
+    ensures { λ r. ⌜ r ≡ bitAnd mask (2 ^ n - 1) ⌝ }
 {
-    if !link_logs::mask_hears(mask, p, j) {
-        return;
-    }
-    unite(row, before, j);
+    ((mask as u32) & ((1u32 << n) - 1)) as u16
 }
 
-// Unites a row with the sets of all that p hears.
-fn listen(row: &mut [u16; 16], before: &[u16; 256], mask: u16, n: usize, p: usize)
+// Unites a row with the sets of all stations below n in the mask, from the lowest up. There is no test of a single
+// bit: on links that change from round to round a processor would guess it wrong half of the time.
+fn listen(row: &mut [u16; 16], before: &[u16; 256], mask: u16, n: usize)
     requires { ⌜ (n ≤ 16) × (length (now row) ≡ 16) ⌝ }
     ensures { λ _. ⌜ FirstAre 16 (now (row .entry)) (now (row .exit)) (λ s.
-        united n (maskHears mask p) (λ j. cell (now (before .entry)) j s) (getD (now (row .entry)) s 0)) ⌝ }
+        united n (bit mask) (λ j. cell (now (before .entry)) j s) (getD (now (row .entry)) s 0)) ⌝ }
 {
-    let mut j: usize = 0;
-    while j < n {
-        unite_heard(row, before, mask, p, j);
-        j += 1;
+    let mut rest = below(mask, n);
+    while rest != 0 {
+        unite(row, before, u16::trailing_zeros(rest) as usize);
+        rest = rest & (rest - 1);
     }
 }
 
@@ -55,7 +51,7 @@ pub fn with_receiver(set: u16, s: usize, p: usize) -> u16
     requires { ⌜ (s < 16) × (p < 16) ⌝ }
     ensures { λ r. ⌜ r ≡ withReceiver p s set ⌝ }
 {
-    if !links::set_at(set, s) {
+    if (set >> s) % 2 == 0 {
         return set;
     }
     set | (1u16 << p)
@@ -86,21 +82,19 @@ fn store(sets: &mut [u16; 256], row: &[u16; 16], p: usize)
     }
 }
 
-// A round for p. The row is a local of its own, so that it stays in registers.
-fn learn_row(sets: &mut [u16; 256], before: &[u16; 256], mask: u16, n: usize, p: usize)
-    requires { ⌜ (p < 16) × (n ≤ 16) × (length (now sets) ≡ 256) ⌝ }
-    ensures { λ _. ⌜ RowIs 16 (now (sets .entry)) (now (sets .exit)) p (λ s.
-        withReceiver p s
-        (united n (maskHears mask p) (λ j. cell (now (before .entry)) j s) (cell (now (before .entry)) p s))) ⌝ }
+// The sets of p, a row of their own.
+fn row_of(sets: &[u16; 256], p: usize) -> [u16; 16]
+    requires { ⌜ p < 16 ⌝ }
+    ensures { λ r. ⌜ (length r ≡ 16) × ((s : ℕ) → s < 16 → getD r s 0 ≡ cell (now (sets .entry)) p s) ⌝ }
 {
     let mut row = [0u16; 16];
-    unite(&mut row, before, p);
-    listen(&mut row, before, mask, n, p);
-    add_receiver(&mut row, p);
-    store(sets, &row, p);
+    unite(&mut row, sets, p);
+    row
 }
 
-// A round for all, before the ends are looked at; the masks stand in the log from `at` on. Everyone hears the sets as they stood before the round.
+// A round for all, before the ends are looked at; the masks stand in the log from `at` on. Everyone hears the sets as
+// they stood before the round. A row is a local, so that it stays in registers. The own bit of a mask adds nothing,
+// for the row begins as that of its station.
 pub fn learn(sets: &mut [u16; 256], log: &[u16], at: usize, n: usize)
     requires { ⌜ (n ≤ 16) × (at + n ≤ length (now log)) × (length (now sets) ≡ 256) ⌝ }
     ensures { λ _. ⌜ Learnt n n (λ p. getD (now (log .entry)) (at + p) 0)
@@ -109,7 +103,10 @@ pub fn learn(sets: &mut [u16; 256], log: &[u16], at: usize, n: usize)
     let before = *sets;
     let mut p: usize = 0;
     while p < n {
-        learn_row(sets, &before, log[at + p], n, p);
+        let mut row = row_of(&before, p);
+        listen(&mut row, &before, log[at + p], n);
+        add_receiver(&mut row, p);
+        store(sets, &row, p);
         p += 1;
     }
 }

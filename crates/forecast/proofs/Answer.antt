@@ -1,12 +1,12 @@
 -- Sets, counts and rounds that stand for the links after a whole log are the answer.
 use mathlib.Core.List.{List}
-use mathlib.Core.Path.{_≡_, refl, sym, ap, ap₂, _∙_}
-use Prim.Native.Nat.{ℕ, _<_, _≤_}
+use mathlib.Core.Path.{_≡_, sym, ap₂, _∙_}
+use Prim.Native.Nat.{ℕ}
 use lib.ListN.{length}
 use Rattle.links.specs.Forecast.{endCount, lastEnd}
 use Rattle.planning_spec.specs.declared.ForecastAnswer.{ForecastAnswer}
 use Rattle.planning_spec.specs.LinkLog.{roundsOf, linksOf, logRefusal}
-use Rattle.planning_spec.specs.Forecast.{forecastCall, perStation}
+use Rattle.planning_spec.specs.Forecast.{forecastCall}
 use Rattle.planning_spec.proofs.LinkLog.{accepted}
 use Rattle.planning_spec.proofs.Forecast.{forecast-done, perStation-is}
 use Rattle.broadcast_sets.specs.Stands.{Stands}

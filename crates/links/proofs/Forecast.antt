@@ -2,16 +2,16 @@
 -- the present broadcast: the count is the number less one, and the last end is the start.
 use mathlib.Core.Bool.{Bool, true, false, cond}
 use mathlib.Core.Logic.{⊎-elim}
-use mathlib.Core.Path.{_≡_, refl, sym, _∙_, ap}
-use Prim.Native.Nat.{ℕ, zero, suc, _-_, _<_, _≤_}
+use mathlib.Core.Path.{_≡_, refl, sym, _∙_}
+use Prim.Native.Nat.{ℕ, zero, suc, _≤_}
 use native.Mathlib.Decide.{decLe}
 use native.Mathlib.Omega.{arith}
 use Rattle.places.proofs.Later.{from-on}
 use Rattle.links.specs.Relay.{Links}
-use Rattle.links.specs.EndRule.{EndsIn, Starts, after}
+use Rattle.links.specs.EndRule.{after}
 use Rattle.links.specs.Number.{start, ends, num}
 use Rattle.links.specs.Forecast.{endCount, lastEnd, ForecastByRelays}
-use Rattle.links.proofs.Number.{step, start-limit, num-mono, num-positive, start-ends, start-stays, num-ends, num-stays, num-zero, start-zero}
+use Rattle.links.proofs.Number.{step, start-limit, num-mono, start-ends, start-stays, num-ends, num-stays, num-zero, start-zero}
 use Rattle.links.proofs.EndRule.{ends-rule, starts-num, num-starts}
 use Rattle.links.proofs.Prefix.{Same, ends-same}
 

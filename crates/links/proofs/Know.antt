@@ -1,9 +1,8 @@
 -- The sets without a history. News rises with time, so `answers` of the later of two versions is the disjunction of the two: a round unites sets. The
 -- invariant is `knows` itself, and `knows-step` is the round.
-use mathlib.Core.Bool.{Bool, true, false, cond, _&&_, _||_, or-false, false≢true}
-use mathlib.Core.Logic.{_⊎_, inl, inr, ⊎-elim, _↔_}
+use mathlib.Core.Bool.{Bool, true, false, cond, _||_, or-false}
 use mathlib.Core.Path.{_≡_, refl, sym, _∙_, ap}
-use Prim.Native.Nat.{ℕ, zero, suc, max, _-_, _+_, _<_, _≤_}
+use Prim.Native.Nat.{ℕ, zero, suc, max, _-_, _≤_}
 use native.Mathlib.Decide.{ℕ-discrete, decLe}
 use native.Mathlib.Omega.{arith}
 use borrow.Author.Tests.{eq-eqb, ne-eqb, le-leb, lt-leb, leb-true}
@@ -11,11 +10,10 @@ use lib.Dec.{eqb, leb}
 use Rattle.places.specs.Places.{allBelow}
 use Rattle.places.proofs.Laws.{allBelow-ext}
 use Rattle.links.specs.Relay.{Links}
-use Rattle.links.specs.EndRule.{EndsIn, Starts}
 use Rattle.links.specs.Clock.{latest, news, hearing}
-use Rattle.links.specs.Number.{answers, full, start, ends, num}
+use Rattle.links.specs.Number.{answers, full, start, ends}
 use Rattle.links.specs.Know.{knows, either, brought, learnt, newly}
-use Rattle.links.proofs.Clock.{news-own, news-other, news-limit, news-keeps, news-mono, news-start}
+use Rattle.links.proofs.Clock.{news-own, news-other, news-limit, news-keeps, news-mono}
 use Rattle.links.proofs.Number.{answers-out, answers-in, start-ends, start-stays, ends-full, start-limit, start-zero}
 use Rattle.links.proofs.Hearing.{hearing-all, hearing-own}
 
@@ -32,7 +30,7 @@ not-true : (b : Bool) → (b ≡ true → ⊥) → b ≡ false
 not-true true h = absurd (h refl)
 not-true false h = refl
 
-either-true : (n : ℕ) (heard f : ℕ → Bool) → either n heard f true ≡ true
+pub either-true : (n : ℕ) (heard f : ℕ → Bool) → either n heard f true ≡ true
 unfolding either
 either-true zero heard f = refl
 either-true (suc n) heard f = rw (either-true n heard f) (go (heard n))

@@ -1,4 +1,5 @@
--- What a station knows of a broadcast: sets without a history. A means of proof and of code; no statement about ends names them.
+-- What a station knows of a broadcast: sets without a history. A means of proof and of code; no statement about ends
+-- names them.
 use mathlib.Core.Bool.{Bool, cond, _&&_, _||_}
 use Prim.Native.Nat.{ℕ, zero, suc}
 use lib.Dec.{eqb}

@@ -2,12 +2,12 @@
 -- every log of whole rounds there are such lists: its rounds with no post among them is one.
 use mathlib.Core.List.{List, [], _∷_, _++_, append-nil, append-assoc}
 use mathlib.Core.Path.{_≡_, refl, sym, ap, _∙_}
-use Prim.Native.Nat.{ℕ, zero, suc, _+_, _*_, _<_, _≤_}
+use Prim.Native.Nat.{ℕ, _+_, _*_, _<_, _≤_}
 use native.Mathlib.Nat.{le-refl}
 use native.Mathlib.Omega.{arith}
 use lib.ListN.{getD, length, length-append}
 use Rattle.kinds.specs.Refusals.{done}
-use Rattle.links.specs.Log.{masksIn, cut}
+use Rattle.links.specs.Log.{cut}
 use Rattle.links.specs.Relay.{ofLog}
 use Rattle.links.specs.Forecast.{endCount, lastEnd}
 use Rattle.links.proofs.Forecast.{endCount-same, lastEnd-same}

@@ -16,7 +16,8 @@ unfoldable pub lastReported : History → ℕ → ℕ → ℕ
 lastReported H s zero = 0
 lastReported H s (suc u) = cond (endsAt H s (suc u)) (suc u) (lastReported H s u)
 
--- the rounds of a list of calls have this log: it is as many rounds, and each round was given its masks for the stations below n
+-- the rounds of a list of calls have this log: it is as many rounds, and each round was given its masks for the
+-- stations below n
 pub record RoundsHave (n : ℕ) (H : History) (log : List ℕ) : Type 0 where
   pub whole : length log ≡ length (H .rounds) * n
   pub masks : (u p : ℕ) → u < length (H .rounds) → p < n → getD (getD (H .log) u []) p 0 ≡ getD log (u * n + p) 0

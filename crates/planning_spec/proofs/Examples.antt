@@ -1,7 +1,6 @@
 -- Forecasts, computed: that the definitions are about something. Document 01's listing; a single station; three in a chain; one that is never heard; refusals.
-use mathlib.Core.List.{List, [], _∷_, _++_}
+use mathlib.Core.List.{[], _∷_}
 use mathlib.Core.Path.{_≡_, refl}
-use Prim.Native.Nat.{ℕ}
 use lib.ListN.{replicate}
 use Rattle.places.specs.Places.{allBelow, fill}
 use Rattle.links.specs.Log.{bit, hearsIn, masksIn, cut}

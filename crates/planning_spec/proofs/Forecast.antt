@@ -1,23 +1,21 @@
 -- The forecast is what the end rule gives by relays alone, and no other answer is. Either way sixteen entries are compared place by place, and for one station
 -- `links` has both halves. The empty log has no rounds, so nothing ends.
-use mathlib.Core.Bool.{Bool, true, false, cond}
 use mathlib.Core.List.{List, []}
 use mathlib.Core.Path.{_≡_, refl, sym, ap, ap₂, _∙_}
-use Prim.Native.Nat.{ℕ, zero, suc, _+_, _*_, _/_, _%_, _<_, _≤_}
+use Prim.Native.Nat.{ℕ, zero, suc, _<_, _≤_}
 use native.Mathlib.Decide.{ℕ-discrete, decLe}
 use native.Mathlib.Nat.{zero-div, zero-mod}
 use native.Mathlib.Omega.{arith}
 use borrow.Author.Tests.{eq-eqb, ne-eqb, le-leb}
-use lib.Dec.{eqb}
 use lib.ListN.{getD, length, replicate, length-replicate}
-use Rattle.links.specs.Forecast.{endCount, lastEnd, ForecastByRelays}
+use Rattle.links.specs.Forecast.{endCount, lastEnd}
 use Rattle.links.proofs.Forecast.{forecast-by-relays, station-only, endCount-zero, lastEnd-zero}
 use Rattle.places.specs.Places.{fill}
 use Rattle.places.proofs.Laws.{length-fill, fill-below, fill-above, fill-ext, fill-all}
 use Rattle.planning_spec.specs.declared.ForecastAnswer.{ForecastAnswer}
 use Rattle.planning_spec.specs.LinkLog.{roundsOf, linksOf, logRefusal}
 use Rattle.planning_spec.specs.Forecast.{perStation, forecastCall, RelayForecast}
-use Rattle.planning_spec.proofs.LinkLog.{Accepted, accepted}
+use Rattle.planning_spec.proofs.LinkLog.{accepted}
 
 zeros-at : (k s : ℕ) → _≡_ {A = ℕ} (getD (replicate k 0) s 0) 0
 zeros-at zero s = refl

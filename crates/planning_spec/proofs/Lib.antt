@@ -1,3 +1,4 @@
 pub mod LinkLog
 pub mod Forecast
 pub mod Examples
+pub mod ForecastInto

@@ -3,14 +3,14 @@
 use mathlib.Core.Bool.{Bool, true, false, cond, not, _&&_}
 use mathlib.Core.List.{List}
 use mathlib.Core.Path.{_≡_, refl, sym, ap, _∙_}
-use Prim.Native.Nat.{ℕ, zero, suc, _+_, _*_, _/_, _%_, _<_, _≤_}
+use Prim.Native.Nat.{ℕ, suc, _+_, _*_, _/_, _%_, _<_, _≤_}
 use native.Mathlib.Decide.{ℕ-discrete}
 use native.Mathlib.Nat.{div-add-mod', suc-mul, mul-le-mul-right}
 use native.Mathlib.Omega.{arith}
-use borrow.Author.Tests.{eq-eqb, ne-eqb, eqb-true, eqb-false, ltb-false, leb-true}
+use borrow.Author.Tests.{eq-eqb, ne-eqb, eqb-true, ltb-false, leb-true}
 use lib.Dec.{eqb, ltb, leb}
-use lib.ListN.{getD, length}
-use Rattle.links.specs.Log.{bit, hearsIn, masksIn, cut}
+use lib.ListN.{getD}
+use Rattle.links.specs.Log.{bit, masksIn, cut}
 use Rattle.links.proofs.Log.{hearsIn-own, hearsIn-bit, cut-mask}
 use Rattle.planning_spec.specs.LinkLog.{roundsOf, linksOf, logRefusal, maskHears}
 

@@ -4,6 +4,7 @@ ghost use mathlib.Core.Path.{_≡_};
 ghost use Rattle.frame_rules.specs.Frame.{checkRefusal};
 
 mod relay_contest;
+mod relay_forecast;
 
 // The frame check: 0, or the refusal, for any bytes and any two numbers.
 #[no_mangle]

@@ -1,12 +1,10 @@
-use Prim.Native.Nat.{ℕ, _+_, _*_, _-_, _<_, _≤_}
+-- The loop keeps `ColumnIs` up to its counter: the sets of s before it begin, and nothing else has changed.
+use Prim.Native.Nat.{_-_, _≤_}
 use native.Mathlib.Omega.{arith}
-use mathlib.Core.Bool.{cond}
-use mathlib.Core.Path.{_≡_, refl, sym, ap, _∙_}
+use mathlib.Core.Path.{_≡_}
 use borrow.Author.Needs.{needs}
-use lib.Bits.{bitOr}
-use Rattle.broadcast_sets.specs.Sets.{cell, RowIs, ColumnIs, united, withReceiver, firstSet}
-use Rattle.planning_spec.specs.LinkLog.{maskHears}
-use Rattle.broadcast_sets.proofs.Rows.{row-start, row-next, row-more, united-zero, united-more, column-start, column-more}
+use Rattle.broadcast_sets.specs.Sets.{ColumnIs, firstSet}
+use Rattle.broadcast_sets.proofs.Rows.{column-start, column-more}
 use Rattle.broadcast_sets.proofs.begin.Statement.{statement}
 use Rattle.broadcast_sets.proofs.begin.Tie as tie
 use Rattle.broadcast_sets.proofs.begin.Reads as reads

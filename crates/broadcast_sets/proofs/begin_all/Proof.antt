@@ -1,11 +1,10 @@
-use Prim.Native.Nat.{ℕ, _+_, _*_, _-_, _<_, _≤_}
+-- The loop keeps `AllBegun` up to its counter.
+use Prim.Native.Nat.{_-_, _≤_}
 use native.Mathlib.Omega.{arith}
-use mathlib.Core.Path.{_≡_, refl, sym, ap, _∙_}
+use mathlib.Core.Path.{_≡_}
 use borrow.Author.Needs.{needs}
-use borrow.Author.Tests.{not-true, not-false}
-use lib.ListN.{getD, length}
-use Rattle.broadcast_sets.specs.Sets.{cell, OneClosed, Closed, AllBegun}
-use Rattle.broadcast_sets.proofs.Closing.{not-closed, closed, closed-start, closed-more, fresh-start, fresh-more}
+use Rattle.broadcast_sets.specs.Sets.{AllBegun}
+use Rattle.broadcast_sets.proofs.Closing.{fresh-start, fresh-more}
 use Rattle.broadcast_sets.proofs.begin_all.Statement.{statement}
 use Rattle.broadcast_sets.proofs.begin_all.Tie as tie
 use Rattle.broadcast_sets.proofs.begin_all.Reads as reads

@@ -1,12 +1,12 @@
+-- The loop keeps `Closed` up to its counter. The set of a station at itself is as it was when its turn comes, so each test is that of the sets handed in.
 use native.Mathlib.Nat.{le-refl}
-use Prim.Native.Nat.{ℕ, _+_, _*_, _-_, _<_, _≤_}
+use Prim.Native.Nat.{_-_, _<_, _≤_}
 use native.Mathlib.Omega.{arith}
-use mathlib.Core.Path.{_≡_, refl, sym, ap, _∙_}
+use mathlib.Core.Path.{_≡_}
 use borrow.Author.Needs.{needs}
-use borrow.Author.Tests.{not-true, not-false}
-use lib.ListN.{getD, length}
-use Rattle.broadcast_sets.specs.Sets.{cell, OneClosed, Closed, AllBegun}
-use Rattle.broadcast_sets.proofs.Closing.{not-closed, closed, closed-start, closed-more, fresh-start, fresh-more}
+use lib.ListN.{getD}
+use Rattle.broadcast_sets.specs.Sets.{Closed}
+use Rattle.broadcast_sets.proofs.Closing.{closed-start, closed-more}
 use Rattle.broadcast_sets.proofs.close.Statement.{statement}
 use Rattle.broadcast_sets.proofs.close.Tie as tie
 use Rattle.broadcast_sets.proofs.close.Reads as reads

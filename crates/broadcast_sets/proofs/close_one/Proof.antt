@@ -1,11 +1,9 @@
-use Prim.Native.Nat.{ℕ, _+_, _*_, _-_, _<_, _≤_}
+-- The test is whether the set of s at s is full. Without it nothing changes; with it the column of s begins anew, and its count and round are set.
 use native.Mathlib.Omega.{arith}
-use mathlib.Core.Path.{_≡_, refl, sym, ap, _∙_}
+use mathlib.Core.Path.{sym, _∙_}
 use borrow.Author.Needs.{needs}
 use borrow.Author.Tests.{not-true, not-false}
-use lib.ListN.{getD, length}
-use Rattle.broadcast_sets.specs.Sets.{cell, OneClosed, Closed, AllBegun}
-use Rattle.broadcast_sets.proofs.Closing.{not-closed, closed, closed-start, closed-more, fresh-start, fresh-more}
+use Rattle.broadcast_sets.proofs.Closing.{not-closed, closed}
 use Rattle.broadcast_sets.proofs.close_one.Statement.{statement}
 use Rattle.broadcast_sets.proofs.close_one.Tie as tie
 use Rattle.broadcast_sets.proofs.close_one.Reads as reads

@@ -1,3 +1,4 @@
+-- The shift gives 2 ^ s.
 use borrow.Author.Tests.{eq-eqb, ne-eqb}
 use Rattle.broadcast_sets.specs.Sets.{firstSet}
 use Rattle.broadcast_sets.proofs.Bits.{shifted16}

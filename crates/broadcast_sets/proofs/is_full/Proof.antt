@@ -1,3 +1,4 @@
+-- The shift gives 2 ^ n, and nothing is lost at 32 bits.
 use lib.Pow.{pow-pos}
 use Rattle.broadcast_sets.specs.Sets.{isFull}
 use Rattle.broadcast_sets.proofs.Bits.{shifted32}

@@ -1,14 +1,11 @@
-use Prim.Native.Nat.{ℕ, _+_, _*_, _-_, _<_, _≤_}
+-- The loop keeps `RowIs` up to its counter: the row of p holds what was handed in before it, and nothing else has changed.
+use Prim.Native.Nat.{_-_, _<_, _≤_}
 use native.Mathlib.Omega.{arith}
-use mathlib.Core.Bool.{cond}
-use mathlib.Core.Path.{_≡_, refl, sym, ap, _∙_}
+use mathlib.Core.Path.{_≡_, refl}
 use borrow.Author.Needs.{needs}
-use borrow.Author.Tests.{not-true, not-false}
-use lib.Bits.{bitOr}
 use lib.ListN.{getD}
-use Rattle.broadcast_sets.specs.Sets.{cell, FirstAre, RowIs, united, withReceiver}
-use Rattle.planning_spec.specs.LinkLog.{maskHears}
-use Rattle.broadcast_sets.proofs.Rows.{row-start, row-more, row-ext, first-start, first-next, first-more, first-then, first-ext, first-same, united-zero, united-more}
+use Rattle.broadcast_sets.specs.Sets.{RowIs}
+use Rattle.broadcast_sets.proofs.Rows.{row-start, row-more}
 use Rattle.broadcast_sets.proofs.store.Statement.{statement}
 use Rattle.broadcast_sets.proofs.store.Tie as tie
 use Rattle.broadcast_sets.proofs.store.Reads as reads

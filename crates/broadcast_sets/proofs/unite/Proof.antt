@@ -1,14 +1,12 @@
-use Prim.Native.Nat.{ℕ, _+_, _*_, _-_, _<_, _≤_}
+-- The loop keeps `FirstAre` up to its counter: the sets before it are united, and those from it on are as they were.
+use Prim.Native.Nat.{ℕ, _-_, _≤_}
 use native.Mathlib.Omega.{arith}
-use mathlib.Core.Bool.{cond}
-use mathlib.Core.Path.{_≡_, refl, sym, ap, _∙_}
+use mathlib.Core.Path.{_≡_, ap}
 use borrow.Author.Needs.{needs}
-use borrow.Author.Tests.{not-true, not-false}
 use lib.Bits.{bitOr}
 use lib.ListN.{getD}
-use Rattle.broadcast_sets.specs.Sets.{cell, FirstAre, RowIs, united, withReceiver}
-use Rattle.planning_spec.specs.LinkLog.{maskHears}
-use Rattle.broadcast_sets.proofs.Rows.{row-start, row-more, row-ext, first-start, first-next, first-more, first-then, first-ext, first-same, united-zero, united-more}
+use Rattle.broadcast_sets.specs.Sets.{cell, FirstAre, united}
+use Rattle.broadcast_sets.proofs.Rows.{first-start, first-next, first-more}
 use Rattle.broadcast_sets.proofs.unite.Statement.{statement}
 use Rattle.broadcast_sets.proofs.unite.Tie as tie
 use Rattle.broadcast_sets.proofs.unite.Reads as reads

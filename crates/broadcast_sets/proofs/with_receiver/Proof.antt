@@ -1,5 +1,9 @@
-use mathlib.Core.Path.{_≡_, sym, _∙_}
-use borrow.Author.Tests.{not-true, not-false}
+-- The bit of s decides, and the shift gives 2 ^ p.
+use mathlib.Core.Path.{_≡_}
+use Prim.Native.Nat.{_/_, _%_, _^_}
+use native.Mathlib.Omega.{arith}
+use borrow.Author.Tests.{eq-eqb, ne-eqb}
+use Rattle.links.specs.Log.{bit}
 use Rattle.broadcast_sets.specs.Sets.{withReceiver}
 use Rattle.broadcast_sets.proofs.Bits.{shifted16}
 use borrow.Author.Needs.{needs}
@@ -7,27 +11,21 @@ use Rattle.broadcast_sets.proofs.with_receiver.Statement.{statement}
 use Rattle.broadcast_sets.proofs.with_receiver.Tie as tie
 use Rattle.broadcast_sets.proofs.with_receiver.Reads as reads
 use Rattle.broadcast_sets.proofs.with_receiver.Lts as lts
-use Rattle.links.proofs.set_at.Reads as set-at-reads
-
-set-at-requires : tie.Need-set-at-requires
-set-at-requires c κs = search needs
 
 returns : tie.Need-returns
-unfolding withReceiver
-returns c = let e = sym (c .before .set-at .ensures) ∙ not-true _ (c .if1 .taken) in rw e
-
-cast-result : tie.Need-cast-result
-cast-result c = search needs
-
-shl-result : tie.Need-shl-result
-shl-result c = search needs
+unfolding withReceiver bit
+returns c =
+    let a = c .before .args in
+    rw (ne-eqb (a .set / 2 ^ a .s % 2) 1 (λ e. absurd (omega (arith, c .if1 .taken))))
 
 returns-2 : tie.Need-returns-2
-unfolding withReceiver
+unfolding withReceiver bit
 returns-2 c =
-    let a = c .before .before .args in
-    let e = sym (c .before .set-at .ensures) ∙ not-false _ (c .if1 .left) in
-    rw (e, shifted16 (a .p) (c .before .before .pre .1))
+    let a = c .before .args in
+    let e : a .set / 2 ^ a .s % 2 ≡ 1 = omega (arith, c .if1 .left) in
+    rw (eq-eqb (a .set / 2 ^ a .s % 2) 1 e, shifted16 (a .p) (c .before .pre .1))
 
 pub with-receiver-spec : {M : Type 1} → statement M
-with-receiver-spec = tie.close (tie.spec set-at-requires returns cast-result shl-result returns-2)
+with-receiver-spec =
+    tie.close
+    (tie.spec (λ c. search needs) (λ c. search needs) returns (λ c. search needs) (λ c. search needs) returns-2)

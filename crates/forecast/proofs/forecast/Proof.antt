@@ -1,7 +1,6 @@
 -- The refusal is that of the log; without one the log's rounds are whole.
-use mathlib.Core.Path.{_≡_, refl, sym, ap, _∙_}
-use lib.ListN.{length, replicate}
-use Rattle.planning_spec.proofs.LinkLog.{Accepted, accepted}
+use mathlib.Core.Path.{refl, sym, _∙_}
+use Rattle.planning_spec.proofs.LinkLog.{accepted}
 use Rattle.planning_spec.proofs.Forecast.{forecast-refused}
 use borrow.Author.Needs.{needs}
 use Rattle.forecast.proofs.forecast.Statement.{statement}

@@ -1,11 +1,11 @@
 -- The loop keeps `Stands`: after u rounds of the log, the sets are what is known in its links, and counts and rounds are those of the ends so far.
-use Prim.Native.Nat.{ℕ, _+_, _*_, _-_, _/_, _<_, _≤_}
+use Prim.Native.Nat.{ℕ, _-_, _<_, _≤_}
 use native.Mathlib.Omega.{arith}
-use mathlib.Core.Path.{_≡_, refl, sym, ap, _∙_}
+use mathlib.Core.Path.{_≡_, _∙_}
 use borrow.Author.Needs.{needs}
-use lib.ListN.{getD, length, length-replicate}
+use lib.ListN.{length-replicate}
 use Rattle.planning_spec.specs.LinkLog.{roundsOf, linksOf}
-use Rattle.planning_spec.proofs.LinkLog.{Accepted, accepted, round-inside}
+use Rattle.planning_spec.proofs.LinkLog.{accepted, round-inside}
 use Rattle.broadcast_sets.specs.Stands.{Stands}
 use Rattle.broadcast_sets.proofs.Stands.{stands-start, stands-small, round-more, zeros-at}
 use Rattle.forecast.proofs.Answer.{answered}
@@ -101,6 +101,7 @@ of-rounds-spec =
     (λ c. search needs)
     cast-close
     close-requires
+    (λ c. search needs)
     (λ c. search needs)
     loop-again
     returns)
