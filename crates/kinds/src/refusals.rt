@@ -25,3 +25,5 @@ pub const COUNT_TOO_HIGH: u32 = 10;
 pub const MALFORMED_LINE: u32 = 11;
 
 pub const BAD_LINK_LOG: u32 = 12;
+
+pub const BAD_CONTEST: u32 = 20;
