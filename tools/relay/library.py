@@ -112,3 +112,9 @@ def questions(n, log, asked):
     answers = array("I", [0] * len(asked))
     refusal = call("relay_questions", log, n, array("I", [number for one in asked for number in one]), answers)
     return refusal, [None if one == NEVER else one for one in answers]
+
+
+def contest(n, station, sets, rounds):
+    """Who can force the result, 0 for the breaker and 1 for the keeper, and the keeper's first pick."""
+    answer = array("I", [0, 0])
+    return call("relay_contest", n, station, array("H", sets), rounds, answer), tuple(answer)
