@@ -1,6 +1,6 @@
-/* What the edit relay offers to C: the frame check, for the host that moves frames, the forecast and
-   the merge of link logs, for planners, and the load generator. Link with the archive that
-   `rt staticlib relay_host` makes, target/staticlib/librelay_host.a.
+/* What the edit relay offers to C: the frame check, for the host that moves frames; for planners the
+   forecast, the merge of link logs, a page of questions and the link contest; and the load generator.
+   Link with the archive that `rt staticlib relay_host` makes, target/staticlib/librelay_host.a.
 
    Memory that a call is lent stays the caller's: no call keeps a pointer, allocates, or writes outside
    what its text names. Pointers are not null, also where a length is 0. Two buffers of one call must
@@ -25,7 +25,8 @@ enum relay_refusal {
     RELAY_BAD_RECORD = 7,  /* a record is outside its limits */
     RELAY_SHORT_BUFFER = 9, /* a lent buffer has no room for what is to be written */
     RELAY_BAD_LINK_LOG = 12, /* a link log is not whole rounds, or has more than 2,048 */
-    RELAY_BAD_QUESTION = 18 /* a question is bad, is not whole, or is past the 64th */
+    RELAY_BAD_QUESTION = 18, /* a question is bad, is not whole, or is past the 64th */
+    RELAY_BAD_CONTEST = 20 /* a contest has too many stations, sets or rounds, no set, or masks that are not whole sets */
 };
 
 /* Checks the len bytes at `bytes` as a frame heard by station `own` among n stations.
@@ -146,6 +147,34 @@ uint32_t relay_merge(const uint16_t *first, size_t first_len, const uint16_t *se
 uint32_t relay_questions(const uint16_t *log, size_t log_len, uint32_t n,
                          const uint32_t *questions, size_t questions_len,
                          uint32_t *answers, size_t answers_len);
+
+/* The link contest: a keeper wants station s to end its first broadcast, a breaker does not. In odd
+   rounds the keeper picks the set of links that holds, in even rounds the breaker, each knowing the
+   picks before. Tells which of the two can force the result against every play of the other.
+
+   n               the number of stations, at most 4
+   s               the station whose first broadcast it is about
+   sets, sets_len  the sets, numbered from 0: n masks a set, from station 0 up, one to four sets. Masks are
+                   those of a link log.
+   rounds          how many rounds are played, at most 6. With none the breaker wins.
+   answer,         where the answer goes: room for at least two numbers. answer[0] becomes 0 where the
+   answer_len      breaker can force the result and 1 where the keeper can; answer[1] becomes the
+                   keeper's first pick, the lowest from which it still can, or 0 for the breaker.
+                   Numbers past these two are not touched.
+
+   Returns 0, or, and then the buffer does not change, in this order:
+       1    n is not 1 to 16, or s is not below n
+       20   n is above 4, the masks are not one to four whole sets, or there are more than 6 rounds
+       9    answer_len is less than 2
+
+   Example: two stations; in set 0 nobody hears, in set 1 both hear each other; three rounds.
+
+       const uint16_t sets[] = {0, 0, 2, 1};
+       uint32_t answer[2];
+       if (relay_contest(2, 0, sets, 4, 3, answer, 2) == RELAY_DONE)
+           printf("%u %u\n", answer[0], answer[1]);   prints 1 1: the keeper, by picking set 1 */
+uint32_t relay_contest(uint32_t n, uint32_t s, const uint16_t *sets, size_t sets_len, uint32_t rounds,
+                       uint32_t *answer, size_t answer_len);
 
 #ifdef __cplusplus
 }

@@ -21,6 +21,7 @@ Of the later requests, document 02:
     forecast.py   A1: the ends of all broadcasts, from a link log
     merge.py      A10: two link logs merged
     questions.py  A11: by which round a broadcast is received
+    contest.py    A13: the link contest
     load.py       A5: a script drawn from a seed
 
 For tests only:

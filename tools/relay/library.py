@@ -114,6 +114,12 @@ def questions(n, log, asked):
     return refusal, [None if one == NEVER else one for one in answers]
 
 
+def contest(n, station, sets, rounds):
+    """Who can force the result, 0 for the breaker and 1 for the keeper, and the keeper's first pick."""
+    answer = array("I", [0, 0])
+    return call("relay_contest", n, station, array("H", sets), rounds, answer), tuple(answer)
+
+
 def load(state, n, due, head, buffer):
     """Writes the next lines of a generated script into the buffer, an array; gives their length and the next state."""
     after = array("I", [0, 0])

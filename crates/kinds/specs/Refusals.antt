@@ -57,6 +57,10 @@ badLinkLog = 12
 abbrev pub badQuestion : ℕ
 badQuestion = 18
 
+-- a link contest has too many stations, sets or rounds, no set, or masks that are not whole sets (document 02, A13)
+abbrev pub badContest : ℕ
+badContest = 20
+
 -- the first refusal that applies decides: where the test holds its number is the answer, else what comes after it
 abbrev pub refuse : Bool → ℕ → ℕ → ℕ
 refuse test number rest = cond test number rest
