@@ -32,7 +32,7 @@ def script(links, rounds):
     for number in range(rounds):
         if number % POST_EVERY == 0:
             post = number // POST_EVERY
-            yield line("P", [post % N, 2, 1 + post, post % 2_160_000])
+            yield line("P", [post % N, 2, 1 + post, post % 1_000_000])
         yield cycle[number % N]
 
 

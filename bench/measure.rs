@@ -6,10 +6,19 @@ use std::hint::black_box;
 use std::process::ExitCode;
 use std::time::{Duration, Instant};
 
-use relay_peer::{frames, measured, refusals};
+use relay_peer::{forecast, frames, load, measured, merge, questions, refusals};
 
-/// A slice and two numbers in, a number out: the form of everything that is measured.
+/// A slice and two numbers in, a number out: the form of everything that is measured but the forecast, the merge and the questions.
 type Function = unsafe extern "C" fn(*const u8, usize, u32, u32) -> u32;
+
+/// The forecast: a log and N in, the counts of ends and the rounds of the last into two buffers.
+type Forecast = unsafe extern "C" fn(*const u16, usize, u32, *mut u16, usize, *mut u16, usize) -> u32;
+
+/// The merge: two logs and N in, the merged log and its number of masks into two buffers.
+type Merge = unsafe extern "C" fn(*const u16, usize, *const u16, usize, u32, *mut u16, usize, *mut u32, usize) -> u32;
+
+/// The questions: a log, N and a page in, an answer a question into a buffer.
+type Questions = unsafe extern "C" fn(*const u16, usize, u32, *const u32, usize, *mut u32, usize) -> u32;
 
 /// The frame check of crate relay_host.
 #[cfg(relay_host)]
@@ -17,11 +26,35 @@ const PROJECT_CHECK: Option<Function> = Some(relay_frame_check);
 #[cfg(not(relay_host))]
 const PROJECT_CHECK: Option<Function> = None;
 
+/// The forecast of crate relay_host.
+#[cfg(relay_host)]
+const PROJECT_FORECAST: Option<Forecast> = Some(relay_forecast);
+#[cfg(not(relay_host))]
+const PROJECT_FORECAST: Option<Forecast> = None;
+
+/// The merge of crate relay_host.
+#[cfg(relay_host)]
+const PROJECT_MERGE: Option<Merge> = Some(relay_merge);
+#[cfg(not(relay_host))]
+const PROJECT_MERGE: Option<Merge> = None;
+
+/// The questions of crate relay_host.
+#[cfg(relay_host)]
+const PROJECT_QUESTIONS: Option<Questions> = Some(relay_questions);
+#[cfg(not(relay_host))]
+const PROJECT_QUESTIONS: Option<Questions> = None;
+
 /// The rounds of crate relay_bench.
 #[cfg(relay_bench)]
 const PROJECT_ROUNDS: Option<Function> = Some(relay_bench_rounds);
 #[cfg(not(relay_bench))]
 const PROJECT_ROUNDS: Option<Function> = None;
+
+/// The load generator of crate relay_host.
+#[cfg(relay_host)]
+const PROJECT_LOAD: Option<Function> = Some(load_project);
+#[cfg(not(relay_host))]
+const PROJECT_LOAD: Option<Function> = None;
 
 const CHECK_PEERS: &[(&str, Function)] = &[
     ("Rust", frame_check_rust),
@@ -35,6 +68,32 @@ unsafe extern "C" {
     fn clock() -> c_long;
     #[cfg(relay_host)]
     fn relay_frame_check(bytes: *const u8, len: usize, n: u32, own: u32) -> u32;
+    #[cfg(relay_host)]
+    fn relay_forecast(log: *const u16, len: usize, n: u32, ends: *mut u16, ends_len: usize, last: *mut u16, last_len: usize) -> u32;
+    #[cfg(relay_host)]
+    fn relay_load(state: u32, n: u32, due: u32, head: u32, buffer: *mut u8, len: usize, next: *mut u32, places: usize) -> u32;
+    #[cfg(relay_host)]
+    fn relay_merge(
+        first: *const u16,
+        first_len: usize,
+        second: *const u16,
+        second_len: usize,
+        n: u32,
+        merged: *mut u16,
+        merged_len: usize,
+        masks: *mut u32,
+        masks_len: usize,
+    ) -> u32;
+    #[cfg(relay_host)]
+    fn relay_questions(
+        log: *const u16,
+        len: usize,
+        n: u32,
+        page: *const u32,
+        page_len: usize,
+        answers: *mut u32,
+        answers_len: usize,
+    ) -> u32;
     #[cfg(relay_bench)]
     fn relay_bench_rounds(schedule: *const u8, len: usize, n: u32, rounds: u32) -> u32;
     #[cfg(gcc)]
@@ -54,13 +113,150 @@ extern "C" fn rounds_rust(schedule: *const u8, len: usize, n: u32, rounds: u32) 
     measured::rounds(unsafe { std::slice::from_raw_parts(schedule, len) }, n, rounds)
 }
 
+extern "C" fn forecast_rust(log: *const u16, len: usize, n: u32, ends: *mut u16, _: usize, last: *mut u16, _: usize) -> u32 {
+    // SAFETY: the measures below hand in a whole slice, and two buffers of sixteen entries.
+    let log = unsafe { std::slice::from_raw_parts(log, len) };
+    let answer = forecast::forecast(log, n as usize);
+    if let Ok(forecast) = answer {
+        unsafe {
+            ends.cast::<[u16; 16]>().write(forecast.ends);
+            last.cast::<[u16; 16]>().write(forecast.last);
+        }
+    }
+    refusals::number(&answer)
+}
+
+/// The rounds of a script, call by call; the sum has the length and the state of each round, and one of its bytes, another in each.
+fn load_rounds(rounds: u32, call: impl Fn(u32, u32, &mut [u8], &mut [u32; 2]) -> u32) -> u32 {
+    let (mut buffer, mut next, mut sum) = ([0; load::ENOUGH], [1, 0], 0u32);
+    for due in (1..=rounds).rev() {
+        let refusal = call(next[0], due, &mut buffer, &mut next);
+        let byte = buffer[(due % next[1].max(1)) as usize];
+        sum = sum.wrapping_mul(31).wrapping_add(refusal + next[1] + u32::from(byte)).wrapping_add(next[0]);
+    }
+    sum
+}
+
+extern "C" fn load_rust(_bytes: *const u8, _len: usize, n: u32, rounds: u32) -> u32 {
+    load_rounds(rounds, |state, due, buffer, next| load::call(black_box(state), n, due, black_box(0), buffer, next))
+}
+
+#[cfg(relay_host)]
+extern "C" fn load_project(_bytes: *const u8, _len: usize, n: u32, rounds: u32) -> u32 {
+    load_rounds(rounds, |state, due, buffer, next| {
+        // SAFETY: pointers and lengths are those of slices that live through the call.
+        unsafe { relay_load(state, n, due, 0, buffer.as_mut_ptr(), buffer.len(), next.as_mut_ptr(), next.len()) }
+    })
+}
+
+#[allow(clippy::too_many_arguments)]
+extern "C" fn merge_rust(
+    first: *const u16,
+    first_len: usize,
+    second: *const u16,
+    second_len: usize,
+    n: u32,
+    merged: *mut u16,
+    merged_len: usize,
+    masks: *mut u32,
+    _: usize,
+) -> u32 {
+    // SAFETY: the measures below hand in two whole slices, a whole buffer, and room for one number.
+    let (first, second, merged) = unsafe {
+        (
+            std::slice::from_raw_parts(first, first_len),
+            std::slice::from_raw_parts(second, second_len),
+            std::slice::from_raw_parts_mut(merged, merged_len),
+        )
+    };
+    let answer = merge::merge(first, second, n as usize, merged);
+    if let Ok(count) = answer {
+        unsafe { masks.write(count as u32) };
+    }
+    refusals::number(&answer)
+}
+
+extern "C" fn questions_rust(
+    log: *const u16,
+    len: usize,
+    n: u32,
+    page: *const u32,
+    page_len: usize,
+    answers: *mut u32,
+    answers_len: usize,
+) -> u32 {
+    // SAFETY: the measures below hand in two whole slices and a whole buffer.
+    let (log, page, answers) = unsafe {
+        (
+            std::slice::from_raw_parts(log, len),
+            std::slice::from_raw_parts(page, page_len),
+            std::slice::from_raw_parts_mut(answers, answers_len),
+        )
+    };
+    refusals::number(&questions::answer(log, n as usize, page, answers))
+}
+
 /// What one sample runs: about a millisecond, so that on a busy machine some samples stay undisturbed.
 const CHECKS: u32 = 25_600;
 const STATION_ROUNDS: u32 = 2_048;
+const LOAD_STATIONS: u32 = 65_536;
 
 fn call(function: Function, bytes: &[u8], first: u32, second: u32) -> u32 {
     // SAFETY: pointer and length are those of a slice that lives through the call.
     unsafe { function(bytes.as_ptr(), bytes.len(), first, second) }
+}
+
+/// A checksum of so many forecasts of a log.
+fn foretell(function: Forecast, log: &[u16], n: u32, times: u32) -> u32 {
+    let mut entries = [0u16; 32];
+    let mut sum = 0u32;
+    for _ in 0..times {
+        let (ends, last) = entries.split_at_mut(16);
+        // SAFETY: the log is a slice that lives through the call, and each buffer has its sixteen entries.
+        let refusal = unsafe { function(log.as_ptr(), log.len(), n, ends.as_mut_ptr(), 16, last.as_mut_ptr(), 16) };
+        sum = entries.iter().fold(sum.wrapping_add(refusal), |sum, &entry| sum.wrapping_mul(31).wrapping_add(entry.into()));
+    }
+    sum
+}
+
+/// A checksum of so many merges of two logs.
+fn join(function: Merge, first: &[u16], second: &[u16], n: u32, times: u32) -> u32 {
+    let mut merged = vec![0u16; first.len().max(second.len()) + 1];
+    let mut masks = [0u32];
+    let mut sum = 0u32;
+    for _ in 0..times {
+        // SAFETY: the logs are slices that live through the call, and each buffer has its length.
+        let refusal = unsafe {
+            function(
+                first.as_ptr(),
+                first.len(),
+                second.as_ptr(),
+                second.len(),
+                n,
+                black_box(merged.as_mut_ptr()),
+                merged.len(),
+                masks.as_mut_ptr(),
+                1,
+            )
+        };
+        sum = sum.wrapping_add(refusal).wrapping_mul(31).wrapping_add(masks[0]);
+    }
+    merged.iter().fold(sum, |sum, &mask| sum.wrapping_mul(31).wrapping_add(mask.into()))
+}
+
+/// A checksum of the answers to a page.
+fn ask(function: Questions, log: &[u16], n: u32, page: &[u32]) -> u32 {
+    let mut answers = [0u32; 64];
+    // SAFETY: log and page are slices that live through the call, and the buffer has its length.
+    let refusal = unsafe {
+        function(log.as_ptr(), log.len(), n, page.as_ptr(), page.len(), black_box(answers.as_mut_ptr()), answers.len())
+    };
+    answers.iter().fold(refusal, |sum, &answer| sum.wrapping_mul(31).wrapping_add(answer))
+}
+
+/// Sixty-four questions about n stations, with numbers up to a most.
+fn page_of_questions(n: u32, most: u32) -> Vec<u32> {
+    (0..64).flat_map(|i| [i % n, i / 7 % n, 1 + i * most / 63]).collect()
 }
 
 /// What this process has had of its processor: on a busy machine the clock on the wall also counts others.
@@ -70,21 +266,21 @@ fn processor_time() -> Duration {
 }
 
 /// One measure: the work is some units of `function`, and gives a checksum.
-struct Measure<'a> {
+struct Measure<'a, F> {
     name: String,
     units: u32,
-    work: &'a dyn Fn(Function) -> u32,
+    work: &'a dyn Fn(F) -> u32,
 }
 
-impl Measure<'_> {
-    fn time(&self, function: Function) -> Duration {
+impl<F: Copy> Measure<'_, F> {
+    fn time(&self, function: F) -> Duration {
         let begun = processor_time();
         black_box((self.work)(function));
         processor_time() - begun
     }
 
     /// Prints the line; false if the project and the peer do not give the same answer.
-    fn print(&self, project: Option<Function>, peer: Function, span: Duration) -> bool {
+    fn print(&self, project: Option<F>, peer: F, span: Duration) -> bool {
         let name = &self.name;
         if let Some(project) = project
             && (self.work)(project) != (self.work)(peer)
@@ -122,7 +318,7 @@ fn frame(n: u8, seed: u32) -> Vec<u8> {
             1 | 2 => (1, 0, 0),
             3 => (3, 1 + mixed, 0),
             4 => (4, 1 + mixed, (mixed % 180_001) as i32 - 90_000),
-            _ => (2, 1 + mixed, (mixed % 2_160_000) as i32),
+            _ => (2, 1 + mixed, (mixed % 1_000_000) as i32),
         };
         let labels = (0..n).fold(0, |word, k| word | (mixed >> (k % 7)) % 3 << (2 * k));
         bytes.extend([station, (mixed % (2 * u32::from(n) - 1)) as u8, kind, 0]);
@@ -142,6 +338,15 @@ fn full_mesh(_n: usize) -> Vec<u8> {
 fn sparse(n: usize) -> Vec<u8> {
     let masks = |round: usize| (0..16).flat_map(move |i| (1u16 << ((i + 1) % n) | 1 << ((i + round) % n)).to_le_bytes());
     (0..n).flat_map(masks).collect()
+}
+
+/// A log of so many rounds in which each bit of each mask is drawn.
+fn drawn_log(masks: usize) -> Vec<u16> {
+    let draw = |state: &mut u32| {
+        *state = state.wrapping_mul(1_664_525).wrapping_add(1_013_904_223);
+        Some((*state >> 16) as u16)
+    };
+    std::iter::repeat(()).scan(1, |state, ()| draw(state)).take(masks).collect()
 }
 
 fn main() -> ExitCode {
@@ -167,9 +372,56 @@ fn main() -> ExitCode {
             agree &= Measure { name, units: rounds, work: &work }.print(PROJECT_ROUNDS, rounds_rust, span);
         }
     }
+    for (links, rounds, n) in [
+        ("full-mesh", 2048, 16),
+        ("full-mesh", 2048, 8),
+        ("full-mesh", 2048, 2),
+        ("full-mesh", 256, 16),
+        ("drawn", 2048, 16),
+        ("drawn", 2048, 8),
+        ("drawn", 2048, 2),
+    ] {
+        let masks = rounds * n as usize;
+        let log = if links == "drawn" { drawn_log(masks) } else { vec![0xFFFF; masks] };
+        let times = (32_768 / masks).max(1) as u32;
+        let work = |function| foretell(function, &log, n, times);
+        let name = format!("forecast, {rounds} {links} rounds, N = {n}, a round");
+        agree &= Measure { name, units: times * rounds as u32, work: &work }.print(PROJECT_FORECAST, forecast_rust as Forecast, span);
+    }
+    for (shorter, n) in [(2048, 16), (1024, 16), (2048, 8), (2048, 3), (2048, 2)] {
+        let masks = 2048 * n as usize;
+        let drawn = drawn_log(masks + shorter * n as usize);
+        let (first, second) = drawn.split_at(masks);
+        let times = (8_388_608 / masks) as u32;
+        let work = |function| join(function, first, second, n, times);
+        let name = format!("merge, 2048 rounds and {shorter}, N = {n}, a round");
+        agree &= Measure { name, units: times * 2048, work: &work }.print(PROJECT_MERGE, merge_rust as Merge, span);
+    }
+    for (links, most) in [("drawn", 1000), ("full-mesh", 1100), ("drawn", 10)] {
+        let log = if links == "drawn" { drawn_log(2048 * 16) } else { vec![0xFFFF; 2048 * 16] };
+        let page = page_of_questions(16, most);
+        let work = |function| ask(function, &log, 16, &page);
+        let name = format!("64 questions up to number {}, 2048 {links} rounds, N = 16, a round", 1 + most);
+        agree &= Measure { name, units: 2048, work: &work }.print(PROJECT_QUESTIONS, questions_rust as Questions, span);
+        if let (Some(questions), Some(forecast)) = (PROJECT_QUESTIONS, PROJECT_FORECAST) {
+            // Here the peer is the project's own forecast of the same log.
+            let work = |asked| {
+                black_box(if asked { ask(questions, &log, 16, &page) } else { foretell(forecast, &log, 16, 1) });
+                0
+            };
+            let name = format!("64 questions up to number {}, 2048 {links} rounds, N = 16, a round, peer the forecast alone", 1 + most);
+            agree &= Measure { name, units: 2048, work: &work }.print(Some(true), false, span);
+        }
+    }
     let many = if quick { 2_000 } else { 20_000 };
     let work = |function| call(function, &full_mesh(16), 16, many);
     let name = format!("full-mesh round, N = 16, {many} rounds in one run");
     agree &= Measure { name, units: many, work: &work }.print(PROJECT_ROUNDS, rounds_rust, span);
+    for n in [2, 8, 16] {
+        let rounds = LOAD_STATIONS / n;
+        let work = |function| call(function, &[], n, rounds);
+        let name = format!("load of a round, N = {n}");
+        agree &= Measure { name, units: rounds, work: &work }.print(PROJECT_LOAD, load_rust, span);
+    }
     if agree { ExitCode::SUCCESS } else { ExitCode::FAILURE }
 }

@@ -7,6 +7,7 @@ use relay_peer::bodies::Body;
 use relay_peer::frames::{self, Record};
 use relay_peer::group::{Group, Report};
 use relay_peer::labels::PLACES;
+use relay_peer::load;
 use relay_peer::queues::{Lane, Queue};
 use relay_peer::refusals::{Refusal, number};
 use relay_peer::station::{Station, TurnReport};
@@ -175,4 +176,15 @@ pub unsafe extern "C" fn frame_check_peer_rust(bytes: *const u8, len: usize, n: 
     // SAFETY: by the condition above.
     let frame = unsafe { std::slice::from_raw_parts(bytes, len) };
     number(&frames::check(frame, n as usize, own as usize))
+}
+
+/// The load generator, as relay_load of relay_host.
+///
+/// # Safety
+/// Both pointers are those of slices of the lengths given.
+#[unsafe(no_mangle)]
+pub unsafe extern "C" fn peer_load(state: u32, n: u32, due: u32, head: u32, out: *mut u8, out_len: usize, next: *mut u32, next_len: usize) -> u32 {
+    // SAFETY: by the condition above.
+    let (out, next) = unsafe { (std::slice::from_raw_parts_mut(out, out_len), std::slice::from_raw_parts_mut(next, next_len)) };
+    load::call(state, n, due, head, out, next)
 }

@@ -55,7 +55,7 @@ static uint32_t word_at(const uint8_t *at)
 static void put_record(uint8_t *at, int station, int round)
 {
     static const struct { uint8_t kind; uint32_t event; int32_t argument; } bodies[] = {
-        {0, 0, 0}, {1, 0, 0}, {2, 7, 2159999}, {3, 7, 0}, {4, 7, -90000}};
+        {0, 0, 0}, {1, 0, 0}, {2, 7, 2699999}, {3, 7, 0}, {4, 7, -90000}};
     int which = (station + round) % 5;
     at[0] = (uint8_t)station;
     at[1] = (uint8_t)(round % (2 * (N - 1) + 1)); /* the count, at most 2 x (N - 1) */

@@ -58,7 +58,8 @@ def fresh_calls():
 
 def post_calls():
     s = fresh(2, 0)
-    for body in (EMPTY, NEUTRAL, Body(SHIFT, 1, -90001), Body(SHIFT, 1, -90000), Body(INSERT, 99999999, 2160000)):
+    for body in (EMPTY, NEUTRAL, Body(SHIFT, 1, -90001), Body(SHIFT, 1, -90000),
+                 Body(INSERT, 99999999, 2699999), Body(INSERT, 99999999, 2700000)):
         s = post(s, body)
     for _ in range(33):
         s = post(s, Body(DROP, 5, 0))

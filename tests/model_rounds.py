@@ -49,7 +49,7 @@ def lines(n, rounds):
     states = drawn(n)
     for number in range(1, rounds + 1):
         a, b, c, d = (next(states) >> 16 for _ in range(4))
-        post, one = group.post(one, a % (n + 1), body_of(1 + b % 5, 1_600 * c, -1 - 2 * d if d % 2 else 34 * d))
+        post, one = group.post(one, a % (n + 1), body_of(1 + b % 5, 1_600 * c, -1 - 2 * d if d % 2 else 50 * d))
         refusal, one, reports = group.round_of(one, tuple(mask_of(next(states)) for _ in range(16)))
         yield (f"{n:02} {number:03} {post:02} {refusal:02}"
                f" {sum_of_all(reports, of_report):010} {sum_of_all(one, of_station):010}")

@@ -75,7 +75,7 @@ class EveryByte(unittest.TestCase):
         {2}, {0}, {2}, {0},                          # N, sender, records, zero
         {0}, {0, 1, 2}, {INSERT, SHIFT}, {0},        # station, count, kind, zero
         ANY - {0}, ANY, ANY, set(range(6)),          # event, up to 99,999,999
-        ANY, ANY, set(range(33)), {0},               # start, up to 2,159,999
+        ANY, ANY, set(range(42)), {0},               # start, up to 2,699,999
         PAIR, {0}, {0}, {0},                         # labels
         {1}, {0, 1, 2}, {0, 1}, {0},                 # station, count, Empty or Neutral, zero
         {0}, {0}, {0}, {0}, {0}, {0}, {0}, {0},      # no event, no argument
@@ -147,7 +147,7 @@ class Refusals(unittest.TestCase):
             self.assertEqual(self.check(data), 7)
         for changes in (dict(count=5), dict(count=255),
                         dict(body=Body(SHIFT, 9, -90_001)), dict(body=Body(SHIFT, 9, 90_001)),
-                        dict(body=Body(INSERT, 9, 2_160_000)), dict(body=Body(INSERT, 9, -1)),
+                        dict(body=Body(INSERT, 9, 2_700_000)), dict(body=Body(INSERT, 9, -1)),
                         dict(body=Body(INSERT, 0, 0)), dict(body=Body(INSERT, 100_000_000, 0)),
                         dict(body=Body(3, 9, 1)), dict(body=Body(1, 1, 0)),
                         dict(body=Body(0, 0, 1)), dict(body=Body(5, 0, 0)),

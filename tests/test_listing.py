@@ -53,6 +53,7 @@ class Posts(unittest.TestCase):
     def test_accepted_posts_print_nothing(self):
         self.assertEqual(self.listing_of(), b"END\n")
         self.assertEqual(self.listing_of(self.post(1, 4, 9, -90_000)), b"END\n")
+        self.assertEqual(self.listing_of(self.post(0, 2, 1, 2_699_999)), b"END\n")
 
     def test_refused_posts(self):
         for numbers, station, refusal in (
@@ -61,7 +62,7 @@ class Posts(unittest.TestCase):
                 ((1, 0, 0, 0), 1, 4), ((1, 1, 0, 0), 1, 4), ((1, 5, 1, 0), 1, 4),
                 ((1, 258, 1, 0), 1, 4), ((1, 999_999_999, 1, 0), 1, 4),
                 ((1, 4, 1, -90_001), 1, 4), ((1, 4, 1, -99_999_999), 1, 4),
-                ((0, 2, 1, 2_160_000), 0, 4), ((0, 2, 999_999_999, 0), 0, 4),
+                ((0, 2, 1, 2_700_000), 0, 4), ((0, 2, 999_999_999, 0), 0, 4),
                 ((0, 2, 1, 999_999_999), 0, 4), ((0, 2, 1, -1), 0, 4), ((0, 3, 1, 1), 0, 4)):
             self.assertEqual(self.listing_of(self.post(*numbers)),
                              refusal_line(0, station, refusal) + b"END\n", numbers)

@@ -1,8 +1,8 @@
-"""M1 to M12 of document 01, "Marked examples of the trade"."""
+"""M1 to M12 of document 01, "Marked examples of the trade"; M10 with the numbers of document 02, A6."""
 
 import unittest
 
-from model import frames, group, records, refusals, station
+from model import frames, group, hearing, outside, records, refusals, station, turns
 from model.bodies import DROP, EMPTY, INSERT, NEUTRAL, SHIFT, Body
 from model.records import Record
 
@@ -69,8 +69,32 @@ class Posts(unittest.TestCase):
         self.assertEqual(self.refusal(SHIFT, 1, -90_001), refusals.NOT_AN_EDIT)
 
     def test_m10(self):
-        self.assertEqual(self.refusal(INSERT, 1, 2_159_999), refusals.DONE)
-        self.assertEqual(self.refusal(INSERT, 1, 2_160_000), refusals.NOT_AN_EDIT)
+        self.assertEqual(self.refusal(INSERT, 1, 2_699_999), refusals.DONE)
+        self.assertEqual(self.refusal(INSERT, 1, 2_700_000), refusals.NOT_AN_EDIT)
+
+    def test_m10_in_a_frame(self):
+        for start, refusal in ((2_699_999, refusals.DONE), (2_700_000, refusals.BAD_RECORD)):
+            record = Record(1, 0, Body(INSERT, 1, start), (0,) * 16)
+            for others in ([], [Record(2, 0, NEUTRAL, (0,) * 16)]):
+                data = frames.frame_bytes(3, 1, [record] + others)
+                self.assertEqual(frames.check_frame(data, 3, 0), refusal, start)
+                one = station.fresh(3, 0).station
+                self.assertEqual(hearing.hear(one, data).refusal, refusal, start)
+
+    def test_m10_in_a_state(self):
+        """Wherever a station holds the body: every call of the station and of its group gives 2, or none does."""
+        fresh = station.fresh(2, 0).station
+        for start, bad in ((2_699_999, False), (2_700_000, True)):
+            body = Body(INSERT, 1, start)
+            for one in (fresh._replace(body=body), outside.with_waiting(fresh, 1, body),
+                        outside.with_record(fresh, 0, body=body), outside.with_record(fresh, 1, body=body),
+                        outside.with_lane(fresh, 0, body), outside.with_lane(fresh, 1, body),
+                        outside.with_lane(fresh, 1, NEUTRAL, body)):
+                stations = (one,) + group.fresh(2).group[1:]
+                answers = {station.post(one, Body(DROP, 1, 0)).refusal, station.write_frame(one, bytes(260))[0],
+                           turns.turn(one).refusal, group.post(stations, 1, Body(DROP, 1, 0)).refusal,
+                           group.round_of(stations, (0,) * 16).refusal}
+                self.assertEqual(answers, {refusals.OUTSIDE_LIMITS if bad else refusals.DONE}, one)
 
     def test_other_limits(self):
         for kind, event, argument, inside in (

@@ -142,9 +142,10 @@ class WrongLimits(Broken):
                 self.assert_test_fails(test_marked_examples.Posts, "test_m9")
 
     def test_start_off_by_one(self):
-        for most in (2_160_000, 2_159_998):
+        for most in (2_700_000, 2_699_998, 2_159_999):
             with self.with_row(INSERT, argument_most=most):
-                self.assert_test_fails(test_marked_examples.Posts, "test_m10")
+                for test in ("test_m10", "test_m10_in_a_frame", "test_m10_in_a_state"):
+                    self.assert_test_fails(test_marked_examples.Posts, test)
 
     def test_queue_off_by_one(self):
         for most in (31, 33):

@@ -45,6 +45,10 @@ class ScriptReader:
             self.rounds += line[:1] == b"R"
             if self.n is None:
                 self.n = numbers[0]
+            self.take(line[:1], numbers)
+
+    def take(self, letter, numbers):
+        """A line read without a fault, for those who want more than its faults."""
 
 
 def numbers_of(line):

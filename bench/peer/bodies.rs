@@ -22,7 +22,7 @@ const NO_NUMBERS: Limits = Limits { least_event: 0, most_event: 0, least_argumen
 const KINDS: [Limits; 5] = [
     NO_NUMBERS,
     NO_NUMBERS,
-    Limits { least_event: 1, most_event: 99_999_999, least_argument: 0, most_argument: 2_159_999 },
+    Limits { least_event: 1, most_event: 99_999_999, least_argument: 0, most_argument: 2_699_999 },
     Limits { least_event: 1, most_event: 99_999_999, least_argument: 0, most_argument: 0 },
     Limits { least_event: 1, most_event: 99_999_999, least_argument: -90_000, most_argument: 90_000 },
 ];

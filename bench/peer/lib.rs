@@ -4,11 +4,15 @@
 //! `tests/check-peer` compares it with the model.
 
 pub mod bodies;
+pub mod forecast;
 pub mod frames;
 pub mod group;
 pub mod labels;
 pub mod listing;
+pub mod load;
 pub mod measured;
+pub mod merge;
+pub mod questions;
 pub mod queues;
 pub mod refusals;
 pub mod script;

@@ -13,6 +13,8 @@ pub enum Refusal {
     ShortBuffer = 9,
     CountTooHigh = 10,
     MalformedLine = 11,
+    BadLinkLog = 12,
+    BadQuestion = 18,
 }
 
 /// The number of an answer: 0 where it is done.

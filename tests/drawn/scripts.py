@@ -2,6 +2,7 @@
 
 import random
 
+from model import load
 from model.scripts import LINK_FORMS, Shape, field, seeded_calls, script_of, seeded_script
 from program.damaged import damaged
 
@@ -54,3 +55,11 @@ def long_runs(seed, count, rounds):
                       rng.choice(LINK_FORMS) if number % 4 > 1 else "random")
         n, calls = seeded_calls(f"{seed} {number}", shape)
         yield f"run {number} of seed {seed}", script_of(n, calls)
+
+
+def loads(seed, count, rounds):
+    """Scripts that ./relay load writes as well; the name of one is the command that repeats it anywhere."""
+    rng = random.Random(f"loads {seed}")
+    for number in range(count):
+        first, n = rng.getrandbits(32), (16, 2, 5, 1)[number % 4]
+        yield f"./relay load {first} {n} {rounds}", load.script(first, n, rounds)

@@ -77,7 +77,7 @@ def random_cases(rng):
         head = bytes([n, rng.randrange(n), count, 0])
         records = b""
         for k in range(count):
-            body = rng.choice([(0, 0, 0), (1, 0, 0), (2, 99_999_999, 2_159_999), (2, 1, 2_160_000), (3, 100_000_000, 0), (3, 5, 1),
+            body = rng.choice([(0, 0, 0), (1, 0, 0), (2, 99_999_999, 2_699_999), (2, 1, 2_700_000), (3, 100_000_000, 0), (3, 5, 1),
                                (4, 9, -90_000), (4, 9, -90_001), (4, 9, 90_000), (4, 9, 90_001), (4, 0, 1), (5, 1, 0)])
             labels = sum(rng.choice([0, 1, 2, 2, 1, 0, rng.randrange(4)]) << (2 * j) for j in range(n + rng.choice([0, 0, 0, 1])))
             records += bytes([k, rng.choice([0, 2 * (n - 1), rng.choice([2 * n - 1, 0])]), body[0], rng.choice([0, 0, 0, 0, 0, 0, 0, 1])])

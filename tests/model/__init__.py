@@ -1,4 +1,4 @@
-"""The reference model of the edit relay, written from document 01 alone.
+"""The reference model of the edit relay, written from documents 01 and 02 alone.
 
 Read it beside document 01, in this order:
 
@@ -15,6 +15,14 @@ Read it beside document 01, in this order:
     demand3.py    the same section: the sentences of demand 3, tried on one list of calls
     lines.py      "The relay listing": script lines read, listing lines written
     listing.py    the same section: a script in, a listing out
+
+Of the later requests, document 02:
+
+    forecast.py   A1: the ends of all broadcasts, from a link log
+    merge.py      A10: two link logs merged
+    questions.py  A11: by which round a broadcast is received
+    contest.py    A13: the link contest
+    load.py       A5: a script drawn from a seed
 
 For tests only:
 

@@ -21,7 +21,7 @@ EMPTY_KIND, NEUTRAL_KIND, INSERT, DROP, SHIFT = range(5)
 KINDS = {
     EMPTY_KIND: KindLimits(0, 0, 0, 0),
     NEUTRAL_KIND: KindLimits(0, 0, 0, 0),
-    INSERT: KindLimits(1, 99_999_999, 0, 2_159_999),
+    INSERT: KindLimits(1, 99_999_999, 0, 2_699_999),
     DROP: KindLimits(1, 99_999_999, 0, 0),
     SHIFT: KindLimits(1, 99_999_999, -90_000, 90_000),
 }

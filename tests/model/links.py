@@ -34,11 +34,15 @@ class Links:
                 break
         return first
 
-    def relay_by(self, a, t, b, u):
-        """Some relay from a to b after round t arrives by round u."""
+    def arrivals(self, a, t):
+        """The first arrivals, found once."""
         if (a, t) not in self.known:
             self.known[a, t] = self.first_arrivals(a, t)
-        return self.known[a, t].get(b, u + 1) <= u
+        return self.known[a, t]
+
+    def relay_by(self, a, t, b, u):
+        """Some relay from a to b after round t arrives by round u."""
+        return self.arrivals(a, t).get(b, u + 1) <= u
 
     def answered_by(self, s, t, r, u):
         """For some v a relay from s reaches r after t by v, and one from r comes back after v by u."""

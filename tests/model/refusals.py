@@ -1,4 +1,4 @@
-"""The refusal numbers (document 01, "Turned down")."""
+"""The refusal numbers (document 01, "Turned down"; from 12 on document 02)."""
 
 DONE = 0
 BAD_NUMBER = 1           # N, or a station number
@@ -12,3 +12,6 @@ LANE_FULL = 8
 BUFFER_SHORT = 9
 COUNT_TOO_LARGE = 10     # the own record's, at writing
 MALFORMED_LINE = 11
+BAD_LOG = 12             # not whole rounds, or too many
+BAD_QUESTION = 18        # a station, a k, or one too many
+BAD_CONTEST = 20         # N, sets or rounds outside the limits of a contest

@@ -5,5 +5,6 @@
     compare.py    counting what agrees, printing what differs
     listings.py   scripts and their listings
     frames.py     frame checks
+    loads.py      calls of the load generator
     calls.py      single calls on states that need not come from a fresh group
 """

@@ -38,3 +38,14 @@ def call(name, data):
     length = library.peer_call(ord(name), data, len(data), out, len(out))
     reader = Reader(out.raw[:length])
     return reader.number(), int.from_bytes(reader.bytes(4), "little"), reader
+
+
+def load(state, n, due, head, buffer, places):
+    """The refusal of the load generator's call; the buffer and the places, arrays, are changed in place."""
+    peer = ctypes.CDLL(BUILT / "libpeer_calls.so").peer_load
+    lent = []
+    for one in (buffer, places):
+        address, length = one.buffer_info()
+        lent += ctypes.c_void_p(address), ctypes.c_size_t(length)
+    peer.restype = ctypes.c_uint32
+    return peer(*map(ctypes.c_uint32, (state, n, due, head)), *lent)

@@ -121,7 +121,7 @@ def silences(rng, n):
             yield round_line(*[EVERYONE] * n)
         for _ in range(60):
             if rng.random() < 0.2:
-                yield post_line(rng.randrange(n), INSERT, next(events), rng.randint(0, 2_159_999))
+                yield post_line(rng.randrange(n), INSERT, next(events), rng.randint(0, KINDS[INSERT].argument_most))
             yield round_line(*[0] * n)
 
 

@@ -17,7 +17,7 @@ LONG_LINE = 96_000_000                   # bytes
 
 POSTS = [(0, 3, event, 0) for event in range(1, 35)]
 BEGINNING = script_line(b"N", (1,)) + b"".join(script_line(b"P", post) for post in POSTS)
-REFUSED = script_line(b"P", (0, 2, 1, 2_160_000))
+REFUSED = script_line(b"P", (0, 2, 1, 2_700_000))
 ROUND = script_line(b"R", (1,))          # one station hears nobody, whatever its mask says
 SILENT = script_line(b"R", (65_534,))
 

@@ -18,7 +18,7 @@ class Small:
         self.n, self.rng = n, random.Random(f"small {n} {seed}")
         self.met = set()  # the unread bits met: station, bit, value
         self.posts = b"".join(script_line(b"P", (place, kind, 10 * place + kind, argument))
-                              for place in range(n) for kind, argument in ((INSERT, 2_159_999), (SHIFT, -90_000)))
+                              for place in range(n) for kind, argument in ((INSERT, 2_699_999), (SHIFT, -90_000)))
 
     def choices(self):
         """Every choice of who hears whom in one round: one mask a station, without the bits that no one reads."""

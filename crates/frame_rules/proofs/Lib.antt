@@ -9,4 +9,7 @@ pub mod RecordTrip
 pub mod FrameTrip
 pub mod TableTrip
 pub mod Fitting
+-- a body outside its limits
+pub mod Outside
+-- examples
 pub mod Examples

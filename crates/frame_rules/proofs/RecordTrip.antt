@@ -166,6 +166,9 @@ module _ (n : ℕ) (p : List ℕ) (h : bytesInside n p ≡ true) where
             allBelow-at n (λ j. isLabel (getD labels j 0)) (sym (all-below n labels) ∙ inside-labels n (wordAt p 12) (b .labels));
       })
 
+  pub held-numbers : numbersInside (getD p 2 0) (wordAt p 4) (signed (wordAt p 8)) ≡ true
+  held-numbers = (bytes-open n p h) .numbers
+
   pub held-zeros : (k : ℕ) → n ≤ k → getD ((recordOf p) .labels) k 0 ≡ 0
   unfolding recordOf
   held-zeros k l =

@@ -35,7 +35,7 @@ fn argument(number: u32) -> i32
     if number % 2 == 1 {
         return record_reader::signed(4_294_967_295 - 2 * number);
     }
-    record_reader::signed(34 * number)
+    record_reader::signed(50 * number)
 }
 
 // A station 0 to n, a kind 1 to 5 (there is no kind 5), and numbers about the limits of the kinds.

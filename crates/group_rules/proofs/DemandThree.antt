@@ -59,7 +59,8 @@ module _ (setup : Setup) (accepted : groupFreshRefusal setup ≡ done) (calls : 
       let c = ready-members u (after-rounds u) in
       rw (group-step setup calls u) (after-members n (R .ready u) c (R .masks (suc u)) (round-runs u c))
 
-  free : Unrefused R
+  -- no round of the run is refused
+  pub free : Unrefused R
   free =
       from-run.unrefused R
       (λ u. members-inside n (R .ready u) (ready-members u (after-rounds u)))

@@ -1,23 +1,33 @@
 -- Document 01's marked examples M1 to M12, of the definitions. Those of labels, words, frames and posts are shown in the crates below;
 -- a group of one computes, once its edit is known to be one.
-use Prim.Native.Nat.{ℕ}
+use Prim.Native.Nat.{ℕ, _<_}
 use mathlib.Core.Bool.{true, false}
 use mathlib.Core.List.{List, [], _∷_}
-use mathlib.Core.Path.{_≡_, refl, ap}
+use mathlib.Core.Path.{_≡_, refl, sym, ap, _∙_}
+use native.Mathlib.Omega.{arith}
+use lib.IntN.{ℤ}
 use lib.ListN.{getD, set}
 use Rattle.kinds.specs.declared.Body.{Body}
-use Rattle.kinds.specs.declared.Body.the-variants.{Empty, Neutral}
+use Rattle.kinds.specs.declared.Body.the-variants.{Empty, Neutral, Insert}
 use Rattle.kinds.specs.Body.{isEmpty}
 use Rattle.kind_limits.specs.Limits.{postable, bodyInside, numbersInside}
-use Rattle.kinds.specs.Refusals.{done}
-use Rattle.kind_limits.proofs.Laws.{postable-inside, postable-not-empty}
+use Rattle.kinds.specs.Refusals.{done, notAnEdit}
+use Rattle.kind_limits.proofs.Laws.{postable-inside, postable-not-empty, argument-outside}
+use Rattle.kind_limits.proofs.Examples as kinds
 use Rattle.labels.proofs.Examples as labels
 use Rattle.label_words.proofs.Examples as words
+use Rattle.labels.specs.Label.{allLabels}
+use Rattle.frame_rules.specs.Words.{wordAt}
+use Rattle.frame_rules.specs.Record.{recordFits}
+use Rattle.frame_rules.specs.Frame.{part, checkRefusal, recordsFit}
+use Rattle.frame_rules.proofs.Check.{by-frame}
 use Rattle.frame_rules.proofs.FrameTrip as frames
+use Rattle.frame_rules.proofs.Outside.{body-outside}
+use Rattle.station_rules.proofs.Bodies as held
 use Rattle.station_rules.proofs.Examples as station
 use Rattle.station_rules.specs.declared.Station.{Station}
-use Rattle.station_rules.specs.Calls.{posted}
-use Rattle.lanes.specs.Queue.{noSlot, emptyQueue, queued, unqueued, oldest, queueInside}
+use Rattle.station_rules.specs.Calls.{posted, postCall}
+use Rattle.lanes.specs.Queue.{queueCapacity, noSlot, emptyQueue, queued, unqueued, oldest, queueInside}
 use Rattle.lanes.specs.Waiting.{noneWaiting, waitingCount, hasRoom, withPosted, nextEdit, withoutNext, waitingInside}
 use Rattle.lanes.specs.Lane.{laneOf, bodies}
 use Rattle.station_rules.specs.Turn.{airs, rowOf, lanesAfter, ends, startedBody, passed, ownRecord, rewritten, afterTurn, turnReport}
@@ -28,7 +38,7 @@ use Rattle.links.specs.Log.{hearsIn}
 use Rattle.group_rules.specs.State.{stationAt, freshGroup, groupInside}
 use Rattle.group_rules.specs.Calls.{groupPostRefusal, roundRefusal, hearing, afterRound, reportOf, roundCall, postCall as groupPost}
 use Rattle.group_rules.specs.History.{History, Call.post, Call.round, next, begun, continued}
-use Rattle.group_rules.proofs.MarkedStatement.{Marked, oneStation, turnIn}
+use Rattle.group_rules.proofs.MarkedStatement.{Marked, oneStation, turnIn, insertFrame}
 
 -- a group of one in which one edit is posted
 module _ (b : Body) (e : postable b ≡ true) where
@@ -85,6 +95,19 @@ module _ (b : Body) (e : postable b ≡ true) where
     unfolding before turnReport rowOf freshGroup freshStation noneWaiting emptyQueue posted withPosted queued waitingCount hasRoom afterRound hearing hearsIn afterTurn passed rewritten ownRecord startedBody ends lanesAfter airs nextEdit oldest withoutNext unqueued laneOf bodies allBelow fill
     aired = rw (post-first, turn-two) (simp kind (refl, refl, refl, refl, refl))
 
+-- of two posts to a station with room, one that may be posted and one not, the first is taken and the second gives 4
+posts :
+    (s : Station) → stationInside s ≡ true → waitingCount (s .waiting) < queueCapacity → (a b : Body) → postable a ≡ true → postable b ≡ false →
+    ((postCall s a) .refusal ≡ done) × ((postCall s b) .refusal ≡ notAnEdit)
+posts s i room a b p q = (station.taken s i a p room, station.refused s i b q)
+
+-- a frame of one insert inside its limits is accepted
+framed : (start : ℤ) → bodyInside (Insert 1 start) ≡ true → checkRefusal (insertFrame start) 2 0 ≡ done
+unfolding recordsFit recordFits allBelow anyBelow allLabels
+framed start h =
+    sym (by-frame (insertFrame start) 2 0 refl)
+    ∙ frames.written-accepted 2 1 _ (omega arith) (simp h) 0 (λ e. omega arith) (omega arith)
+
 pub marked : Marked
 marked =
     record {
@@ -97,8 +120,22 @@ marked =
       m7 = words.m7;
       m8-one = λ n sender r. frames.m8 n sender (r ∷ []) .0 refl;
       m8-all = λ n sender rs sixteen. frames.m8 n sender rs .1 sixteen;
-      m9 = λ s inside room event least most. station.m9 s inside event least most room;
-      m10 = λ s inside room event least most. station.m10 s inside event least most room;
+      m9 =
+          λ s inside room event least most.
+          let e = kinds.m9 event least most in posts s inside room _ _ (e .0) (e .1);
+      m10 =
+          λ s inside room event least most.
+          let e = kinds.m10 event least most in posts s inside room _ _ (e .0) (e .1);
+      m10-framed = framed _ (postable-inside _ (kinds.m10 1 (omega arith) (omega arith) .0));
+      m10-frame =
+          λ bytes n own k valid shape address below kind start.
+          body-outside bytes n own k valid shape address below
+          ((λ i. numbersInside (kind i) (wordAt (part bytes k) 4) (start i))
+          ∙ argument-outside 2 (wordAt (part bytes k) 4) _ refl);
+      m10-held =
+          λ s event holds.
+          let o = kinds.m10-outside event in
+          (held.post-two s _ o holds, held.write-two s _ o holds, held.hear-two s _ o holds, held.turn-two s _ o holds);
       m11-room = λ s b inside room e. station.m11-room s inside b e room;
       m11 = λ s b inside full e. station.m11 s inside b e full;
       m12-starts = λ b masks₁ masks₂ e. starts b e masks₁ masks₂;

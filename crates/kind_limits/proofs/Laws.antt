@@ -1,6 +1,7 @@
--- Laws of the limits, for the crates above. Numbers inside their limits are those of their body, by the cases of the table, since where a
--- row's least is its most the number can be no other.
-use Prim.Native.Nat.{ℕ, zero, suc, _<_, _≤_}
+-- Laws of the limits, for the crates above. Numbers inside their limits are those of their body, by the cases of the
+-- table, since where a row's least is its most the number can be no other. Every limit is a number of 32 bits, and so is
+-- all that lies between two of them. No law names a limit: a row can change, and the laws stand.
+use Prim.Native.Nat.{ℕ, zero, suc, _^_, _<_, _≤_}
 use native.Mathlib.Omega.{arith}
 use mathlib.Core.Bool.{Bool, true, false, _&&_, false≢true}
 use mathlib.Core.Path.{_≡_, refl, ap, _∙_}
@@ -135,3 +136,17 @@ inside-postable b h = rw h (and-true (isEdit b))
     and-true : (t : Bool) → (t && true) ≡ t
     and-true true = refl
     and-true false = refl
+
+-- an argument outside its kind's limits puts the numbers outside, whatever the event
+last-no : (a b c : Bool) → c ≡ false → (a && (b && c)) ≡ false
+last-no true true c h = h
+last-no true false c h = refl
+last-no false b c h = refl
+
+pub argument-outside :
+    (k e : ℕ) (a : ℤ) → (leZ (limitsOf k .«least_argument») a && leZ a (limitsOf k .«most_argument»)) ≡ false →
+    numbersInside k e a ≡ false
+unfolding numbersInside
+argument-outside k e a h =
+    let l = limitsOf k in
+    last-no (ltb k (length kinds)) (leb (l .«least_event») e && leb e (l .«most_event»)) _ h

@@ -20,7 +20,7 @@ abbrev pub kinds : List Limits
 kinds =
     row 0 0 (pos 0) (pos 0) ∷
     row 0 0 (pos 0) (pos 0) ∷
-    row 1 99_999_999 (pos 0) (pos 2_159_999) ∷
+    row 1 99_999_999 (pos 0) (pos 2_699_999) ∷
     row 1 99_999_999 (pos 0) (pos 0) ∷
     row 1 99_999_999 (negsuc 89_999) (pos 90_000) ∷ []
 

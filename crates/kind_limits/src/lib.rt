@@ -30,7 +30,7 @@ pub const KINDS: [Limits; 5] = [
         least_event: 1,
         most_event: 99_999_999,
         least_argument: 0,
-        most_argument: 2_159_999,
+        most_argument: 2_699_999,
     },
     Limits {
         least_event: 1,

@@ -49,6 +49,18 @@ countTooHigh = 10
 abbrev pub malformedLine : ℕ
 malformedLine = 11
 
+-- a link log is not whole rounds, or has more rounds than may be (document 02, A1)
+abbrev pub badLinkLog : ℕ
+badLinkLog = 12
+
+-- a question names a station that is not among N, has a number below 1, is not whole, or is past the 64th (document 02, A11)
+abbrev pub badQuestion : ℕ
+badQuestion = 18
+
+-- a link contest has too many stations, sets or rounds, no set, or masks that are not whole sets (document 02, A13)
+abbrev pub badContest : ℕ
+badContest = 20
+
 -- the first refusal that applies decides: where the test holds its number is the answer, else what comes after it
 abbrev pub refuse : Bool → ℕ → ℕ → ℕ
 refuse test number rest = cond test number rest

@@ -1,4 +1,4 @@
-// What a call returns: 0 where it is done, else the refusal of document 01's list "Turned down".
+// What a call returns: 0 where it is done, else the refusal of document 01's list "Turned down" or of a request of document 02.
 
 pub const DONE: u32 = 0;
 
@@ -23,3 +23,9 @@ pub const SHORT_BUFFER: u32 = 9;
 pub const COUNT_TOO_HIGH: u32 = 10;
 
 pub const MALFORMED_LINE: u32 = 11;
+
+pub const BAD_LINK_LOG: u32 = 12;
+
+pub const BAD_QUESTION: u32 = 18;
+
+pub const BAD_CONTEST: u32 = 20;

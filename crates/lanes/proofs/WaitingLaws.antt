@@ -13,9 +13,9 @@ use Rattle.kind_limits.specs.Limits.{postable}
 use Rattle.places.specs.Places.{allBelow}
 use Rattle.lanes.specs.declared.Waiting.{Waiting}
 use Rattle.lanes.specs.Queue.{queueCapacity, emptyQueue, queueInside}
-use Rattle.lanes.specs.Waiting.{noneWaiting, waitingEdits, waitingCount, hasRoom, withPosted, nextEdit, withoutNext, waitingInside}
+use Rattle.lanes.specs.Waiting.{noneWaiting, waitingEdits, waitingCount, waitingAt, hasRoom, withPosted, nextEdit, withoutNext, waitingInside}
 use Rattle.lanes.proofs.QueueLaws.{bodies-empty, length-queueBodies, bodies-queued, bodies-unqueued, queued-slots, unqueued-slots}
-use Rattle.lanes.proofs.QueueLimits.{queue-most, queued-len, unqueued-len, queued-inside, unqueued-inside, oldest-postable}
+use Rattle.lanes.proofs.QueueLimits.{queue-most, queue-postable, queued-len, unqueued-len, queued-inside, unqueued-inside, oldest-postable}
 
 -- the array has its length by its type
 pub record WaitingSized (w : Waiting) : Type 0 where
@@ -69,6 +69,10 @@ posted-inside w b c i h e = queued-inside (w .queue) b (c .slots) i (room-count 
 pub edits-count : (w : Waiting) → WaitingSized w → waitingInside w ≡ true → length (waitingEdits w) ≡ waitingCount w
 unfolding waitingEdits waitingCount waitingInside
 edits-count w c i = length-queueBodies (w .queue) (omega (arith, queue-most (w .queue) i, c .slots))
+
+pub waiting-postable : (w : Waiting) → waitingInside w ≡ true → (i : ℕ) → i < waitingCount w → postable (waitingAt w i) ≡ true
+unfolding waitingCount waitingInside waitingAt
+waiting-postable w = queue-postable (w .queue)
 
 pub next-postable : (w : Waiting) → waitingInside w ≡ true → 0 < waitingCount w → postable (nextEdit w) ≡ true
 unfolding waitingCount waitingInside nextEdit

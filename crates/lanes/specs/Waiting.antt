@@ -3,9 +3,10 @@ use Prim.Native.Nat.{ℕ}
 use mathlib.Core.Bool.{Bool}
 use mathlib.Core.List.{List, []}
 use lib.Dec.{ltb}
+use lib.ListN.{getD}
 use Rattle.kinds.specs.declared.Body.{Body}
 use Rattle.lanes.specs.declared.Waiting.{Waiting}
-use Rattle.lanes.specs.Queue.{queueCapacity, queueBodies, emptyQueue, queued, oldest, unqueued, queueInside}
+use Rattle.lanes.specs.Queue.{queueCapacity, noSlot, queueBodies, emptyQueue, queued, oldest, unqueued, queueInside}
 
 -- nothing waits
 unfoldable pub noneWaiting : Waiting
@@ -22,6 +23,10 @@ waitingEdits w = queueBodies (w .queue)
 -- how many wait
 unfoldable pub waitingCount : Waiting → ℕ
 waitingCount w = w .queue .len
+
+-- the edit that waits behind i others
+unfoldable pub waitingAt : Waiting → ℕ → Body
+waitingAt w i = (getD (w .queue .slots) i noSlot) .body
 
 -- one more may wait
 unfoldable pub hasRoom : Waiting → Bool

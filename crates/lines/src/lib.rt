@@ -18,7 +18,7 @@ const LINE_END: u8 = 10;
 pub const LINE: usize = 35;
 
 // A number put into the columns from one place to another.
-fn put_natural(out: &mut [u8], at: usize, end: usize, value: u64)
+pub fn put_natural(out: &mut [u8], at: usize, end: usize, value: u64)
     requires { ⌜ (at ≤ end) × (end ≤ length (now out)) ⌝ }
     ensures { λ r. ⌜ now (out .exit) ≡ placed (now (out .entry)) at (natColumns (end - at) value) ⌝ }
 {

@@ -23,12 +23,12 @@ module _ (L : Links) where
     pub known : news L u s r ≡ suc then
     pub had : t < news L then r s
 
-  answers-out : (s t r v : ℕ) → answers L s t r v ≡ true → (w : ℕ) × (v ≡ suc w) × (t < news L w r s)
+  pub answers-out : (s t r v : ℕ) → answers L s t r v ≡ true → (w : ℕ) × (v ≡ suc w) × (t < news L w r s)
   unfolding answers
   answers-out s t r zero e = absurd (false≢true e)
   answers-out s t r (suc w) e = (w, refl, leb-true (suc t) (news L w r s) e)
 
-  answers-in : (s t r v w : ℕ) → v ≡ suc w → t < news L w r s → answers L s t r v ≡ true
+  pub answers-in : (s t r v w : ℕ) → v ≡ suc w → t < news L w r s → answers L s t r v ≡ true
   unfolding answers
   answers-in s t r v w e h = rw e (le-leb (suc t) (news L w r s) h)
 

@@ -62,7 +62,7 @@ module _ (L M : Links) (last : ℕ) (same : Same L M last) where
             ∙ sym (news-step M u p q d)
       ]
 
-  answers-same : (s t r v : ℕ) → v ≤ suc last → answers L s t r v ≡ answers M s t r v
+  pub answers-same : (s t r v : ℕ) → v ≤ suc last → answers L s t r v ≡ answers M s t r v
   unfolding answers
   answers-same s t r zero l = refl
   answers-same s t r (suc w) l = rw (news-same w r s (omega arith))

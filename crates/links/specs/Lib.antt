@@ -3,4 +3,8 @@ pub mod Relay
 pub mod EndRule
 pub mod Clock
 pub mod Number
+pub mod Know
+pub mod Forecast
+pub mod Part
+pub mod Question
 pub mod Examples

@@ -6,7 +6,7 @@ ghost use Rattle.links.specs.Log.{bit, hearsIn};
 const PLACES: usize = 16;
 
 // Bit j of a mask; a mask has no bits from 16 up.
-fn set_at(mask: u16, j: usize) -> bool
+pub fn set_at(mask: u16, j: usize) -> bool
     ensures { λ r. ⌜ r ≡ bit mask j ⌝ }
 {
     if j >= PLACES {

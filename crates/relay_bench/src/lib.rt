@@ -78,7 +78,7 @@ fn masks_at(schedule: &[u8], at: usize) -> [u16; 16]
 fn body_of(post: u32) -> Body {
     Body::Insert {
         event: 1 + post % 99_999_999,
-        start: (post % 2_160_000) as i32,
+        start: (post % 1_000_000) as i32,
     }
 }
 

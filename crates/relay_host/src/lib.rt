@@ -1,7 +1,13 @@
-// What the host that moves frames, a C program, calls. The declarations for C are in include/relay_host.h.
+// What C programs call. The declarations for C are in include/relay_host.h.
 
 ghost use mathlib.Core.Path.{_≡_};
 ghost use Rattle.frame_rules.specs.Frame.{checkRefusal};
+
+mod relay_contest;
+mod relay_forecast;
+mod relay_load;
+mod relay_merge;
+mod relay_questions;
 
 // The frame check: 0, or the refusal, for any bytes and any two numbers.
 #[no_mangle]

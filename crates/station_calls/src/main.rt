@@ -100,7 +100,7 @@ fn fresh_calls() {
     fresh(3, 3);
 }
 
-// An edit beyond a limit of its kind, one at the limit, and one beyond again.
+// Edits beyond a limit of their kind and at the limit: of a shift the least, of an insert's start the most.
 fn post_limits(s: Station) -> Station {
     let below = Body::Shift {
         event: 1,
@@ -110,11 +110,15 @@ fn post_limits(s: Station) -> Station {
         event: 1,
         frames: -90_000,
     };
+    let most = Body::Insert {
+        event: 99_999_999,
+        start: 2_699_999,
+    };
     let above = Body::Insert {
         event: 99_999_999,
-        start: 2_160_000,
+        start: 2_700_000,
     };
-    post(post(post(s, below), least), above)
+    post(post(post(post(s, below), least), most), above)
 }
 
 // The same edit until the queue is full, and once more.

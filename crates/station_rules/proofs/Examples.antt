@@ -1,14 +1,12 @@
--- Document 01's marked examples M1 to M4 and M9 to M11 at a station: which seen record the station heeds, and which posts are refused.
-use Prim.Native.Nat.{ℕ, _+_, _≤_, _<_}
+-- Document 01's marked examples M1 to M4 and M11 at a station: which seen record the station heeds, and which posts are
+-- refused.
+use Prim.Native.Nat.{ℕ, _+_, _<_}
 use mathlib.Core.Bool.{true, false}
 use mathlib.Core.Path.{_≡_, sym, ap, _∙_}
 use native.Mathlib.Omega.{arith}
 use lib.Dec.{eqb}
-use lib.IntN.{pos, negsuc}
 use Rattle.kinds.specs.declared.Body.{Body}
-use Rattle.kinds.specs.declared.Body.the-variants.{Insert, Shift}
 use Rattle.kind_limits.specs.Limits.{postable}
-use Rattle.kind_limits.proofs.Examples as kinds
 use Rattle.labels.specs.Newer.{isNewer}
 use Rattle.labels.proofs.Examples as labels
 use Rattle.frame_rules.specs.declared.Record.{Record}
@@ -48,22 +46,14 @@ module _ (s : Station) (r : Record) where
   pub m4 : (a b : ℕ) → Seen s r 0 a 2 b → heeds s r ≡ false
   m4 a b v = decided v ∙ labels.m4 a b
 
--- what a post at a station inside its limits returns
+-- what a post at a station inside its limits returns. The table of kinds says which bodies are edits, and so M9 and M10
+-- name their numbers there and not here
 module _ (s : Station) (i : stationInside s ≡ true) where
-  refused : (b : Body) → postable b ≡ false → (postCall s b) .refusal ≡ 4
+  pub refused : (b : Body) → postable b ≡ false → (postCall s b) .refusal ≡ 4
   refused b e = sym (ap (λ (k : Kept). k .refusal) (post-no-edit s b i e))
 
-  taken : (b : Body) → postable b ≡ true → waitingCount (s .waiting) < queueCapacity → (postCall s b) .refusal ≡ 0
+  pub taken : (b : Body) → postable b ≡ true → waitingCount (s .waiting) < queueCapacity → (postCall s b) .refusal ≡ 0
   taken b e l = sym (ap (λ (k : Kept). k .refusal) (post-done s b i e (room-below (s .waiting) l)))
-
-  module _ (event : ℕ) (least : 1 ≤ event) (most : event ≤ 99_999_999) (room : waitingCount (s .waiting) < queueCapacity) where
-    -- a shift of -90,000 is taken, one of -90,001 is not
-    pub m9 : ((postCall s (Shift event (negsuc 89_999))) .refusal ≡ 0) × ((postCall s (Shift event (negsuc 90_000))) .refusal ≡ 4)
-    m9 = let e = kinds.m9 event least most in (taken _ (e .0) room, refused _ (e .1))
-
-    -- a start of 2,159,999 is taken, 2,160,000 is not
-    pub m10 : ((postCall s (Insert event (pos 2_159_999))) .refusal ≡ 0) × ((postCall s (Insert event (pos 2_160_000))) .refusal ≡ 4)
-    m10 = let e = kinds.m10 event least most in (taken _ (e .0) room, refused _ (e .1))
 
   -- as long as fewer than 32 wait, an edit is accepted and waits
   pub m11-room : (b : Body) → postable b ≡ true → waitingCount (s .waiting) < queueCapacity → ((postCall s b) .refusal ≡ 0) × (waitingCount ((postCall s b) .station .waiting) ≡ waitingCount (s .waiting) + 1)

@@ -11,6 +11,7 @@ pub mod LimitsHearing
 pub mod LimitsSent
 pub mod LimitsTurn
 pub mod LimitsCalls
+pub mod Bodies
 -- what a heard record and a turn change, cell by cell and case by case
 pub mod HearRecord
 pub mod Cells

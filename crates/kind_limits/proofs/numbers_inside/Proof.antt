@@ -1,18 +1,18 @@
 -- `kind_limits::numbers_inside` meets its contract: the code's table is the definition's table, row by row, so each test is one of the
 -- definition's, and a signed number reads back from its 32 bits as itself.
-use Prim.Native.Nat.{ℕ, zero, suc, _^_, _<_, _≤_}
-use native.Mathlib.Omega.{arith}
+use Prim.Native.Nat.{ℕ, _<_, _≤_}
 use mathlib.Core.Bool.{true, false}
 use mathlib.Core.Path.{_≡_, sym, ap₂, _∙_}
 use lib.IntN.{ℤ}
 use lib.ListN.{length}
-use lib.Signed.{leZ, mag}
+use lib.Signed.{leZ}
 use borrow.Author.Needs.{needs}
 use borrow.Author.Tests.{le-ltb, lt-ltb, le-leb, lt-leb}
 use mir.Syntax.{w32}
 use mir.Val.{toZ, ofZ, SFits}
 use mir.ValLaws.{toZ-ofZ}
 use Rattle.kind_limits.specs.Limits.{kinds, limitsOf, numbersInside}
+use Rattle.kind_limits.proofs.Laws.{limits-fit}
 use Rattle.kind_limits.proofs.numbers_inside.Statement.{statement}
 use Rattle.kind_limits.proofs.numbers_inside.Tie as tie
 
@@ -23,18 +23,6 @@ read :
     SFits w32 b →
     leZ (toZ w32 (ofZ w32 a)) (toZ w32 (ofZ w32 b)) ≡ leZ a b
 read a b p q = ap₂ leZ (toZ-ofZ w32 a p) (toZ-ofZ w32 b q)
-
--- the limits of arguments have 32 bits
-small : {a b : ℤ} → mag a < 2 ^ 31 → mag b < 2 ^ 31 → SFits w32 a × SFits w32 b
-small p q = (record { sfits = p }, record { sfits = q })
-
-fitting : (k : ℕ) → SFits w32 (limitsOf k .«least_argument») × SFits w32 (limitsOf k .«most_argument»)
-fitting zero = small (omega arith) (omega arith)
-fitting (suc zero) = small (omega arith) (omega arith)
-fitting (suc (suc zero)) = small (omega arith) (omega arith)
-fitting (suc (suc (suc zero))) = small (omega arith) (omega arith)
-fitting (suc (suc (suc (suc zero)))) = small (omega arith) (omega arith)
-fitting (suc (suc (suc (suc (suc k))))) = small (omega arith) (omega arith)
 
 module _ (k e : ℕ) (a : ℤ) (h : k < length kinds) where
   early : e < limitsOf k .«least_event» → false ≡ numbersInside k e a
@@ -51,7 +39,7 @@ module _ (k e : ℕ) (a : ℤ) (h : k < length kinds) where
         false ≡ numbersInside k e a
     unfolding numbersInside
     low l =
-        let t : leZ (limitsOf k .«least_argument») a ≡ false = sym (read _ _ (fitting k .0) f) ∙ l in
+        let t : leZ (limitsOf k .«least_argument») a ≡ false = sym (read _ _ (limits-fit k .0) f) ∙ l in
         simp (lt-ltb _ _ h, le-leb _ _ p, le-leb _ _ q, t)
 
     rest :
@@ -59,8 +47,8 @@ module _ (k e : ℕ) (a : ℤ) (h : k < length kinds) where
         leZ (toZ w32 (ofZ w32 a)) (toZ w32 (ofZ w32 (limitsOf k .«most_argument»))) ≡ numbersInside k e a
     unfolding numbersInside
     rest l =
-        let t : leZ (limitsOf k .«least_argument») a ≡ true = sym (read _ _ (fitting k .0) f) ∙ l in
-        read _ _ f (fitting k .1) ∙ simp (lt-ltb _ _ h, le-leb _ _ p, le-leb _ _ q, t)
+        let t : leZ (limitsOf k .«least_argument») a ≡ true = sym (read _ _ (limits-fit k .0) f) ∙ l in
+        read _ _ f (limits-fit k .1) ∙ simp (lt-ltb _ _ h, le-leb _ _ p, le-leb _ _ q, t)
 
 returns : tie.Need-returns
 unfolding numbersInside

@@ -1,0 +1,5 @@
+pub mod Lowest
+pub mod Forcing
+pub mod Forces
+pub mod Meaning
+pub mod Examples

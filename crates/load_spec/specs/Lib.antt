@@ -1,0 +1,4 @@
+pub mod Draws
+pub mod Script
+pub mod Calls
+pub mod Whole

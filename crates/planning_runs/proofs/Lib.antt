@@ -1,0 +1,5 @@
+pub mod Reported
+pub mod Forecast
+pub mod Merge
+pub mod Questions
+pub mod Examples

@@ -1,0 +1,4 @@
+pub mod LinkLog
+pub mod Forecast
+pub mod Merge
+pub mod Questions

@@ -1,0 +1,10 @@
+"""The subcommands of ./relay, one module each, over the C library.
+
+    command.py    finds the subcommands; arguments, errors and exit statuses
+    faults.py     what is wrong, for the user
+    library.py    the C library: finds or makes it, and one function for each call
+    plans.py      link plans: the N and R lines of a script
+
+A subcommand is a module with `arguments(parser)` and `run(given)`. Its docstring is its help: the first line is the
+summary in the list of subcommands.
+"""

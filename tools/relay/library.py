@@ -1,0 +1,126 @@
+"""The relay's C library from Python: finds or makes the shared object, and one function for each call.
+
+The shared object stands beside the archive target/staticlib/librelay_host.a and is made of it. RELAY_HOST_ARCHIVE names
+another archive, RELAY_LIBRARY another shared object.
+"""
+
+import ctypes
+import functools
+import os
+import pathlib
+import shlex
+import shutil
+import subprocess
+import sys
+import tempfile
+from array import array
+
+from .faults import Missing
+
+ROOT = pathlib.Path(__file__).resolve().parents[2]
+ARCHIVE = pathlib.Path("target", "staticlib", "librelay_host.a")
+PLACES = 16
+
+
+# Finding and making it.
+
+def shared_object():
+    """The shared object's file, made anew where its archive is newer."""
+    if os.environ.get("RELAY_LIBRARY"):
+        return pathlib.Path(os.environ["RELAY_LIBRARY"])
+    named = os.environ.get("RELAY_HOST_ARCHIVE")
+    archive = pathlib.Path(named) if named else ROOT / ARCHIVE
+    if not archive.exists() and not named:
+        build_archive()
+    if not archive.exists():
+        raise Missing(f"there is no archive {archive}")
+    made = archive.with_suffix(".so")
+    if not made.exists() or made.stat().st_mtime_ns < archive.stat().st_mtime_ns:
+        link(archive, made)
+    return made
+
+
+def build_archive():
+    if not shutil.which("rt"):
+        raise Missing("this machine lacks 'rt', the command of the Rattle toolchain")
+    print(f"relay: {ARCHIVE} is missing; 'rt staticlib relay_host' proves and builds it, which takes some minutes",
+          file=sys.stderr)
+    subprocess.run(["rt", "staticlib", "relay_host"], cwd=ROOT, stdin=subprocess.DEVNULL, stdout=2, check=False)
+
+
+def link(archive, made):
+    """Makes the shared object. It gets its name when it is whole, so another command never meets half of it."""
+    compiler = shlex.split(os.environ.get("CC", "gcc"))
+    if not shutil.which(compiler[0]):
+        raise Missing(f"this machine lacks '{compiler[0]}': install Debian's package gcc")
+    with tempfile.TemporaryDirectory(dir=made.parent) as folder:
+        part = pathlib.Path(folder, made.name)
+        done = subprocess.run([*compiler, "-shared", "-o", part, "-Wl,--whole-archive", archive,
+                               "-Wl,--no-whole-archive"], capture_output=True, text=True, check=False)
+        if done.returncode:
+            raise Missing(f"{compiler[0]} cannot make a shared object of {archive}: {done.stderr.strip()}")
+        part.replace(made)
+
+
+@functools.cache
+def exported(name):
+    """One function of the library."""
+    file = shared_object()
+    try:
+        function = getattr(ctypes.CDLL(str(file.resolve())), name)
+    except OSError as wrong:
+        raise Missing(f"cannot load the library: {wrong}") from None
+    except AttributeError:
+        raise Missing(f"{file} has no {name}: 'rt staticlib relay_host' builds it anew") from None
+    function.restype = ctypes.c_uint32
+    return function
+
+
+# The calls. Each gives its refusal, 0 where it is done, and what it answers.
+
+def call(name, *arguments):
+    """Calls a function of the library. A lent buffer is an array, or the pair of an address and a length."""
+    values = []
+    for argument in arguments:
+        if isinstance(argument, int):
+            values.append(ctypes.c_uint32(argument))
+        else:
+            address, length = argument.buffer_info() if isinstance(argument, array) else argument
+            values += ctypes.c_void_p(address), ctypes.c_size_t(length)
+    return exported(name)(*values)
+
+
+def forecast(n, log):
+    """For each of sixteen stations how many broadcasts end, and the round of the last. The log is an array of masks."""
+    ends, last = array("H", [0] * PLACES), array("H", [0] * PLACES)
+    return call("relay_forecast", log, n, ends, last), (list(ends), list(last))
+
+
+def merge(n, first, second):
+    """The log of two carriers together; logs are arrays of masks."""
+    merged, masks = array("H", [0] * max(len(first), len(second))), array("I", [0])
+    refusal = call("relay_merge", first, second, n, merged, masks)
+    return refusal, merged[:masks[0]]
+
+
+NEVER = 2 ** 32 - 1     # in the answers of C
+MOST_QUESTIONS = 64     # in one call
+
+
+def questions(n, log, asked):
+    """For each question (s, r, k) the round by which r has the k-th broadcast of s, or None for never."""
+    answers = array("I", [0] * len(asked))
+    refusal = call("relay_questions", log, n, array("I", [number for one in asked for number in one]), answers)
+    return refusal, [None if one == NEVER else one for one in answers]
+
+
+def contest(n, station, sets, rounds):
+    """Who can force the result, 0 for the breaker and 1 for the keeper, and the keeper's first pick."""
+    answer = array("I", [0, 0])
+    return call("relay_contest", n, station, array("H", sets), rounds, answer), tuple(answer)
+
+
+def load(state, n, due, head, buffer):
+    """Writes the next lines of a generated script into the buffer, an array; gives their length and the next state."""
+    after = array("I", [0, 0])
+    return call("relay_load", state, n, due, int(head), buffer, after), (after[1], after[0])
