@@ -13,46 +13,12 @@ use Rattle.kinds.specs.declared.Body.{Body}
 use Rattle.kinds.specs.Refusals.{done}
 use Rattle.station_rules.specs.declared.Station.{Station}
 use Rattle.station_rules.specs.Calls.{posted}
-use Rattle.station_rules.proofs.Shape.{queued-slots}
+use Rattle.station_rules.proofs.Setters.{SameButWaiting, same-refl, same-trans}
+use Rattle.station_rules.proofs.Shape.{posted-same}
 use Rattle.group_rules.specs.State.{noStation, stationAt, freshGroup}
 use Rattle.group_rules.specs.Calls.{groupPostRefusal, postCall, afterRound}
 use Rattle.group_rules.specs.History.{Call, post, round}
-use Rattle.group_rules.proofs.Run.{Run, SameButWaiting}
-
-same-refl : (s : Station) → SameButWaiting s s
-same-refl s =
-    record { n = refl; own = refl; acked = refl; body = refl; count = refl; labels = refl; held = refl; table = refl; lanes = refl; slots = refl }
-
-same-trans : (s t r : Station) → SameButWaiting s t → SameButWaiting t r → SameButWaiting s r
-same-trans s t r a b =
-    record {
-      n = a .n ∙ b .n;
-      own = a .own ∙ b .own;
-      acked = a .acked ∙ b .acked;
-      body = a .body ∙ b .body;
-      count = a .count ∙ b .count;
-      labels = a .labels ∙ b .labels;
-      held = a .held ∙ b .held;
-      table = a .table ∙ b .table;
-      lanes = a .lanes ∙ b .lanes;
-      slots = a .slots ∙ b .slots;
-    }
-
-posted-same : (s : Station) (b : Body) → SameButWaiting s (posted s b)
-unfolding posted
-posted-same s b =
-    record {
-      n = refl;
-      own = refl;
-      acked = refl;
-      body = refl;
-      count = refl;
-      labels = refl;
-      held = refl;
-      table = refl;
-      lanes = refl;
-      slots = sym (queued-slots (s .waiting) b);
-    }
+use Rattle.group_rules.proofs.Run.{Run}
 
 set-same : (g : List Station) (k : ℕ) (b : Body) (i : ℕ) → SameButWaiting (stationAt g i) (stationAt (set g k (posted (stationAt g k) b)) i)
 set-same g k b i = elim (ℕ-discrete i k) [ yes e ↦ here e | no d ↦ there d ]

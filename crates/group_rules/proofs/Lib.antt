@@ -34,6 +34,7 @@ pub mod HistoryLists
 pub mod FromRun
 pub mod DemandThree
 -- examples
+pub mod Computing
 pub mod Marked
 pub mod RunLines
 pub mod RunExamples

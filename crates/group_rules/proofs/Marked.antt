@@ -3,7 +3,7 @@
 use Prim.Native.Nat.{ℕ}
 use mathlib.Core.Bool.{true, false}
 use mathlib.Core.List.{List, [], _∷_}
-use mathlib.Core.Path.{_≡_, refl, ap}
+use mathlib.Core.Path.{_≡_, refl, ap, _∙_}
 use native.Mathlib.Omega.{arith}
 use lib.Dec.{leb, eqb}
 use lib.ListN.{getD, set}
@@ -11,7 +11,7 @@ use borrow.Author.Tests.{le-leb}
 use Rattle.kinds.specs.declared.Body.{Body}
 use Rattle.kinds.specs.declared.Body.the-variants.{Empty, Neutral}
 use Rattle.kinds.specs.Body.{kindOf}
-use Rattle.kind_limits.specs.Limits.{isEdit, bodyInside, numbersInside}
+use Rattle.kind_limits.specs.Limits.{isEdit, bodyInside}
 use Rattle.kinds.specs.Refusals.{done}
 use Rattle.kind_limits.proofs.Laws.{edit-inside, edit-kind, edit-not-empty}
 use Rattle.labels.proofs.Examples as labels
@@ -20,17 +20,30 @@ use Rattle.frame_rules.proofs.FrameTrip as frames
 use Rattle.station_rules.proofs.Examples as station
 use Rattle.station_rules.specs.declared.Station.{Station}
 use Rattle.station_rules.specs.Calls.{posted}
-use Rattle.lanes.specs.Queue.{noSlot, noneWaiting, queued, unqueued, oldest}
-use Rattle.lanes.specs.Lane.{laneOf, bodies}
-use Rattle.station_rules.specs.Turn.{airs, rowOf, lanesAfter, ends, startedBody, passed, ownRecord, rewritten, afterTurn, turnReport}
+use Rattle.lanes.specs.Queue.{noSlot}
+use Rattle.station_rules.specs.Hearing.{Hearing, silent}
+use Rattle.station_rules.specs.Turn.{turnReport}
 use Rattle.station_rules.specs.State.{freshStation}
-use Rattle.station_rules.specs.Limits.{stationInside, queueInside, placeInside, recordInside, laneInside}
-use Rattle.places.specs.Places.{allBelow, anyBelow, fill}
+use Rattle.places.specs.Places.{fill}
 use Rattle.links.specs.Log.{hearsIn}
-use Rattle.group_rules.specs.State.{stationAt, freshGroup, groupInside}
-use Rattle.group_rules.specs.Calls.{groupPostRefusal, roundRefusal, hearing, afterRound, reportOf, roundCall, postCall as groupPost}
-use Rattle.group_rules.specs.History.{History, Call.post, Call.round, next, begun, continued}
+use Rattle.group_rules.specs.State.{stationAt, sizeOf, freshGroup}
+use Rattle.group_rules.specs.Calls.{roundRefusal, hearing, afterRound, reportOf, roundCall}
+use Rattle.group_rules.specs.History.{History, reportIn, Call.post, Call.round, next, begun, continued}
 use Rattle.group_rules.specs.Marked.{Marked, oneStation, turnIn}
+use Rattle.group_rules.proofs.Computing.{groupRuns}
+use Rattle.group_rules.proofs.MembersRound.{round-done}
+
+-- a station alone hears nobody, so a round is its turn
+module _ (g : List Station) (masks : List ℕ) (one : sizeOf g ≡ 1) where
+  hears-none : hearing g masks 0 1 ≡ silent (stationAt g 0)
+  unfolding hearing hearsIn
+  hears-none = rw one
+
+  alone-turn : roundRefusal g masks ≡ done → (reportIn (roundCall g masks) 0) .turn ≡ turnReport (stationAt g 0)
+  unfolding roundCall reportOf fill
+  alone-turn e =
+      rw (e, one)
+      (ap (λ (k : ℕ). turnReport ((hearing g masks 0 k) .station)) one ∙ ap (λ (h : Hearing). turnReport (h .station)) hears-none)
 
 -- a group of one in which one edit is posted
 module _ (b : Body) (e : isEdit b ≡ true) where
@@ -50,17 +63,25 @@ module _ (b : Body) (e : isEdit b ≡ true) where
   abbrev ready : History
   ready = record { group = before; rounds = []; log = []; accepted = record { source = 0; body = b } ∷ [] }
 
+  size : sizeOf before ≡ 1
+  unfolding before groupRuns
+  size = refl
+
   post-done : next (begun 1) (post 0 b) ≡ ready
-  unfolding before next begun groupPost groupPostRefusal freshGroup freshStation noneWaiting posted queued groupInside stationInside queueInside placeInside recordInside laneInside allBelow anyBelow numbersInside bodyInside fill
+  unfolding before groupRuns
   post-done = simp e
 
   module _ (masks₁ masks₂ : List ℕ) where
     one-done : roundRefusal before masks₁ ≡ done
-    unfolding before roundRefusal hearing hearsIn freshGroup freshStation noneWaiting posted queued groupInside stationInside queueInside placeInside recordInside laneInside allBelow anyBelow numbersInside bodyInside fill
+    unfolding before groupRuns
     one-done = simp e
 
+    size-after : sizeOf (afterRound before masks₁) ≡ 1
+    unfolding before groupRuns
+    size-after = simp kind
+
     two-done : roundRefusal (afterRound before masks₁) masks₂ ≡ done
-    unfolding before roundRefusal freshGroup freshStation noneWaiting posted queued groupInside stationInside queueInside placeInside recordInside laneInside allBelow anyBelow numbersInside bodyInside fill afterRound hearing hearsIn afterTurn passed rewritten ownRecord startedBody ends lanesAfter airs oldest unqueued laneOf bodies
+    unfolding before groupRuns
     two-done = simp (kind, inside, positive)
 
     abbrev ran : History
@@ -71,23 +92,25 @@ module _ (b : Body) (e : isEdit b ≡ true) where
     post-first = ap (λ (H : History). continued H (round masks₁ ∷ round masks₂ ∷ [])) post-done
 
     turn-one : turnIn ran 0 ≡ turnReport (stationAt before 0)
-    unfolding before continued next roundCall reportOf hearing hearsIn fill freshGroup freshStation noneWaiting posted queued
-    turn-one = rw one-done
+    unfolding continued next
+    turn-one = alone-turn before masks₁ size one-done
 
     turn-two : turnIn ran 1 ≡ turnReport (stationAt (afterRound before masks₁) 0)
-    unfolding before continued next roundCall reportOf fill freshGroup freshStation noneWaiting posted queued afterRound hearing hearsIn afterTurn passed rewritten ownRecord startedBody ends lanesAfter airs oldest unqueued laneOf bodies
-    turn-two = rw (one-done, two-done)
+    unfolding continued next
+    turn-two =
+        ap (λ (g : List Station). (reportIn (roundCall g masks₂) 0) .turn) (round-done before masks₁ (ap (λ (k : ℕ). eqb k done) one-done))
+        ∙ alone-turn (afterRound before masks₁) masks₂ size-after two-done
 
     starts :
         let t = turnIn (oneStation b masks₁ masks₂) 0 in
         (t .aired ≡ false) × (t .ended ≡ true) × (t .«ended_body» ≡ Empty) × (t .«started_body» ≡ b)
-    unfolding before turnReport freshGroup freshStation noneWaiting posted queued startedBody ends lanesAfter airs oldest allBelow fill
+    unfolding before groupRuns
     starts = rw (post-first, turn-one) (refl, refl, refl, refl)
 
     aired :
         let t = turnIn (oneStation b masks₁ masks₂) 1 in
         (t .aired ≡ true) × ((getD (t .row) 0 noSlot) .body ≡ b) × (t .ended ≡ true) × (t .«ended_body» ≡ b) × (t .«started_body» ≡ Neutral)
-    unfolding before turnReport rowOf freshGroup freshStation noneWaiting posted queued afterRound hearing hearsIn afterTurn passed rewritten ownRecord startedBody ends lanesAfter airs oldest unqueued laneOf bodies allBelow fill
+    unfolding before groupRuns
     aired = rw (post-first, turn-two) (simp kind (refl, refl, refl, refl, refl))
 
 pub marked : Marked

@@ -14,7 +14,7 @@ use Rattle.places.proofs.Keeps.{fill-keeps}
 use Rattle.station_rules.specs.declared.Station.{Station}
 use Rattle.station_rules.specs.State.{freshStation}
 use Rattle.station_rules.specs.Limits.{stationInside}
-use Rattle.station_rules.proofs.Shape.{Shaped, fresh-shaped}
+use Rattle.station_rules.proofs.Setters.{Shaped, fresh-self, fresh-shaped}
 use Rattle.station_rules.proofs.StationLimits.{Inside, inside-open, inside-make}
 use Rattle.station_rules.proofs.LimitsFresh.{fresh-holds}
 use Rattle.group_rules.specs.State.{noStation, stationAt, sizeOf, memberInside, groupInside, freshGroup}
@@ -97,26 +97,18 @@ module _ (n : ℕ) (high : n ≤ 16) where
             (rw (getD-replicate 16 k (freshStation 1 0) noStation l) (fresh-shaped 1 0)) (λ j m. fresh-shaped n j);
       }
 
-  fresh-n : (k : ℕ) → freshStation n k .n ≡ n
-  unfolding freshStation
-  fresh-n k = refl
-
-  fresh-number : (k : ℕ) → freshStation n k .own ≡ k
-  unfolding freshStation
-  fresh-number k = refl
-
   pub fresh-members : 1 ≤ n → Members n (freshGroup n)
   fresh-members low =
       record {
         low = low;
         high = high;
-        size = ap (λ (s : Station). s .n) (fresh-at 0 low) ∙ fresh-n 0;
+        size = ap (λ (s : Station). s .n) (fresh-at 0 low) ∙ fresh-self n 0 .n;
         shape = fresh-shape;
         member =
             λ k l. record {
               inside = rw (fresh-at k l) (fresh-holds n k high l);
-              size = rw (fresh-at k l) (fresh-n k);
-              own = rw (fresh-at k l) (fresh-number k);
+              size = rw (fresh-at k l) (fresh-self n k .n);
+              own = rw (fresh-at k l) (fresh-self n k .own);
             };
       }
 

@@ -16,7 +16,8 @@ use Rattle.kinds.specs.Refusals.{done}
 use Rattle.places.proofs.Keeps.{set-keeps}
 use Rattle.station_rules.specs.declared.Station.{Station}
 use Rattle.station_rules.specs.Calls.{posted}
-use Rattle.station_rules.proofs.Shape.{Shaped, posted-shaped}
+use Rattle.station_rules.proofs.Setters.{Shaped}
+use Rattle.station_rules.proofs.Shape.{posted-same, posted-shaped}
 use Rattle.station_rules.proofs.LimitsFresh.{posted-holds}
 use Rattle.group_rules.specs.State.{noStation, stationAt, sizeOf, groupInside}
 use Rattle.group_rules.specs.Calls.{groupPostRefusal, postCall}
@@ -84,8 +85,8 @@ module _ (n : ℕ) (g : List Station) (c : Members n g) (k : ℕ) (b : Body) whe
             record {
               inside =
                   rw posted-at (posted-holds (stationAt g k) b (c .shape .stations k (omega (arith, c .high))) (m .inside) edit room);
-              size = rw posted-at (unfold posted in (m .size));
-              own = rw posted-at (unfold posted in (m .own));
+              size = rw posted-at (sym (posted-same (stationAt g k) b .n) ∙ m .size);
+              own = rw posted-at (sym (posted-same (stationAt g k) b .own) ∙ m .own);
             }
 
     set-members : isEdit b ≡ true → stationAt g k .waiting .len < 32 → Members n (set g k (posted (stationAt g k) b))

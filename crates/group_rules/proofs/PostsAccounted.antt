@@ -16,12 +16,14 @@ use Rattle.places.proofs.Laws.{fill-below}
 use Rattle.station_rules.specs.declared.Station.{Station}
 use Rattle.station_rules.specs.declared.Taking.{Taking}
 use Rattle.lanes.specs.Lane.{bodies, noLane}
-use Rattle.station_rules.specs.State.{laneAt, freshStation}
+use Rattle.station_rules.specs.State.{Cell, laneAt, freshStation}
 use Rattle.station_rules.specs.Hearing.{silent}
 use Rattle.station_rules.specs.Turn.{airs, rowOf, turnReport, afterTurn}
-use Rattle.lanes.specs.Queue.{noSlot, waitingBodies}
+use Rattle.lanes.specs.Queue.{noSlot, waitingBodies, queued}
 use Rattle.lanes.proofs.QueueLaws.{waiting-none, waiting-length, waiting-queued}
 use Rattle.station_rules.specs.Calls.{posted, noTurn}
+use Rattle.station_rules.proofs.Setters.{fresh-self, fresh-own}
+use Rattle.station_rules.proofs.Shape.{posted-same}
 use Rattle.station_rules.proofs.LimitsQueue.{queue-most}
 use Rattle.station_rules.proofs.LimitsHearing.{Hears}
 use Rattle.group_rules.specs.declared.Report.{Report}
@@ -55,7 +57,8 @@ posted-kept : (s : Station) (b : Body) (p : ℕ) → s .waiting .len < length (s
 unfolding posted
 posted-kept s b p l =
     let lane : List Body = onlyEdits (bodies (laneAt s p)) in
-    ap (λ (w : List Body). lane ++ w) (waiting-queued (s .waiting) b l)
+    ap (λ (c : Cell). onlyEdits (bodies (c .lane)) ++ waitingBodies (queued (s .waiting) b)) (sym (posted-same s b .cells p))
+    ∙ ap (λ (w : List Body). lane ++ w) (waiting-queued (s .waiting) b l)
     ∙ sym (append-assoc lane (waitingBodies (s .waiting)) (b ∷ []))
 
 module _ (n : ℕ) (g : List Station) (c : Members n g) (k : ℕ) (b : Body) where
@@ -228,8 +231,11 @@ kept-continued n H [] c = c
 kept-continued n H (call ∷ calls) c = kept-continued n (next H call) calls (kept-next n H call c)
 
 fresh-kept : (n p : ℕ) → p < 16 → kept (freshStation n p) p ≡ []
-unfolding freshStation bodies onlyEdits
-fresh-kept n p l = rw (getD-replicate 16 p noLane noLane l) waiting-none
+unfolding bodies onlyEdits
+fresh-kept n p l =
+    let w = fresh-self n p .waiting in
+    let c = fresh-own n p l in
+    (λ i. onlyEdits (bodies (c i .lane)) ++ waitingBodies (w i)) ∙ waiting-none
 
 pub kept-begun : (n : ℕ) → 1 ≤ n → n ≤ 16 → Kept n (begun n)
 unfolding begun

@@ -25,8 +25,10 @@ use Rattle.links.proofs.Got.{numOf-none, numOf-some, numOf-mono, got-numOf, got
 use Rattle.station_rules.specs.declared.Station.{Station}
 use Rattle.station_rules.specs.State.{freshStation}
 use Rattle.station_rules.specs.Turn.{startedBody}
-use Rattle.station_rules.proofs.TurnParts.{started-stays, body-ends, body-stays, report-started}
+use Rattle.station_rules.proofs.TurnCells.{started-stays}
+use Rattle.station_rules.proofs.TurnParts.{body-ends, body-stays, report-started}
 use Rattle.group_rules.specs.State.{stationAt}
+use Rattle.station_rules.proofs.Setters.{fresh-self}
 use Rattle.group_rules.specs.History.{takingsOf, unlessEmpty}
 use Rattle.group_rules.specs.Demand.{Begins}
 use Rattle.group_rules.proofs.Run.{Run, linksOf, hearingIn, bodyAt, rises}
@@ -37,8 +39,7 @@ use Rattle.group_rules.proofs.Lists.{startedBy, heardBy, takenBy, start
 use Rattle.group_rules.proofs.Counting.{shown}
 
 fresh-body : (n p : ℕ) → (freshStation n p) .body ≡ Empty
-unfolding freshStation
-fresh-body n p = refl
+fresh-body n p = fresh-self n p .body
 
 module _ (R : Run) where
   abbrev L : Links

@@ -7,31 +7,31 @@ use mathlib.Core.Path.{_≡_, refl, sym, ap, subst, _∙_}
 use native.Mathlib.Decide.{ℕ-discrete}
 use native.Mathlib.Omega.{arith}
 use lib.Dec.{eqb, ltb}
-use lib.ListN.{getD, replicate, length}
+use lib.ListN.{getD}
 use borrow.Author.Tests.{ltb-true, eq-eqb}
 use Rattle.kinds.specs.declared.Body.{Body}
 use Rattle.kinds.specs.declared.Body.the-variants.{Neutral}
 use Rattle.kinds.specs.Body.{kindOf}
 use Rattle.kind_limits.specs.Limits.{isEdit}
 use Rattle.places.specs.Places.{gather}
-use Rattle.places.proofs.Laws.{allBelow-at, fill-below}
+use Rattle.places.proofs.Laws.{allBelow-at}
 use Rattle.lanes.specs.declared.Lane.{Lane}
-use Rattle.lanes.specs.declared.Slot.{Slot}
 use Rattle.station_rules.specs.declared.Station.{Station}
 use Rattle.station_rules.specs.declared.Taking.{Taking}
 use Rattle.lanes.specs.Lane.{bodies, laneOf, pushed, popped}
 use Rattle.lanes.specs.Queue.{noSlot, waitingBodies, oldest, unqueued}
 use Rattle.lanes.proofs.QueueLaws.{waiting-unqueued}
 use Rattle.station_rules.specs.State.{laneAt}
-use Rattle.station_rules.specs.Turn.{airs, rowOf, startsEdit, startedBody, passed, rewritten, afterTurn}
+use Rattle.station_rules.specs.Turn.{airs, rowOf, startsEdit, startedBody, afterTurn}
 use Rattle.kind_limits.proofs.Laws.{edit-not-empty}
 use Rattle.station_rules.proofs.BodyLaws.{neutral-no-edit}
-use Rattle.station_rules.proofs.Shape.{Shaped, lanesAfter-length}
+use Rattle.station_rules.proofs.Setters.{Shaped}
 use Rattle.station_rules.proofs.LimitsLane.{lane-most}
 use Rattle.station_rules.proofs.LimitsQueue.{queue-most, oldest-edit}
 use Rattle.station_rules.proofs.StationLimits.{Inside}
-use Rattle.station_rules.proofs.TurnParts.{airs-each}
-use Rattle.station_rules.proofs.TurnLaws.{laneAfter, after-aired, after-kept, Start, Start.anEdit, Start.aNeutral, Start.nothing, start, passed-waiting, passed-own-lane}
+use Rattle.station_rules.proofs.TurnParts.{airs-each, row-at}
+use Rattle.station_rules.proofs.TurnCells.{laneAfter, lane-after, turn-waiting, turn-lane-own}
+use Rattle.station_rules.proofs.TurnLaws.{Start, Start.anEdit, Start.aNeutral, Start.nothing, start}
 use Rattle.group_rules.specs.History.{takingsOf, editsOf, onlyEdits}
 use Rattle.group_rules.proofs.Takings.{takingsOf-append, taking-other, taking-here}
 
@@ -67,9 +67,6 @@ abbrev pub kept : Station → ℕ → List Body
 kept s p = onlyEdits (bodies (laneAt s p)) ++ waitingBodies (s .waiting)
 
 module _ (s : Station) (shape : Shaped s) (c : Inside s) where
-  fits : s .own < length (s .lanes)
-  fits = rw (shape .lanes) (omega (arith, c .high, c .own))
-
   own-most : (laneAt s (s .own)) .len ≤ 2
   own-most =
       let most : _≡_ {A = ℕ} (cond (eqb (s .own) (s .own)) 1 2) 1 = rw (eq-eqb (s .own) (s .own) refl) in
@@ -87,17 +84,23 @@ module _ (s : Station) (shape : Shaped s) (c : Inside s) where
       ≡ onlyEdits (bodies (laneAt s (s .own)))
   aired-account = go (airs s) refl
     where
+      after : laneAfter s (s .own) ≡ cond (airs s) (popped (laneAt s (s .own))) (laneAt s (s .own))
+      after = lane-after s shape (c .high) (c .own) (s .own) (c .own)
+
       go :
           (t : Bool) → airs s ≡ t →
           cond t (ifEdit ((laneAt s (s .own)) .first)) [] ++ onlyEdits (bodies (laneAfter s (s .own)))
           ≡ onlyEdits (bodies (laneAt s (s .own)))
-      go true e = rw (after-aired s (s .own) (c .own) fits e) (popped-edits (laneAt s (s .own)) (airs-own e) own-most)
-      go false e = rw (after-kept s (s .own) e)
+      go true e = rw (after, e) (popped-edits (laneAt s (s .own)) (airs-own e) own-most)
+      go false e = rw (after, e)
 
   -- the start
-  started-account : kept (passed s) (s .own) ≡ onlyEdits (bodies (laneAfter s (s .own))) ++ waitingBodies (s .waiting)
+  started-account : kept (afterTurn s) (s .own) ≡ onlyEdits (bodies (laneAfter s (s .own))) ++ waitingBodies (s .waiting)
   started-account =
-      rw (passed-waiting s, passed-own-lane s (rw (lanesAfter-length s) fits)) (go (start s))
+      (let w = turn-waiting s in
+      let l = turn-lane-own s shape (c .high) (c .own) in
+      λ i. onlyEdits (bodies (l i)) ++ waitingBodies (w i))
+      ∙ go (start s)
     where
       after : Lane
       after = laneAfter s (s .own)
@@ -114,17 +117,13 @@ module _ (s : Station) (shape : Shaped s) (c : Inside s) where
       go (aNeutral e room b) = rw (e, b, pushed-edits after Neutral room, neutral-no-edit, none-edits after room)
       go (nothing e b) = rw (e, b)
 
-  rewritten-same : kept (afterTurn s) (s .own) ≡ kept (passed s) (s .own)
-  unfolding afterTurn rewritten
-  rewritten-same = refl
-
   own-account : kept s (s .own) ≡ cond (airs s) (ifEdit ((laneAt s (s .own)) .first)) [] ++ kept (afterTurn s) (s .own)
   own-account =
       let row : List Body = cond (airs s) (ifEdit ((laneAt s (s .own)) .first)) [] in
       let after : List Body = onlyEdits (bodies (laneAfter s (s .own))) in
       ap (λ (l : List Body). l ++ waitingBodies (s .waiting)) (sym aired-account)
       ∙ append-assoc row after (waitingBodies (s .waiting))
-      ∙ ap (λ (l : List Body). row ++ l) (sym (rewritten-same ∙ started-account))
+      ∙ ap (λ (l : List Body). row ++ l) (sym started-account)
 
   pub turn-account : (p : ℕ) → s .own ≡ p → kept s p ≡ cond (airs s) (ifEdit ((laneAt s p) .first)) [] ++ kept (afterTurn s) p
   turn-account p e =
@@ -169,8 +168,7 @@ module _ (test : ℕ → Bool) (body : ℕ → Body) (p : ℕ) where
 -- the own edit of a row
 pub row-account :
     (n : ℕ) (s : Station) (p : ℕ) → n ≤ 16 → s .n ≡ n → p < n → takingsOf p (editsOf n (rowOf s)) ≡ ifEdit ((laneAt s p) .first)
-unfolding editsOf rowOf
+unfolding editsOf
 row-account n s p high size l =
     gathered-own (λ k. isEdit ((getD (rowOf s) k noSlot) .body)) (λ k. (getD (rowOf s) k noSlot) .body) p n l
-    ∙ ap (λ (x : Slot). ifEdit (x .body))
-    (fill-below (s .n) (λ k. record { body = (laneAt s k) .first }) (replicate 16 noSlot) p noSlot (omega arith) (omega arith))
+    ∙ ap ifEdit (row-at s p (omega arith) (omega arith))

@@ -14,7 +14,7 @@ use Rattle.places.specs.Places.{allBelow}
 use Rattle.places.proofs.Laws.{and-both, and-left, and-right, allBelow-at, allBelow-make}
 use Rattle.lanes.specs.declared.Slot.{Slot}
 use Rattle.lanes.specs.declared.Queue.{Queue}
-use Rattle.lanes.specs.Queue.{noSlot, queued, oldest, unqueued}
+use Rattle.lanes.specs.Queue.{noSlot, noneWaiting, queued, oldest, unqueued}
 use Rattle.lanes.proofs.QueueLaws.{unqueued-at}
 use Rattle.station_rules.specs.Limits.{queueInside}
 
@@ -34,6 +34,10 @@ queue-edit q h =
 pub queue-make : (q : Queue) → q .len ≤ 32 → ((i : ℕ) → i < q .len → isEdit (slotBody q i) ≡ true) → queueInside q ≡ true
 unfolding queueInside
 queue-make q l h = and-both (le-leb (q .len) 32 l) (allBelow-make (q .len) (λ i. isEdit (slotBody q i)) h)
+
+pub none-inside : queueInside noneWaiting ≡ true
+unfolding queueInside noneWaiting allBelow
+none-inside = refl
 
 pub queued-len : (q : Queue) (b : Body) → (queued q b) .len ≡ suc (q .len)
 unfolding queued

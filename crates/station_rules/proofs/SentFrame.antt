@@ -11,7 +11,7 @@ use Rattle.frame_rules.specs.Calls.{tableRecords}
 use Rattle.frame_rules.proofs.TableTrip.{table-read, table-accepted}
 use Rattle.places.proofs.Laws.{and-both}
 use Rattle.station_rules.specs.declared.Station.{Station}
-use Rattle.station_rules.specs.State.{heldOf, recordOf, sentRecords}
+use Rattle.station_rules.specs.State.{cellOf, heldOf, recordOf, sentRecords}
 use Rattle.station_rules.specs.Hearing.{Hearing, hearRecords}
 use Rattle.station_rules.specs.Calls.{ownCountInside, frameOf}
 use Rattle.station_rules.proofs.StationLimits.{Inside}
@@ -23,7 +23,7 @@ module _ (s : Station) (c : Inside s) (fits : ownCountInside s ≡ true) where
   place k l e = c .places k l .held e .station
 
   pub record-fits : (k : ℕ) → k < s .n → heldOf s k ≡ true → recordFits (s .n) (recordOf s k) ≡ true
-  unfolding recordFits
+  unfolding cellOf recordFits
   record-fits k l e =
       let h = c .places k l .held e in
       and-both
@@ -33,11 +33,11 @@ module _ (s : Station) (c : Inside s) (fits : ownCountInside s ≡ true) where
       (writable s c .labels k l e)
 
   pub sent-read : recordsOf (frameOf s) ≡ sentRecords s
-  unfolding sentRecords tableRecords frameOf
+  unfolding cellOf sentRecords tableRecords frameOf
   sent-read = table-read (s .n) (s .own) (s .held) (s .table) (c .high) place record-fits (c .held) (c .own)
 
   pub sent-accepted : (own : ℕ) → (s .own ≡ own → ⊥) → frameRefusal (frameOf s) (s .n) own ≡ done
-  unfolding sentRecords tableRecords frameOf
+  unfolding cellOf sentRecords tableRecords frameOf
   sent-accepted = table-accepted (s .n) (s .own) (s .held) (s .table) (c .high) place record-fits (c .held) (c .own)
 
   -- the hearer makes the same of the frame as of the table

@@ -9,6 +9,7 @@ use lib.ListN.{getD, length}
 use borrow.Author.Tests.{not-true, not-false}
 use Rattle.frame_rules.specs.declared.Record.{Record}
 use Rattle.station_rules.specs.declared.Station.{Station}
+use Rattle.station_rules.specs.State.{cellOf}
 use Rattle.station_rules.specs.Hearing.{Hearing, silent, heeds, hearRecord}
 use Rattle.station_rules.specs.Frames.{FrameAt}
 use Rattle.station_rules.proofs.StationLimits.{Inside, inside-open}
@@ -151,6 +152,7 @@ module _ (c : tie.After-heard Inv-loop μ-loop) where
   turn = c .before .before .before .before .before .before .before .before .before
 
   does : Does (old turn) (s turn .n) (s turn .own) (k turn) (seen turn) (c .heard .result)
+  unfolding cellOf
   does =
       subst (λ (x : Record). Does (old turn) (s turn .n) (s turn .own) (k turn) x (c .heard .result)) (record-at (bytes turn) (start turn) (place turn % 16))
       (c .heard .ensures)
