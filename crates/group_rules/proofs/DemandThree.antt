@@ -1,13 +1,11 @@
 -- Demand 3, whole. The run of a list of calls stays inside its limits round by round, since its counts are bounded and no lane overflows; so none of its rounds is
 -- refused, the history of the list is that run, and each sentence is one of the facts about runs.
 use Prim.Native.Nat.{ℕ, zero, suc, _*_, _-_, _≤_, _<_}
-use mathlib.Core.Bool.{Bool, true, false}
+use mathlib.Core.Bool.{true}
 use mathlib.Core.List.{List}
 use mathlib.Core.Path.{_≡_, ap, _∙_}
 use native.Mathlib.Omega.{arith}
 use lib.ListN.{length}
-use Rattle.frame_rules.specs.declared.Record.{Record}
-use Rattle.frame_rules.specs.Record.{noRecord}
 use Rattle.station_rules.specs.State.{Cell, heldOf, recordOf}
 use Rattle.station_rules.proofs.Setters.{SameButWaiting}
 use Rattle.group_rules.specs.State.{stationAt}

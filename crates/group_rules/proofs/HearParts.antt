@@ -3,14 +3,13 @@
 use Prim.Native.Nat.{ℕ, suc, _+_, _%_, _≤_, _<_}
 use mathlib.Core.Bool.{Bool, true, false, cond, not, _&&_, _||_, or-true}
 use mathlib.Core.List.{List, [], _∷_, _++_, append-nil}
-use mathlib.Core.Path.{_≡_, sym, ap, _∙_, subst}
+use mathlib.Core.Path.{_≡_, sym, ap, _∙_}
 use native.Mathlib.Decide.{ℕ-discrete}
 use native.Mathlib.Omega.{arith}
 use borrow.Author.Tests.{lt-ltb, le-ltb, eq-eqb, ne-eqb}
-use lib.ListN.{length}
 use lib.Dec.{ltb, eqb}
 use Rattle.kinds.specs.declared.Body.{Body}
-use Rattle.kinds.specs.Body.{kindOf}
+use Rattle.kinds.specs.Body.{isEmpty}
 use Rattle.labels.specs.Label.{successor}
 use Rattle.links.specs.Relay.{Links}
 use Rattle.links.specs.Number.{numOf, got}
@@ -72,8 +71,8 @@ module _ (R : Run) where
       numOf L k (suc w) ≡ cond b (suc (numOf L k v)) (numOf L k v) →
       got L u p k ≤ numOf L k v → numOf L k (suc w) ≤ got L u p k + 1 →
       body ≡ shown R k (suc w) → Caught R u p k v before lane taken →
-      Caught R u p k (suc w) before (cond (b && not (eqb (kindOf body) 0)) (pushed lane body) lane)
-      (taken ++ cond (b && not (eqb (kindOf body) 0)) (body ∷ []) [])
+      Caught R u p k (suc w) before (cond (b && not (isEmpty body)) (pushed lane body) lane)
+      (taken ++ cond (b && not (isEmpty body)) (body ∷ []) [])
   caught-step u p k v w true body before lane taken e low high f c =
       let still = not-risen u p k v w e high in
       let up = risen u p k v w e low in
@@ -81,7 +80,7 @@ module _ (R : Run) where
       let y : taken ≡ [] = c .taken-now ∙ rw still in
       record {
         lane-now = rw (up, x, f);
-        taken-now = rw (up, y, f) (cond-not (eqb (kindOf (shown R k (suc w))) 0) (shown R k (suc w) ∷ []) []);
+        taken-now = rw (up, y, f) (cond-not (isEmpty (shown R k (suc w))) (shown R k (suc w) ∷ []) []);
       }
   caught-step u p k v w false body before lane taken e low high f c =
       let d = caught-same R u p k v (suc w) before lane taken (sym e) c in

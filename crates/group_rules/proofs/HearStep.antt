@@ -10,7 +10,7 @@ use native.Mathlib.Omega.{arith}
 use borrow.Author.Tests.{lt-ltb}
 use lib.Dec.{leb, eqb}
 use Rattle.kinds.specs.declared.Body.{Body}
-use Rattle.kinds.specs.Body.{kindOf}
+use Rattle.kinds.specs.Body.{isEmpty}
 use Rattle.labels.specs.Label.{successor}
 use Rattle.links.specs.Relay.{Links}
 use Rattle.links.specs.Clock.{news}
@@ -68,8 +68,8 @@ module _ (R : Run) where
         within-round : suc w ≤ suc u
         within-round = omega (arith, news-limit L u j k)
 
-        takes-is : takes s r ≡ (b && not (eqb (kindOf (r .body)) 0))
-        takes-is = ap (λ (x : Bool). x && not (eqb (kindOf (r .body)) 0)) adv
+        takes-is : takes s r ≡ (b && not (isEmpty (r .body)))
+        takes-is = ap (λ (x : Bool). x && not (isEmpty (r .body))) adv
 
         had : got L u p k ≤ numOf L k (vs k)
         had =

@@ -12,7 +12,7 @@ use lib.Dec.{eqb, ltb, leb}
 use lib.ListN.{length, drop, length-drop, length-append}
 use lib.Seq.{drop-drop, drop-append-le}
 use Rattle.kinds.specs.declared.Body.{Body}
-use Rattle.kinds.specs.Body.{kindOf}
+use Rattle.kinds.specs.Body.{isEmpty}
 use Rattle.links.specs.Relay.{Links}
 use Rattle.links.specs.Clock.{news}
 use Rattle.links.proofs.Clock.{news-own, news-other, news-start}
@@ -139,7 +139,7 @@ module _ (R : Run) where
           (had u p s)
           b
           (rises R u p s)
-          (eqb (kindOf b) 0)
+          (isEmpty b)
           (c .lanes p s lp ls)
           (omega (arith, len, ahead L (madeBy R) (rowsBy R) u (c .counting) u p s (omega arith) lp ls))
           (omega (arith, len, rows-limit L (madeBy R) (rowsBy R) u (c .counting) u p s (omega arith) lp ls)))
@@ -177,7 +177,7 @@ module _ (R : Run) where
       ap (λ (k : ℕ). startedAt R p k) v ∙ startedAt-some R p u
 
   -- the rules of counting in one round more
-  starts-low : (u p : ℕ) → p < R .n → Carried u → (eqb (kindOf (startedBody ((hearingIn R u p) .station))) 0) ≡ false
+  starts-low : (u p : ℕ) → p < R .n → Carried u → (isEmpty (startedBody ((hearingIn R u p) .station))) ≡ false
       → madeBy R u p ≤ rowsBy R (suc u) p
   starts-low u p lp c k = go (mayStart t) refl
     where
@@ -198,23 +198,23 @@ module _ (R : Run) where
             ap length (own-heard u p),
           )
       go false e =
-          let z : true ≡ false = sym (ap (λ (b : Body). eqb (kindOf b) 0) (started-waits t e)) ∙ k in
+          let z : true ≡ false = sym (ap (λ (b : Body). isEmpty b) (started-waits t e)) ∙ k in
           absurd (true≢false z)
 
   one-more : (u p : ℕ) → p < R .n → Carried u
       → (madeBy R (suc u) p ≡ madeBy R u p) ⊎ ((madeBy R u p ≤ rowsBy R (suc u) p) × (madeBy R (suc u) p ≡ suc (madeBy R u p)))
-  one-more u p lp c = go (eqb (kindOf b) 0) refl
+  one-more u p lp c = go (isEmpty b) refl
     where
       b : Body
       b = startedBody ((hearingIn R u p) .station)
 
-      more : (z : Bool) → eqb (kindOf b) 0 ≡ z → madeBy R (suc u) p ≡ madeBy R u p + length (cond z [] (b ∷ []))
+      more : (z : Bool) → isEmpty b ≡ z → madeBy R (suc u) p ≡ madeBy R u p + length (cond z [] (b ∷ []))
       more z e =
           ap length (startedBy-step R u p)
           ∙ length-append (startedBy R u p) (unlessEmpty b)
           ∙ ap (λ (y : Bool). madeBy R u p + length (cond y [] (b ∷ []))) e
 
-      go : (z : Bool) → eqb (kindOf b) 0 ≡ z
+      go : (z : Bool) → isEmpty b ≡ z
           → (madeBy R (suc u) p ≡ madeBy R u p) ⊎ ((madeBy R u p ≤ rowsBy R (suc u) p) × (madeBy R (suc u) p ≡ suc (madeBy R u p)))
       go true e = inl (omega (arith, more true e))
       go false e = inr (starts-low u p lp c e, omega (arith, more false e))
@@ -263,12 +263,12 @@ module _ (R : Run) where
           ∙ startedAt-some R p (suc u)
           ∙ startedBy-step R u p
           ∙ ap (λ (xs : List Body). xs ++ unlessEmpty b) (sym (own-heard u p)) in
-          let l : laneAt (afterTurn t) p ≡ cond (not (eqb (kindOf b) 0)) (pushed (airedLane u p p) b) (airedLane u p p) =
+          let l : laneAt (afterTurn t) p ≡ cond (not (isEmpty b)) (pushed (airedLane u p p) b) (airedLane u p p) =
           subst
-          (λ (k : ℕ). laneAt (afterTurn t) k ≡ cond (not (eqb (kindOf b) 0)) (pushed (laneAfter t k) b) (laneAfter t k))
+          (λ (k : ℕ). laneAt (afterTurn t) k ≡ cond (not (isEmpty b)) (pushed (laneAfter t k) b) (laneAfter t k))
           (m .own)
           (turn-lane-own t (m .shape) few below
-          ∙ sym (cond-not (eqb (kindOf b) 0) (pushed (laneAfter t (t .own)) b) (laneAfter t (t .own)))) in
+          ∙ sym (cond-not (isEmpty b) (pushed (laneAfter t (t .own)) b) (laneAfter t (t .own)))) in
           rw (← e, v, l)
           (grown
           (airedLane u p p)
@@ -276,7 +276,7 @@ module _ (R : Run) where
           (hasHeard u p p)
           b
           true
-          (eqb (kindOf b) 0)
+          (isEmpty b)
           (has-aired u p p lp lp c)
           (omega (
             arith,

@@ -4,16 +4,14 @@ use Prim.Native.Nat.{ℕ}
 use mathlib.Core.Bool.{true, false}
 use mathlib.Core.List.{List, [], _∷_}
 use mathlib.Core.Path.{_≡_, refl, ap, _∙_}
-use native.Mathlib.Omega.{arith}
-use lib.Dec.{leb, eqb}
+use lib.Dec.{eqb}
 use lib.ListN.{getD, set}
-use borrow.Author.Tests.{le-leb}
 use Rattle.kinds.specs.declared.Body.{Body}
 use Rattle.kinds.specs.declared.Body.the-variants.{Empty, Neutral}
-use Rattle.kinds.specs.Body.{kindOf}
-use Rattle.kind_limits.specs.Limits.{isEdit, bodyInside}
+use Rattle.kinds.specs.Body.{isEmpty}
+use Rattle.kind_limits.specs.Limits.{postable, bodyInside}
 use Rattle.kinds.specs.Refusals.{done}
-use Rattle.kind_limits.proofs.Laws.{edit-inside, edit-kind, edit-not-empty}
+use Rattle.kind_limits.proofs.Laws.{postable-inside, postable-not-empty}
 use Rattle.labels.proofs.Examples as labels
 use Rattle.label_words.proofs.Examples as words
 use Rattle.frame_rules.proofs.FrameTrip as frames
@@ -46,15 +44,12 @@ module _ (g : List Station) (masks : List ℕ) (one : sizeOf g ≡ 1) where
       (ap (λ (k : ℕ). turnReport ((hearing g masks 0 k) .station)) one ∙ ap (λ (h : Hearing). turnReport (h .station)) hears-none)
 
 -- a group of one in which one edit is posted
-module _ (b : Body) (e : isEdit b ≡ true) where
+module _ (b : Body) (e : postable b ≡ true) where
   inside : bodyInside b ≡ true
-  inside = edit-inside b e
+  inside = postable-inside b e
 
-  kind : eqb (kindOf b) 0 ≡ false
-  kind = edit-not-empty b e
-
-  positive : leb 1 (kindOf b) ≡ true
-  positive = le-leb 1 (kindOf b) (omega (arith, edit-kind b e))
+  kind : isEmpty b ≡ false
+  kind = postable-not-empty b e
 
   -- the group once the edit is posted
   before : List Station
@@ -82,7 +77,7 @@ module _ (b : Body) (e : isEdit b ≡ true) where
 
     two-done : roundRefusal (afterRound before masks₁) masks₂ ≡ done
     unfolding before groupRuns
-    two-done = simp (kind, inside, positive)
+    two-done = simp (kind, inside)
 
     abbrev ran : History
     ran = continued ready (round masks₁ ∷ round masks₂ ∷ [])

@@ -15,7 +15,7 @@ use Rattle.places.specs.Places.{fill}
 use Rattle.places.proofs.Laws.{fill-below}
 use Rattle.station_rules.specs.declared.Station.{Station}
 use Rattle.station_rules.specs.declared.Taking.{Taking}
-use Rattle.lanes.specs.Lane.{bodies, noLane}
+use Rattle.lanes.specs.Lane.{bodies}
 use Rattle.station_rules.specs.State.{Cell, laneAt, freshStation}
 use Rattle.station_rules.specs.Hearing.{silent}
 use Rattle.station_rules.specs.Turn.{airs, rowOf, turnReport, afterTurn}

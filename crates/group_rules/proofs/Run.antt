@@ -7,7 +7,7 @@ use mathlib.Core.Path.{_≡_}
 use lib.ListN.{length}
 use lib.Dec.{ltb, leb, eqb}
 use Rattle.kinds.specs.declared.Body.{Body}
-use Rattle.kinds.specs.Body.{kindOf}
+use Rattle.kinds.specs.Body.{isEmpty}
 use Rattle.links.specs.Relay.{Links, ofMasks}
 use Rattle.links.specs.Clock.{news}
 use Rattle.links.specs.Number as number
@@ -54,7 +54,7 @@ rises R u p s = ltb (number.got (linksOf R) u p s) (number.got (linksOf R) (suc 
 
 -- and a body other than Empty comes with it
 abbrev pub comes : Run → ℕ → ℕ → ℕ → Bool
-comes R u p s = rises R u p s && not (eqb (kindOf (bodyAt R s (news (linksOf R) (suc u) p s))) 0)
+comes R u p s = rises R u p s && not (isEmpty (bodyAt R s (news (linksOf R) (suc u) p s)))
 
 -- what the simulation shows of every round: which bodies are taken, what becomes of the lanes, and who ends
 pub record Simulated (R : Run) : Type 0 where

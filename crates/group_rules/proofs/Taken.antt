@@ -9,11 +9,11 @@ use native.Mathlib.Decide.{ℕ-discrete}
 use native.Mathlib.Nat.{zero-add, suc-add}
 use native.Mathlib.Omega.{arith}
 use borrow.Author.Tests.{eq-eqb, ne-eqb, lt-ltb, le-ltb}
-use lib.Dec.{eqb, ltb}
+use lib.Dec.{ltb}
 use lib.ListN.{length}
 use Rattle.kinds.specs.declared.Body.{Body}
 use Rattle.kinds.specs.declared.Body.the-variants.{Empty}
-use Rattle.kinds.specs.Body.{kindOf}
+use Rattle.kinds.specs.Body.{isEmpty}
 use Rattle.places.proofs.Later.{from-on}
 use Rattle.links.specs.Relay.{Links}
 use Rattle.links.specs.Clock.{news}
@@ -215,7 +215,7 @@ module _ (R : Run) where
       one false x = omega arith
 
       go : (b : Bool) (x : Body) → length (cond b (unlessEmpty x) []) ≤ 1
-      go true x = one (eqb (kindOf x) 0) x
+      go true x = one (isEmpty x) x
       go false x = omega arith
 
   -- How many bodies a version shows.

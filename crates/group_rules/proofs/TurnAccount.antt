@@ -11,8 +11,7 @@ use lib.ListN.{getD}
 use borrow.Author.Tests.{ltb-true, eq-eqb}
 use Rattle.kinds.specs.declared.Body.{Body}
 use Rattle.kinds.specs.declared.Body.the-variants.{Neutral}
-use Rattle.kinds.specs.Body.{kindOf}
-use Rattle.kind_limits.specs.Limits.{isEdit}
+use Rattle.kinds.specs.Body.{isEmpty, isEdit}
 use Rattle.places.specs.Places.{gather}
 use Rattle.places.proofs.Laws.{allBelow-at}
 use Rattle.lanes.specs.declared.Lane.{Lane}
@@ -23,8 +22,8 @@ use Rattle.lanes.specs.Queue.{noSlot, waitingBodies, oldest, unqueued}
 use Rattle.lanes.proofs.QueueLaws.{waiting-unqueued}
 use Rattle.station_rules.specs.State.{laneAt}
 use Rattle.station_rules.specs.Turn.{airs, rowOf, startsEdit, startedBody, afterTurn}
-use Rattle.kind_limits.proofs.Laws.{edit-not-empty}
-use Rattle.station_rules.proofs.BodyLaws.{neutral-no-edit}
+use Rattle.kinds.proofs.Laws.{edit-not-empty}
+use Rattle.kind_limits.proofs.Laws.{postable-edit}
 use Rattle.station_rules.proofs.Setters.{Shaped}
 use Rattle.station_rules.proofs.LimitsLane.{lane-most}
 use Rattle.station_rules.proofs.LimitsQueue.{queue-most, oldest-edit}
@@ -107,14 +106,14 @@ module _ (s : Station) (shape : Shaped s) (c : Inside s) where
 
       go :
           Start s →
-          onlyEdits (bodies (cond (eqb (kindOf (startedBody s)) 0) after (pushed after (startedBody s))))
+          onlyEdits (bodies (cond (isEmpty (startedBody s)) after (pushed after (startedBody s))))
           ++ waitingBodies (cond (startsEdit s) (unqueued (s .waiting)) (s .waiting))
           ≡ onlyEdits (bodies after) ++ waitingBodies (s .waiting)
       go (anEdit e room w b) =
-          let edit : isEdit (oldest (s .waiting)) ≡ true = oldest-edit (s .waiting) (c .waiting) w in
+          let edit : isEdit (oldest (s .waiting)) ≡ true = postable-edit (oldest (s .waiting)) (oldest-edit (s .waiting) (c .waiting) w) in
           rw (e, b, edit-not-empty (oldest (s .waiting)) edit, pushed-edits after (oldest (s .waiting)) room, edit, none-edits after room)
           (sym (waiting-unqueued (s .waiting) w (omega (arith, queue-most (s .waiting) (c .waiting), shape .slots))))
-      go (aNeutral e room b) = rw (e, b, pushed-edits after Neutral room, neutral-no-edit, none-edits after room)
+      go (aNeutral e room b) = rw (e, b, pushed-edits after Neutral room, none-edits after room)
       go (nothing e b) = rw (e, b)
 
   own-account : kept s (s .own) ≡ cond (airs s) (ifEdit ((laneAt s (s .own)) .first)) [] ++ kept (afterTurn s) (s .own)

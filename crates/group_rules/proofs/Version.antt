@@ -11,7 +11,7 @@ use native.Mathlib.Omega.{arith}
 use borrow.Author.Tests.{lt-ltb}
 use lib.Dec.{ltb, eqb}
 use Rattle.kinds.specs.declared.Body.{Body}
-use Rattle.kinds.specs.Body.{kindOf}
+use Rattle.kinds.specs.Body.{isEmpty}
 use Rattle.links.specs.Relay.{Links}
 use Rattle.links.specs.Number.{start, num, numOf, got, gotOf, counted}
 use Rattle.links.proofs.Number.{num-positive, same-start}
@@ -124,7 +124,7 @@ module _ (R : Run) where
 
   -- since round u version v of q brought p a new number, and with it a body other than Empty
   abbrev pub gains : ℕ → ℕ → ℕ → ℕ → Bool
-  gains u p q v = ltb (got L u p q) (numOf L q v) && not (eqb (kindOf (shown q v)) 0)
+  gains u p q v = ltb (got L u p q) (numOf L q v) && not (isEmpty (shown q v))
 
   -- what p took of q with it, and what became of the lane
   pub record Caught (u p q v : ℕ) (before lane : Lane) (taken : List Body) : Type 0 where

@@ -5,8 +5,7 @@ use mathlib.Core.List.{List, [], _∷_, _++_}
 use lib.ListN.{getD, take}
 use lib.Dec.{eqb}
 use Rattle.kinds.specs.declared.Body.{Body}
-use Rattle.kinds.specs.Body.{kindOf}
-use Rattle.kind_limits.specs.Limits.{isEdit}
+use Rattle.kinds.specs.Body.{isEmpty, isEdit}
 use Rattle.kinds.specs.Refusals.{done}
 use Rattle.places.specs.Places.{gather}
 use Rattle.station_rules.specs.declared.Station.{Station}
@@ -70,7 +69,7 @@ reportIn r p = getD (r .reports) p noReport
 
 -- a body, where it is not Empty
 abbrev pub unlessEmpty : Body → List Body
-unlessEmpty b = cond (eqb (kindOf b) 0) [] (b ∷ [])
+unlessEmpty b = cond (isEmpty b) [] (b ∷ [])
 
 module _ {A : Type 0} where
   -- what each round adds, round after round
@@ -94,7 +93,7 @@ takenFrom H p s =
     (started H s)
     (collect (λ r. takingsOf s (take ((reportIn r p) .«takings_len») ((reportIn r p) .takings))) (H .rounds))
 
--- the edits of a row (all bodies of a row are inside their limits), each with its source, in station order
+-- the edits of a row, each with its source, in station order
 unfoldable pub editsOf : ℕ → List Slot → List Taking
 editsOf n row =
     gather n (λ k. isEdit ((getD row k noSlot) .body)) (λ k. record { source = k; body = (getD row k noSlot) .body })

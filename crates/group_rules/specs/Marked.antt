@@ -7,7 +7,7 @@ use lib.IntN.{pos, negsuc}
 use lib.ListN.{getD, length, replicate}
 use Rattle.kinds.specs.declared.Body.{Body}
 use Rattle.kinds.specs.declared.Body.the-variants.{Empty, Neutral, Insert, Shift}
-use Rattle.kind_limits.specs.Limits.{isEdit}
+use Rattle.kind_limits.specs.Limits.{postable}
 use Rattle.kinds.specs.Refusals.{done, queueFull, notAnEdit}
 use Rattle.label_words.specs.Packing.{packed}
 use Rattle.labels.specs.Newer.{isNewer}
@@ -52,15 +52,15 @@ pub record Marked : Type 0 where
       ((postCall s (Insert event (pos 2_159_999))) .refusal ≡ done) × ((postCall s (Insert event (pos 2_160_000))) .refusal ≡ notAnEdit)
   -- M11: as long as fewer than 32 wait, an edit is accepted and waits; where 32 wait, one more is refused
   pub m11-room :
-      (s : Station) (b : Body) → stationInside s ≡ true → (s .waiting) .len < 32 → isEdit b ≡ true →
+      (s : Station) (b : Body) → stationInside s ≡ true → (s .waiting) .len < 32 → postable b ≡ true →
       ((postCall s b) .refusal ≡ done) × (((postCall s b) .station) .waiting .len ≡ (s .waiting) .len + 1)
-  pub m11 : (s : Station) (b : Body) → stationInside s ≡ true → (s .waiting) .len ≡ 32 → isEdit b ≡ true → (postCall s b) .refusal ≡ queueFull
+  pub m11 : (s : Station) (b : Body) → stationInside s ≡ true → (s .waiting) .len ≡ 32 → postable b ≡ true → (postCall s b) .refusal ≡ queueFull
   -- M12: one edit at a station alone: in round 1 it starts where Empty ends; in round 2 it is aired and ends, and Neutral starts
   pub m12-starts :
-      (b : Body) (masks₁ masks₂ : List ℕ) → isEdit b ≡ true →
+      (b : Body) (masks₁ masks₂ : List ℕ) → postable b ≡ true →
       let t = turnIn (oneStation b masks₁ masks₂) 0 in
       (t .aired ≡ false) × (t .ended ≡ true) × (t .«ended_body» ≡ Empty) × (t .«started_body» ≡ b)
   pub m12-airs :
-      (b : Body) (masks₁ masks₂ : List ℕ) → isEdit b ≡ true →
+      (b : Body) (masks₁ masks₂ : List ℕ) → postable b ≡ true →
       let t = turnIn (oneStation b masks₁ masks₂) 1 in
       (t .aired ≡ true) × ((getD (t .row) 0 noSlot) .body ≡ b) × (t .ended ≡ true) × (t .«ended_body» ≡ b) × (t .«started_body» ≡ Neutral)

@@ -4,7 +4,7 @@ use mathlib.Core.Path.{_≡_}
 use mathlib.Core.Bool.{Bool, cond, not, _&&_, _||_}
 use mathlib.Core.List.{List}
 use lib.Dec.{leb, eqb}
-use Rattle.kinds.specs.Body.{kindOf}
+use Rattle.kinds.specs.Body.{isEmpty}
 use Rattle.labels.specs.Label.{successor}
 use Rattle.frame_rules.specs.declared.Record.{Record}
 use Rattle.places.specs.Places.{fill}
@@ -17,7 +17,7 @@ abbrev pub advancesAt : ℕ → Record → Bool
 advancesAt label r = eqb (ownLabel r) (successor label)
 
 abbrev pub takesAt : ℕ → Record → Bool
-takesAt label r = advancesAt label r && not (eqb (kindOf (r .body)) 0)
+takesAt label r = advancesAt label r && not (isEmpty (r .body))
 
 -- the record with the kept labels from n up
 abbrev pub keeping : ℕ → List ℕ → Record → Record

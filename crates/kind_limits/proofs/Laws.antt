@@ -2,17 +2,18 @@
 -- row's least is its most the number can be no other.
 use Prim.Native.Nat.{ℕ, zero, suc, _<_, _≤_}
 use native.Mathlib.Omega.{arith}
-use mathlib.Core.Bool.{true, false, _&&_}
+use mathlib.Core.Bool.{Bool, true, false, _&&_}
 use mathlib.Core.Path.{_≡_, refl, ap, _∙_}
 use lib.Dec.{ltb, leb}
 use lib.IntN.{ℤ, pos, negsuc}
 use lib.ListN.{length}
 use lib.Signed.{leZ}
-use borrow.Author.Tests.{leb-true, ltb-true, ne-eqb}
+use borrow.Author.Tests.{leb-true, ltb-true}
+use Rattle.kinds.proofs.Laws.{edit-not-empty}
 use Rattle.places.proofs.Laws.{both}
 use Rattle.kinds.specs.declared.Body.{Body}
-use Rattle.kinds.specs.Body.{kindOf, eventOf, argumentOf, bodyOf, isEmpty}
-use Rattle.kind_limits.specs.Limits.{kinds, limitsOf, between, numbersInside, bodyInside, isEdit}
+use Rattle.kinds.specs.Body.{kindOf, eventOf, argumentOf, bodyOf, isEmpty, isEdit}
+use Rattle.kind_limits.specs.Limits.{kinds, limitsOf, between, numbersInside, bodyInside, postable}
 
 -- what the test on a kind, an event and an argument says
 record Inside (k e : ℕ) (a : ℤ) : Type 0 where
@@ -78,15 +79,24 @@ module _ (k e : ℕ) (a : ℤ) (h : numbersInside k e a ≡ true) where
   unfolding bodyInside
   inside-back = (λ i. numbersInside (kind-back i) (event-back i) (argument-back i)) ∙ h
 
--- an edit is inside its limits, and its kind is 2 or more
-pub edit-inside : (b : Body) → isEdit b ≡ true → bodyInside b ≡ true
-unfolding isEdit
-edit-inside b h = both (leb 2 (kindOf b)) (bodyInside b) h .1
+-- what may be posted is an edit, and inside its limits
+pub postable-edit : (b : Body) → postable b ≡ true → isEdit b ≡ true
+unfolding postable
+postable-edit b h = both (isEdit b) (bodyInside b) h .0
 
-pub edit-kind : (b : Body) → isEdit b ≡ true → 2 ≤ kindOf b
-unfolding isEdit
-edit-kind b h = leb-true 2 (kindOf b) (both (leb 2 (kindOf b)) (bodyInside b) h .0)
+pub postable-inside : (b : Body) → postable b ≡ true → bodyInside b ≡ true
+unfolding postable
+postable-inside b h = both (isEdit b) (bodyInside b) h .1
 
 -- so it is not Empty
-pub edit-not-empty : (b : Body) → isEdit b ≡ true → isEmpty b ≡ false
-edit-not-empty b h = ne-eqb (kindOf b) 0 (λ z. omega (arith, edit-kind b h))
+pub postable-not-empty : (b : Body) → postable b ≡ true → isEmpty b ≡ false
+postable-not-empty b h = edit-not-empty b (postable-edit b h)
+
+-- inside the limits the kind alone decides what may be posted
+pub inside-postable : (b : Body) → bodyInside b ≡ true → postable b ≡ isEdit b
+unfolding postable
+inside-postable b h = rw h (and-true (isEdit b))
+  where
+    and-true : (t : Bool) → (t && true) ≡ t
+    and-true true = refl
+    and-true false = refl

@@ -42,7 +42,7 @@ pub fn post(s: Station, body: Body) -> Kept
             station: s,
         };
     }
-    if !kind_limits::is_edit(body) {
+    if !kind_limits::postable(body) {
         return Kept {
             refusal: NOT_AN_EDIT,
             station: s,

@@ -16,7 +16,7 @@ use station_rules::Station;
 fn takeable(body: Body) -> bool
     ensures { λ r. ⌜ r ≡ spec.takeable body ⌝ }
 {
-    if kinds::kind_of(body) < 1 {
+    if kinds::is_empty(body) {
         return false;
     }
     kind_limits::body_inside(body)
@@ -64,7 +64,7 @@ fn queue_inside(queue: Queue) -> bool
     while i < len {
         let slot = queue.slots[i];
         let body = slot.body;
-        if !kind_limits::is_edit(body) {
+        if !kind_limits::postable(body) {
             return false;
         }
         i += 1;

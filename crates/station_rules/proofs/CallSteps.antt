@@ -9,7 +9,7 @@ use lib.Seq.{take-at}
 use lib.Dec.{leb, ltb, eqb}
 use borrow.Author.Tests.{leb-true, ltb-true, le-leb, lt-leb, ne-eqb}
 use Rattle.kinds.specs.declared.Body.{Body}
-use Rattle.kind_limits.specs.Limits.{isEdit}
+use Rattle.kind_limits.specs.Limits.{postable}
 use Rattle.frame_rules.specs.Record.{bytesInside}
 use Rattle.frame_rules.specs.Frame.{validNumber, part, recordsInside, frameRefusal, recordsOf}
 use Rattle.frame_rules.proofs.Check.{accepted-frame, shape}
@@ -42,15 +42,15 @@ module _ (s : Station) (b : Body) where
   unfolding postCall
   post-outside i = rw i
 
-  pub post-no-edit : stationInside s ≡ true → isEdit b ≡ false → record { refusal = 4; station = s } ≡ postCall s b
+  pub post-no-edit : stationInside s ≡ true → postable b ≡ false → record { refusal = 4; station = s } ≡ postCall s b
   unfolding postCall
   post-no-edit i e = rw (i, e)
 
-  pub post-full : stationInside s ≡ true → isEdit b ≡ true → 32 ≤ s .waiting .len → record { refusal = 3; station = s } ≡ postCall s b
+  pub post-full : stationInside s ≡ true → postable b ≡ true → 32 ≤ s .waiting .len → record { refusal = 3; station = s } ≡ postCall s b
   unfolding postCall
   post-full i e f = rw (i, e, le-leb 32 (s .waiting .len) f)
 
-  pub post-done : stationInside s ≡ true → isEdit b ≡ true → s .waiting .len < 32 → record { refusal = 0; station = posted s b } ≡ postCall s b
+  pub post-done : stationInside s ≡ true → postable b ≡ true → s .waiting .len < 32 → record { refusal = 0; station = posted s b } ≡ postCall s b
   unfolding postCall
   post-done i e f = rw (i, e, lt-leb 32 (s .waiting .len) f)
 

@@ -1,7 +1,7 @@
 -- All definitions that a computed run of a station goes through, and of a frame, named in one place: whoever says `unfolding stationRuns`, or `frameRuns`, has
 -- them open.
 use Rattle.kinds.specs.Body.{bodyOf}
-use Rattle.kind_limits.specs.Limits.{isEdit, bodyInside, numbersInside}
+use Rattle.kind_limits.specs.Limits.{postable, bodyInside, numbersInside}
 use Rattle.labels.specs.Label.{allLabels}
 use Rattle.labels.specs.Newer.{isNewer}
 use Rattle.label_words.specs.Packing.{packed, unpacked, allZero, wordInside}
@@ -18,7 +18,7 @@ use Rattle.station_rules.specs.Turn.{airs, rowOf, afterAiring, ends, sta
 use Rattle.station_rules.specs.Calls.{posted, postCall, frameOf, hearCall, noTurn}
 
 unfoldable pub stationRuns : Unit {0}
-unfolding isEdit bodyInside numbersInside isNewer allBelow anyBelow fill gather tabulate framed bodies laneOf noneWaiting queued oldest unqueued waitingBodies cellOf withCell withAcked withLanes sentRecords freshStation stationInside queueInside placeInside recordInside laneInside replaced heardNewer hearRecord hearRecords airs rowOf afterAiring ends startedBody begins takesOwn passed ownRecord rewritten afterTurn turnReport posted postCall noTurn
+unfolding postable bodyInside numbersInside isNewer allBelow anyBelow fill gather tabulate framed bodies laneOf noneWaiting queued oldest unqueued waitingBodies cellOf withCell withAcked withLanes sentRecords freshStation stationInside queueInside placeInside recordInside laneInside replaced heardNewer hearRecord hearRecords airs rowOf afterAiring ends startedBody begins takesOwn passed ownRecord rewritten afterTurn turnReport posted postCall noTurn
 stationRuns = tt
 
 unfoldable pub frameRuns : Unit {0}

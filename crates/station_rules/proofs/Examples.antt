@@ -7,7 +7,7 @@ use lib.Dec.{eqb}
 use lib.IntN.{pos, negsuc}
 use Rattle.kinds.specs.declared.Body.{Body}
 use Rattle.kinds.specs.declared.Body.the-variants.{Insert, Shift}
-use Rattle.kind_limits.specs.Limits.{isEdit}
+use Rattle.kind_limits.specs.Limits.{postable}
 use Rattle.kind_limits.proofs.Examples as kinds
 use Rattle.labels.specs.Newer.{isNewer}
 use Rattle.labels.proofs.Examples as labels
@@ -48,10 +48,10 @@ module _ (s : Station) (r : Record) where
 
 -- what a post at a station inside its limits returns
 module _ (s : Station) (i : stationInside s ≡ true) where
-  refused : (b : Body) → isEdit b ≡ false → (postCall s b) .refusal ≡ 4
+  refused : (b : Body) → postable b ≡ false → (postCall s b) .refusal ≡ 4
   refused b e = sym (ap (λ (k : Kept). k .refusal) (post-no-edit s b i e))
 
-  taken : (b : Body) → isEdit b ≡ true → s .waiting .len < 32 → (postCall s b) .refusal ≡ 0
+  taken : (b : Body) → postable b ≡ true → s .waiting .len < 32 → (postCall s b) .refusal ≡ 0
   taken b e l = sym (ap (λ (k : Kept). k .refusal) (post-done s b i e l))
 
   module _ (event : ℕ) (least : 1 ≤ event) (most : event ≤ 99_999_999) (room : s .waiting .len < 32) where
@@ -64,12 +64,12 @@ module _ (s : Station) (i : stationInside s ≡ true) where
     m10 = let e = kinds.m10 event least most in (taken _ (e .0) room, refused _ (e .1))
 
   -- as long as fewer than 32 wait, an edit is accepted and waits
-  pub m11-room : (b : Body) → isEdit b ≡ true → s .waiting .len < 32 → ((postCall s b) .refusal ≡ 0) × ((postCall s b) .station .waiting .len ≡ s .waiting .len + 1)
+  pub m11-room : (b : Body) → postable b ≡ true → s .waiting .len < 32 → ((postCall s b) .refusal ≡ 0) × ((postCall s b) .station .waiting .len ≡ s .waiting .len + 1)
   m11-room b e l = (taken b e l, sym (ap (λ (k : Kept). k .station .waiting .len) (post-done s b i e l)) ∙ one-more)
     where
       one-more : (posted s b) .waiting .len ≡ s .waiting .len + 1
       one-more = unfold posted in queued-len (s .waiting) b ∙ omega arith
 
   -- the 33rd waiting edit
-  pub m11 : (b : Body) → isEdit b ≡ true → s .waiting .len ≡ 32 → (postCall s b) .refusal ≡ 3
+  pub m11 : (b : Body) → postable b ≡ true → s .waiting .len ≡ 32 → (postCall s b) .refusal ≡ 3
   m11 b e l = sym (ap (λ (k : Kept). k .refusal) (post-full s b i e (omega arith)))

@@ -9,7 +9,7 @@ use lib.Dec.{leb, ltb, eqb}
 use lib.ListN.{getD}
 use borrow.Author.Tests.{ltb-true, leb-false, le-leb}
 use Rattle.kinds.specs.declared.Body.{Body}
-use Rattle.kind_limits.specs.Limits.{numbersInside, isEdit}
+use Rattle.kind_limits.specs.Limits.{numbersInside, postable}
 use Rattle.kinds.specs.Refusals.{done, laneFull}
 use Rattle.kind_limits.proofs.Laws.{inside-back}
 use Rattle.label_words.specs.Packing.{unpacked, wordInside}
@@ -89,10 +89,10 @@ fresh-call-inside n own = go (validNumber n own) refl
 module _ (s : Station) (shape : Shaped s) (inside : stationInside s ≡ true) where
   pub post-call-inside : (b : Body) → stationInside ((postCall s b) .station) ≡ true
   unfolding postCall
-  post-call-inside b = rw inside (go (isEdit b) (leb 32 (s .waiting .len)) refl refl)
+  post-call-inside b = rw inside (go (postable b) (leb 32 (s .waiting .len)) refl refl)
     where
       go :
-          (e f : Bool) → isEdit b ≡ e → leb 32 (s .waiting .len) ≡ f →
+          (e f : Bool) → postable b ≡ e → leb 32 (s .waiting .len) ≡ f →
           stationInside (cond (eqb (cond (not e) 4 (cond f 3 0)) 0) (posted s b) s) ≡ true
       go true false p q = posted-inside s b shape inside p (leb-false 32 (s .waiting .len) q)
       go true true p q = inside

@@ -1,6 +1,6 @@
 -- A fresh station is inside its limits, and so is a station that accepts a post: it only gets one more waiting edit.
 use Prim.Native.Nat.{ℕ, _≤_, _<_}
-use mathlib.Core.Bool.{true, false, cond, _&&_, true≢false}
+use mathlib.Core.Bool.{true, cond, _&&_, true≢false}
 use mathlib.Core.Path.{_≡_, refl, sym, ap, subst, _∙_}
 use native.Mathlib.Decide.{ℕ-discrete}
 use native.Mathlib.Omega.{arith}
@@ -9,7 +9,7 @@ use lib.ListN.{getD, replicate, getD-replicate}
 use borrow.Author.Tests.{leb-true, ltb-true, eq-eqb}
 use Rattle.kinds.specs.declared.Body.{Body}
 use Rattle.kinds.specs.declared.Body.the-variants.{Empty}
-use Rattle.kind_limits.specs.Limits.{isEdit}
+use Rattle.kind_limits.specs.Limits.{postable}
 use Rattle.labels.specs.Label.{isLabel}
 use Rattle.frame_rules.specs.Frame.{validNumber}
 use Rattle.places.proofs.Laws.{and-left, and-right}
@@ -74,7 +74,7 @@ fresh-inside n own h =
     (leb-true n 16 (and-right (leb 1 n) (leb n 16) (and-left (leb 1 n && leb n 16) (ltb own n) h)))
     (ltb-true own n (and-right (leb 1 n && leb n 16) (ltb own n) h)))
 
-pub posted-holds : (s : Station) (b : Body) → Shaped s → Inside s → isEdit b ≡ true → s .waiting .len < 32 → Inside (posted s b)
+pub posted-holds : (s : Station) (b : Body) → Shaped s → Inside s → postable b ≡ true → s .waiting .len < 32 → Inside (posted s b)
 unfolding posted
 posted-holds s b shape c e l =
     let same = waiting-cell s (queued (s .waiting) b) in
@@ -90,5 +90,5 @@ posted-holds s b shape c e l =
     }
 
 pub posted-inside :
-    (s : Station) (b : Body) → Shaped s → stationInside s ≡ true → isEdit b ≡ true → s .waiting .len < 32 → stationInside (posted s b) ≡ true
+    (s : Station) (b : Body) → Shaped s → stationInside s ≡ true → postable b ≡ true → s .waiting .len < 32 → stationInside (posted s b) ≡ true
 posted-inside s b shape h e l = inside-make (posted s b) (posted-holds s b shape (inside-open s h) e l)

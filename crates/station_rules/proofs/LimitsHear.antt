@@ -7,13 +7,13 @@ use native.Mathlib.Decide.{ℕ-discrete}
 use native.Mathlib.Omega.{arith}
 use lib.Dec.{leb, eqb}
 use borrow.Author.Tests.{leb-false, le-leb, ne-eqb, eqb-false, not-true}
-use Rattle.kinds.specs.Body.{kindOf}
+use Rattle.kinds.specs.Body.{isEmpty}
 use Rattle.kind_limits.specs.Limits.{bodyInside}
 use Rattle.labels.specs.Label.{isLabel, successor}
 use Rattle.labels.specs.Newer.{isNewer}
 use Rattle.frame_rules.specs.declared.Record.{Record}
 use Rattle.frame_rules.specs.Record.{countInside}
-use Rattle.places.proofs.Laws.{and-both, and-left, and-right, fill-below}
+use Rattle.places.proofs.Laws.{and-both, and-left, and-right}
 use Rattle.places.proofs.Keeps.{cond-keeps}
 use Rattle.station_rules.specs.declared.Station.{Station}
 use Rattle.lanes.specs.Lane.{pushed}
@@ -23,7 +23,7 @@ use Rattle.station_rules.specs.Hearing.{heeds, advances, takes, replaced
 use Rattle.station_rules.proofs.Setters.{Shaped}
 use Rattle.station_rules.proofs.LimitsLane.{pushed-inside}
 use Rattle.station_rules.proofs.StationLimits.{RecordHolds, CellHolds, Inside, inside-as}
-use Rattle.station_rules.proofs.Cells.{replaced-station, replaced-count, replaced-body, replaced-label, heard-n, heard-own, heard-waiting, heard-body, heard-here, heard-other}
+use Rattle.station_rules.proofs.Cells.{replaced-station, replaced-count, replaced-body, heard-label, heard-n, heard-own, heard-waiting, heard-body, heard-here, heard-other}
 
 -- a record that a frame among n stations may carry
 pub record Carried (n : ℕ) (r : Record) : Type 0 where
@@ -46,24 +46,18 @@ heeds-other s r h =
 
 takes-takeable : (s : Station) (r : Record) → bodyInside (r .body) ≡ true → takes s r ≡ true → takeable (r .body) ≡ true
 takes-takeable s r b h =
-    let ne : kindOf (r .body) ≡ 0 → ⊥ =
-    eqb-false (kindOf (r .body)) 0
-    (not-true (eqb (kindOf (r .body)) 0) (and-right (advances s r) (not (eqb (kindOf (r .body)) 0)) h)) in
-    and-both (le-leb 1 (kindOf (r .body)) (omega arith)) b
+    and-both (and-right (advances s r) (not (isEmpty (r .body))) h) b
 
 module _ (s : Station) (r : Record) (shape : Shaped s) (c : Inside s) (carry : Carried (s .n) r) where
   replaced-holds :
       (own : ℕ) → RecordHolds (s .n) own (r .station) (replaced (s .n) (recordOf s (r .station)) r)
-  unfolding replaced
   replaced-holds own =
+      let old = recordOf s (r .station) in
       record {
-        station = refl;
-        count = cond-or (eqb (r .station) own) (countInside (s .n) (r .count)) (carry .count);
-        body = carry .body;
-        labels =
-            λ j l. rw (fill-below (s .n) (recordLabel r) ((recordOf s (r .station)) .labels) j 0 l
-            (rw (shape .record-labels (r .station) (omega arith)) (omega arith)))
-            (carry .labels j l);
+        station = replaced-station (s .n) old r;
+        count = rw (replaced-count (s .n) old r) (cond-or (eqb (r .station) own) (countInside (s .n) (r .count)) (carry .count));
+        body = rw (replaced-body (s .n) old r) (carry .body);
+        labels = λ j l. rw (heard-label s r shape (c .high) (omega arith) j l) (carry .labels j l);
       }
     where
       cond-or : (a b : Bool) → b ≡ true → (a || b) ≡ true

@@ -9,7 +9,7 @@ use lib.ListN.{getD, length}
 use lib.Seq.{getD-set-same, getD-set-other}
 use borrow.Author.Tests.{leb-true, le-leb}
 use Rattle.kinds.specs.declared.Body.{Body}
-use Rattle.kind_limits.specs.Limits.{isEdit}
+use Rattle.kind_limits.specs.Limits.{postable}
 use Rattle.places.specs.Places.{allBelow}
 use Rattle.places.proofs.Laws.{and-both, and-left, and-right, allBelow-at, allBelow-make}
 use Rattle.lanes.specs.declared.Slot.{Slot}
@@ -24,16 +24,16 @@ slotBody q i = (getD (q .slots) i noSlot) .body
 
 pub queue-most : (q : Queue) → queueInside q ≡ true → q .len ≤ 32
 unfolding queueInside
-queue-most q h = leb-true (q .len) 32 (and-left (leb (q .len) 32) (allBelow (q .len) (λ i. isEdit (slotBody q i))) h)
+queue-most q h = leb-true (q .len) 32 (and-left (leb (q .len) 32) (allBelow (q .len) (λ i. postable (slotBody q i))) h)
 
-pub queue-edit : (q : Queue) → queueInside q ≡ true → (i : ℕ) → i < q .len → isEdit (slotBody q i) ≡ true
+pub queue-edit : (q : Queue) → queueInside q ≡ true → (i : ℕ) → i < q .len → postable (slotBody q i) ≡ true
 unfolding queueInside
 queue-edit q h =
-    allBelow-at (q .len) (λ i. isEdit (slotBody q i)) (and-right (leb (q .len) 32) (allBelow (q .len) (λ i. isEdit (slotBody q i))) h)
+    allBelow-at (q .len) (λ i. postable (slotBody q i)) (and-right (leb (q .len) 32) (allBelow (q .len) (λ i. postable (slotBody q i))) h)
 
-pub queue-make : (q : Queue) → q .len ≤ 32 → ((i : ℕ) → i < q .len → isEdit (slotBody q i) ≡ true) → queueInside q ≡ true
+pub queue-make : (q : Queue) → q .len ≤ 32 → ((i : ℕ) → i < q .len → postable (slotBody q i) ≡ true) → queueInside q ≡ true
 unfolding queueInside
-queue-make q l h = and-both (le-leb (q .len) 32 l) (allBelow-make (q .len) (λ i. isEdit (slotBody q i)) h)
+queue-make q l h = and-both (le-leb (q .len) 32 l) (allBelow-make (q .len) (λ i. postable (slotBody q i)) h)
 
 pub none-inside : queueInside noneWaiting ≡ true
 unfolding queueInside noneWaiting allBelow
@@ -58,10 +58,10 @@ queued-before q b i l =
     (getD-set-other (q .slots) (q .len) i (record { body = b }) noSlot (λ e. absurd (omega arith)))
 
 pub queued-inside :
-    (q : Queue) (b : Body) → length (q .slots) ≡ 32 → queueInside q ≡ true → q .len < 32 → isEdit b ≡ true → queueInside (queued q b) ≡ true
+    (q : Queue) (b : Body) → length (q .slots) ≡ 32 → queueInside q ≡ true → q .len < 32 → postable b ≡ true → queueInside (queued q b) ≡ true
 queued-inside q b shape h l e = queue-make (queued q b) (omega (arith, queued-len q b)) each
   where
-    each : (i : ℕ) → i < (queued q b) .len → isEdit (slotBody (queued q b) i) ≡ true
+    each : (i : ℕ) → i < (queued q b) .len → postable (slotBody (queued q b) i) ≡ true
     each i m =
         elim (ℕ-discrete i (q .len)) [
           | yes same ↦ rw (same, queued-last q b (omega arith)) e
@@ -73,8 +73,8 @@ unqueued-inside q shape h =
     let most : q .len ≤ 32 = queue-most q h in
     let len : (unqueued q) .len ≡ q .len - 1 = unqueued-len q in
     queue-make (unqueued q) (omega arith)
-    (λ i m. ap (λ (x : Slot). isEdit (x .body)) (unqueued-at q i (omega arith) (omega arith)) ∙ queue-edit q h (suc i) (omega arith))
+    (λ i m. ap (λ (x : Slot). postable (x .body)) (unqueued-at q i (omega arith) (omega arith)) ∙ queue-edit q h (suc i) (omega arith))
 
-pub oldest-edit : (q : Queue) → queueInside q ≡ true → 0 < q .len → isEdit (oldest q) ≡ true
+pub oldest-edit : (q : Queue) → queueInside q ≡ true → 0 < q .len → postable (oldest q) ≡ true
 unfolding oldest
 oldest-edit q h l = queue-edit q h 0 l

@@ -1,7 +1,7 @@
 -- A turn keeps the limits: airing removes from lanes, what starts is inside its limits and goes into an own lane that is empty, the own label becomes a
 -- label, and the own record gets the station's present values.
 use Prim.Native.Nat.{ℕ, _<_}
-use mathlib.Core.Bool.{Bool, true, false, cond}
+use mathlib.Core.Bool.{Bool, true, cond}
 use mathlib.Core.Path.{_≡_, refl, sym, ap, subst, _∙_}
 use native.Mathlib.Decide.{ℕ-discrete}
 use native.Mathlib.Omega.{arith}
@@ -9,7 +9,7 @@ use lib.Dec.{eqb}
 use borrow.Author.Tests.{eq-eqb}
 use Rattle.kinds.specs.declared.Body.{Body}
 use Rattle.kinds.specs.declared.Body.the-variants.{Empty, Neutral}
-use Rattle.kinds.specs.Body.{kindOf}
+use Rattle.kinds.specs.Body.{isEmpty}
 use Rattle.kind_limits.specs.Limits.{bodyInside}
 use Rattle.labels.specs.Label.{isLabel, successor}
 use Rattle.places.proofs.Laws.{fill-below}
@@ -22,7 +22,7 @@ use Rattle.lanes.specs.Queue.{oldest, unqueued}
 use Rattle.station_rules.specs.State.{Cell, cellOf, labelOf, ackedOf, recordOf, laneAt, withEntry, withCell}
 use Rattle.station_rules.specs.Limits.{laneInside, takeable, queueInside, stationInside}
 use Rattle.station_rules.specs.Turn.{airs, ends, startsEdit, startedBody, passed, ownRecord, rewritten, afterTurn}
-use Rattle.station_rules.proofs.BodyLaws.{edit-takeable, takeable-inside, empty-inside, neutral-takeable}
+use Rattle.station_rules.proofs.BodyLaws.{postable-takeable, takeable-inside, empty-inside, neutral-takeable}
 use Rattle.station_rules.proofs.Setters.{Shaped, cell-self, cell-here, cell-other}
 use Rattle.station_rules.proofs.Shape.{passed-shaped}
 use Rattle.station_rules.proofs.LimitsLane.{popped-inside, pushed-inside}
@@ -40,7 +40,7 @@ module _ (s : Station) (shape : Shaped s) (c : Inside s) where
     where
       go : Start s → P (startedBody s)
       go (anEdit e room w b) =
-          subst P (sym b) (some (oldest (s .waiting)) (edit-takeable (oldest (s .waiting)) (oldest-edit (s .waiting) (c .waiting) w)) room)
+          subst P (sym b) (some (oldest (s .waiting)) (postable-takeable (oldest (s .waiting)) (oldest-edit (s .waiting) (c .waiting) w)) room)
       go (aNeutral e room b) = subst P (sym b) (some Neutral neutral-takeable room)
       go (nothing e b) = subst P (sym b) none
 
@@ -54,15 +54,15 @@ module _ (s : Station) (shape : Shaped s) (c : Inside s) where
 
   -- the own lane gets what starts
   own-inside :
-      laneInside 1 (cond (eqb (kindOf (startedBody s)) 0) (laneAfter s (s .own)) (pushed (laneAfter s (s .own)) (startedBody s))) ≡ true
+      laneInside 1 (cond (isEmpty (startedBody s)) (laneAfter s (s .own)) (pushed (laneAfter s (s .own)) (startedBody s))) ≡ true
   own-inside =
       let most : _≡_ {A = ℕ} (cond (eqb (s .own) (s .own)) 1 2) 1 = rw (eq-eqb (s .own) (s .own) refl) in
       let after : laneInside 1 (laneAfter s (s .own)) ≡ true =
       after-inside (s .own) 1 (c .own) (rw most at (c .places (s .own) (c .own) .lane)) in
       started-cases
-      (λ b. laneInside 1 (cond (eqb (kindOf b) 0) (laneAfter s (s .own)) (pushed (laneAfter s (s .own)) b)) ≡ true)
+      (λ b. laneInside 1 (cond (isEmpty b) (laneAfter s (s .own)) (pushed (laneAfter s (s .own)) b)) ≡ true)
       after
-      (λ b h room. cond-keeps (λ (l : Lane). laneInside 1 l ≡ true) (eqb (kindOf b) 0) (laneAfter s (s .own)) (pushed (laneAfter s (s .own)) b)
+      (λ b h room. cond-keeps (λ (l : Lane). laneInside 1 l ≡ true) (isEmpty b) (laneAfter s (s .own)) (pushed (laneAfter s (s .own)) b)
       after
       (pushed-inside 1 (laneAfter s (s .own)) b after (omega arith) (omega arith) h))
 

@@ -7,7 +7,7 @@ use native.Mathlib.Omega.{arith}
 use lib.Dec.{eqb, ltb}
 use borrow.Author.Tests.{ltb-true}
 use Rattle.kinds.specs.declared.Body.{Body}
-use Rattle.kinds.specs.Body.{kindOf}
+use Rattle.kinds.specs.Body.{isEmpty}
 use Rattle.frame_rules.specs.declared.Record.{Record}
 use Rattle.places.proofs.Laws.{and-right, length-fill}
 use Rattle.places.proofs.Keeps.{cond-keeps}
@@ -18,9 +18,9 @@ use Rattle.lanes.proofs.QueueLaws.{unqueued-slots}
 use Rattle.station_rules.specs.declared.Station.{Station}
 use Rattle.station_rules.specs.State.{recordOf, recordLabel, labelOf, laneAt, withBroadcast, withCell, withAcked, withLanes}
 use Rattle.station_rules.specs.Hearing.{replaced, heardNewer}
-use Rattle.station_rules.specs.Turn.{airs, ends, mayStart, startsEdit, startedBody, afterAiring, begins, takesOwn, passed, ownRecord, rewritten, afterTurn}
+use Rattle.station_rules.specs.Turn.{airs, ends, mayStart, startsEdit, startedBody, afterAiring, begins, takesOwn, passed, ownRecord, rewritten}
 use Rattle.station_rules.specs.Calls.{posted}
-use Rattle.station_rules.proofs.Setters.{LabelsShaped, Shaped, SameSelf, self-refl, cell-self, acked-self, lanes-self, SameButWaiting, waiting-same, waiting-shaped, broadcast-shaped, cell-shaped, acked-shaped, lanes-shaped}
+use Rattle.station_rules.proofs.Setters.{LabelsShaped, Shaped, SameSelf, self-refl, lanes-self, SameButWaiting, waiting-same, waiting-shaped, broadcast-shaped, cell-shaped, acked-shaped, lanes-shaped}
 
 pub queued-slots : (q : Queue) (b : Body) → length ((queued q b) .slots) ≡ length (q .slots)
 unfolding queued
@@ -78,7 +78,7 @@ begins-shaped s b l c =
 takesOwn-shaped : (s : Station) (b : Body) → s .own < 16 → Shaped s → Shaped (takesOwn s b)
 unfolding takesOwn
 takesOwn-shaped s b l c =
-    cond-keeps Shaped (eqb (kindOf b) 0) s (withCell s (s .own) _) c (cell-shaped s (s .own) _ (c .record-labels (s .own) l) c)
+    cond-keeps Shaped (isEmpty b) s (withCell s (s .own) _) c (cell-shaped s (s .own) _ (c .record-labels (s .own) l) c)
 
 begins-own : (s : Station) (b : Body) → (begins s b) .own ≡ s .own
 unfolding begins withCell withAcked

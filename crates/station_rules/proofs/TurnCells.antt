@@ -9,7 +9,7 @@ use lib.Dec.{eqb}
 use borrow.Author.Tests.{eq-eqb, ne-eqb}
 use Rattle.kinds.specs.declared.Body.{Body}
 use Rattle.kinds.specs.declared.Body.the-variants.{Empty}
-use Rattle.kinds.specs.Body.{kindOf}
+use Rattle.kinds.specs.Body.{isEmpty}
 use Rattle.labels.specs.Label.{successor}
 use Rattle.frame_rules.specs.declared.Record.{Record}
 use Rattle.places.proofs.Laws.{fill-below, fill-above}
@@ -36,13 +36,13 @@ laneAfter s k = laneAt (afterAiring s) k
 module _ (s : Station) (b : Body) where
   takesOwn-self : SameSelf (takesOwn s b) s
   unfolding takesOwn
-  takesOwn-self = cond-keeps (λ (t : Station). SameSelf t s) (eqb (kindOf b) 0) s (withCell s (s .own) _) (self-refl s) (cell-self s (s .own) _)
+  takesOwn-self = cond-keeps (λ (t : Station). SameSelf t s) (isEmpty b) s (withCell s (s .own) _) (self-refl s) (cell-self s (s .own) _)
 
   takesOwn-own :
       Shaped s → s .own < 16 →
-      cellOf (takesOwn s b) (s .own) ≡ withLane (cellOf s (s .own)) (cond (eqb (kindOf b) 0) (laneAt s (s .own)) (pushed (laneAt s (s .own)) b))
+      cellOf (takesOwn s b) (s .own) ≡ withLane (cellOf s (s .own)) (cond (isEmpty b) (laneAt s (s .own)) (pushed (laneAt s (s .own)) b))
   unfolding takesOwn
-  takesOwn-own shape l = go (eqb (kindOf b) 0)
+  takesOwn-own shape l = go (isEmpty b)
     where
       own : Cell
       own = withLane (cellOf s (s .own)) (pushed (laneAt s (s .own)) b)
@@ -57,7 +57,7 @@ module _ (s : Station) (b : Body) where
   takesOwn-other : (k : ℕ) → (k ≡ s .own → ⊥) → cellOf (takesOwn s b) k ≡ cellOf s k
   unfolding takesOwn
   takesOwn-other k d =
-      cond-keeps (λ (t : Station). cellOf t k ≡ cellOf s k) (eqb (kindOf b) 0) s (withCell s (s .own) _) refl (cell-other s (s .own) _ k d)
+      cond-keeps (λ (t : Station). cellOf t k ≡ cellOf s k) (isEmpty b) s (withCell s (s .own) _) refl (cell-other s (s .own) _ k d)
 
 -- what is no cell
 module _ (s : Station) where
@@ -213,7 +213,7 @@ module _ (s : Station) (shape : Shaped s) (high : s .n ≤ 16) (below : s .own <
         acked = cond (ends s) true (ackedOf s (s .own));
         held = heldOf s (s .own);
         entry = recordOf s (s .own);
-        lane = cond (eqb (kindOf (startedBody s)) 0) (laneAfter s (s .own)) (pushed (laneAfter s (s .own)) (startedBody s));
+        lane = cond (isEmpty (startedBody s)) (laneAfter s (s .own)) (pushed (laneAfter s (s .own)) (startedBody s));
       }
   unfolding passed
   passed-cell-own = go (ends s) refl
@@ -229,16 +229,16 @@ module _ (s : Station) (shape : Shaped s) (high : s .n ≤ 16) (below : s .own <
             acked = cond t true (own .acked);
             held = own .held;
             entry = own .entry;
-            lane = cond (eqb (kindOf (startedBody s)) 0) (laneAfter s (s .own)) (pushed (laneAfter s (s .own)) (startedBody s));
+            lane = cond (isEmpty (startedBody s)) (laneAfter s (s .own)) (pushed (laneAfter s (s .own)) (startedBody s));
           }
       go true e =
           let b = startedBody s in
           waiting-cell (takesOwn next b) _ (s .own)
           ∙ subst
-          (λ (p : ℕ). cellOf (takesOwn next b) p ≡ withLane (cellOf next p) (cond (eqb (kindOf b) 0) (laneAt next p) (pushed (laneAt next p) b)))
+          (λ (p : ℕ). cellOf (takesOwn next b) p ≡ withLane (cellOf next p) (cond (isEmpty b) (laneAt next p) (pushed (laneAt next p) b)))
           next-own
           (takesOwn-own next b next-shaped (omega (arith, next-own)))
-          ∙ ap (λ (c : Cell). withLane c (cond (eqb (kindOf b) 0) (c .lane) (pushed (c .lane) b))) next-cell-own
+          ∙ ap (λ (c : Cell). withLane c (cond (isEmpty b) (c .lane) (pushed (c .lane) b))) next-cell-own
       go false e = rw (started-stays s e) (aired-rest (s .own) below)
 
   pub passed-cell-other :
@@ -297,7 +297,7 @@ module _ (s : Station) (shape : Shaped s) (high : s .n ≤ 16) (below : s .own <
         acked = cond (ends s) true (ackedOf s (s .own));
         held = heldOf s (s .own);
         entry = ownRecord (passed s);
-        lane = cond (eqb (kindOf (startedBody s)) 0) (laneAfter s (s .own)) (pushed (laneAfter s (s .own)) (startedBody s));
+        lane = cond (isEmpty (startedBody s)) (laneAfter s (s .own)) (pushed (laneAfter s (s .own)) (startedBody s));
       }
   own-cell = turn-cell-own ∙ ap (λ (c : Cell). withEntry c (ownRecord (passed s))) (passed-cell-own s shape high below)
 
@@ -339,7 +339,7 @@ module _ (s : Station) (shape : Shaped s) (high : s .n ≤ 16) (below : s .own <
 
   pub turn-lane-own :
       laneAt (afterTurn s) (s .own)
-      ≡ cond (eqb (kindOf (startedBody s)) 0) (laneAfter s (s .own)) (pushed (laneAfter s (s .own)) (startedBody s))
+      ≡ cond (isEmpty (startedBody s)) (laneAfter s (s .own)) (pushed (laneAfter s (s .own)) (startedBody s))
   turn-lane-own = ap (λ (c : Cell). c .lane) own-cell
 
   pub turn-lane-other : (k : ℕ) → k < s .n → (k ≡ s .own → ⊥) → laneAt (afterTurn s) k ≡ laneAfter s k

@@ -6,7 +6,7 @@ use lib.ListN.{set, replicate, length, drop}
 use lib.Dec.{leb, ltb, eqb}
 use Rattle.kinds.specs.declared.Body.{Body}
 use Rattle.kinds.specs.declared.Body.the-variants.{Empty}
-use Rattle.kind_limits.specs.Limits.{isEdit}
+use Rattle.kind_limits.specs.Limits.{postable}
 use Rattle.kinds.specs.Refusals.{done, badNumber, outsideLimits, queueFull, notAnEdit, laneFull, shortBuffer, countTooHigh, refuse}
 use Rattle.frame_rules.specs.Record.{countInside}
 use Rattle.frame_rules.specs.Frame.{validNumber, frameRefusal, recordsOf, frameBytes}
@@ -36,7 +36,7 @@ posted s b = withWaiting s (queued (s .waiting) b)
 
 -- 4, 3: what a post judges of the body and the queue
 abbrev pub postRefusal : Station → Body → ℕ
-postRefusal s b = refuse (not (isEdit b)) notAnEdit (refuse (leb 32 ((s .waiting) .len)) queueFull done)
+postRefusal s b = refuse (not (postable b)) notAnEdit (refuse (leb 32 ((s .waiting) .len)) queueFull done)
 
 -- "Post": 2, 4, 3
 unfoldable pub postCall : Station → Body → Kept

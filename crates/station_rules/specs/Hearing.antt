@@ -3,7 +3,7 @@ use Prim.Native.Nat.{ℕ, _+_}
 use mathlib.Core.Bool.{Bool, true, false, cond, not, _&&_, _||_}
 use mathlib.Core.List.{List, [], _∷_, _++_}
 use lib.Dec.{leb, ltb, eqb}
-use Rattle.kinds.specs.Body.{kindOf}
+use Rattle.kinds.specs.Body.{isEmpty}
 use Rattle.labels.specs.Label.{successor}
 use Rattle.labels.specs.Newer.{isNewer}
 use Rattle.frame_rules.specs.declared.Record.{Record}
@@ -26,7 +26,7 @@ advances s r = eqb (ownLabel r) (successor (labelOf s (r .station)))
 
 -- its body is taken (line 17; Algorithm 3, line 4)
 abbrev pub takes : Station → Record → Bool
-takes s r = advances s r && not (eqb (kindOf (r .body)) 0)
+takes s r = advances s r && not (isEmpty (r .body))
 
 -- the seen record in the place of the held one, whose labels from n up stay (lines 9 to 11)
 unfoldable pub replaced : ℕ → Record → Record → Record

@@ -5,8 +5,8 @@ use mathlib.Core.Bool.{Bool, cond, not, _&&_, _||_}
 use lib.ListN.{getD}
 use lib.Dec.{leb, eqb}
 use Rattle.kinds.specs.declared.Body.{Body}
-use Rattle.kinds.specs.Body.{kindOf}
-use Rattle.kind_limits.specs.Limits.{bodyInside, isEdit}
+use Rattle.kinds.specs.Body.{isEmpty}
+use Rattle.kind_limits.specs.Limits.{bodyInside, postable}
 use Rattle.labels.specs.Label.{isLabel}
 use Rattle.frame_rules.specs.declared.Record.{Record}
 use Rattle.frame_rules.specs.Record.{countInside}
@@ -20,16 +20,16 @@ use Rattle.station_rules.specs.State.{labelOf, ackedOf, heldOf, recordOf
 
 -- a body that a lane may hold: inside its limits, and not Empty
 abbrev pub takeable : Body → Bool
-takeable b = leb 1 (kindOf b) && bodyInside b
+takeable b = not (isEmpty b) && bodyInside b
 
 -- a lane of at most `most` bodies, each of which it may hold
 unfoldable pub laneInside : ℕ → Lane → Bool
 laneInside most l =
     leb (l .len) most && (eqb (l .len) 0 || takeable (l .first)) && (leb (l .len) 1 || takeable (l .second))
 
--- at most 32 wait, and each is an edit
+-- at most 32 wait, and each may be posted
 unfoldable pub queueInside : Queue → Bool
-queueInside q = leb (q .len) 32 && allBelow (q .len) (λ i. isEdit ((getD (q .slots) i noSlot) .body))
+queueInside q = leb (q .len) 32 && allBelow (q .len) (λ i. postable ((getD (q .slots) i noSlot) .body))
 
 -- a record of station k in the table of station `own` among n; the own record's count has no limit but its byte
 unfoldable pub recordInside : ℕ → ℕ → ℕ → Record → Bool

@@ -5,7 +5,7 @@ use lib.ListN.{replicate}
 use lib.Dec.{ltb, eqb}
 use Rattle.kinds.specs.declared.Body.{Body}
 use Rattle.kinds.specs.declared.Body.the-variants.{Empty, Neutral}
-use Rattle.kinds.specs.Body.{kindOf}
+use Rattle.kinds.specs.Body.{isEmpty}
 use Rattle.labels.specs.Label.{successor}
 use Rattle.frame_rules.specs.declared.Record.{Record}
 use Rattle.places.specs.Places.{allBelow, fill}
@@ -55,7 +55,7 @@ begins s b =
 -- a body that starts is taken into the own lane, unless it is Empty
 unfoldable pub takesOwn : Station → Body → Station
 takesOwn s b =
-    cond (eqb (kindOf b) 0) s
+    cond (isEmpty b) s
     (withCell s (s .own) (withLane (cellOf s (s .own)) (pushed (laneAt s (s .own)) b)))
 
 -- the station after the airing, the end and the start, before its own record is rewritten

@@ -1,5 +1,5 @@
 -- What a turn makes of a station: the answer built from the parts of the turn is the definition's.
-use Prim.Native.Nat.{ℕ, _≤_, _<_, _+_}
+use Prim.Native.Nat.{ℕ, _≤_, _<_}
 use native.Mathlib.Omega.{arith}
 use mathlib.Core.Path.{_≡_, refl, ap, sym, _∙_}
 use mathlib.Core.Bool.{Bool, true, false, cond, _&&_}
@@ -10,7 +10,7 @@ use lib.Dec.{ltb, eqb}
 use borrow.Author.Tests.{ltb-true}
 use Rattle.kinds.specs.declared.Body.{Body}
 use Rattle.kinds.specs.declared.Body.the-variants.{Empty, Neutral}
-use Rattle.kinds.specs.Body.{kindOf}
+use Rattle.kinds.specs.Body.{isEmpty}
 use Rattle.labels.specs.Label.{successor}
 use Rattle.places.specs.Places.{fill}
 use Rattle.places.proofs.Laws.{and-right}
@@ -83,9 +83,9 @@ module _ (s : Station) (b : Body) where
   takes-arrays :
       takesOwn s b
       ≡ withArrays s (s .acked) (s .labels) (s .held) (s .table)
-      (set (s .lanes) (s .own) (cond (eqb (kindOf b) 0) (laneAt s (s .own)) (pushed (laneAt s (s .own)) b)))
+      (set (s .lanes) (s .own) (cond (isEmpty b) (laneAt s (s .own)) (pushed (laneAt s (s .own)) b)))
   unfolding takesOwn cellOf
-  takes-arrays = go (eqb (kindOf b) 0)
+  takes-arrays = go (isEmpty b)
     where
       own : Lane
       own = pushed (laneAt s (s .own)) b
@@ -110,7 +110,7 @@ module _ (s : Station) (left : List Lane) (l : withArrays s (s .acked) (s .label
       (withBroadcast (withWaiting s (cond (startsEdit s) (unqueued (s .waiting)) (s .waiting))) (cond (ends s) b (s .body)) (cond (ends s) 0 (s .count)))
       (cond (ends s) (fill (s .n) (λ k. eqb k (s .own)) (s .acked)) (s .acked))
       (set (s .labels) (s .own) (cond (ends s) next (labelOf s (s .own)))) (s .held) (s .table)
-      (set left (s .own) (cond (eqb (kindOf b) 0) (getD left (s .own) noLane) (pushed (getD left (s .own) noLane) b)))
+      (set left (s .own) (cond (isEmpty b) (getD left (s .own) noLane) (pushed (getD left (s .own) noLane) b)))
   unfolding passed cellOf
   passed-arrays = go (ends s) refl
     where
@@ -123,7 +123,7 @@ module _ (s : Station) (left : List Lane) (l : withArrays s (s .acked) (s .label
           ≡ withArrays (withBroadcast (withWaiting s w) (cond t b (s .body)) (cond t 0 (s .count)))
           (cond t (fill (s .n) (λ k. eqb k (s .own)) (s .acked)) (s .acked))
           (set (s .labels) (s .own) (cond t next (labelOf s (s .own)))) (s .held) (s .table)
-          (set left (s .own) (cond (eqb (kindOf b) 0) (getD left (s .own) noLane) (pushed (getD left (s .own) noLane) b)))
+          (set left (s .own) (cond (isEmpty b) (getD left (s .own) noLane) (pushed (getD left (s .own) noLane) b)))
       go true e =
           ap (λ (x : Station). withWaiting (takesOwn (begins x b) b) w) (sym l)
           ∙ ap (λ (x : Station). withWaiting (takesOwn x b) w) (begins-arrays (withArrays s (s .acked) (s .labels) (s .held) (s .table) left) b)
@@ -167,7 +167,7 @@ module _
       count ≡ cond ended 0 (s .count) →
       next ≡ cond ended (successor (labelOf s (s .own))) (labelOf s (s .own)) →
       over ≡ fill (s .n) (λ k. getD (set (s .labels) (s .own) next) k 0) ((recordOf s (s .own)) .labels) →
-      lane ≡ cond (eqb (kindOf started) 0) (getD left (s .own) noLane) (pushed (getD left (s .own) noLane) started) →
+      lane ≡ cond (isEmpty started) (getD left (s .own) noLane) (pushed (getD left (s .own) noLane) started) →
       answer ≡ turnDone s
   unfolding cellOf afterTurn rewritten ownRecord turnReport
   turn-made a e r l o b t w k y g m x v p =

@@ -5,7 +5,7 @@ ghost use mathlib.Core.Bool.{true, false, cond, _&&_};
 ghost use Prim.Native.Nat.{_≤_, _<_};
 ghost use lib.ListN.{getD};
 ghost use lib.Dec.{ltb, eqb};
-ghost use Rattle.kinds.specs.Body.{kindOf};
+ghost use Rattle.kinds.specs.Body.{isEmpty};
 ghost use Rattle.kinds.specs.declared.Body.the-variants.{Empty, Neutral};
 ghost use Rattle.labels.specs.Label.{successor};
 ghost use Rattle.places.specs.Places.{allBelow, fill};
@@ -46,7 +46,7 @@ pub fn only_own(n: usize, own: usize, acked: [bool; 16]) -> [bool; 16]
 
 // The lane with a body put last, unless the body is Empty.
 pub fn lane_with(lane: Lane, body: Body) -> Lane
-    ensures { λ r. ⌜ r ≡ cond (eqb (kindOf body) 0) lane (pushed lane body) ⌝ }
+    ensures { λ r. ⌜ r ≡ cond (isEmpty body) lane (pushed lane body) ⌝ }
 {
     if kinds::is_empty(body) {
         return lane;

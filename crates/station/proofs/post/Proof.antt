@@ -21,16 +21,16 @@ station-inside-requires c κs = search needs
 returns : tie.Need-returns
 returns c = post-outside _ _ (sym (c .before .station-inside .ensures) ∙ not-true _ (c .if1 .taken))
 
-is-edit-requires : tie.Need-is-edit-requires
-is-edit-requires c κs = search needs
+postable-requires : tie.Need-postable-requires
+postable-requires c κs = search needs
 
 returns-2 : tie.Need-returns-2
-returns-2 c = post-no-edit _ _ (sym (c .before .before .before .station-inside .ensures) ∙ not-false _ (c .before .before .if1 .left)) (sym (c .before .is-edit .ensures) ∙ not-true _ (c .if2 .taken))
+returns-2 c = post-no-edit _ _ (sym (c .before .before .before .station-inside .ensures) ∙ not-false _ (c .before .before .if1 .left)) (sym (c .before .postable .ensures) ∙ not-true _ (c .if2 .taken))
 
 returns-3 : tie.Need-returns-3
 returns-3 c =
     let d = c .before .before .before in
-    post-full _ _ (sym (d .before .before .before .station-inside .ensures) ∙ not-false _ (d .before .before .if1 .left)) (sym (d .before .is-edit .ensures) ∙ not-false _ (d .if2 .left)) (c .if3 .taken)
+    post-full _ _ (sym (d .before .before .before .station-inside .ensures) ∙ not-false _ (d .before .before .if1 .left)) (sym (d .before .postable .ensures) ∙ not-false _ (d .if2 .left)) (c .if3 .taken)
 
 queued-requires : tie.Need-queued-requires
 queued-requires c κs = search needs
@@ -42,7 +42,7 @@ returns-4 c =
     let s = d .before .before .before .before .args .s in
     let b = d .before .before .before .before .args .body in
     ap (withQueue s) (c .queued .ensures)
-    ∙ post-done s b (sym (d .before .before .before .station-inside .ensures) ∙ not-false _ (d .before .before .if1 .left)) (sym (d .before .is-edit .ensures) ∙ not-false _ (d .if2 .left)) (c .before .if3 .left)
+    ∙ post-done s b (sym (d .before .before .before .station-inside .ensures) ∙ not-false _ (d .before .before .if1 .left)) (sym (d .before .postable .ensures) ∙ not-false _ (d .if2 .left)) (c .before .if3 .left)
 
 pub post-spec : {M : Type 1} → statement M
 post-spec =
@@ -50,7 +50,7 @@ post-spec =
     (tie.spec
     station-inside-requires
     returns
-    is-edit-requires
+    postable-requires
     returns-2
     returns-3
     queued-requires

@@ -5,7 +5,7 @@ use mathlib.Core.Path.{_≡_, refl, sym, _∙_}
 use mathlib.Core.Bool.{true, false}
 use borrow.Author.Needs.{needs}
 use lib.ListN.{getD}
-use Rattle.kind_limits.specs.Limits.{isEdit}
+use Rattle.kind_limits.specs.Limits.{postable}
 use borrow.Author.Tests.{le-leb, lt-leb, not-true, not-false}
 use Rattle.places.specs.Places.{allBelow}
 use Rattle.places.proofs.Laws.{allBelow-more, allBelow-fails}
@@ -15,10 +15,10 @@ use Rattle.station_limits.proofs.queue_inside.Statement.{statement}
 use Rattle.station_limits.proofs.queue_inside.Tie as tie
 use Rattle.station_limits.proofs.queue_inside.Reads as reads
 use Rattle.station_limits.proofs.queue_inside.Lts as lts
-use Rattle.kind_limits.proofs.is_edit.Reads as is-edit-reads
+use Rattle.kind_limits.proofs.postable.Reads as postable-reads
 
 abbrev Inv-loop : tie.InvT-loop
-Inv-loop queue len i₀ i = (i ≤ len) × (len ≡ queue .len) × (len ≤ 32) × (allBelow i (λ k. isEdit ((getD (queue .slots) k noSlot) .body)) ≡ true)
+Inv-loop queue len i₀ i = (i ≤ len) × (len ≡ queue .len) × (len ≤ 32) × (allBelow i (λ k. postable ((getD (queue .slots) k noSlot) .body)) ≡ true)
 
 abbrev μ-loop : tie.MeasureT-loop
 μ-loop queue len i₀ i = len - i
@@ -37,15 +37,15 @@ mul-slot c = search needs
 element-copy-out-slot : tie.Need-element-copy-out-slot Inv-loop μ-loop
 element-copy-out-slot c = search needs
 
-is-edit-requires : tie.Need-is-edit-requires Inv-loop μ-loop
-is-edit-requires c κs = search needs
+postable-requires : tie.Need-postable-requires Inv-loop μ-loop
+postable-requires c κs = search needs
 
 returns-2 : tie.Need-returns-2 Inv-loop μ-loop
 unfolding queueInside
 returns-2 c =
     let a = c .before .before .before in
     let q = a .before .before .before .args .t1 in
-    let e : isEdit ((getD (q .slots) (a .before .loop .i) noSlot) .body) ≡ false = sym (c .before .is-edit .ensures) ∙ not-true _ (c .if2 .taken) in
+    let e : postable ((getD (q .slots) (a .before .loop .i) noSlot) .body) ≡ false = sym (c .before .postable .ensures) ∙ not-true _ (c .if2 .taken) in
     rw (le-leb _ _ (a .before .loop .inv .2)) (sym (allBelow-fails (q .len) _ (a .before .loop .i) (omega arith) e))
 
 add-i : tie.Need-add-i Inv-loop μ-loop
@@ -58,7 +58,7 @@ loop-again : tie.Need-loop-again Inv-loop μ-loop
 loop-again c =
     let a = c .before .before .before in
     let q = a .before .before .before .args .t1 in
-    let e : isEdit ((getD (q .slots) (a .before .loop .i) noSlot) .body) ≡ true = sym (c .before .is-edit .ensures) ∙ not-false _ (c .if2 .left) in
+    let e : postable ((getD (q .slots) (a .before .loop .i) noSlot) .body) ≡ true = sym (c .before .postable .ensures) ∙ not-false _ (c .if2 .left) in
     (omega arith, refl, a .before .loop .inv .2, allBelow-more (a .before .loop .i) _ (a .before .loop .inv .3) e)
 
 returns-3 : tie.Need-returns-3 Inv-loop μ-loop
@@ -77,7 +77,7 @@ queue-inside-spec =
     loop-holds
     mul-slot
     element-copy-out-slot
-    is-edit-requires
+    postable-requires
     returns-2
     add-i
     loop-less
