@@ -1,4 +1,4 @@
--- The airing step of a turn, of the lanes alone: what `airs`, `rowOf` and `lanesAfter` of station_rules say of a station's.
+-- The airing step of a turn, of the lanes alone: what `airs`, `rowOf` and `afterAiring` of station_rules say of a station.
 use Prim.Native.Nat.{ℕ}
 use mathlib.Core.Bool.{Bool, cond}
 use mathlib.Core.List.{List}

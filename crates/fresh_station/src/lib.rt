@@ -6,8 +6,6 @@ ghost use Rattle.station_rules.specs.State.{freshStation};
 use frame_rules::Record;
 use kinds::Body;
 use lanes::Lane;
-use lanes::Queue;
-use lanes::Slot;
 use station_rules::Station;
 
 // Station own among n, as it begins.
@@ -15,12 +13,7 @@ pub fn fresh_station(n: usize, own: usize) -> Station
     requires { ⌜ own < 16 ⌝ }
     ensures { λ r. ⌜ r ≡ freshStation n own ⌝ }
 {
-    let slot = Slot { body: Body::Empty };
-    let slots = [slot; 32];
-    let waiting = Queue {
-        len: 0,
-        slots: slots,
-    };
+    let waiting = lanes::none_waiting();
     let mut acked = [false; 16];
     acked[own] = true;
     let mut held = [false; 16];

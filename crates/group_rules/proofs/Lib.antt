@@ -4,6 +4,7 @@
 pub mod Members
 pub mod MembersPost
 pub mod MembersRound
+pub mod CallSteps
 pub mod HistoryInside
 -- accepted posts: in a turn, and over a list of calls
 pub mod Takings

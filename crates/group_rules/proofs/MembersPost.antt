@@ -6,14 +6,15 @@ use mathlib.Core.List.{List}
 use mathlib.Core.Path.{_≡_, refl, sym, subst, _∙_}
 use native.Mathlib.Decide.{ℕ-discrete}
 use native.Mathlib.Omega.{arith}
-use lib.Dec.{eqb, leb, ltb}
+use lib.Dec.{eqb, ltb}
 use lib.ListN.{set, length-set}
 use lib.Seq.{getD-set-same, getD-set-other}
-use borrow.Author.Tests.{ltb-true, leb-false}
+use borrow.Author.Tests.{ltb-true}
 use Rattle.kinds.specs.declared.Body.{Body}
 use Rattle.kind_limits.specs.Limits.{postable}
 use Rattle.kinds.specs.Refusals.{done}
 use Rattle.places.proofs.Keeps.{set-keeps}
+use Rattle.lanes.specs.Waiting.{hasRoom}
 use Rattle.station_rules.specs.declared.Station.{Station}
 use Rattle.station_rules.specs.Calls.{posted}
 use Rattle.station_rules.proofs.Setters.{Shaped}
@@ -28,18 +29,18 @@ pub record Accepted (g : List Station) (k : ℕ) (b : Body) : Type 0 where
   pub inside : groupInside g ≡ true
   pub below : k < sizeOf g
   pub edit : postable b ≡ true
-  pub room : stationAt g k .waiting .len < 32
+  pub room : hasRoom (stationAt g k .waiting) ≡ true
 
 pub accepted : (g : List Station) (k : ℕ) (b : Body) → eqb (groupPostRefusal g k b) done ≡ true → Accepted g k b
 unfolding groupPostRefusal
-accepted g k b h = go (groupInside g) (ltb k (sizeOf g)) (postable b) (leb 32 (stationAt g k .waiting .len)) refl refl refl refl h
+accepted g k b h = go (groupInside g) (ltb k (sizeOf g)) (postable b) (hasRoom (stationAt g k .waiting)) refl refl refl refl h
   where
     go :
-        (a c d e : Bool) → groupInside g ≡ a → ltb k (sizeOf g) ≡ c → postable b ≡ d → leb 32 (stationAt g k .waiting .len) ≡ e →
-        eqb (cond (not a) 2 (cond (not c) 1 (cond (not d) 4 (cond e 3 0)))) 0 ≡ true → Accepted g k b
-    go true true true false p q r s z =
-        record { inside = p; below = ltb-true k (sizeOf g) q; edit = r; room = leb-false 32 (stationAt g k .waiting .len) s }
-    go true true true true p q r s z = absurd (false≢true z)
+        (a c d e : Bool) → groupInside g ≡ a → ltb k (sizeOf g) ≡ c → postable b ≡ d → hasRoom (stationAt g k .waiting) ≡ e →
+        eqb (cond (not a) 2 (cond (not c) 1 (cond (not d) 4 (cond (not e) 3 0)))) 0 ≡ true → Accepted g k b
+    go true true true true p q r s z =
+        record { inside = p; below = ltb-true k (sizeOf g) q; edit = r; room = s }
+    go true true true false p q r s z = absurd (false≢true z)
     go true true false e p q r s z = absurd (false≢true z)
     go true false d e p q r s z = absurd (false≢true z)
     go false c d e p q r s z = absurd (false≢true z)
@@ -66,7 +67,7 @@ module _ (n : ℕ) (g : List Station) (c : Members n g) (k : ℕ) (b : Body) whe
     pub posted-other : (j : ℕ) → (j ≡ k → ⊥) → stationAt (set g k (posted (stationAt g k) b)) j ≡ stationAt g j
     posted-other j ne = getD-set-other g k j (posted (stationAt g k) b) noStation ne
 
-    posted-member : postable b ≡ true → stationAt g k .waiting .len < 32 → (j : ℕ) → j < n → Member n (set g k (posted (stationAt g k) b)) j
+    posted-member : postable b ≡ true → hasRoom (stationAt g k .waiting) ≡ true → (j : ℕ) → j < n → Member n (set g k (posted (stationAt g k) b)) j
     posted-member edit room j l =
         elim (ℕ-discrete j k) [
           | yes same ↦ subst (Member n (set g k (posted (stationAt g k) b))) (sym same) here
@@ -89,7 +90,7 @@ module _ (n : ℕ) (g : List Station) (c : Members n g) (k : ℕ) (b : Body) whe
               own = rw posted-at (sym (posted-same (stationAt g k) b .own) ∙ m .own);
             }
 
-    set-members : postable b ≡ true → stationAt g k .waiting .len < 32 → Members n (set g k (posted (stationAt g k) b))
+    set-members : postable b ≡ true → hasRoom (stationAt g k .waiting) ≡ true → Members n (set g k (posted (stationAt g k) b))
     set-members edit room =
         record {
           low = c .low;

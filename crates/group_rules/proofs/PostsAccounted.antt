@@ -19,12 +19,12 @@ use Rattle.lanes.specs.Lane.{bodies}
 use Rattle.station_rules.specs.State.{Cell, laneAt, freshStation}
 use Rattle.station_rules.specs.Hearing.{silent}
 use Rattle.station_rules.specs.Turn.{airs, rowOf, turnReport, afterTurn}
-use Rattle.lanes.specs.Queue.{noSlot, waitingBodies, queued}
-use Rattle.lanes.proofs.QueueLaws.{waiting-none, waiting-length, waiting-queued}
+use Rattle.lanes.specs.Queue.{noSlot}
+use Rattle.lanes.specs.Waiting.{waitingEdits, waitingCount, hasRoom, withPosted}
+use Rattle.lanes.proofs.WaitingLaws.{WaitingSized, none-edits, edits-count, posted-edits}
 use Rattle.station_rules.specs.Calls.{posted, noTurn}
 use Rattle.station_rules.proofs.Setters.{fresh-self, fresh-own}
 use Rattle.station_rules.proofs.Shape.{posted-same}
-use Rattle.station_rules.proofs.LimitsQueue.{queue-most}
 use Rattle.station_rules.proofs.LimitsHearing.{Hears}
 use Rattle.group_rules.specs.declared.Report.{Report}
 use Rattle.group_rules.specs.declared.RoundDone.{RoundDone}
@@ -53,13 +53,13 @@ Accounted n H p = takingsOf p (H .accepted) ≡ takingsOf p (airedList n H p) ++
 
 -- a post
 
-posted-kept : (s : Station) (b : Body) (p : ℕ) → s .waiting .len < length (s .waiting .slots) → kept (posted s b) p ≡ kept s p ++ (b ∷ [])
+posted-kept : (s : Station) (b : Body) (p : ℕ) → WaitingSized (s .waiting) → hasRoom (s .waiting) ≡ true → kept (posted s b) p ≡ kept s p ++ (b ∷ [])
 unfolding posted
-posted-kept s b p l =
+posted-kept s b p c l =
     let lane : List Body = onlyEdits (bodies (laneAt s p)) in
-    ap (λ (c : Cell). onlyEdits (bodies (c .lane)) ++ waitingBodies (queued (s .waiting) b)) (sym (posted-same s b .cells p))
-    ∙ ap (λ (w : List Body). lane ++ w) (waiting-queued (s .waiting) b l)
-    ∙ sym (append-assoc lane (waitingBodies (s .waiting)) (b ∷ []))
+    ap (λ (c : Cell). onlyEdits (bodies (c .lane)) ++ waitingEdits (withPosted (s .waiting) b)) (sym (posted-same s b .cells p))
+    ∙ ap (λ (w : List Body). lane ++ w) (posted-edits (s .waiting) b c l)
+    ∙ sym (append-assoc lane (waitingEdits (s .waiting)) (b ∷ []))
 
 module _ (n : ℕ) (g : List Station) (c : Members n g) (k : ℕ) (b : Body) where
   -- one more at the station of an accepted post
@@ -78,8 +78,7 @@ module _ (n : ℕ) (g : List Station) (c : Members n g) (k : ℕ) (b : Body) whe
       go true e =
           let made = accepted g k b (rw (post-refusal g k b) at e) in
           let below : k < n = omega (arith, c .size, made .below) in
-          let room : stationAt g k .waiting .len < length (stationAt g k .waiting .slots) =
-          omega (arith, made .room, c .shape .stations k (omega (arith, c .high)) .slots) in
+          let sized : WaitingSized (stationAt g k .waiting) = c .shape .stations k (omega (arith, c .high)) .waiting in
           elim (ℕ-discrete p k) [
             | yes same ↦
                 ap (λ (h : List Station). kept (stationAt h p) p) (post-accepted g k b e)
@@ -89,7 +88,7 @@ module _ (n : ℕ) (g : List Station) (c : Members n g) (k : ℕ) (b : Body) whe
                 ≡ kept (stationAt g j) j ++ takingsOf j (record { source = k; body = b } ∷ []))
                 (sym same)
                 (ap (λ (s : Station). kept s k) (posted-at n g c k b below)
-                ∙ posted-kept (stationAt g k) b k room
+                ∙ posted-kept (stationAt g k) b k sized (made .room)
                 ∙ ap (λ (l : List Body). kept (stationAt g k) k ++ l) (sym (taking-here k true b)))
             | no ne ↦
                 ap (λ (h : List Station). kept (stationAt h p) p) (post-accepted g k b e)
@@ -235,7 +234,7 @@ unfolding bodies onlyEdits
 fresh-kept n p l =
     let w = fresh-self n p .waiting in
     let c = fresh-own n p l in
-    (λ i. onlyEdits (bodies (c i .lane)) ++ waitingBodies (w i)) ∙ waiting-none
+    (λ i. onlyEdits (bodies (c i .lane)) ++ waitingEdits (w i)) ∙ none-edits
 
 pub kept-begun : (n : ℕ) → 1 ≤ n → n ≤ 16 → Kept n (begun n)
 unfolding begun
@@ -255,17 +254,17 @@ pub posts-accounted :
     takingsOf p ((historyOf n calls) .accepted)
     ≡ takingsOf p (airedList n (historyOf n calls) p)
     ++ onlyEdits (bodies (laneAt (stationAt ((historyOf n calls) .group) p) p))
-    ++ waitingBodies ((stationAt ((historyOf n calls) .group) p) .waiting)
+    ++ waitingEdits ((stationAt ((historyOf n calls) .group) p) .waiting)
 posts-accounted n low high calls p l =
     let H = historyOf n calls in
     let s : Station = stationAt (H .group) p in
     kept-history n low high calls .accounted p l
-    ∙ sym (append-assoc (takingsOf p (airedList n H p)) (onlyEdits (bodies (laneAt s p))) (waitingBodies (s .waiting)))
+    ∙ sym (append-assoc (takingsOf p (airedList n H p)) (onlyEdits (bodies (laneAt s p))) (waitingEdits (s .waiting)))
 
 pub posts-counted :
     (n : ℕ) → 1 ≤ n → n ≤ 16 → (calls : List Call) → (p : ℕ) → p < n →
     length (takingsOf p ((historyOf n calls) .accepted))
-    ≡ (stationAt ((historyOf n calls) .group) p) .waiting .len
+    ≡ waitingCount ((stationAt ((historyOf n calls) .group) p) .waiting)
     + length (onlyEdits (bodies (laneAt (stationAt ((historyOf n calls) .group) p) p)))
     + length (takingsOf p (airedList n (historyOf n calls) p))
 posts-counted n low high calls p l =
@@ -274,12 +273,10 @@ posts-counted n low high calls p l =
     let members = kept-history n low high calls .members in
     let aired : List Body = takingsOf p (airedList n H p) in
     let lane : List Body = onlyEdits (bodies (laneAt s p)) in
-    let short : s .waiting .len ≤ length (s .waiting .slots) =
-    omega (arith, queue-most (s .waiting) (members .member p l .inside .waiting), members .shape .stations p (omega arith) .slots) in
     omega (
       arith,
       ap length (posts-accounted n low high calls p l),
-      length-append (aired ++ lane) (waitingBodies (s .waiting)),
+      length-append (aired ++ lane) (waitingEdits (s .waiting)),
       length-append aired lane,
-      waiting-length (s .waiting) short,
+      edits-count (s .waiting) (members .shape .stations p (omega arith) .waiting) (members .member p l .inside .waiting),
     )

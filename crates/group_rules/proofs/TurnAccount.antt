@@ -18,15 +18,15 @@ use Rattle.lanes.specs.declared.Lane.{Lane}
 use Rattle.station_rules.specs.declared.Station.{Station}
 use Rattle.station_rules.specs.declared.Taking.{Taking}
 use Rattle.lanes.specs.Lane.{bodies, laneOf, pushed, popped}
-use Rattle.lanes.specs.Queue.{noSlot, waitingBodies, oldest, unqueued}
-use Rattle.lanes.proofs.QueueLaws.{waiting-unqueued}
+use Rattle.lanes.specs.Queue.{noSlot}
+use Rattle.lanes.specs.Waiting.{waitingEdits, nextEdit, withoutNext}
+use Rattle.lanes.proofs.WaitingLaws.{next-postable, started-edits}
 use Rattle.station_rules.specs.State.{laneAt}
 use Rattle.station_rules.specs.Turn.{airs, rowOf, startsEdit, startedBody, afterTurn}
 use Rattle.kinds.proofs.Laws.{edit-not-empty}
 use Rattle.kind_limits.proofs.Laws.{postable-edit}
 use Rattle.station_rules.proofs.Setters.{Shaped}
 use Rattle.station_rules.proofs.LimitsLane.{lane-most}
-use Rattle.station_rules.proofs.LimitsQueue.{queue-most, oldest-edit}
 use Rattle.station_rules.proofs.StationLimits.{Inside}
 use Rattle.station_rules.proofs.TurnParts.{airs-each, row-at}
 use Rattle.station_rules.proofs.TurnCells.{laneAfter, lane-after, turn-waiting, turn-lane-own}
@@ -63,7 +63,7 @@ pushed-edits l b e = rw e (append-nil (ifEdit b))
 
 -- the edits in the own lane, and then those that wait
 abbrev pub kept : Station → ℕ → List Body
-kept s p = onlyEdits (bodies (laneAt s p)) ++ waitingBodies (s .waiting)
+kept s p = onlyEdits (bodies (laneAt s p)) ++ waitingEdits (s .waiting)
 
 module _ (s : Station) (shape : Shaped s) (c : Inside s) where
   own-most : (laneAt s (s .own)) .len ≤ 2
@@ -94,11 +94,11 @@ module _ (s : Station) (shape : Shaped s) (c : Inside s) where
       go false e = rw (after, e)
 
   -- the start
-  started-account : kept (afterTurn s) (s .own) ≡ onlyEdits (bodies (laneAfter s (s .own))) ++ waitingBodies (s .waiting)
+  started-account : kept (afterTurn s) (s .own) ≡ onlyEdits (bodies (laneAfter s (s .own))) ++ waitingEdits (s .waiting)
   started-account =
       (let w = turn-waiting s in
       let l = turn-lane-own s shape (c .high) (c .own) in
-      λ i. onlyEdits (bodies (l i)) ++ waitingBodies (w i))
+      λ i. onlyEdits (bodies (l i)) ++ waitingEdits (w i))
       ∙ go (start s)
     where
       after : Lane
@@ -107,12 +107,12 @@ module _ (s : Station) (shape : Shaped s) (c : Inside s) where
       go :
           Start s →
           onlyEdits (bodies (cond (isEmpty (startedBody s)) after (pushed after (startedBody s))))
-          ++ waitingBodies (cond (startsEdit s) (unqueued (s .waiting)) (s .waiting))
-          ≡ onlyEdits (bodies after) ++ waitingBodies (s .waiting)
+          ++ waitingEdits (cond (startsEdit s) (withoutNext (s .waiting)) (s .waiting))
+          ≡ onlyEdits (bodies after) ++ waitingEdits (s .waiting)
       go (anEdit e room w b) =
-          let edit : isEdit (oldest (s .waiting)) ≡ true = postable-edit (oldest (s .waiting)) (oldest-edit (s .waiting) (c .waiting) w) in
-          rw (e, b, edit-not-empty (oldest (s .waiting)) edit, pushed-edits after (oldest (s .waiting)) room, edit, none-edits after room)
-          (sym (waiting-unqueued (s .waiting) w (omega (arith, queue-most (s .waiting) (c .waiting), shape .slots))))
+          let edit : isEdit (nextEdit (s .waiting)) ≡ true = postable-edit (nextEdit (s .waiting)) (next-postable (s .waiting) (c .waiting) w) in
+          rw (e, b, edit-not-empty (nextEdit (s .waiting)) edit, pushed-edits after (nextEdit (s .waiting)) room, edit, none-edits after room)
+          (sym (started-edits (s .waiting) (shape .waiting) (c .waiting) w))
       go (aNeutral e room b) = rw (e, b, pushed-edits after Neutral room, none-edits after room)
       go (nothing e b) = rw (e, b)
 
@@ -120,8 +120,8 @@ module _ (s : Station) (shape : Shaped s) (c : Inside s) where
   own-account =
       let row : List Body = cond (airs s) (ifEdit ((laneAt s (s .own)) .first)) [] in
       let after : List Body = onlyEdits (bodies (laneAfter s (s .own))) in
-      ap (λ (l : List Body). l ++ waitingBodies (s .waiting)) (sym aired-account)
-      ∙ append-assoc row after (waitingBodies (s .waiting))
+      ap (λ (l : List Body). l ++ waitingEdits (s .waiting)) (sym aired-account)
+      ∙ append-assoc row after (waitingEdits (s .waiting))
       ∙ ap (λ (l : List Body). row ++ l) (sym started-account)
 
   pub turn-account : (p : ℕ) → s .own ≡ p → kept s p ≡ cond (airs s) (ifEdit ((laneAt s p) .first)) [] ++ kept (afterTurn s) p

@@ -9,7 +9,7 @@ use Rattle.kinds.specs.Refusals.{done}
 use Rattle.links.specs.Relay.{ofLog}
 use Rattle.links.specs.EndRule.{EndsIn}
 use Rattle.lanes.specs.Lane.{bodies}
-use Rattle.lanes.specs.Queue.{waitingBodies}
+use Rattle.lanes.specs.Waiting.{waitingEdits, waitingCount}
 use Rattle.station_rules.specs.State.{heldOf, recordOf, laneAt}
 use Rattle.group_rules.specs.State.{stationAt}
 use Rattle.group_rules.specs.History.{History, Call, noRound, historyOf, started, takingsOf, takenFrom, airedList, onlyEdits, endsAt, startedIn}
@@ -41,12 +41,12 @@ pub record Demand (n : ℕ) (H : History) : Type 0 where
       takingsOf p (H .accepted)
       ≡ takingsOf p (airedList n H p)
       ++ onlyEdits (bodies (laneAt (stationAt (H .group) p) p))
-      ++ waitingBodies ((stationAt (H .group) p) .waiting)
+      ++ waitingEdits ((stationAt (H .group) p) .waiting)
   -- and so in number: accepted posts = waiting + edits in the own lane + own edits aired
   pub posts-counted :
       (p : ℕ) → p < n →
       length (takingsOf p (H .accepted))
-      ≡ (stationAt (H .group) p) .waiting .len
+      ≡ waitingCount ((stationAt (H .group) p) .waiting)
       + length (onlyEdits (bodies (laneAt (stationAt (H .group) p) p)))
       + length (takingsOf p (airedList n H p))
   -- a broadcast ends in round u + 1 exactly when that is the first after its start by which every other station had a relay from the sender and then

@@ -15,7 +15,8 @@ use Rattle.frame_rules.specs.declared.Record.{Record}
 use Rattle.frame_rules.specs.Frame.{frameBytes}
 use Rattle.station_rules.specs.declared.Station.{Station}
 use Rattle.station_rules.specs.declared.TurnReport.{TurnReport}
-use Rattle.lanes.specs.Queue.{noSlot}
+use Rattle.lanes.specs.Queue.{queueCapacity, noSlot}
+use Rattle.lanes.specs.Waiting.{waitingCount}
 use Rattle.station_rules.specs.Limits.{stationInside}
 use Rattle.station_rules.specs.Calls.{postCall}
 use Rattle.group_rules.specs.History.{History, post, round, noRound, historyOf, reportIn}
@@ -44,17 +45,17 @@ pub record Marked : Type 0 where
   pub m8-all : (n sender : ℕ) (rs : List Record) → length rs ≡ 16 → length (frameBytes n sender rs) ≡ 260
   -- M9: a station inside its limits with room in its queue takes a shift by -90,000 and refuses -90,001
   pub m9 :
-      (s : Station) → stationInside s ≡ true → (s .waiting) .len < 32 → (event : ℕ) → 1 ≤ event → event ≤ 99_999_999 →
+      (s : Station) → stationInside s ≡ true → waitingCount (s .waiting) < queueCapacity → (event : ℕ) → 1 ≤ event → event ≤ 99_999_999 →
       ((postCall s (Shift event (negsuc 89_999))) .refusal ≡ done) × ((postCall s (Shift event (negsuc 90_000))) .refusal ≡ notAnEdit)
   -- M10: it takes a start at 2,159,999 and refuses 2,160,000
   pub m10 :
-      (s : Station) → stationInside s ≡ true → (s .waiting) .len < 32 → (event : ℕ) → 1 ≤ event → event ≤ 99_999_999 →
+      (s : Station) → stationInside s ≡ true → waitingCount (s .waiting) < queueCapacity → (event : ℕ) → 1 ≤ event → event ≤ 99_999_999 →
       ((postCall s (Insert event (pos 2_159_999))) .refusal ≡ done) × ((postCall s (Insert event (pos 2_160_000))) .refusal ≡ notAnEdit)
   -- M11: as long as fewer than 32 wait, an edit is accepted and waits; where 32 wait, one more is refused
   pub m11-room :
-      (s : Station) (b : Body) → stationInside s ≡ true → (s .waiting) .len < 32 → postable b ≡ true →
-      ((postCall s b) .refusal ≡ done) × (((postCall s b) .station) .waiting .len ≡ (s .waiting) .len + 1)
-  pub m11 : (s : Station) (b : Body) → stationInside s ≡ true → (s .waiting) .len ≡ 32 → postable b ≡ true → (postCall s b) .refusal ≡ queueFull
+      (s : Station) (b : Body) → stationInside s ≡ true → waitingCount (s .waiting) < queueCapacity → postable b ≡ true →
+      ((postCall s b) .refusal ≡ done) × (waitingCount (((postCall s b) .station) .waiting) ≡ waitingCount (s .waiting) + 1)
+  pub m11 : (s : Station) (b : Body) → stationInside s ≡ true → waitingCount (s .waiting) ≡ queueCapacity → postable b ≡ true → (postCall s b) .refusal ≡ queueFull
   -- M12: one edit at a station alone: in round 1 it starts where Empty ends; in round 2 it is aired and ends, and Neutral starts
   pub m12-starts :
       (b : Body) (masks₁ masks₂ : List ℕ) → postable b ≡ true →

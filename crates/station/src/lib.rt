@@ -48,16 +48,16 @@ pub fn post(s: Station, body: Body) -> Kept
             station: s,
         };
     }
-    let queue = s.waiting;
-    if 32 <= queue.len {
+    let waiting = s.waiting;
+    if !lanes::has_room(waiting) {
         return Kept {
             refusal: QUEUE_FULL,
             station: s,
         };
     }
-    let waiting = lanes::queued(queue, body);
+    let more = lanes::with_posted(waiting, body);
     let mut station = s;
-    station.waiting = waiting;
+    station.waiting = more;
     Kept {
         refusal: DONE,
         station: station,

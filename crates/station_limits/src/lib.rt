@@ -9,7 +9,6 @@ ghost use Rattle.station_rules.specs.Limits as spec;
 use frame_rules::Record;
 use kinds::Body;
 use lanes::Lane;
-use lanes::Queue;
 use station_rules::Station;
 
 // May a lane hold this body?
@@ -51,25 +50,6 @@ fn lane_inside(most: u8, lane: Lane) -> bool
     }
     let second = lane.second;
     takeable(second)
-}
-
-fn queue_inside(queue: Queue) -> bool
-    ensures { λ r. ⌜ r ≡ spec.queueInside queue ⌝ }
-{
-    let len = queue.len;
-    if 32 < len {
-        return false;
-    }
-    let mut i: usize = 0;
-    while i < len {
-        let slot = queue.slots[i];
-        let body = slot.body;
-        if !kind_limits::postable(body) {
-            return false;
-        }
-        i += 1;
-    }
-    true
 }
 
 // May the record of station k have this count? The own record's may reach 255.
@@ -155,7 +135,7 @@ pub fn station_inside(s: Station) -> bool
         return false;
     }
     let waiting = s.waiting;
-    if !queue_inside(waiting) {
+    if !lanes::waiting_inside(waiting) {
         return false;
     }
     let mut k: usize = 0;

@@ -14,6 +14,7 @@ use Rattle.frame_rules.specs.Record.{bytesInside}
 use Rattle.frame_rules.specs.Frame.{validNumber, part, recordsInside, frameRefusal, recordsOf}
 use Rattle.frame_rules.proofs.Check.{accepted-frame, shape}
 use Rattle.places.proofs.Laws.{and-left, and-right, allBelow-at, allBelow-make}
+use Rattle.lanes.specs.Waiting.{hasRoom}
 use Rattle.station_rules.specs.declared.Station.{Station}
 use Rattle.station_rules.specs.declared.Taking.{Taking}
 use Rattle.station_rules.specs.Hearing.{Hearing, silent, hearRecords}
@@ -46,13 +47,13 @@ module _ (s : Station) (b : Body) where
   unfolding postCall
   post-no-edit i e = rw (i, e)
 
-  pub post-full : stationInside s ≡ true → postable b ≡ true → 32 ≤ s .waiting .len → record { refusal = 3; station = s } ≡ postCall s b
+  pub post-full : stationInside s ≡ true → postable b ≡ true → hasRoom (s .waiting) ≡ false → record { refusal = 3; station = s } ≡ postCall s b
   unfolding postCall
-  post-full i e f = rw (i, e, le-leb 32 (s .waiting .len) f)
+  post-full i e f = rw (i, e, f)
 
-  pub post-done : stationInside s ≡ true → postable b ≡ true → s .waiting .len < 32 → record { refusal = 0; station = posted s b } ≡ postCall s b
+  pub post-done : stationInside s ≡ true → postable b ≡ true → hasRoom (s .waiting) ≡ true → record { refusal = 0; station = posted s b } ≡ postCall s b
   unfolding postCall
-  post-done i e f = rw (i, e, lt-leb 32 (s .waiting .len) f)
+  post-done i e f = rw (i, e, f)
 
 -- hear: 2, 5, 6, 7, 8
 module _ (s : Station) (bytes : List ℕ) where

@@ -19,7 +19,9 @@ use Rattle.station_rules.specs.Limits.{stationInside}
 use Rattle.station_rules.specs.Hearing.{heeds}
 use Rattle.station_rules.specs.Calls.{posted, postCall}
 use Rattle.station_rules.proofs.CallSteps.{post-no-edit, post-full, post-done}
-use Rattle.station_rules.proofs.LimitsQueue.{queued-len}
+use Rattle.lanes.specs.Queue.{queueCapacity}
+use Rattle.lanes.specs.Waiting.{waitingCount}
+use Rattle.lanes.proofs.WaitingLaws.{room-below, room-full, posted-count}
 
 -- a station that holds a record of another station with some own label and count, and sees one with another
 pub record Seen (s : Station) (r : Record) (heldLabel heldCount seenLabel seenCount : ℕ) : Type 0 where
@@ -51,10 +53,10 @@ module _ (s : Station) (i : stationInside s ≡ true) where
   refused : (b : Body) → postable b ≡ false → (postCall s b) .refusal ≡ 4
   refused b e = sym (ap (λ (k : Kept). k .refusal) (post-no-edit s b i e))
 
-  taken : (b : Body) → postable b ≡ true → s .waiting .len < 32 → (postCall s b) .refusal ≡ 0
-  taken b e l = sym (ap (λ (k : Kept). k .refusal) (post-done s b i e l))
+  taken : (b : Body) → postable b ≡ true → waitingCount (s .waiting) < queueCapacity → (postCall s b) .refusal ≡ 0
+  taken b e l = sym (ap (λ (k : Kept). k .refusal) (post-done s b i e (room-below (s .waiting) l)))
 
-  module _ (event : ℕ) (least : 1 ≤ event) (most : event ≤ 99_999_999) (room : s .waiting .len < 32) where
+  module _ (event : ℕ) (least : 1 ≤ event) (most : event ≤ 99_999_999) (room : waitingCount (s .waiting) < queueCapacity) where
     -- a shift of -90,000 is taken, one of -90,001 is not
     pub m9 : ((postCall s (Shift event (negsuc 89_999))) .refusal ≡ 0) × ((postCall s (Shift event (negsuc 90_000))) .refusal ≡ 4)
     m9 = let e = kinds.m9 event least most in (taken _ (e .0) room, refused _ (e .1))
@@ -64,12 +66,12 @@ module _ (s : Station) (i : stationInside s ≡ true) where
     m10 = let e = kinds.m10 event least most in (taken _ (e .0) room, refused _ (e .1))
 
   -- as long as fewer than 32 wait, an edit is accepted and waits
-  pub m11-room : (b : Body) → postable b ≡ true → s .waiting .len < 32 → ((postCall s b) .refusal ≡ 0) × ((postCall s b) .station .waiting .len ≡ s .waiting .len + 1)
-  m11-room b e l = (taken b e l, sym (ap (λ (k : Kept). k .station .waiting .len) (post-done s b i e l)) ∙ one-more)
+  pub m11-room : (b : Body) → postable b ≡ true → waitingCount (s .waiting) < queueCapacity → ((postCall s b) .refusal ≡ 0) × (waitingCount ((postCall s b) .station .waiting) ≡ waitingCount (s .waiting) + 1)
+  m11-room b e l = (taken b e l, sym (ap (λ (k : Kept). waitingCount (k .station .waiting)) (post-done s b i e (room-below (s .waiting) l))) ∙ one-more)
     where
-      one-more : (posted s b) .waiting .len ≡ s .waiting .len + 1
-      one-more = unfold posted in queued-len (s .waiting) b ∙ omega arith
+      one-more : waitingCount ((posted s b) .waiting) ≡ waitingCount (s .waiting) + 1
+      one-more = unfold posted in posted-count (s .waiting) b ∙ omega arith
 
   -- the 33rd waiting edit
-  pub m11 : (b : Body) → postable b ≡ true → s .waiting .len ≡ 32 → (postCall s b) .refusal ≡ 3
-  m11 b e l = sym (ap (λ (k : Kept). k .refusal) (post-full s b i e (omega arith)))
+  pub m11 : (b : Body) → postable b ≡ true → waitingCount (s .waiting) ≡ queueCapacity → (postCall s b) .refusal ≡ 3
+  m11 b e l = sym (ap (λ (k : Kept). k .refusal) (post-full s b i e (room-full (s .waiting) (omega arith))))

@@ -16,6 +16,7 @@ use Rattle.frame_rules.specs.Record.{noRecord}
 use Rattle.station_rules.specs.State.{cellOf, recordOf}
 use Rattle.station_rules.proofs.Setters.{Shaped}
 use Rattle.frame_rules.proofs.Record as Carried
+use Rattle.lanes.proofs.WaitingOwned.{owned-sized}
 use Rattle.station_rules.proofs.Station as Declared
 use Rattle.station_rules.proofs.Station.Laws as DeclaredLaws
 
@@ -51,7 +52,7 @@ lengths-at s vs h =
       held = simp length-map at (h .1 .1 .1 .1 .1 .1 .1 .1 .1 .0 .1 .0 .1);
       table = simp length-map at (h .1 .1 .1 .1 .1 .1 .1 .1 .1 .1 .0 .1 .0 .1);
       lanes = simp length-map at (h .1 .1 .1 .1 .1 .1 .1 .1 .1 .1 .1 .0 .1 .0 .1);
-      slots = simp length-map at (h .1 .1 .1 .1 .0 .1 .1 .1 .0 .1 .0 .1);
+      waiting = owned-sized (s .waiting) _ (h .1 .1 .1 .1 .0);
       record-labels = λ k l. labels-at s (h .1 .1 .1 .1 .1 .1 .1 .1 .1 .1 .0 .0) (h .1 .1 .1 .1 .1 .1 .1 .1 .1 .1 .0 .1 .1) k (rw (simp length-map at (h .1 .1 .1 .1 .1 .1 .1 .1 .1 .1 .0 .1 .0 .1)) l);
     }
 

@@ -5,7 +5,6 @@ pub mod Shape
 -- the limits as facts, and that every call keeps them
 pub mod BodyLaws
 pub mod LimitsLane
-pub mod LimitsQueue
 pub mod StationLimits
 pub mod LimitsFresh
 pub mod LimitsHear

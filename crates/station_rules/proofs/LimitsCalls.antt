@@ -5,9 +5,9 @@ use mathlib.Core.Bool.{Bool, true, false, cond, not, _&&_, _||_, false≢true}
 use mathlib.Core.List.{List, [], _∷_}
 use mathlib.Core.Path.{_≡_, refl}
 use native.Mathlib.Omega.{arith}
-use lib.Dec.{leb, ltb, eqb}
+use lib.Dec.{ltb, eqb}
 use lib.ListN.{getD}
-use borrow.Author.Tests.{ltb-true, leb-false, le-leb}
+use borrow.Author.Tests.{ltb-true, le-leb}
 use Rattle.kinds.specs.declared.Body.{Body}
 use Rattle.kind_limits.specs.Limits.{numbersInside, postable}
 use Rattle.kinds.specs.Refusals.{done, laneFull}
@@ -20,6 +20,7 @@ use Rattle.frame_rules.specs.Record as frames
 use Rattle.frame_rules.specs.Frame.{validNumber, part, stationAt, shapeWrong, addressWrong, recordsInside, frameRefusal, recordsOf}
 use Rattle.places.specs.Places.{allBelow, anyBelow, tabulate}
 use Rattle.places.proofs.Laws.{and-left, and-right, allBelow-at}
+use Rattle.lanes.specs.Waiting.{hasRoom}
 use Rattle.station_rules.specs.declared.Station.{Station}
 use Rattle.station_rules.specs.declared.Heard.{Heard}
 use Rattle.station_rules.specs.Limits.{stationInside}
@@ -89,13 +90,13 @@ fresh-call-inside n own = go (validNumber n own) refl
 module _ (s : Station) (shape : Shaped s) (inside : stationInside s ≡ true) where
   pub post-call-inside : (b : Body) → stationInside ((postCall s b) .station) ≡ true
   unfolding postCall
-  post-call-inside b = rw inside (go (postable b) (leb 32 (s .waiting .len)) refl refl)
+  post-call-inside b = rw inside (go (postable b) (hasRoom (s .waiting)) refl refl)
     where
       go :
-          (e f : Bool) → postable b ≡ e → leb 32 (s .waiting .len) ≡ f →
-          stationInside (cond (eqb (cond (not e) 4 (cond f 3 0)) 0) (posted s b) s) ≡ true
-      go true false p q = posted-inside s b shape inside p (leb-false 32 (s .waiting .len) q)
-      go true true p q = inside
+          (e f : Bool) → postable b ≡ e → hasRoom (s .waiting) ≡ f →
+          stationInside (cond (eqb (cond (not e) 4 (cond (not f) 3 0)) 0) (posted s b) s) ≡ true
+      go true true p q = posted-inside s b shape inside p q
+      go true false p q = inside
       go false f p q = inside
 
   pub turn-call-inside : stationInside ((turnCall s) .station) ≡ true

@@ -15,14 +15,14 @@ use Rattle.frame_rules.specs.Frame.{validNumber}
 use Rattle.places.proofs.Laws.{and-left, and-right}
 use Rattle.places.proofs.Keeps.{set-keeps}
 use Rattle.station_rules.specs.declared.Station.{Station}
-use Rattle.lanes.specs.Queue.{queued}
+use Rattle.lanes.specs.Waiting.{hasRoom, withPosted}
+use Rattle.lanes.proofs.WaitingLaws as waiting
 use Rattle.station_rules.specs.State.{Cell, cellOf, freshLabels, freshRecord, freshStation}
 use Rattle.station_rules.specs.Limits.{stationInside}
 use Rattle.station_rules.specs.Calls.{posted}
 use Rattle.station_rules.proofs.BodyLaws.{empty-inside}
 use Rattle.station_rules.proofs.Setters.{Shaped, waiting-cell, fresh-self, fresh-own, fresh-other}
 use Rattle.station_rules.proofs.LimitsLane.{lane-none}
-use Rattle.station_rules.proofs.LimitsQueue.{none-inside, queued-inside}
 use Rattle.station_rules.proofs.StationLimits.{RecordHolds, CellHolds, Inside, inside-as, inside-open, inside-make}
 
 freshLabels-label : (own k : ℕ) → k < 16 → isLabel (getD (freshLabels own) k 0) ≡ true
@@ -63,7 +63,7 @@ module _ (n own : ℕ) (high : n ≤ 16) (below : own < n) where
         acked = ap (λ (c : Cell). c .acked) cell;
         held = ap (λ (c : Cell). c .held) cell;
         body = rw (self .body) empty-inside;
-        waiting = rw (self .waiting) none-inside;
+        waiting = rw (self .waiting) waiting.none-inside;
         places = fresh-cell;
       })
 
@@ -74,10 +74,10 @@ fresh-inside n own h =
     (leb-true n 16 (and-right (leb 1 n) (leb n 16) (and-left (leb 1 n && leb n 16) (ltb own n) h)))
     (ltb-true own n (and-right (leb 1 n && leb n 16) (ltb own n) h)))
 
-pub posted-holds : (s : Station) (b : Body) → Shaped s → Inside s → postable b ≡ true → s .waiting .len < 32 → Inside (posted s b)
+pub posted-holds : (s : Station) (b : Body) → Shaped s → Inside s → postable b ≡ true → hasRoom (s .waiting) ≡ true → Inside (posted s b)
 unfolding posted
 posted-holds s b shape c e l =
-    let same = waiting-cell s (queued (s .waiting) b) in
+    let same = waiting-cell s (withPosted (s .waiting) b) in
     record {
       low = c .low;
       high = c .high;
@@ -85,10 +85,10 @@ posted-holds s b shape c e l =
       acked = ap (λ (x : Cell). x .acked) (same (s .own)) ∙ c .acked;
       held = ap (λ (x : Cell). x .held) (same (s .own)) ∙ c .held;
       body = c .body;
-      waiting = queued-inside (s .waiting) b (shape .slots) (c .waiting) l e;
+      waiting = waiting.posted-inside (s .waiting) b (shape .waiting) (c .waiting) l e;
       places = λ k m. rw (same k) (c .places k m);
     }
 
 pub posted-inside :
-    (s : Station) (b : Body) → Shaped s → stationInside s ≡ true → postable b ≡ true → s .waiting .len < 32 → stationInside (posted s b) ≡ true
+    (s : Station) (b : Body) → Shaped s → stationInside s ≡ true → postable b ≡ true → hasRoom (s .waiting) ≡ true → stationInside (posted s b) ≡ true
 posted-inside s b shape h e l = inside-make (posted s b) (posted-holds s b shape (inside-open s h) e l)

@@ -15,18 +15,18 @@ use Rattle.labels.specs.Label.{isLabel, successor}
 use Rattle.places.proofs.Laws.{fill-below}
 use Rattle.places.proofs.Keeps.{cond-keeps}
 use Rattle.lanes.specs.declared.Lane.{Lane}
-use Rattle.lanes.specs.declared.Queue.{Queue}
+use Rattle.lanes.specs.declared.Waiting.{Waiting}
 use Rattle.station_rules.specs.declared.Station.{Station}
 use Rattle.lanes.specs.Lane.{pushed, popped}
-use Rattle.lanes.specs.Queue.{oldest, unqueued}
+use Rattle.lanes.specs.Waiting.{nextEdit, withoutNext, waitingInside}
+use Rattle.lanes.proofs.WaitingLaws as waiting
 use Rattle.station_rules.specs.State.{Cell, cellOf, labelOf, ackedOf, recordOf, laneAt, withEntry, withCell}
-use Rattle.station_rules.specs.Limits.{laneInside, takeable, queueInside, stationInside}
+use Rattle.station_rules.specs.Limits.{laneInside, takeable, stationInside}
 use Rattle.station_rules.specs.Turn.{airs, ends, startsEdit, startedBody, passed, ownRecord, rewritten, afterTurn}
 use Rattle.station_rules.proofs.BodyLaws.{postable-takeable, takeable-inside, empty-inside, neutral-takeable}
 use Rattle.station_rules.proofs.Setters.{Shaped, cell-self, cell-here, cell-other}
 use Rattle.station_rules.proofs.Shape.{passed-shaped}
 use Rattle.station_rules.proofs.LimitsLane.{popped-inside, pushed-inside}
-use Rattle.station_rules.proofs.LimitsQueue.{unqueued-inside, oldest-edit}
 use Rattle.station_rules.proofs.StationLimits.{RecordHolds, CellHolds, InsideAs, Inside, inside-as, inside-open, inside-make}
 use Rattle.station_rules.proofs.LimitsHear.{successor-label}
 use Rattle.station_rules.proofs.TurnCells.{laneAfter, lane-after, passed-n, passed-own, passed-waiting, passed-body, passed-cell-own, passed-cell-other, turn-n, turn-own}
@@ -40,7 +40,7 @@ module _ (s : Station) (shape : Shaped s) (c : Inside s) where
     where
       go : Start s → P (startedBody s)
       go (anEdit e room w b) =
-          subst P (sym b) (some (oldest (s .waiting)) (postable-takeable (oldest (s .waiting)) (oldest-edit (s .waiting) (c .waiting) w)) room)
+          subst P (sym b) (some (nextEdit (s .waiting)) (postable-takeable (nextEdit (s .waiting)) (waiting.next-postable (s .waiting) (c .waiting) w)) room)
       go (aNeutral e room b) = subst P (sym b) (some Neutral neutral-takeable room)
       go (nothing e b) = subst P (sym b) none
 
@@ -98,8 +98,8 @@ module _ (s : Station) (shape : Shaped s) (c : Inside s) where
             (cond-keeps (λ (b : Body). bodyInside b ≡ true) (ends s) (startedBody s) (s .body) started-inside (c .body));
         waiting =
             rw (passed-waiting s)
-            (cond-keeps (λ (q : Queue). queueInside q ≡ true) (startsEdit s) (unqueued (s .waiting)) (s .waiting)
-            (unqueued-inside (s .waiting) (shape .slots) (c .waiting)) (c .waiting));
+            (cond-keeps (λ (w : Waiting). waitingInside w ≡ true) (startsEdit s) (withoutNext (s .waiting)) (s .waiting)
+            (waiting.started-inside (s .waiting) (shape .waiting) (c .waiting)) (c .waiting));
         places =
             λ k l. elim (ℕ-discrete k (s .own)) [
               | yes same ↦ subst (λ (j : ℕ). CellHolds (s .n) (s .own) j (cellOf (passed s) j)) (sym same) own-cell

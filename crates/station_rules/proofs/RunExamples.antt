@@ -12,7 +12,8 @@ use Rattle.kinds.specs.declared.Body.the-variants.{Empty, Neutral, Insert, Drop
 use Rattle.kinds.specs.Refusals.{done, queueFull}
 use Rattle.frame_rules.specs.declared.Record.{Record}
 use Rattle.lanes.specs.Lane.{bodies}
-use Rattle.lanes.specs.Queue.{noSlot, waitingBodies}
+use Rattle.lanes.specs.Queue.{queueCapacity, noSlot}
+use Rattle.lanes.specs.Waiting.{waitingEdits}
 use Rattle.station_rules.specs.declared.Station.{Station}
 use Rattle.station_rules.specs.declared.TurnReport.{TurnReport}
 use Rattle.station_rules.specs.State.{freshStation, labelOf, ackedOf, heldOf, laneAt}
@@ -52,7 +53,7 @@ posts (suc k) = with-edit (posts k) edit
 
 pub record Posts : Type 0 where
   pub thirty-second : (postCall (posts 31) edit) .refusal ≡ done
-  pub thirty-third : (postCall (posts 32) edit) .refusal ≡ queueFull
+  pub thirty-third : (postCall (posts queueCapacity) edit) .refusal ≡ queueFull
 
 -- a frame that comes is heard
 pub record Frame : Type 0 where
@@ -97,7 +98,7 @@ pub record Pair : Type 0 where
   pub acknowledges : (ackedOf (second .station) 1 ≡ true) × (second .station .count ≡ 1) × (labelOf (second .station) 1 ≡ 1)
   -- all are acknowledged: the turn starts the first edit, and the other waits
   pub starts : turnReport (second .station) ≡ ending Empty edit
-  pub waits : waitingBodies (afterTurn (second .station) .waiting) ≡ other ∷ []
+  pub waits : waitingEdits (afterTurn (second .station) .waiting) ≡ other ∷ []
   -- that one ends while it stands in the own lane: Empty starts
   pub full : turnReport (third .station) ≡ ending edit Empty
   -- a body of station 1 is taken and fills the row

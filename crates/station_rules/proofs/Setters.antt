@@ -14,9 +14,10 @@ use Rattle.frame_rules.specs.Calls.{tableRecords}
 use Rattle.places.proofs.Laws.{length-fill, fill-below, fill-above}
 use Rattle.places.proofs.Keeps.{set-keeps}
 use Rattle.lanes.specs.declared.Lane.{Lane}
-use Rattle.lanes.specs.declared.Queue.{Queue}
+use Rattle.lanes.specs.declared.Waiting.{Waiting}
 use Rattle.lanes.specs.Lane.{noLane}
-use Rattle.lanes.specs.Queue.{noneWaiting}
+use Rattle.lanes.specs.Waiting.{noneWaiting}
+use Rattle.lanes.proofs.WaitingLaws.{WaitingSized, none-sized}
 use Rattle.station_rules.specs.declared.Station.{Station}
 use Rattle.station_rules.specs.State.{Cell, cellOf, recordOf, recordLabel, withLabel, withEntry, withLane, withWaiting, withBroadcast, withArrays, withCell, withAcked, withLanes, sentRecords, freshRecord, freshStation}
 
@@ -24,18 +25,18 @@ use Rattle.station_rules.specs.State.{Cell, cellOf, recordOf, recordLabe
 abbrev pub LabelsShaped : Record → Type 0
 LabelsShaped r = length (r .labels) ≡ 16
 
--- the lengths that a station's arrays have by their types: sixteen places, thirty-two slots, sixteen labels in each record of the table
+-- the lengths that a station's arrays have by their types: sixteen places, the slots of the waiting edits, sixteen labels in each record of the table
 pub record Shaped (s : Station) : Type 0 where
   pub acked : length (s .acked) ≡ 16
   pub labels : length (s .labels) ≡ 16
   pub held : length (s .held) ≡ 16
   pub table : length (s .table) ≡ 16
   pub lanes : length (s .lanes) ≡ 16
-  pub slots : length (s .waiting .slots) ≡ 32
+  pub waiting : WaitingSized (s .waiting)
   pub record-labels : (k : ℕ) → k < 16 → LabelsShaped (recordOf s k)
 
 -- what a station has besides its cells
-pub record Self (s : Station) (size number : ℕ) (edits : Queue) (shown : Body) (counted : ℕ) : Type 0 where
+pub record Self (s : Station) (size number : ℕ) (edits : Waiting) (shown : Body) (counted : ℕ) : Type 0 where
   pub n : s .n ≡ size
   pub own : s .own ≡ number
   pub waiting : s .waiting ≡ edits
@@ -55,12 +56,12 @@ withAck c b = record { label = c .label; acked = b; held = c .held; entry = c .e
 
 module _ (s : Station) where
   -- other waiting edits
-  module _ (q : Queue) where
-    pub waiting-cell : (k : ℕ) → cellOf (withWaiting s q) k ≡ cellOf s k
+  module _ (w : Waiting) where
+    pub waiting-cell : (k : ℕ) → cellOf (withWaiting s w) k ≡ cellOf s k
     unfolding cellOf
     waiting-cell k = refl
 
-    pub waiting-shaped : length (q .slots) ≡ 32 → Shaped s → Shaped (withWaiting s q)
+    pub waiting-shaped : WaitingSized w → Shaped s → Shaped (withWaiting s w)
     unfolding cellOf
     waiting-shaped l c =
         record {
@@ -69,7 +70,7 @@ module _ (s : Station) where
           held = c .held;
           table = c .table;
           lanes = c .lanes;
-          slots = l;
+          waiting = l;
           record-labels = c .record-labels;
         }
 
@@ -88,7 +89,7 @@ module _ (s : Station) where
           held = c .held;
           table = c .table;
           lanes = c .lanes;
-          slots = c .slots;
+          waiting = c .waiting;
           record-labels = c .record-labels;
         }
 
@@ -142,7 +143,7 @@ module _ (s : Station) where
           held = length-set (s .held) k (c .held) ∙ shape .held;
           table = length-set (s .table) k (c .entry) ∙ shape .table;
           lanes = length-set (s .lanes) k (c .lane) ∙ shape .lanes;
-          slots = shape .slots;
+          waiting = shape .waiting;
           record-labels =
               λ j l. set-keeps LabelsShaped (s .table) k (c .entry) noRecord j (omega (arith, shape .table)) (shape .record-labels j l) e;
         }
@@ -170,7 +171,7 @@ module _ (s : Station) where
           held = c .held;
           table = c .table;
           lanes = c .lanes;
-          slots = c .slots;
+          waiting = c .waiting;
           record-labels = c .record-labels;
         }
 
@@ -197,7 +198,7 @@ module _ (s : Station) where
           held = c .held;
           table = c .table;
           lanes = length-fill (s .n) lane (s .lanes) ∙ c .lanes;
-          slots = c .slots;
+          waiting = c .waiting;
           record-labels = c .record-labels;
         }
 
@@ -224,15 +225,15 @@ same-trans s t r a b =
       shape = λ c. b .shape (a .shape c);
     }
 
-pub waiting-same : (s : Station) (q : Queue) → length (q .slots) ≡ length (s .waiting .slots) → SameButWaiting s (withWaiting s q)
-waiting-same s q e =
+pub waiting-same : (s : Station) (w : Waiting) → (WaitingSized (s .waiting) → WaitingSized w) → SameButWaiting s (withWaiting s w)
+waiting-same s w e =
     record {
       n = refl;
       own = refl;
       body = refl;
       count = refl;
-      cells = λ k. sym (waiting-cell s q k);
-      shape = λ c. waiting-shaped s q (e ∙ c .slots) c;
+      cells = λ k. sym (waiting-cell s w k);
+      shape = λ c. waiting-shaped s w (e (c .waiting)) c;
     }
 
 -- the fresh station
@@ -274,7 +275,7 @@ module _ (n own : ℕ) where
   fresh-label-other k l d = getD-set-other {A = ℕ} (replicate 16 0) own k 1 0 d ∙ getD-replicate {A = ℕ} 16 k 0 0 l
 
   pub fresh-shaped : Shaped (freshStation n own)
-  unfolding cellOf freshStation noneWaiting
+  unfolding cellOf freshStation
   fresh-shaped =
       record {
         acked = simp length-set;
@@ -282,7 +283,7 @@ module _ (n own : ℕ) where
         held = simp length-set;
         table = simp length-set;
         lanes = refl;
-        slots = refl;
+        waiting = none-sized;
         record-labels =
             λ k h. set-keeps LabelsShaped (replicate 16 zeroRecord) own _ noRecord k h
             (rw (getD-replicate 16 k zeroRecord noRecord h)) (simp length-set);

@@ -2,7 +2,6 @@
 use Prim.Native.Nat.{ℕ, _<_}
 use mathlib.Core.Bool.{Bool, true, false, cond, _&&_}
 use mathlib.Core.Path.{_≡_, refl, _∙_}
-use lib.ListN.{length, length-set}
 use native.Mathlib.Omega.{arith}
 use lib.Dec.{eqb, ltb}
 use borrow.Author.Tests.{ltb-true}
@@ -11,10 +10,10 @@ use Rattle.kinds.specs.Body.{isEmpty}
 use Rattle.frame_rules.specs.declared.Record.{Record}
 use Rattle.places.proofs.Laws.{and-right, length-fill}
 use Rattle.places.proofs.Keeps.{cond-keeps}
-use Rattle.lanes.specs.declared.Queue.{Queue}
 use Rattle.lanes.specs.Lane.{popped}
-use Rattle.lanes.specs.Queue.{queued, unqueued}
-use Rattle.lanes.proofs.QueueLaws.{unqueued-slots}
+use Rattle.lanes.specs.Waiting.{waitingCount, withPosted, withoutNext}
+use Rattle.lanes.proofs.WaitingLaws as laws
+use Rattle.lanes.proofs.WaitingLaws.{WaitingSized}
 use Rattle.station_rules.specs.declared.Station.{Station}
 use Rattle.station_rules.specs.State.{recordOf, recordLabel, labelOf, laneAt, withBroadcast, withCell, withAcked, withLanes}
 use Rattle.station_rules.specs.Hearing.{replaced, heardNewer}
@@ -22,25 +21,21 @@ use Rattle.station_rules.specs.Turn.{airs, ends, mayStart, startsEdit, s
 use Rattle.station_rules.specs.Calls.{posted}
 use Rattle.station_rules.proofs.Setters.{LabelsShaped, Shaped, SameSelf, self-refl, lanes-self, SameButWaiting, waiting-same, waiting-shaped, broadcast-shaped, cell-shaped, acked-shaped, lanes-shaped}
 
-pub queued-slots : (q : Queue) (b : Body) → length ((queued q b) .slots) ≡ length (q .slots)
-unfolding queued
-queued-slots q b = length-set (q .slots) (q .len) (record { body = b })
-
 -- the waiting edits after a turn
-waiting-slots : (s : Station) → length (s .waiting .slots) ≡ 32 → length ((cond (startsEdit s) (unqueued (s .waiting)) (s .waiting)) .slots) ≡ 32
-waiting-slots s e = go (startsEdit s) refl
+waiting-sized : (s : Station) → WaitingSized (s .waiting) → WaitingSized (cond (startsEdit s) (withoutNext (s .waiting)) (s .waiting))
+waiting-sized s e = go (startsEdit s) refl
   where
-    go : (t : Bool) → startsEdit s ≡ t → length ((cond t (unqueued (s .waiting)) (s .waiting)) .slots) ≡ 32
+    go : (t : Bool) → startsEdit s ≡ t → WaitingSized (cond t (withoutNext (s .waiting)) (s .waiting))
     go true h =
-        let waits = ltb 0 (s .waiting .len) in
-        let some : 0 < s .waiting .len = ltb-true 0 (s .waiting .len) (and-right (mayStart s) waits (and-right (ends s) (mayStart s && waits) h)) in
-        unqueued-slots (s .waiting) some (omega arith) ∙ e
+        let waits = ltb 0 (waitingCount (s .waiting)) in
+        let some = ltb-true 0 (waitingCount (s .waiting)) (and-right (mayStart s) waits (and-right (ends s) (mayStart s && waits) h)) in
+        laws.started-sized (s .waiting) some e
     go false h = e
 
 -- a post changes waiting edits only
 pub posted-same : (s : Station) (b : Body) → SameButWaiting s (posted s b)
 unfolding posted
-posted-same s b = waiting-same s (queued (s .waiting) b) (queued-slots (s .waiting) b)
+posted-same s b = waiting-same s (withPosted (s .waiting) b) (laws.posted-sized (s .waiting) b)
 
 pub posted-shaped : (s : Station) (b : Body) → Shaped s → Shaped (posted s b)
 posted-shaped s b c = posted-same s b .shape c
@@ -93,7 +88,7 @@ passed-shaped s l c =
     let next = begins t (startedBody s) in
     let started : Shaped (takesOwn next (startedBody s)) =
     takesOwn-shaped next (startedBody s) (omega (arith, begins-own t (startedBody s))) (begins-shaped t (startedBody s) own shape) in
-    cond-keeps Shaped (ends s) _ t (waiting-shaped (takesOwn next (startedBody s)) _ (waiting-slots s (c .slots)) started) shape
+    cond-keeps Shaped (ends s) _ t (waiting-shaped (takesOwn next (startedBody s)) _ (waiting-sized s (c .waiting)) started) shape
 
 ownRecord-labels : (s : Station) → s .own < 16 → Shaped s → LabelsShaped (ownRecord s)
 unfolding ownRecord

@@ -14,7 +14,8 @@ use Rattle.places.specs.Places.{allBelow}
 use Rattle.places.proofs.Laws.{and-both, and-left, and-right, allBelow-at, allBelow-make}
 use Rattle.station_rules.specs.declared.Station.{Station}
 use Rattle.station_rules.specs.State.{Cell, cellOf, labelOf, ackedOf, heldOf, recordOf, laneAt, recordLabel}
-use Rattle.station_rules.specs.Limits.{laneInside, queueInside, recordInside, placeInside, stationInside}
+use Rattle.lanes.specs.Waiting.{waitingInside}
+use Rattle.station_rules.specs.Limits.{laneInside, recordInside, placeInside, stationInside}
 
 -- a record of station k inside the limits of the table of station own
 pub record RecordHolds (n own k : ℕ) (r : Record) : Type 0 where
@@ -40,7 +41,7 @@ pub record InsideAs (size number : ℕ) (s : Station) : Type 0 where
   pub acked : ackedOf s number ≡ true
   pub held : heldOf s number ≡ true
   pub body : bodyInside (s .body) ≡ true
-  pub waiting : queueInside (s .waiting) ≡ true
+  pub waiting : waitingInside (s .waiting) ≡ true
   pub places : (k : ℕ) → k < size → CellHolds size number k (cellOf s k)
 
 -- inside its limits
@@ -110,10 +111,10 @@ inside-open s h =
     let acked = ackedOf s (s .own) in
     let held = heldOf s (s .own) in
     let body = bodyInside (s .body) in
-    let queue = queueInside (s .waiting) in
+    let waiting = waitingInside (s .waiting) in
     let places = allBelow (s .n) (placeInside s) in
-    let h₅ : (valid && acked && held && body && queue) ≡ true = and-left (valid && acked && held && body && queue) places h in
-    let h₄ : (valid && acked && held && body) ≡ true = and-left (valid && acked && held && body) queue h₅ in
+    let h₅ : (valid && acked && held && body && waiting) ≡ true = and-left (valid && acked && held && body && waiting) places h in
+    let h₄ : (valid && acked && held && body) ≡ true = and-left (valid && acked && held && body) waiting h₅ in
     let h₃ : (valid && acked && held) ≡ true = and-left (valid && acked && held) body h₄ in
     let h₂ : (valid && acked) ≡ true = and-left (valid && acked) held h₃ in
     let h₁ : valid ≡ true = and-left valid acked h₂ in
@@ -125,10 +126,10 @@ inside-open s h =
       acked = and-right valid acked h₂;
       held = and-right (valid && acked) held h₃;
       body = and-right (valid && acked && held) body h₄;
-      waiting = and-right (valid && acked && held && body) queue h₅;
+      waiting = and-right (valid && acked && held && body) waiting h₅;
       places =
           λ k l. place-open s k
-          (allBelow-at (s .n) (placeInside s) (and-right (valid && acked && held && body && queue) places h) k l);
+          (allBelow-at (s .n) (placeInside s) (and-right (valid && acked && held && body && waiting) places h) k l);
     }
 
 pub inside-make : (s : Station) → Inside s → stationInside s ≡ true

@@ -16,7 +16,7 @@ use Rattle.places.proofs.Laws.{fill-below, fill-above}
 use Rattle.places.proofs.Keeps.{cond-keeps}
 use Rattle.lanes.specs.declared.Lane.{Lane}
 use Rattle.lanes.specs.Lane.{pushed, popped}
-use Rattle.lanes.specs.Queue.{unqueued}
+use Rattle.lanes.specs.Waiting.{withoutNext}
 use Rattle.station_rules.specs.declared.Station.{Station}
 use Rattle.station_rules.specs.State.{Cell, cellOf, labelOf, ackedOf, heldOf, recordOf, laneAt, recordLabel, withLabel, withEntry, withLane, withWaiting, withBroadcast, withCell, withAcked, withLanes}
 use Rattle.station_rules.specs.Turn.{airs, ends, startsEdit, startedBody, afterAiring, begins, takesOwn, passed, ownRecord, rewritten, afterTurn}
@@ -62,7 +62,7 @@ module _ (s : Station) (b : Body) where
 -- what is no cell
 module _ (s : Station) where
   passed-self :
-      ((passed s) .n ≡ s .n) × ((passed s) .own ≡ s .own) × ((passed s) .waiting ≡ cond (startsEdit s) (unqueued (s .waiting)) (s .waiting))
+      ((passed s) .n ≡ s .n) × ((passed s) .own ≡ s .own) × ((passed s) .waiting ≡ cond (startsEdit s) (withoutNext (s .waiting)) (s .waiting))
       × ((passed s) .body ≡ cond (ends s) (startedBody s) (s .body)) × ((passed s) .count ≡ cond (ends s) 0 (s .count))
   unfolding passed begins withCell withAcked
   passed-self = go (ends s) refl
@@ -72,7 +72,7 @@ module _ (s : Station) where
 
       go :
           (t : Bool) → ends s ≡ t →
-          ((passed s) .n ≡ s .n) × ((passed s) .own ≡ s .own) × ((passed s) .waiting ≡ cond (startsEdit s) (unqueued (s .waiting)) (s .waiting))
+          ((passed s) .n ≡ s .n) × ((passed s) .own ≡ s .own) × ((passed s) .waiting ≡ cond (startsEdit s) (withoutNext (s .waiting)) (s .waiting))
           × ((passed s) .body ≡ cond t (startedBody s) (s .body)) × ((passed s) .count ≡ cond t 0 (s .count))
       go true e =
           let c = takesOwn-self next (startedBody s) in
@@ -86,7 +86,7 @@ module _ (s : Station) where
   pub passed-own : (passed s) .own ≡ s .own
   passed-own = passed-self .1
 
-  pub passed-waiting : (passed s) .waiting ≡ cond (startsEdit s) (unqueued (s .waiting)) (s .waiting)
+  pub passed-waiting : (passed s) .waiting ≡ cond (startsEdit s) (withoutNext (s .waiting)) (s .waiting)
   passed-waiting = passed-self .2
 
   pub passed-body : (passed s) .body ≡ cond (ends s) (startedBody s) (s .body)
@@ -103,7 +103,7 @@ module _ (s : Station) where
   unfolding afterTurn rewritten withCell
   turn-own = passed-own
 
-  pub turn-waiting : (afterTurn s) .waiting ≡ cond (startsEdit s) (unqueued (s .waiting)) (s .waiting)
+  pub turn-waiting : (afterTurn s) .waiting ≡ cond (startsEdit s) (withoutNext (s .waiting)) (s .waiting)
   unfolding afterTurn rewritten withCell
   turn-waiting = passed-waiting
 
@@ -223,7 +223,7 @@ module _ (s : Station) (shape : Shaped s) (high : s .n ≤ 16) (below : s .own <
 
       go :
           (t : Bool) → ends s ≡ t →
-          cellOf (cond t (withWaiting (takesOwn next (startedBody s)) (cond (startsEdit s) (unqueued (s .waiting)) (s .waiting))) aired) (s .own)
+          cellOf (cond t (withWaiting (takesOwn next (startedBody s)) (cond (startsEdit s) (withoutNext (s .waiting)) (s .waiting))) aired) (s .own)
           ≡ record {
             label = cond t (successor (own .label)) (own .label);
             acked = cond t true (own .acked);
@@ -249,7 +249,7 @@ module _ (s : Station) (shape : Shaped s) (high : s .n ≤ 16) (below : s .own <
     where
       go :
           (t : Bool) →
-          cellOf (cond t (withWaiting (takesOwn next (startedBody s)) (cond (startsEdit s) (unqueued (s .waiting)) (s .waiting))) aired) k
+          cellOf (cond t (withWaiting (takesOwn next (startedBody s)) (cond (startsEdit s) (withoutNext (s .waiting)) (s .waiting))) aired) k
           ≡ withLane (withAck (cellOf s k) (cond t false (ackedOf s k))) (laneAfter s k)
       go true =
           let b = startedBody s in

@@ -3,7 +3,7 @@ use Prim.Native.Nat.{ℕ, _+_}
 use mathlib.Core.Bool.{Bool, true, false, cond, not}
 use mathlib.Core.List.{List, [], _∷_, _++_}
 use lib.ListN.{set, replicate, length, drop}
-use lib.Dec.{leb, ltb, eqb}
+use lib.Dec.{ltb, eqb}
 use Rattle.kinds.specs.declared.Body.{Body}
 use Rattle.kinds.specs.declared.Body.the-variants.{Empty}
 use Rattle.kind_limits.specs.Limits.{postable}
@@ -17,7 +17,8 @@ use Rattle.station_rules.specs.declared.Kept.{Kept}
 use Rattle.frame_rules.specs.declared.Written.{Written}
 use Rattle.station_rules.specs.declared.Heard.{Heard}
 use Rattle.station_rules.specs.declared.Turned.{Turned}
-use Rattle.lanes.specs.Queue.{noSlot, queued}
+use Rattle.lanes.specs.Queue.{noSlot}
+use Rattle.lanes.specs.Waiting.{hasRoom, withPosted}
 use Rattle.station_rules.specs.State.{recordOf, withWaiting, sentRecords, freshStation}
 use Rattle.station_rules.specs.Limits.{stationInside}
 use Rattle.station_rules.specs.Hearing.{silent, hearRecords}
@@ -32,11 +33,11 @@ freshCall n own =
 
 -- the station with one more waiting edit (source document 001, Algorithm 2, lines 1 and 2)
 unfoldable pub posted : Station → Body → Station
-posted s b = withWaiting s (queued (s .waiting) b)
+posted s b = withWaiting s (withPosted (s .waiting) b)
 
--- 4, 3: what a post judges of the body and the queue
+-- 4, 3: what a post judges of the body and of the waiting edits
 abbrev pub postRefusal : Station → Body → ℕ
-postRefusal s b = refuse (not (postable b)) notAnEdit (refuse (leb 32 ((s .waiting) .len)) queueFull done)
+postRefusal s b = refuse (not (postable b)) notAnEdit (refuse (not (hasRoom (s .waiting))) queueFull done)
 
 -- "Post": 2, 4, 3
 unfoldable pub postCall : Station → Body → Kept

@@ -2,20 +2,18 @@
 -- station of which none is held are not looked at.
 use Prim.Native.Nat.{ℕ}
 use mathlib.Core.Bool.{Bool, cond, not, _&&_, _||_}
-use lib.ListN.{getD}
 use lib.Dec.{leb, eqb}
 use Rattle.kinds.specs.declared.Body.{Body}
 use Rattle.kinds.specs.Body.{isEmpty}
-use Rattle.kind_limits.specs.Limits.{bodyInside, postable}
+use Rattle.kind_limits.specs.Limits.{bodyInside}
 use Rattle.labels.specs.Label.{isLabel}
 use Rattle.frame_rules.specs.declared.Record.{Record}
 use Rattle.frame_rules.specs.Record.{countInside}
 use Rattle.frame_rules.specs.Frame.{validNumber}
 use Rattle.places.specs.Places.{allBelow}
 use Rattle.lanes.specs.declared.Lane.{Lane}
-use Rattle.lanes.specs.declared.Queue.{Queue}
 use Rattle.station_rules.specs.declared.Station.{Station}
-use Rattle.lanes.specs.Queue.{noSlot}
+use Rattle.lanes.specs.Waiting.{waitingInside}
 use Rattle.station_rules.specs.State.{labelOf, ackedOf, heldOf, recordOf, laneAt, recordLabel}
 
 -- a body that a lane may hold: inside its limits, and not Empty
@@ -26,10 +24,6 @@ takeable b = not (isEmpty b) && bodyInside b
 unfoldable pub laneInside : ℕ → Lane → Bool
 laneInside most l =
     leb (l .len) most && (eqb (l .len) 0 || takeable (l .first)) && (leb (l .len) 1 || takeable (l .second))
-
--- at most 32 wait, and each may be posted
-unfoldable pub queueInside : Queue → Bool
-queueInside q = leb (q .len) 32 && allBelow (q .len) (λ i. postable ((getD (q .slots) i noSlot) .body))
 
 -- a record of station k in the table of station `own` among n; the own record's count has no limit but its byte
 unfoldable pub recordInside : ℕ → ℕ → ℕ → Record → Bool
@@ -55,5 +49,5 @@ stationInside s =
     && ackedOf s (s .own)
     && heldOf s (s .own)
     && bodyInside (s .body)
-    && queueInside (s .waiting)
+    && waitingInside (s .waiting)
     && allBelow (s .n) (placeInside s)

@@ -10,10 +10,10 @@ use Rattle.places.specs.Places.{fill, gather}
 use Rattle.frame_rules.specs.declared.Record.{Record}
 use Rattle.frame_rules.specs.Record.{noRecord, zeroRecord, framed}
 use Rattle.lanes.specs.declared.Lane.{Lane}
-use Rattle.lanes.specs.declared.Queue.{Queue}
+use Rattle.lanes.specs.declared.Waiting.{Waiting}
 use Rattle.station_rules.specs.declared.Station.{Station}
 use Rattle.lanes.specs.Lane.{noLane}
-use Rattle.lanes.specs.Queue.{noneWaiting}
+use Rattle.lanes.specs.Waiting.{noneWaiting, absentWaiting}
 
 -- what a station has of station k: its label for it, whether it is acknowledged, whether the table holds a record of it, that record, and its lane
 pub record Cell : Type 0 where
@@ -72,12 +72,12 @@ abbrev pub withLane : Cell → Lane → Cell
 withLane c lane = record { label = c .label; acked = c .acked; held = c .held; entry = c .entry; lane = lane }
 
 -- a station with other waiting edits
-abbrev pub withWaiting : Station → Queue → Station
-withWaiting s q =
+abbrev pub withWaiting : Station → Waiting → Station
+withWaiting s w =
     record {
       n = s .n;
       own = s .own;
-      waiting = q;
+      waiting = w;
       acked = s .acked;
       body = s .body;
       count = s .count;
@@ -167,7 +167,7 @@ noStation =
     record {
       n = 0;
       own = 0;
-      waiting = record { len = 0; slots = [] };
+      waiting = absentWaiting;
       acked = [];
       body = Empty;
       count = 0;

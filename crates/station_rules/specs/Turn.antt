@@ -13,7 +13,8 @@ use Rattle.lanes.specs.declared.Slot.{Slot}
 use Rattle.station_rules.specs.declared.Station.{Station}
 use Rattle.station_rules.specs.declared.TurnReport.{TurnReport}
 use Rattle.lanes.specs.Lane.{pushed, popped}
-use Rattle.lanes.specs.Queue.{noSlot, oldest, unqueued}
+use Rattle.lanes.specs.Queue.{noSlot}
+use Rattle.lanes.specs.Waiting.{waitingCount, nextEdit, withoutNext}
 use Rattle.station_rules.specs.State.{cellOf, labelOf, ackedOf, recordOf, laneAt, withLabel, withEntry, withLane, withWaiting, withBroadcast, withCell, withAcked, withLanes}
 
 -- every lane has a body, so a row is aired (source document 001, Algorithm 3, lines 5 to 9; H2: there at each delivery, here at the turn, one row)
@@ -38,13 +39,13 @@ mayStart s = eqb ((laneAt (afterAiring s) (s .own)) .len) 0
 
 -- an edit waits, and may start
 abbrev pub startsEdit : Station → Bool
-startsEdit s = ends s && (mayStart s && ltb 0 ((s .waiting) .len))
+startsEdit s = ends s && (mayStart s && ltb 0 (waitingCount (s .waiting)))
 
 -- what starts where the broadcast ends: the oldest waiting edit, Neutral where none waits (Algorithm 3, line 11), Empty where the own lane is not
 -- empty (Algorithm 2, lines 21 to 24)
 unfoldable pub startedBody : Station → Body
 startedBody s =
-    cond (ends s) (cond (mayStart s) (cond (ltb 0 ((s .waiting) .len)) (oldest (s .waiting)) Neutral) Empty) Empty
+    cond (ends s) (cond (mayStart s) (cond (ltb 0 (waitingCount (s .waiting))) (nextEdit (s .waiting)) Neutral) Empty) Empty
 
 -- the station with its broadcast ended and one of another body begun: nothing counted, nobody but itself acknowledged, its own label the next (lines 19 and 20)
 unfoldable pub begins : Station → Body → Station
@@ -63,7 +64,7 @@ unfoldable pub passed : Station → Station
 passed s =
     cond (ends s)
     (withWaiting (takesOwn (begins (afterAiring s) (startedBody s)) (startedBody s))
-    (cond (startsEdit s) (unqueued (s .waiting)) (s .waiting)))
+    (cond (startsEdit s) (withoutNext (s .waiting)) (s .waiting)))
     (afterAiring s)
 
 -- the own record with the station's present values; its labels from n up stay (lines 25 and 26)

@@ -15,14 +15,15 @@ use Rattle.labels.specs.Label.{successor}
 use Rattle.places.specs.Places.{fill}
 use Rattle.places.proofs.Laws.{and-right}
 use Rattle.lanes.specs.declared.Lane.{Lane}
-use Rattle.lanes.specs.declared.Queue.{Queue}
+use Rattle.lanes.specs.declared.Waiting.{Waiting}
 use Rattle.lanes.specs.declared.Slot.{Slot}
 use Rattle.airing.specs.declared.Aired.{Aired}
 use Rattle.airing.specs.Airing.{airing}
 use Rattle.station_rules.specs.declared.Station.{Station}
 use Rattle.station_rules.specs.declared.Turned.{Turned}
 use Rattle.lanes.specs.Lane.{noLane, pushed, popped}
-use Rattle.lanes.specs.Queue.{noSlot, oldest, unqueued}
+use Rattle.lanes.specs.Queue.{noSlot}
+use Rattle.lanes.specs.Waiting.{waitingCount, nextEdit, withoutNext}
 use Rattle.station_rules.specs.State.{cellOf, labelOf, recordOf, laneAt, withEntry, withLane, withWaiting, withBroadcast, withArrays, withCell, withAcked, withLanes}
 use Rattle.station_rules.specs.Turn.{airs, rowOf, afterAiring, ends, mayStart, startsEdit, startedBody, begins, takesOwn, passed, ownRecord, rewritten, afterTurn, turnReport}
 use Rattle.station_rules.specs.Calls.{turnDone}
@@ -63,7 +64,7 @@ module _ (s : Station) (step : Aired) (e : step ≡ airing (s .n) (s .lanes)) wh
       go false = refl
 
 starts-of :
-    (s : Station) → startedBody s ≡ cond (ends s) (cond (mayStart s) (cond (ltb 0 (s .waiting .len)) (oldest (s .waiting)) Neutral) Empty) Empty
+    (s : Station) → startedBody s ≡ cond (ends s) (cond (mayStart s) (cond (ltb 0 (waitingCount (s .waiting))) (nextEdit (s .waiting)) Neutral) Empty) Empty
 unfolding startedBody
 starts-of s = refl
 
@@ -107,15 +108,15 @@ module _ (s : Station) (left : List Lane) (l : withArrays s (s .acked) (s .label
   passed-arrays :
       passed s
       ≡ withArrays
-      (withBroadcast (withWaiting s (cond (startsEdit s) (unqueued (s .waiting)) (s .waiting))) (cond (ends s) b (s .body)) (cond (ends s) 0 (s .count)))
+      (withBroadcast (withWaiting s (cond (startsEdit s) (withoutNext (s .waiting)) (s .waiting))) (cond (ends s) b (s .body)) (cond (ends s) 0 (s .count)))
       (cond (ends s) (fill (s .n) (λ k. eqb k (s .own)) (s .acked)) (s .acked))
       (set (s .labels) (s .own) (cond (ends s) next (labelOf s (s .own)))) (s .held) (s .table)
       (set left (s .own) (cond (isEmpty b) (getD left (s .own) noLane) (pushed (getD left (s .own) noLane) b)))
   unfolding passed cellOf
   passed-arrays = go (ends s) refl
     where
-      w : Queue
-      w = cond (startsEdit s) (unqueued (s .waiting)) (s .waiting)
+      w : Waiting
+      w = cond (startsEdit s) (withoutNext (s .waiting)) (s .waiting)
 
       go :
           (t : Bool) → ends s ≡ t →
@@ -134,8 +135,8 @@ module _ (s : Station) (left : List Lane) (l : withArrays s (s .acked) (s .label
 
 -- the answer of a turn, by its parts
 module _
-    (s : Station) (aired ended starts : Bool) (row : List Slot) (left : List Lane) (old started body gone : Body) (waiting : Queue) (acked : List Bool)
-    (count next : ℕ) (over : List ℕ) (lane : Lane) where
+    (s : Station) (aired ended starts : Bool) (row : List Slot) (left : List Lane) (old : Body) (many : ℕ) (started body gone : Body)
+    (waiting : Waiting) (acked : List Bool)     (count next : ℕ) (over : List ℕ) (lane : Lane) where
   -- before the own record is rewritten
   abbrev before : Station
   before =
@@ -157,10 +158,11 @@ module _
   pub turn-made :
       aired ≡ airs s → ended ≡ ends s → row ≡ cond (airs s) (rowOf s) (replicate 16 noSlot) →
       withArrays s (s .acked) (s .labels) (s .held) (s .table) left ≡ afterAiring s →
-      old ≡ oldest (s .waiting) →
-      started ≡ cond ended (cond may (cond (ltb 0 (s .waiting .len)) old Neutral) Empty) Empty →
-      starts ≡ (ended && (may && ltb 0 (s .waiting .len))) →
-      waiting ≡ cond starts (unqueued (s .waiting)) (s .waiting) →
+      old ≡ nextEdit (s .waiting) →
+      many ≡ waitingCount (s .waiting) →
+      started ≡ cond ended (cond may (cond (ltb 0 many) old Neutral) Empty) Empty →
+      starts ≡ (ended && (may && ltb 0 many)) →
+      waiting ≡ cond starts (withoutNext (s .waiting)) (s .waiting) →
       acked ≡ cond ended (fill (s .n) (λ k. eqb k (s .own)) (s .acked)) (s .acked) →
       body ≡ cond ended started (s .body) →
       gone ≡ cond ended (s .body) Empty →
@@ -170,10 +172,10 @@ module _
       lane ≡ cond (isEmpty started) (getD left (s .own) noLane) (pushed (getD left (s .own) noLane) started) →
       answer ≡ turnDone s
   unfolding cellOf afterTurn rewritten ownRecord turnReport
-  turn-made a e r l o b t w k y g m x v p =
+  turn-made a e r l o z b t w k y g m x v p =
       let room : may ≡ mayStart s = ap (λ (z : Station). eqb ((laneAt z (s .own)) .len) 0) l in
-      let f : started ≡ startedBody s = b ∙ rw (e, room, o) (sym (starts-of s)) in
-      let u : before ≡ passed s = rw (p, w, t, k, y, m, x, f, e, room) (sym (passed-arrays s left l)) in
+      let f : started ≡ startedBody s = b ∙ rw (e, room, o, z) (sym (starts-of s)) in
+      let u : before ≡ passed s = rw (p, w, t, k, y, m, x, f, e, room, z) (sym (passed-arrays s left l)) in
       let h : answer .station ≡ afterTurn s =
       rw v (sym (cell-entry before (s .own) (withEntry (cellOf before (s .own)) (ownRecord before)) (ownRecord before) refl)) ∙ ap rewritten u in
       let j : answer .report ≡ turnReport s = rw (a, r, g, f, e) in

@@ -2,7 +2,7 @@
 use mathlib.Core.Path.{sym, _∙_}
 use borrow.Author.Needs.{needs}
 use Rattle.station_rules.proofs.CallSteps.{valid-parts}
-use Rattle.group.proofs.CallSteps.{fresh-done, fresh-refused}
+use Rattle.group_rules.proofs.CallSteps.{fresh-done, fresh-refused}
 use Rattle.group.proofs.fresh.Statement.{statement}
 use Rattle.group.proofs.fresh.Tie as tie
 

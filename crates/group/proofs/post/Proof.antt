@@ -7,7 +7,7 @@ use borrow.Author.Needs.{needs}
 use borrow.Author.Tests.{not-true, not-false}
 use Rattle.group_rules.specs.State.{groupInside}
 use Rattle.group_rules.proofs.Members.{group-high}
-use Rattle.group.proofs.CallSteps.{post-outside, post-nobody, post-there}
+use Rattle.group_rules.proofs.CallSteps.{post-outside, post-nobody, post-there}
 use Rattle.group.proofs.post.Statement.{statement}
 use Rattle.group.proofs.post.Tie as tie
 

@@ -11,14 +11,15 @@ use Rattle.places.specs.Places.{allBelow}
 use Rattle.places.proofs.Laws.{allBelow-more, allBelow-fails}
 use Rattle.station_rules.specs.declared.Station.{Station}
 use Rattle.station_rules.specs.State.{cellOf, ackedOf, heldOf}
-use Rattle.station_rules.specs.Limits.{queueInside, placeInside, stationInside}
+use Rattle.lanes.specs.Waiting.{waitingInside}
+use Rattle.station_rules.specs.Limits.{placeInside, stationInside}
 use Rattle.station_rules.proofs.CallSteps.{valid-parts}
 use Rattle.station_limits.proofs.station_inside.Statement.{statement}
 use Rattle.station_limits.proofs.station_inside.Tie as tie
 
 -- all but the places
 abbrev whole : Station → Bool
-whole s = validNumber (s .n) (s .own) && ackedOf s (s .own) && heldOf s (s .own) && bodyInside (s .body) && queueInside (s .waiting)
+whole s = validNumber (s .n) (s .own) && ackedOf s (s .own) && heldOf s (s .own) && bodyInside (s .body) && waitingInside (s .waiting)
 
 abbrev Inv-loop : tie.InvT-loop
 Inv-loop s n own k₀ k =
@@ -80,15 +81,15 @@ returns-4 c =
     let e : bodyInside (s .body) ≡ false = sym (c .before .body-inside .ensures) ∙ not-true _ (c .if4 .taken) in
     rw (valid (c .before .before .before .before .before .before), acked (c .before .before .before .before), held (c .before .before), e)
 
-queue-inside-requires : tie.Need-queue-inside-requires Inv-loop μ-loop
-queue-inside-requires c κs = search needs
+waiting-inside-requires : tie.Need-waiting-inside-requires Inv-loop μ-loop
+waiting-inside-requires c κs = search needs
 
 returns-5 : tie.Need-returns-5 Inv-loop μ-loop
 unfolding stationInside
 returns-5 c =
     let d = c .before .before .before in
     let s = d .before .before .before .before .before .before .before .before .args .t1 in
-    let e : queueInside (s .waiting) ≡ false = sym (c .before .queue-inside .ensures) ∙ not-true _ (c .if5 .taken) in
+    let e : waitingInside (s .waiting) ≡ false = sym (c .before .waiting-inside .ensures) ∙ not-true _ (c .if5 .taken) in
     rw (valid (d .before .before .before .before .before .before), acked (d .before .before .before .before), held (d .before .before), body d, e)
 
 loop-holds : tie.Need-loop-holds Inv-loop μ-loop
@@ -96,7 +97,7 @@ unfolding allBelow
 loop-holds c =
     let d = c .before .before .before in
     let s = d .before .before .before .before .before .before .before .before .args .t1 in
-    let e : queueInside (s .waiting) ≡ true = sym (c .before .queue-inside .ensures) ∙ not-false _ (c .if5 .left) in
+    let e : waitingInside (s .waiting) ≡ true = sym (c .before .waiting-inside .ensures) ∙ not-false _ (c .if5 .left) in
     let w = sixteen (d .before .before .before .before .before .before) in
     (refl, refl, omega arith, w .0, w .1, rw (valid (d .before .before .before .before .before .before), acked (d .before .before .before .before), held (d .before .before), body d, e), refl)
 
@@ -164,7 +165,7 @@ station-inside-spec =
     returns-3
     body-inside-requires
     returns-4
-    queue-inside-requires
+    waiting-inside-requires
     returns-5
     loop-holds
     element-copy-out-place-inside

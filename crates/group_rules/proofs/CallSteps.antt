@@ -1,24 +1,26 @@
--- The answers of group fresh and group post, each with the tests on its way decided.
+-- The answers of group fresh, group post and round, each with the tests on its way decided: of several refusals that apply the first in its order is answered.
 use Prim.Native.Nat.{ℕ, _≤_, _<_}
-use mathlib.Core.Path.{_≡_, refl}
-use mathlib.Core.Bool.{Bool, true, false, cond, _&&_}
+use mathlib.Core.Path.{_≡_, refl, ap}
+use mathlib.Core.Bool.{Bool, true, false, cond, not, _&&_}
 use mathlib.Core.List.{List}
 use lib.Dec.{leb, ltb, eqb}
-use lib.ListN.{set}
+use lib.ListN.{set, replicate}
 use lib.Seq.{set-getD}
 use borrow.Author.Tests.{leb-true, lt-ltb, le-ltb}
-use Rattle.places.proofs.Laws.{and-left}
+use Rattle.places.specs.Places.{allBelow, anyBelow, fill}
+use Rattle.places.proofs.Laws.{and-left, allBelow-not, anyBelow-none, anyBelow-hit}
 use Rattle.kinds.specs.declared.Body.{Body}
 use Rattle.frame_rules.specs.Frame.{validNumber}
 use Rattle.station_rules.specs.declared.Station.{Station}
 use Rattle.station_rules.specs.declared.Kept.{Kept}
 use Rattle.station_rules.specs.Limits.{stationInside}
 use Rattle.station_rules.specs.Calls as station
-use Rattle.station_rules.specs.Calls.{posted, postRefusal}
+use Rattle.station_rules.specs.Calls.{posted, postRefusal, ownCountInside}
 use Rattle.station_rules.proofs.StationLimits.{inside-make}
+use Rattle.group_rules.specs.declared.RoundDone.{RoundDone}
 use Rattle.group_rules.specs.State.{noStation, stationAt, sizeOf, groupInside, freshGroup}
-use Rattle.group_rules.specs.Calls.{freshCall, groupPostRefusal, postCall}
+use Rattle.group_rules.specs.Calls.{freshCall, groupPostRefusal, postCall, heard, noReport, reportOf, roundRefusal, afterRound, roundCall}
 use Rattle.group_rules.proofs.Members.{member-at}
 
 -- fresh: 1
 module _ (n : ℕ) (g : List Station) where
@@ -67,3 +69,40 @@ module _ (g : List Station) (k : ℕ) (b : Body) where
       post-there kept e =
           rw (e, inside, i, lt-ltb k (sizeOf g) l)
           (λ j. record { refusal = postRefusal s b; group = put (eqb (postRefusal s b) 0) j })
+
+-- round: 2, 10, 8
+module _ (g : List Station) (masks : List ℕ) where
+  abbrev pub refused : ℕ → RoundDone
+  refused number = record { refusal = number; group = g; reports = replicate 16 noReport }
+
+  pub round-outside : groupInside g ≡ false → refused 2 ≡ roundCall g masks
+  unfolding roundCall roundRefusal
+  round-outside i = rw i
+
+  module _ (i : groupInside g ≡ true) where
+    abbrev tooHigh : ℕ → Bool
+    tooHigh k = not (ownCountInside (stationAt g k))
+
+    abbrev full : ℕ → Bool
+    full k = (heard g masks k) .overfull
+
+    pub round-count : allBelow (sizeOf g) (λ k. ownCountInside (stationAt g k)) ≡ false → refused 10 ≡ roundCall g masks
+    unfolding roundCall roundRefusal
+    round-count a =
+        let r = allBelow-not (sizeOf g) (λ k. ownCountInside (stationAt g k)) a in
+        rw (i, anyBelow-hit (sizeOf g) tooHigh (r .0) (r .1) (ap not (r .2)))
+
+    module _ (counts : (k : ℕ) → k < sizeOf g → ownCountInside (stationAt g k) ≡ true) where
+      none-high : anyBelow (sizeOf g) tooHigh ≡ false
+      none-high = anyBelow-none (sizeOf g) tooHigh (λ k l. ap not (counts k l))
+
+      pub round-full : (k : ℕ) → k < sizeOf g → full k ≡ true → refused 8 ≡ roundCall g masks
+      unfolding roundCall roundRefusal
+      round-full k l e = rw (i, none-high, anyBelow-hit (sizeOf g) full k l e)
+
+      pub round-done :
+          anyBelow (sizeOf g) full ≡ false →
+          record { refusal = 0; group = afterRound g masks; reports = fill (sizeOf g) (reportOf g masks) (replicate 16 noReport) }
+          ≡ roundCall g masks
+      unfolding roundCall roundRefusal
+      round-done e = rw (i, none-high, e)

@@ -1,4 +1,4 @@
--- `station_limits::queue_inside` meets its contract: what was passed are edits.
+-- `lanes::queue_inside` meets its contract: what was passed may be posted.
 use Prim.Native.Nat.{_≤_, _-_}
 use native.Mathlib.Omega.{arith}
 use mathlib.Core.Path.{_≡_, refl, sym, _∙_}
@@ -9,16 +9,15 @@ use Rattle.kind_limits.specs.Limits.{postable}
 use borrow.Author.Tests.{le-leb, lt-leb, not-true, not-false}
 use Rattle.places.specs.Places.{allBelow}
 use Rattle.places.proofs.Laws.{allBelow-more, allBelow-fails}
-use Rattle.lanes.specs.Queue.{noSlot}
-use Rattle.station_rules.specs.Limits.{queueInside}
-use Rattle.station_limits.proofs.queue_inside.Statement.{statement}
-use Rattle.station_limits.proofs.queue_inside.Tie as tie
-use Rattle.station_limits.proofs.queue_inside.Reads as reads
-use Rattle.station_limits.proofs.queue_inside.Lts as lts
+use Rattle.lanes.specs.Queue.{queueCapacity, noSlot, queueInside}
+use Rattle.lanes.proofs.queue_inside.Statement.{statement}
+use Rattle.lanes.proofs.queue_inside.Tie as tie
+use Rattle.lanes.proofs.queue_inside.Reads as reads
+use Rattle.lanes.proofs.queue_inside.Lts as lts
 use Rattle.kind_limits.proofs.postable.Reads as postable-reads
 
 abbrev Inv-loop : tie.InvT-loop
-Inv-loop queue len i₀ i = (i ≤ len) × (len ≡ queue .len) × (len ≤ 32) × (allBelow i (λ k. postable ((getD (queue .slots) k noSlot) .body)) ≡ true)
+Inv-loop queue len i₀ i = (i ≤ len) × (len ≡ queue .len) × (len ≤ queueCapacity) × (allBelow i (λ k. postable ((getD (queue .slots) k noSlot) .body)) ≡ true)
 
 abbrev μ-loop : tie.MeasureT-loop
 μ-loop queue len i₀ i = len - i
