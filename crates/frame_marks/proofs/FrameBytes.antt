@@ -21,7 +21,7 @@ use Rattle.frame_rules.specs.Record.{recordOf, recordMark, countInside, bytesIn
 use Rattle.frame_rules.specs.Frame.{part}
 use Rattle.places.proofs.Laws.{and-left, and-right, allBelow-at}
 use Rattle.station_rules.specs.State.{recordLabel}
-use Rattle.station_rules.specs.Frames.{FrameAt}
+use Rattle.station_rules.specs.Inner.Frames.{FrameAt}
 use Rattle.station_rules.proofs.LimitsHear.{Carried}
 use Rattle.frame_marks.specs.Marks.{recordAt}
 

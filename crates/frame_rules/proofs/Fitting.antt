@@ -15,7 +15,8 @@ use Rattle.places.proofs.Laws.{and-left, and-right, allBelow-at, allBelow-fails
 use Rattle.frame_rules.specs.declared.Record.{Record}
 use Rattle.frame_rules.specs.Record.{countInside, noRecord, recordFits, placeFits}
 use Rattle.frame_rules.specs.Frame.{validNumber, frameRefusal, frameBytes}
-use Rattle.frame_rules.specs.Calls.{tableRecords, written, bufferWith, Writable, tableFits, frameWritten, frameBuffer}
+use Rattle.frame_rules.specs.Calls.{tableRecords, written, bufferWith, tableFits, frameWritten, frameBuffer}
+use Rattle.frame_rules.specs.Inner.Writing.{Writable}
 use Rattle.frame_rules.proofs.Check.{valid-few, valid-own}
 use Rattle.frame_rules.proofs.TableTrip.{table-accepted}
 

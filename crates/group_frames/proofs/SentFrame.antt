@@ -21,7 +21,7 @@ use Rattle.frame_rules.proofs.TableTrip.{table-fits}
 use Rattle.station_rules.specs.declared.Station.{Station}
 use Rattle.station_rules.specs.State.{cellOf, sentRecords}
 use Rattle.station_rules.specs.Calls.{ownCountInside, frameOf}
-use Rattle.station_rules.specs.Frames.{FrameAt}
+use Rattle.station_rules.specs.Inner.Frames.{FrameAt}
 use Rattle.station_rules.proofs.StationLimits.{Inside}
 use Rattle.station_rules.proofs.SentFrame.{place, record-fits, sent-read, sent-accepted}
 use Rattle.frame_marks.specs.Marks.{recordAt}

@@ -11,25 +11,31 @@ use Rattle.places.specs.Places.{allBelow, anyBelow, fill}
 use Rattle.places.proofs.Laws.{and-left, allBelow-not, anyBelow-none, anyBelow-hit}
 use Rattle.kinds.specs.declared.Body.{Body}
 use Rattle.frame_rules.specs.Frame.{validNumber}
+use Rattle.station_rules.specs.declared.Setup.{Setup}
 use Rattle.station_rules.specs.declared.Station.{Station}
 use Rattle.station_rules.specs.declared.Kept.{Kept}
+use Rattle.station_rules.specs.State.{aloneSetup}
 use Rattle.station_rules.specs.Limits.{stationInside}
 use Rattle.station_rules.specs.Calls as station
 use Rattle.station_rules.specs.Calls.{posted, postRefusal, ownCountInside}
 use Rattle.station_rules.proofs.StationLimits.{inside-make}
+use Rattle.group_rules.specs.declared.Post.{Post}
 use Rattle.group_rules.specs.declared.RoundDone.{RoundDone}
 use Rattle.group_rules.specs.State.{noStation, stationAt, sizeOf, groupInside, freshGroup}
-use Rattle.group_rules.specs.Calls.{freshCall, groupPostRefusal, postCall, heard, noReport, reportOf, roundRefusal, afterRound, roundCall}
+use Rattle.group_rules.specs.Calls.{groupFreshRefusal, freshCall, groupPostRefusal, postCall, heard, noReport, reportOf, roundRefusal, afterRound, roundCall}
 use Rattle.group_rules.proofs.Members.{member-at}
 
 -- fresh: 1
-module _ (n : ℕ) (g : List Station) where
-  pub fresh-done : validNumber n 0 ≡ true → g ≡ freshGroup n → record { refusal = 0; group = g } ≡ freshCall n
-  unfolding freshCall
+module _ (setup : Setup) (g : List Station) where
+  abbrev n : ℕ
+  n = setup .n
+
+  pub fresh-done : validNumber n 0 ≡ true → g ≡ freshGroup setup → record { refusal = 0; group = g } ≡ freshCall setup
+  unfolding freshCall groupFreshRefusal
   fresh-done v e = rw (and-left (leb 1 n && leb n 16) (ltb 0 n) v, e)
 
-  pub fresh-refused : validNumber n 0 ≡ false → g ≡ freshGroup 1 → record { refusal = 1; group = g } ≡ freshCall n
-  unfolding freshCall
+  pub fresh-refused : validNumber n 0 ≡ false → g ≡ freshGroup aloneSetup → record { refusal = 1; group = g } ≡ freshCall setup
+  unfolding freshCall groupFreshRefusal
   fresh-refused v e = rw (go (leb 1 n) refl v, e)
     where
       left : (t : Bool) → (t && true) ≡ false → t ≡ false
@@ -41,13 +47,19 @@ module _ (n : ℕ) (g : List Station) where
       go false p v = rw p
 
 -- post: 2, 1, and then what the station answers
-module _ (g : List Station) (k : ℕ) (b : Body) where
-  pub post-outside : groupInside g ≡ false → record { refusal = 2; group = g } ≡ postCall g k b
+module _ (g : List Station) (x : Post) where
+  abbrev k : ℕ
+  k = x .station
+
+  abbrev b : Body
+  b = x .body
+
+  pub post-outside : groupInside g ≡ false → record { refusal = 2; group = g } ≡ postCall g x
   unfolding postCall groupPostRefusal
   post-outside i = rw i
 
   module _ (i : groupInside g ≡ true) where
-    pub post-nobody : sizeOf g ≤ k → record { refusal = 1; group = g } ≡ postCall g k b
+    pub post-nobody : sizeOf g ≤ k → record { refusal = 1; group = g } ≡ postCall g x
     unfolding postCall groupPostRefusal
     post-nobody l = rw (i, le-ltb k (sizeOf g) l)
 
@@ -64,7 +76,7 @@ module _ (g : List Station) (k : ℕ) (b : Body) where
       put false = set-getD g k noStation
 
       pub post-there :
-          (kept : Kept) → kept ≡ station.postCall s b → record { refusal = kept .refusal; group = set g k (kept .station) } ≡ postCall g k b
+          (kept : Kept) → kept ≡ station.postCall s b → record { refusal = kept .refusal; group = set g k (kept .station) } ≡ postCall g x
       unfolding postCall groupPostRefusal station.postCall
       post-there kept e =
           rw (e, inside, i, lt-ltb k (sizeOf g) l)

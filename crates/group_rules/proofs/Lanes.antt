@@ -19,6 +19,7 @@ use Rattle.links.proofs.Clock.{news-own, news-other, news-start}
 use Rattle.places.specs.Places.{allBelow}
 use Rattle.places.proofs.Laws.{cond-not, allBelow-ext, anyBelow-none}
 use Rattle.lanes.specs.declared.Lane.{Lane}
+use Rattle.station_rules.specs.declared.Setup.{Setup}
 use Rattle.station_rules.specs.declared.Station.{Station}
 use Rattle.lanes.specs.Lane.{noLane, pushed, popped}
 use Rattle.station_rules.specs.State.{Cell, laneAt, freshStation}
@@ -62,11 +63,11 @@ ltb-sub a b =
       | no h ↦ le-ltb 0 (a - b) (omega arith) ∙ sym (le-ltb b a (omega arith))
     ]
 
-fresh-lane : (n p s : ℕ) → p < 16 → s < 16 → laneAt (freshStation n p) s ≡ noLane
-fresh-lane n p s h l =
+fresh-lane : (setup : Setup) (p s : ℕ) → p < 16 → s < 16 → laneAt (freshStation setup p) s ≡ noLane
+fresh-lane setup p s h l =
     elim (ℕ-discrete s p) [
-      | yes e ↦ rw e (ap (λ (c : Cell). c .lane) (fresh-own n p h))
-      | no d ↦ ap (λ (c : Cell). c .lane) (fresh-other n p s l d)
+      | yes e ↦ rw e (ap (λ (c : Cell). c .lane) (fresh-own setup p h))
+      | no d ↦ ap (λ (c : Cell). c .lane) (fresh-other setup p s l d)
     ]
 
 module _ (R : Run) where
@@ -308,7 +309,7 @@ module _ (R : Run) where
             };
         lanes =
             λ p s lp ls.
-            rw (first-at R p lp, fresh-lane (R .n) p s (omega (arith, R .high)) (omega (arith, R .high)), rowsBy-none p, had-none p s) holds-none;
+            rw (first-at R p lp, fresh-lane (R .setup) p s (omega (arith, R .high)) (omega (arith, R .high)), rowsBy-none p, had-none p s) holds-none;
       }
   carried (suc u) =
       let c = carried u in

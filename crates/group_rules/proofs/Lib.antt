@@ -1,6 +1,7 @@
 -- The way to demand 3, in the order in which it is best read.
 
--- every call leaves a group inside its limits
+-- what fresh accepts; every call leaves a group inside its limits
+pub mod Setups
 pub mod Members
 pub mod MembersPost
 pub mod MembersRound
@@ -36,6 +37,7 @@ pub mod FromRun
 pub mod DemandThree
 -- examples
 pub mod Computing
+pub mod MarkedStatement
 pub mod Marked
 pub mod RunLines
 pub mod RunExamples

@@ -21,13 +21,13 @@ use Rattle.station_rules.specs.Calls.{posted}
 use Rattle.lanes.specs.Queue.{noSlot}
 use Rattle.station_rules.specs.Hearing.{Hearing, silent}
 use Rattle.station_rules.specs.Turn.{turnReport}
-use Rattle.station_rules.specs.State.{freshStation}
+use Rattle.station_rules.specs.State.{aloneSetup, freshStation}
 use Rattle.places.specs.Places.{fill}
 use Rattle.links.specs.Log.{hearsIn}
 use Rattle.group_rules.specs.State.{stationAt, sizeOf, freshGroup}
 use Rattle.group_rules.specs.Calls.{roundRefusal, hearing, afterRound, reportOf, roundCall}
 use Rattle.group_rules.specs.History.{History, reportIn, Call.post, Call.round, next, begun, continued}
-use Rattle.group_rules.specs.Marked.{Marked, oneStation, turnIn}
+use Rattle.group_rules.proofs.MarkedStatement.{Marked, oneStation, turnIn}
 use Rattle.group_rules.proofs.Computing.{groupRuns}
 use Rattle.group_rules.proofs.MembersRound.{round-done}
 
@@ -53,16 +53,16 @@ module _ (b : Body) (e : postable b ≡ true) where
 
   -- the group once the edit is posted
   before : List Station
-  before = set (freshGroup 1) 0 (posted (freshStation 1 0) b)
+  before = set (freshGroup aloneSetup) 0 (posted (freshStation aloneSetup 0) b)
 
   abbrev ready : History
-  ready = record { group = before; rounds = []; log = []; accepted = record { source = 0; body = b } ∷ [] }
+  ready = record { group = before; rounds = []; log = []; accepted = record { station = 0; body = b } ∷ []; starts = [] }
 
   size : sizeOf before ≡ 1
   unfolding before groupRuns
   size = refl
 
-  post-done : next (begun 1) (post 0 b) ≡ ready
+  post-done : next (begun aloneSetup) (post (record { station = 0; body = b })) ≡ ready
   unfolding before groupRuns
   post-done = simp e
 

@@ -48,30 +48,30 @@ module _ (R : Run) where
 
   -- the fresh group
   module _ (p : ℕ) (lp : p < R .n) where
-    pub first-at : stationAt (R .after 0) p ≡ freshStation (R .n) p
-    first-at = ap (λ g. stationAt g p) (R .first) ∙ fresh-at (R .n) (R .high) p lp
+    pub first-at : stationAt (R .after 0) p ≡ freshStation (R .setup) p
+    first-at = ap (λ g. stationAt g p) (R .first) ∙ fresh-at (R .setup) (omega (arith, R .given, R .high)) p (omega (arith, R .given))
 
     fresh-labels : (q : ℕ) → q < R .n → Dec (q ≡ p) → recordLabel (freshRecord p) q ≡ got L 0 p q % 3
     fresh-labels q l (yes e) =
         let high = R .high in
         subst (λ i. recordLabel (freshRecord p) i ≡ got L 0 p i % 3) (sym e)
-        (fresh-label-own (R .n) p (omega arith) ∙ ap (λ (i : ℕ). i % 3) (sym (got-own L 0 p ∙ num-zero L p)))
+        (fresh-label-own (R .setup) p (omega arith) ∙ ap (λ (i : ℕ). i % 3) (sym (got-own L 0 p ∙ num-zero L p)))
     fresh-labels q l (no d) =
         let high = R .high in
-        fresh-label-other (R .n) p q (omega arith) d
+        fresh-label-other (R .setup) p q (omega arith) d
         ∙ ap (λ (i : ℕ). i % 3) (sym (got-none L 0 p q (news-start L p q (λ e. d (sym e)))))
 
     fresh-cell :
         (q : ℕ) → q < R .n → Dec (q ≡ p) →
-        CellAt R 0 p q (news L 0 p q) (freshStation (R .n) p)
+        CellAt R 0 p q (news L 0 p q) (freshStation (R .setup) p)
     unfolding gotOf numOf
     fresh-cell q l (yes e) =
         let high = R .high in
-        subst (λ i. CellAt R 0 p i (news L 0 p i) (freshStation (R .n) p))
+        subst (λ i. CellAt R 0 p i (news L 0 p i) (freshStation (R .setup) p))
         (sym e)
-        (subst (λ v. CellAt R 0 p p v (freshStation (R .n) p))
+        (subst (λ v. CellAt R 0 p p v (freshStation (R .setup) p))
         (sym (news-own L 0 p))
-        (subst (λ (c : Cell). CellStands R 0 p p 1 c) (sym (fresh-own (R .n) p (omega arith)))
+        (subst (λ (c : Cell). CellStands R 0 p p 1 c) (sym (fresh-own (R .setup) p (omega arith)))
         (record {
           is-held = refl;
           is-acked = sym (eq-eqb (got L 0 p p) (num L 0 p) (got-own L 0 p));
@@ -83,7 +83,7 @@ module _ (R : Run) where
                 station = refl;
                 count = sym (counted-zero L p);
                 body =
-                    sym (fresh-self (R .n) p .body)
+                    sym (fresh-self (R .setup) p .body)
                     ∙ ap (λ (s : Station). s .body) (sym first-at)
                     ∙ ap (λ (t : ℕ). (stationAt (R .after t) p) .body) (sym (start-zero L p));
                 labels = λ k b. fresh-labels k b (ℕ-discrete k p);
@@ -91,9 +91,9 @@ module _ (R : Run) where
         })))
     fresh-cell q l (no d) =
         let high = R .high in
-        subst (λ v. CellAt R 0 p q v (freshStation (R .n) p))
+        subst (λ v. CellAt R 0 p q v (freshStation (R .setup) p))
         (sym (news-start L p q (λ e. d (sym e))))
-        (subst (λ (c : Cell). CellStands R 0 p q 0 c) (sym (fresh-other (R .n) p q (omega arith) d))
+        (subst (λ (c : Cell). CellStands R 0 p q 0 c) (sym (fresh-other (R .setup) p q (omega arith) d))
         (record {
           is-held = refl;
           is-acked = ap (λ (m : ℕ). eqb 0 m) (sym (num-zero L p));
@@ -101,15 +101,15 @@ module _ (R : Run) where
           stands = λ w f. absurd (omega (arith, f));
         }))
 
-    fresh-formed : Formed R p (freshStation (R .n) p)
-    fresh-formed = record { size = fresh-self (R .n) p .n; own = fresh-self (R .n) p .own; shape = fresh-shaped (R .n) p }
+    fresh-formed : Formed R p (freshStation (R .setup) p)
+    fresh-formed = record { size = fresh-self (R .setup) p .n ∙ R .given; own = fresh-self (R .setup) p .own; shape = fresh-shaped (R .setup) p }
 
     fresh-after : After R 0 p (stationAt (R .after 0) p)
     fresh-after =
         record {
           formed = subst (λ s. Formed R p s) (sym first-at) fresh-formed;
           body = ap (λ (t : ℕ). (stationAt (R .after t) p) .body) (sym (start-zero L p));
-          count = ap (λ (s : Station). s .count) first-at ∙ fresh-self (R .n) p .count ∙ sym (counted-zero L p);
+          count = ap (λ (s : Station). s .count) first-at ∙ fresh-self (R .setup) p .count ∙ sym (counted-zero L p);
           cells =
               λ q l.
               subst (λ s. CellAt R 0 p q (news L 0 p q) s) (sym first-at)
@@ -118,7 +118,7 @@ module _ (R : Run) where
 
   -- sixteen stations
   pub after-length : (u : ℕ) → length (R .after u) ≡ 16
-  after-length zero = ap length (R .first) ∙ fresh-shape (R .n) (R .high) .places
+  after-length zero = ap length (R .first) ∙ fresh-shape (R .setup) (omega (arith, R .given, R .high)) .places
   after-length (suc u) =
       ap length (R .step u) ∙ round-length (R .ready u) (R .masks (suc u)) ∙ R .length-ready u ∙ after-length u
 

@@ -12,6 +12,7 @@ use Rattle.links.specs.Relay.{Links, ofMasks}
 use Rattle.links.specs.Clock.{news}
 use Rattle.links.specs.Number as number
 use Rattle.places.specs.Places.{anyBelow}
+use Rattle.station_rules.specs.declared.Setup.{Setup}
 use Rattle.station_rules.specs.declared.Station.{Station}
 use Rattle.lanes.specs.Lane.{pushed}
 use Rattle.station_rules.specs.State.{laneAt}
@@ -23,7 +24,10 @@ use Rattle.group_rules.specs.Calls.{heard, afterRound}
 use Rattle.group_rules.specs.History.{takingsOf, unlessEmpty}
 
 pub record Run : Type 0 where
+  -- what its fresh group was given, and N of it
+  pub setup : Setup
   pub n : ℕ
+  pub given : setup .n ≡ n
   pub low : 1 ≤ n
   pub high : n ≤ 16
   -- the masks of round u, from 1 on
@@ -31,7 +35,7 @@ pub record Run : Type 0 where
   -- the group after round u, and as the next round is given it
   pub after : ℕ → List Station
   pub ready : ℕ → List Station
-  pub first : after 0 ≡ freshGroup n
+  pub first : after 0 ≡ freshGroup setup
   pub length-ready : (u : ℕ) → length (ready u) ≡ length (after u)
   pub posts : (u k : ℕ) → SameButWaiting (stationAt (after u) k) (stationAt (ready u) k)
   pub step : (u : ℕ) → after (suc u) ≡ afterRound (ready u) (masks (suc u))

@@ -22,6 +22,7 @@ use Rattle.links.specs.Number as number
 use Rattle.links.proofs.Clock.{news-own, news-start, news-limit, news-keeps}
 use Rattle.links.proofs.Number.{step, num-zero}
 use Rattle.links.proofs.Got.{numOf-none, numOf-some, numOf-mono, got-numOf, got-step}
+use Rattle.station_rules.specs.declared.Setup.{Setup}
 use Rattle.station_rules.specs.declared.Station.{Station}
 use Rattle.station_rules.specs.State.{freshStation}
 use Rattle.station_rules.specs.Turn.{startedBody}
@@ -38,8 +39,8 @@ use Rattle.group_rules.proofs.Rounds.{first-at, after-at}
 use Rattle.group_rules.proofs.Lists.{startedBy, heardBy, takenBy, startedAt, madeBy}
 use Rattle.group_rules.proofs.Counting.{shown}
 
-fresh-body : (n p : ℕ) → (freshStation n p) .body ≡ Empty
-fresh-body n p = fresh-self n p .body
+fresh-body : (setup : Setup) (p : ℕ) → (freshStation setup p) .body ≡ Empty
+fresh-body setup p = fresh-self setup p .body
 
 module _ (R : Run) where
   abbrev L : Links
@@ -115,7 +116,7 @@ module _ (R : Run) where
             ap (λ (xs : List Body). xs ++ unlessEmpty (bodyAt R s 1)) (startedAt-none s)
             ∙ ap
             (λ (b : Body). unlessEmpty b)
-            (bodyAt-some s 0 ∙ ap (λ (t : Station). t .body) (first-at R s l) ∙ fresh-body (R .n) s)
+            (bodyAt-some s 0 ∙ ap (λ (t : Station). t .body) (first-at R s l) ∙ fresh-body (R .setup) s)
             ),
       )
   next s (suc w) l =

@@ -5,8 +5,9 @@ use mathlib.Core.List.{List}
 use lib.ListN.{getD, replicate}
 use lib.Dec.{eqb}
 use Rattle.places.specs.Places.{allBelow, fill}
+use Rattle.station_rules.specs.declared.Setup.{Setup}
 use Rattle.station_rules.specs.declared.Station.{Station}
-use Rattle.station_rules.specs.State.{freshStation}
+use Rattle.station_rules.specs.State.{aloneSetup, freshStation}
 pub use Rattle.station_rules.specs.State.{noStation}
 use Rattle.station_rules.specs.Limits.{stationInside}
 
@@ -27,6 +28,6 @@ memberInside g k =
 unfoldable pub groupInside : List Station → Bool
 groupInside g = memberInside g 0 && allBelow (sizeOf g) (memberInside g)
 
--- the fresh group of n; a station alone, fresh, stands at each place from n up
-unfoldable pub freshGroup : ℕ → List Station
-freshGroup n = fill n (freshStation n) (replicate 16 (freshStation 1 0))
+-- the fresh group; a station alone, fresh, stands at each place from N up
+unfoldable pub freshGroup : Setup → List Station
+freshGroup setup = fill (setup .n) (freshStation setup) (replicate 16 (freshStation aloneSetup 0))

@@ -3,3 +3,5 @@ pub mod Computing
 pub mod Example
 pub mod Stopped
 pub mod Overlong
+pub mod Commands
+pub mod ScriptCalls

@@ -10,22 +10,23 @@ use kinds::refusals::OUTSIDE_LIMITS;
 use kinds::refusals::QUEUE_FULL;
 use lanes::Slot;
 use station_rules::Kept;
+use station_rules::Setup;
 use station_rules::Station;
 use station_rules::TurnReport;
 use station_rules::Turned;
 
-// Fresh: station own among n, as it begins.
-pub fn fresh(n: usize, own: usize) -> Kept
-    ensures { λ r. ⌜ r ≡ freshCall n own ⌝ }
+// Fresh: station own, as it begins.
+pub fn fresh(setup: Setup, own: usize) -> Kept
+    ensures { λ r. ⌜ r ≡ freshCall setup own ⌝ }
 {
-    if numbers::valid_number(n, own) {
-        let station = fresh_station::fresh_station(n, own);
+    if numbers::valid_number(setup.n, own) {
+        let station = fresh_station::fresh_station(setup, own);
         return Kept {
             refusal: DONE,
             station: station,
         };
     }
-    let station = fresh_station::fresh_station(1, 0);
+    let station = fresh_station::fresh_station(Setup { n: 1 }, 0);
     Kept {
         refusal: BAD_NUMBER,
         station: station,

@@ -16,7 +16,7 @@ use Rattle.station_rules.specs.declared.Station.{Station}
 use Rattle.station_rules.specs.declared.Taking.{Taking}
 use Rattle.station_rules.specs.State.{cellOf, ackedOf, labelOf, recordOf, laneAt, withBroadcast, withArrays, withCell}
 use Rattle.station_rules.specs.Hearing.{Hearing, silent, heeds, takes, replaced, heardNewer, hearRecord}
-use Rattle.station_rules.specs.Frames.{noTaking}
+use Rattle.station_rules.specs.Hearing.{noTaking}
 use Rattle.station_rules.proofs.HearRecord.{heardOne, hearRecord-skips, hearRecord-heeds}
 use Rattle.station_rules.proofs.LimitsHearing.{Hears, takings-bounded}
 use Rattle.newer_records.specs.Newer.{placeRecord, heardAt}

@@ -5,7 +5,7 @@ ghost use mathlib.Core.Bool.{true};
 ghost use Prim.Native.Nat.{ℕ, _+_, _≤_, _<_};
 ghost use lib.ListN.{getD, length};
 ghost use Rattle.station_rules.specs.Limits.{stationInside};
-ghost use Rattle.station_rules.specs.Frames.{FrameAt, HearsAll};
+ghost use Rattle.station_rules.specs.Inner.Frames.{FrameAt, HearsAll};
 ghost use Rattle.frame_marks.specs.Marks.{MarksAt};
 ghost use Rattle.frame_changes.specs.Changes.{ChangesAt};
 ghost use Rattle.bars.specs.Bars.{Bars};

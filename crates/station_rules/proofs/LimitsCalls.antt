@@ -21,10 +21,12 @@ use Rattle.frame_rules.specs.Frame.{validNumber, part, stationAt, shapeWrong, a
 use Rattle.places.specs.Places.{allBelow, anyBelow, tabulate}
 use Rattle.places.proofs.Laws.{and-left, and-right, allBelow-at}
 use Rattle.lanes.specs.Waiting.{hasRoom}
+use Rattle.station_rules.specs.declared.Setup.{Setup}
 use Rattle.station_rules.specs.declared.Station.{Station}
 use Rattle.station_rules.specs.declared.Heard.{Heard}
 use Rattle.station_rules.specs.Limits.{stationInside}
 use Rattle.station_rules.specs.Hearing.{Hearing, silent, hearRecords}
+use Rattle.station_rules.specs.State.{aloneSetup}
 use Rattle.station_rules.specs.Calls.{freshCall, posted, postCall, hearCall, turnCall}
 use Rattle.station_rules.proofs.Setters.{Shaped}
 use Rattle.station_rules.proofs.LimitsFresh.{fresh-inside, posted-inside}
@@ -77,15 +79,15 @@ frame-carried n bytes h = go (getD bytes 2 0) (omega arith)
           (ih (omega arith)) (each j l, tt))
     ]
 
-pub fresh-call-inside : (n own : ℕ) → stationInside ((freshCall n own) .station) ≡ true
+pub fresh-call-inside : (setup : Setup) (own : ℕ) → stationInside ((freshCall setup own) .station) ≡ true
 unfolding freshCall
-fresh-call-inside n own = go (validNumber n own) refl
+fresh-call-inside setup own = go (validNumber (setup .n) own) refl
   where
     go :
-        (t : Bool) → validNumber n own ≡ t →
-        stationInside ((freshCall n own) .station) ≡ true
-    go true e = rw e (fresh-inside n own e)
-    go false e = rw e (fresh-inside 1 0 refl)
+        (t : Bool) → validNumber (setup .n) own ≡ t →
+        stationInside ((freshCall setup own) .station) ≡ true
+    go true e = rw e (fresh-inside setup own e)
+    go false e = rw e (fresh-inside aloneSetup 0 refl)
 
 module _ (s : Station) (shape : Shaped s) (inside : stationInside s ≡ true) where
   pub post-call-inside : (b : Body) → stationInside ((postCall s b) .station) ≡ true

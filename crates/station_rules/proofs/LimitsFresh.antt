@@ -14,6 +14,7 @@ use Rattle.labels.specs.Label.{isLabel}
 use Rattle.frame_rules.specs.Frame.{validNumber}
 use Rattle.places.proofs.Laws.{and-left, and-right}
 use Rattle.places.proofs.Keeps.{set-keeps}
+use Rattle.station_rules.specs.declared.Setup.{Setup}
 use Rattle.station_rules.specs.declared.Station.{Station}
 use Rattle.lanes.specs.Waiting.{hasRoom, withPosted}
 use Rattle.lanes.proofs.WaitingLaws as waiting
@@ -29,8 +30,8 @@ freshLabels-label : (own k : ℕ) → k < 16 → isLabel (getD (freshLabels own)
 freshLabels-label own k l =
     set-keeps (λ (x : ℕ). isLabel x ≡ true) (replicate 16 0) own 1 0 k l (rw (getD-replicate {A = ℕ} 16 k 0 0 l)) refl
 
-module _ (n own : ℕ) (high : n ≤ 16) (below : own < n) where
-  own-holds : RecordHolds n own own (freshRecord own)
+module _ (setup : Setup) (own : ℕ) (high : setup .n ≤ 16) (below : own < setup .n) where
+  own-holds : RecordHolds (setup .n) own own (freshRecord own)
   own-holds =
       record {
         station = refl;
@@ -39,23 +40,23 @@ module _ (n own : ℕ) (high : n ≤ 16) (below : own < n) where
         labels = λ j l. freshLabels-label own j (omega arith);
       }
 
-  fresh-cell : (k : ℕ) → k < n → CellHolds n own k (cellOf (freshStation n own) k)
+  fresh-cell : (k : ℕ) → k < setup .n → CellHolds (setup .n) own k (cellOf (freshStation setup own) k)
   fresh-cell k l =
       elim (ℕ-discrete k own) [
         | yes same ↦
-            subst (λ (j : ℕ). CellHolds n own j (cellOf (freshStation n own) j)) (sym same)
-            (rw (fresh-own n own (omega arith))
+            subst (λ (j : ℕ). CellHolds (setup .n) own j (cellOf (freshStation setup own) j)) (sym same)
+            (rw (fresh-own setup own (omega arith))
             (record { label = refl; held = λ e. own-holds; lane = lane-none (cond (eqb own own) 1 2) Empty Empty }))
         | no ne ↦
-            rw (fresh-other n own k (omega arith) ne)
+            rw (fresh-other setup own k (omega arith) ne)
             (record { label = refl; held = λ e. absurd (true≢false (sym e)); lane = lane-none (cond (eqb k own) 1 2) Empty Empty })
       ]
 
-  pub fresh-holds : Inside (freshStation n own)
+  pub fresh-holds : Inside (freshStation setup own)
   fresh-holds =
-      let self = fresh-self n own in
-      let cell = fresh-own n own (omega arith) in
-      inside-as n own (freshStation n own) (self .n) (self .own)
+      let self = fresh-self setup own in
+      let cell = fresh-own setup own (omega arith) in
+      inside-as (setup .n) own (freshStation setup own) (self .n) (self .own)
       (record {
         low = omega arith;
         high = high;
@@ -67,10 +68,11 @@ module _ (n own : ℕ) (high : n ≤ 16) (below : own < n) where
         places = fresh-cell;
       })
 
-pub fresh-inside : (n own : ℕ) → validNumber n own ≡ true → stationInside (freshStation n own) ≡ true
-fresh-inside n own h =
-    inside-make (freshStation n own)
-    (fresh-holds n own
+pub fresh-inside : (setup : Setup) (own : ℕ) → validNumber (setup .n) own ≡ true → stationInside (freshStation setup own) ≡ true
+fresh-inside setup own h =
+    let n = setup .n in
+    inside-make (freshStation setup own)
+    (fresh-holds setup own
     (leb-true n 16 (and-right (leb 1 n) (leb n 16) (and-left (leb 1 n && leb n 16) (ltb own n) h)))
     (ltb-true own n (and-right (leb 1 n && leb n 16) (ltb own n) h)))
 

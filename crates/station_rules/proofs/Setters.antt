@@ -18,6 +18,7 @@ use Rattle.lanes.specs.declared.Waiting.{Waiting}
 use Rattle.lanes.specs.Lane.{noLane}
 use Rattle.lanes.specs.Waiting.{noneWaiting}
 use Rattle.lanes.proofs.WaitingLaws.{WaitingSized, none-sized}
+use Rattle.station_rules.specs.declared.Setup.{Setup}
 use Rattle.station_rules.specs.declared.Station.{Station}
 use Rattle.station_rules.specs.State.{Cell, cellOf, recordOf, recordLabel, withLabel, withEntry, withLane, withWaiting, withBroadcast, withArrays, withCell, withAcked, withLanes, sentRecords, freshRecord, freshStation}
 
@@ -237,13 +238,13 @@ waiting-same s w e =
     }
 
 -- the fresh station
-module _ (n own : ℕ) where
-  pub fresh-self : Self (freshStation n own) n own noneWaiting Empty 0
+module _ (setup : Setup) (own : ℕ) where
+  pub fresh-self : Self (freshStation setup own) (setup .n) own noneWaiting Empty 0
   unfolding freshStation
   fresh-self = record { n = refl; own = refl; waiting = refl; body = refl; count = refl }
 
   pub fresh-own :
-      own < 16 → cellOf (freshStation n own) own ≡ record { label = 1; acked = true; held = true; entry = freshRecord own; lane = noLane }
+      own < 16 → cellOf (freshStation setup own) own ≡ record { label = 1; acked = true; held = true; entry = freshRecord own; lane = noLane }
   unfolding cellOf freshStation
   fresh-own l =
       rw (
@@ -255,7 +256,7 @@ module _ (n own : ℕ) where
 
   pub fresh-other :
       (k : ℕ) → k < 16 → (k ≡ own → ⊥) →
-      cellOf (freshStation n own) k ≡ record { label = 0; acked = false; held = false; entry = zeroRecord; lane = noLane }
+      cellOf (freshStation setup own) k ≡ record { label = 0; acked = false; held = false; entry = zeroRecord; lane = noLane }
   unfolding cellOf freshStation
   fresh-other k l d =
       rw (
@@ -274,7 +275,7 @@ module _ (n own : ℕ) where
   pub fresh-label-other : (k : ℕ) → k < 16 → (k ≡ own → ⊥) → recordLabel (freshRecord own) k ≡ 0
   fresh-label-other k l d = getD-set-other {A = ℕ} (replicate 16 0) own k 1 0 d ∙ getD-replicate {A = ℕ} 16 k 0 0 l
 
-  pub fresh-shaped : Shaped (freshStation n own)
+  pub fresh-shaped : Shaped (freshStation setup own)
   unfolding cellOf freshStation
   fresh-shaped =
       record {

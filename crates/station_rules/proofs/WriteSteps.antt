@@ -9,7 +9,8 @@ use lib.Dec.{ltb}
 use borrow.Author.Tests.{leb-true}
 use Rattle.labels.proofs.Laws.{take-all}
 use Rattle.frame_rules.specs.Frame.{frameBytes}
-use Rattle.frame_rules.specs.Calls.{tableRecords, written, bufferWith, Writable}
+use Rattle.frame_rules.specs.Calls.{tableRecords, written, bufferWith}
+use Rattle.frame_rules.specs.Inner.Writing.{Writable}
 use Rattle.station_rules.specs.declared.Station.{Station}
 use Rattle.station_rules.specs.State.{cellOf, recordOf, recordLabel, sentRecords}
 use Rattle.station_rules.specs.Limits.{stationInside}

@@ -10,6 +10,7 @@ use Rattle.kind_limits.specs.Limits.{postable}
 use Rattle.kinds.specs.Refusals.{done, badNumber, outsideLimits, queueFull, notAnEdit, laneFull, shortBuffer, countTooHigh, refuse}
 use Rattle.frame_rules.specs.Record.{countInside}
 use Rattle.frame_rules.specs.Frame.{validNumber, frameRefusal, recordsOf, frameBytes}
+use Rattle.station_rules.specs.declared.Setup.{Setup}
 use Rattle.station_rules.specs.declared.Station.{Station}
 use Rattle.station_rules.specs.declared.Taking.{Taking}
 use Rattle.station_rules.specs.declared.TurnReport.{TurnReport}
@@ -19,17 +20,20 @@ use Rattle.station_rules.specs.declared.Heard.{Heard}
 use Rattle.station_rules.specs.declared.Turned.{Turned}
 use Rattle.lanes.specs.Queue.{noSlot}
 use Rattle.lanes.specs.Waiting.{hasRoom, withPosted}
-use Rattle.station_rules.specs.State.{recordOf, withWaiting, sentRecords, freshStation}
+use Rattle.station_rules.specs.State.{recordOf, withWaiting, sentRecords, aloneSetup, freshStation}
 use Rattle.station_rules.specs.Limits.{stationInside}
 use Rattle.station_rules.specs.Hearing.{silent, hearRecords}
 use Rattle.station_rules.specs.Turn.{afterTurn, turnReport}
 
 -- "Fresh": 1; a refused call returns the fresh station of N = 1
-unfoldable pub freshCall : ℕ → ℕ → Kept
-freshCall n own =
-    cond (validNumber n own)
-    (record { refusal = done; station = freshStation n own })
-    (record { refusal = badNumber; station = freshStation 1 0 })
+abbrev pub freshRefusal : Setup → ℕ → ℕ
+freshRefusal setup own = refuse (not (validNumber (setup .n) own)) badNumber done
+
+unfoldable pub freshCall : Setup → ℕ → Kept
+freshCall setup own =
+    cond (eqb (freshRefusal setup own) done)
+    (record { refusal = done; station = freshStation setup own })
+    (record { refusal = freshRefusal setup own; station = freshStation aloneSetup 0 })
 
 -- the station with one more waiting edit (source document 001, Algorithm 2, lines 1 and 2)
 unfoldable pub posted : Station → Body → Station

@@ -3,6 +3,7 @@ use Prim.Native.Nat.{ℕ, _+_}
 use mathlib.Core.Bool.{Bool, true, false, cond, not, _&&_, _||_}
 use mathlib.Core.List.{List, [], _∷_, _++_}
 use lib.Dec.{leb, ltb, eqb}
+use Rattle.kinds.specs.declared.Body.the-variants.{Empty}
 use Rattle.kinds.specs.Body.{isEmpty}
 use Rattle.labels.specs.Label.{successor}
 use Rattle.labels.specs.Newer.{isNewer}
@@ -50,6 +51,10 @@ heardNewer s r =
       entry = replaced (s .n) (recordOf s k) r;
       lane = cond (takes s r) (pushed (laneAt s k) (r .body)) (laneAt s k);
     })
+
+-- an entry that no taking uses
+abbrev pub noTaking : Taking
+noTaking = record { source = 0; body = Empty }
 
 -- a station while it hears: what it took so far, in the order heard, and whether a lane that held two would have got a third
 pub record Hearing : Type 0 where

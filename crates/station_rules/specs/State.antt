@@ -11,6 +11,7 @@ use Rattle.frame_rules.specs.declared.Record.{Record}
 use Rattle.frame_rules.specs.Record.{noRecord, zeroRecord, framed}
 use Rattle.lanes.specs.declared.Lane.{Lane}
 use Rattle.lanes.specs.declared.Waiting.{Waiting}
+use Rattle.station_rules.specs.declared.Setup.{Setup}
 use Rattle.station_rules.specs.declared.Station.{Station}
 use Rattle.lanes.specs.Lane.{noLane}
 use Rattle.lanes.specs.Waiting.{noneWaiting, absentWaiting}
@@ -136,6 +137,10 @@ withLanes s lane = withArrays s (s .acked) (s .labels) (s .held) (s .table) (fil
 unfoldable pub sentRecords : Station → List Record
 sentRecords s = gather (s .n) (heldOf s) (λ k. framed (s .n) (recordOf s k))
 
+-- what a station alone is given: a refused fresh call answers with it, and it stands in a fresh group's places from N up
+abbrev pub aloneSetup : Setup
+aloneSetup = record { n = 1 }
+
 -- the labels of a fresh station: 1 for itself, 0 for others
 abbrev pub freshLabels : ℕ → List ℕ
 freshLabels own = set (replicate 16 0) own 1
@@ -146,10 +151,10 @@ freshRecord own = record { station = own; count = 0; body = Empty; labels = fres
 
 -- the term "fresh": label 1 for itself and 0 for others, nothing counted, Empty as its body, nobody but itself acknowledged, no record but its own, an Empty
 -- record standing in the other places of the table (Algorithm 1, the initial values)
-unfoldable pub freshStation : ℕ → ℕ → Station
-freshStation n own =
+unfoldable pub freshStation : Setup → ℕ → Station
+freshStation setup own =
     record {
-      n = n;
+      n = setup .n;
       own = own;
       waiting = noneWaiting;
       acked = set (replicate 16 false) own true;

@@ -6,6 +6,11 @@ use lanes::Lane;
 use lanes::Slot;
 use lanes::Waiting;
 
+// What a fresh station or group is given: N.
+pub struct Setup {
+    pub n: usize,
+}
+
 // A station, place by place: what it has of station k stands at place k of each array.
 pub struct Station {
     pub n: usize,

@@ -11,7 +11,7 @@ use Rattle.frame_rules.specs.declared.Record.{Record}
 use Rattle.station_rules.specs.declared.Station.{Station}
 use Rattle.station_rules.specs.State.{cellOf}
 use Rattle.station_rules.specs.Hearing.{Hearing, silent, heeds, hearRecord}
-use Rattle.station_rules.specs.Frames.{FrameAt}
+use Rattle.station_rules.specs.Inner.Frames.{FrameAt}
 use Rattle.station_rules.proofs.StationLimits.{Inside, inside-open}
 use Rattle.station_rules.proofs.Lengths.{lengths}
 use Rattle.station_rules.proofs.LimitsHear.{Carried}
@@ -307,6 +307,7 @@ loop-less-2 : tie.Need-loop-less-2 Inv-loop μ-loop
 loop-less-2 c = omega (arith, (turn (c .before .before .before .before .before .before)) .loop-test .taken)
 
 loop-again-2 : tie.Need-loop-again-2 Inv-loop μ-loop
+unfolding cellOf
 loop-again-2 c =
     let w = c .before .before .before .before .before .before in
     let v = turn w in

@@ -5,14 +5,12 @@ use mathlib.Core.Path.{_≡_}
 use mathlib.Core.Bool.{true, false}
 use mathlib.Core.List.{List, _++_}
 use lib.ListN.{getD, drop, length, replicate}
-use Rattle.kinds.specs.declared.Body.the-variants.{Empty}
 use Rattle.frame_rules.specs.Record.{bytesInside}
 use Rattle.frame_rules.specs.Frame.{part, recordsOf}
 use Rattle.places.specs.Places.{allBelow}
 use Rattle.station_rules.specs.declared.Station.{Station}
-use Rattle.station_rules.specs.declared.Taking.{Taking}
 use Rattle.station_rules.specs.declared.HeardAll.{HeardAll}
-use Rattle.station_rules.specs.Hearing.{Hearing, silent, hearRecords}
+use Rattle.station_rules.specs.Hearing.{Hearing, noTaking, silent, hearRecords}
 
 -- the first f frames, heard in order
 unfoldable pub hearFrames : Hearing → List ℕ → List ℕ → ℕ → Hearing
@@ -23,10 +21,6 @@ hearFrames h bytes starts (suc f) = hearRecords (hearFrames h bytes starts f) (r
 pub record FrameAt (n : ℕ) (bytes : List ℕ) (start : ℕ) : Type 0 where
   pub room : start + 4 + 16 * getD (drop start bytes) 2 0 ≤ length bytes
   pub inside : allBelow (getD (drop start bytes) 2 0) (λ k. bytesInside n (part (drop start bytes) k)) ≡ true
-
--- an entry that no taking uses
-abbrev pub noTaking : Taking
-noTaking = record { source = 0; body = Empty }
 
 -- the answer of hearing the first f frames: whether a lane would have got a third body, and where none would, the station and what it took
 pub record HearsAll (s : Station) (bytes starts : List ℕ) (f : ℕ) (r : HeardAll) : Type 0 where

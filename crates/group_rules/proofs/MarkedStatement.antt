@@ -17,13 +17,14 @@ use Rattle.station_rules.specs.declared.Station.{Station}
 use Rattle.station_rules.specs.declared.TurnReport.{TurnReport}
 use Rattle.lanes.specs.Queue.{queueCapacity, noSlot}
 use Rattle.lanes.specs.Waiting.{waitingCount}
+use Rattle.station_rules.specs.State.{aloneSetup}
 use Rattle.station_rules.specs.Limits.{stationInside}
 use Rattle.station_rules.specs.Calls.{postCall}
 use Rattle.group_rules.specs.History.{History, post, round, noRound, historyOf, reportIn}
 
 -- a group of one, one edit posted and two rounds with any masks
 abbrev pub oneStation : Body → List ℕ → List ℕ → History
-oneStation b masks₁ masks₂ = historyOf 1 (post 0 b ∷ round masks₁ ∷ round masks₂ ∷ [])
+oneStation b masks₁ masks₂ = historyOf aloneSetup (post (record { station = 0; body = b }) ∷ round masks₁ ∷ round masks₂ ∷ [])
 
 -- the turn that its only station reports in one of the two rounds
 abbrev pub turnIn : History → ℕ → TurnReport
