@@ -19,7 +19,7 @@ use Rattle.group_rules.specs.declared.RoundDone.{RoundDone}
 use Rattle.group_rules.specs.declared.Post.{Post}
 use Rattle.group_rules.specs.State.{sizeOf}
 use Rattle.group_rules.specs.Calls.{noReport, reportOf, roundRefusal, roundCall}
-use Rattle.group_rules.specs.History.{History, Call, post, round, next, begun, continued, historyOf, noRound, reportIn, startsIn}
+use Rattle.group_rules.specs.History.{History, Call, post, round, next, begun, continued, historyOf, noRound, reportIn}
 use Rattle.group_rules.proofs.Setups.{Accepts}
 use Rattle.group_rules.proofs.Run.{Run, linksOf}
 use Rattle.group_rules.proofs.Simulation.{ready-formed}
@@ -125,17 +125,17 @@ module _ (setup : Setup) (ok : Accepts setup) (calls : List Call) (free : Unrefu
   unfolding afterPosts afterNext nextMasks
   round-parts g masks ahead = (refl, refl, refl)
 
-  round-next : (H : History) (masks : List ℕ)
-      → next H (round masks)
-      ≡ record {
-        group = (roundCall (H .group) masks) .group;
-        rounds = H .rounds ++ (roundCall (H .group) masks ∷ []);
-        log = H .log ++ (masks ∷ []);
-        accepted = H .accepted;
-        starts = H .starts ++ startsIn (sizeOf (H .group)) (roundCall (H .group) masks);
-      }
+  next-group : (H : History) (masks : List ℕ) → (next H (round masks)) .group ≡ (roundCall (H .group) masks) .group
   unfolding next
-  round-next H masks = refl
+  next-group H masks = refl
+
+  next-rounds : (H : History) (masks : List ℕ) → (next H (round masks)) .rounds ≡ H .rounds ++ (roundCall (H .group) masks ∷ [])
+  unfolding next
+  next-rounds H masks = refl
+
+  next-log : (H : History) (masks : List ℕ) → (next H (round masks)) .log ≡ H .log ++ (masks ∷ [])
+  unfolding next
+  next-log H masks = refl
 
   rounds-step : (u : ℕ) → roundsBy R (suc u) ≡ roundsBy R u ++ (roundIn R u ∷ [])
   unfolding roundsBy
@@ -156,14 +156,13 @@ module _ (setup : Setup) (ok : Accepts setup) (calls : List Call) (free : Unrefu
       let m : masks ≡ R .masks (suc u) = sym (parts .2) ∙ t .masks in
       let c : ahead ≡ callsAfter calls (suc u) = sym (parts .1) ∙ t .rest in
       let e : roundCall (H .group) masks ≡ roundIn R u = ap₂ roundCall g m ∙ round-call R u (free u) in
-      rw (round-next H masks)
-      (record {
-        rounds = ap₂ (λ (l : List RoundDone) (r : RoundDone). l ++ (r ∷ [])) (t .rounds) e ∙ sym (rounds-step u);
-        log = ap₂ (λ (l : List (List ℕ)) (r : List ℕ). l ++ (r ∷ [])) (t .log) m ∙ sym (log-step u);
-        group = ap₂ afterPosts (ap (λ (r : RoundDone). r .group) e ∙ roundIn-group u) c;
+      record {
+        rounds = next-rounds H masks ∙ ap₂ (λ (l : List RoundDone) (r : RoundDone). l ++ (r ∷ [])) (t .rounds) e ∙ sym (rounds-step u);
+        log = next-log H masks ∙ ap₂ (λ (l : List (List ℕ)) (r : List ℕ). l ++ (r ∷ [])) (t .log) m ∙ sym (log-step u);
+        group = ap₂ afterPosts (next-group H masks ∙ ap (λ (r : RoundDone). r .group) e ∙ roundIn-group u) c;
         rest = ap afterNext c ∙ sym (calls-step u);
         masks = ap nextMasks c ∙ sym (masks-step u);
-      })
+      }
 
   tied-last : (u : ℕ) (H : History) (ahead : List Call) → Tied u H ahead → (v : ℕ) × Tied v (continued H ahead) []
   unfolding continued

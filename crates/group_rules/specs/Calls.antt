@@ -20,10 +20,11 @@ use Rattle.group_rules.specs.declared.KeptGroup.{KeptGroup}
 use Rattle.group_rules.specs.declared.RoundDone.{RoundDone}
 use Rattle.group_rules.specs.State.{stationAt, sizeOf, groupInside, freshGroup}
 
--- group fresh: 1; a refused call returns the fresh group of N = 1
+-- group fresh: 1
 unfoldable pub groupFreshRefusal : Setup → ℕ
 groupFreshRefusal setup = refuse (not (leb 1 (setup .n) && leb (setup .n) 16)) badNumber done
 
+-- a refused call returns the fresh group of N = 1
 unfoldable pub freshCall : Setup → KeptGroup
 freshCall setup =
     cond (eqb (groupFreshRefusal setup) done)

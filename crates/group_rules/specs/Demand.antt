@@ -65,6 +65,6 @@ pub record Demand (n : ℕ) (H : History) : Type 0 where
       (s u : ℕ) → s < n → u < length (H .rounds) →
       (endsAt H s (suc u) ≡ true) ↔ EndsIn (ofLog n (H .log)) s (startedIn H s u) (suc u)
 
--- Demand 3: every fresh group, every list of calls
+-- Demand 3: every fresh group that is not refused, every list of calls
 abbrev pub DemandThree : Type 0
 DemandThree = (setup : Setup) → groupFreshRefusal setup ≡ done → (calls : List Call) → Demand (setup .n) (historyOf setup calls)

@@ -60,8 +60,9 @@ fn obey(s: Session, command: Command, line: &[u8], out: &mut [u8]) -> Applied
             argument,
         } => {
             let body = commands::posted_body(kind, event, argument);
+            let place = station as usize;
             let post = Post {
-                station: station as usize,
+                station: place,
                 body,
             };
             commands::apply_post(s, post, out)

@@ -25,10 +25,11 @@ use Rattle.station_rules.specs.Limits.{stationInside}
 use Rattle.station_rules.specs.Hearing.{silent, hearRecords}
 use Rattle.station_rules.specs.Turn.{afterTurn, turnReport}
 
--- "Fresh": 1; a refused call returns the fresh station of N = 1
+-- "Fresh": 1
 abbrev pub freshRefusal : Setup → ℕ → ℕ
 freshRefusal setup own = refuse (not (validNumber (setup .n) own)) badNumber done
 
+-- a refused call returns the fresh station of N = 1
 unfoldable pub freshCall : Setup → ℕ → Kept
 freshCall setup own =
     cond (eqb (freshRefusal setup own) done)
