@@ -2,7 +2,7 @@
 -- or refused, changes waiting edits only.
 use mathlib.Core.Bool.{Bool, true, false, cond}
 use mathlib.Core.List.{List, [], _∷_}
-use mathlib.Core.Path.{_≡_, refl, sym, _∙_}
+use mathlib.Core.Path.{_≡_, refl, _∙_}
 use Prim.Native.Nat.{ℕ, zero, suc, _≤_}
 use native.Mathlib.Decide.{ℕ-discrete, decLe}
 use native.Mathlib.Omega.{arith}
@@ -14,48 +14,14 @@ use Rattle.kinds.specs.Refusals.{done}
 use Rattle.station_rules.specs.declared.Setup.{Setup}
 use Rattle.station_rules.specs.declared.Station.{Station}
 use Rattle.station_rules.specs.Calls.{posted}
-use Rattle.lanes.proofs.WaitingLaws.{posted-sized}
+use Rattle.station_rules.proofs.Setters.{SameButWaiting, same-refl, same-trans}
+use Rattle.station_rules.proofs.Shape.{posted-same}
 use Rattle.group_rules.specs.declared.Post.{Post}
 use Rattle.group_rules.specs.State.{noStation, stationAt, freshGroup}
 use Rattle.group_rules.specs.Calls.{groupPostRefusal, afterPost, postCall, afterRound}
 use Rattle.group_rules.specs.History.{Call, post, round}
 use Rattle.group_rules.proofs.Setups.{Accepts}
-use Rattle.group_rules.proofs.Run.{Run, SameButWaiting}
-
-same-refl : (s : Station) → SameButWaiting s s
-same-refl s =
-    record { n = refl; own = refl; acked = refl; body = refl; count = refl; labels = refl; held = refl; table = refl; lanes = refl; waiting = λ h. h }
-
-same-trans : (s t r : Station) → SameButWaiting s t → SameButWaiting t r → SameButWaiting s r
-same-trans s t r a b =
-    record {
-      n = a .n ∙ b .n;
-      own = a .own ∙ b .own;
-      acked = a .acked ∙ b .acked;
-      body = a .body ∙ b .body;
-      count = a .count ∙ b .count;
-      labels = a .labels ∙ b .labels;
-      held = a .held ∙ b .held;
-      table = a .table ∙ b .table;
-      lanes = a .lanes ∙ b .lanes;
-      waiting = λ h. b .waiting (a .waiting h);
-    }
-
-posted-same : (s : Station) (b : Body) → SameButWaiting s (posted s b)
-unfolding posted
-posted-same s b =
-    record {
-      n = refl;
-      own = refl;
-      acked = refl;
-      body = refl;
-      count = refl;
-      labels = refl;
-      held = refl;
-      table = refl;
-      lanes = refl;
-      waiting = posted-sized (s .waiting) b;
-    }
+use Rattle.group_rules.proofs.Run.{Run}
 
 set-same : (g : List Station) (x : Post) (i : ℕ) → SameButWaiting (stationAt g i) (stationAt (afterPost g x) i)
 set-same g x i = elim (ℕ-discrete i (x .station)) [ yes e ↦ here e | no d ↦ there d ]

@@ -1,22 +1,21 @@
 -- Demand 3, whole. The run of a list of calls stays inside its limits round by round, since its counts are bounded and no lane overflows; so none of its rounds is
 -- refused, the history of the list is that run, and each sentence is one of the facts about runs.
 use Prim.Native.Nat.{ℕ, zero, suc, _*_, _-_, _≤_, _<_}
-use mathlib.Core.Bool.{Bool, true, false}
+use mathlib.Core.Bool.{true}
 use mathlib.Core.List.{List}
 use mathlib.Core.Path.{_≡_, ap, _∙_}
 use native.Mathlib.Omega.{arith}
-use lib.ListN.{getD, length}
+use lib.ListN.{length}
 use Rattle.kinds.specs.Refusals.{done}
-use Rattle.frame_rules.specs.declared.Record.{Record}
-use Rattle.frame_rules.specs.Record.{noRecord}
 use Rattle.station_rules.specs.declared.Setup.{Setup}
-use Rattle.station_rules.specs.State.{heldOf, recordOf}
+use Rattle.station_rules.specs.State.{Cell, heldOf, recordOf}
+use Rattle.station_rules.proofs.Setters.{SameButWaiting}
 use Rattle.group_rules.specs.State.{stationAt}
 use Rattle.group_rules.specs.Calls.{groupFreshRefusal}
 use Rattle.group_rules.specs.History.{History, Call, historyOf}
 use Rattle.group_rules.specs.Demand.{Demand, DemandThree}
 use Rattle.group_rules.proofs.Setups.{Accepts, accepts}
-use Rattle.group_rules.proofs.Run.{Run, SameButWaiting}
+use Rattle.group_rules.proofs.Run.{Run}
 use Rattle.group_rules.proofs.Simulation as simulation
 use Rattle.group_rules.proofs.Members.{Members, members-inside, fresh-members}
 use Rattle.group_rules.proofs.MembersPost.{post-members}
@@ -32,7 +31,7 @@ module _ (setup : Setup) (accepted : groupFreshRefusal setup ≡ done) (calls : 
   abbrev n : ℕ
   n = setup .n
 
-  ok : Accepts setup
+  abbrev ok : Accepts setup
   ok = accepts setup accepted
 
   abbrev R : Run
@@ -78,10 +77,10 @@ module _ (setup : Setup) (accepted : groupFreshRefusal setup ≡ done) (calls : 
       recordOf (stationAt (H .group) p) s .count ≤ 2 * (n - 1)
   held-count p s lp ls h =
       let last = length (H .rounds) in
-      let held : heldOf (stationAt (R .after last) p) s ≡ true = ap (λ (t : List Bool). getD t s false) (left p .held) ∙ h in
+      let held : heldOf (stationAt (R .after last) p) s ≡ true = ap (λ (c : Cell). c .held) (left p .cells s) ∙ h in
       omega (
         arith,
-        ap (λ (t : List Record). getD t s noRecord .count) (left p .table),
+        ap (λ (c : Cell). c .entry .count) (left p .cells s),
         simulation.held-count-bounded R last p lp s ls held,
       )
 

@@ -3,11 +3,10 @@
 use Prim.Native.Nat.{ℕ, suc, _+_, _%_, _≤_, _<_}
 use mathlib.Core.Bool.{Bool, true, false, cond, not, _&&_, _||_, or-true}
 use mathlib.Core.List.{List, [], _∷_, _++_, append-nil}
-use mathlib.Core.Path.{_≡_, sym, ap, _∙_, subst}
+use mathlib.Core.Path.{_≡_, sym, ap, _∙_}
 use native.Mathlib.Decide.{ℕ-discrete}
 use native.Mathlib.Omega.{arith}
 use borrow.Author.Tests.{lt-ltb, le-ltb, eq-eqb, ne-eqb}
-use lib.ListN.{length}
 use lib.Dec.{ltb, eqb}
 use Rattle.kinds.specs.declared.Body.{Body}
 use Rattle.kinds.specs.Body.{isEmpty}
@@ -19,11 +18,13 @@ use Rattle.lanes.specs.declared.Lane.{Lane}
 use Rattle.places.proofs.Laws.{cond-not}
 use Rattle.station_rules.specs.declared.Station.{Station}
 use Rattle.lanes.specs.Lane.{pushed}
+use Rattle.station_rules.specs.State.{recordOf}
 use Rattle.station_rules.specs.Hearing.{raised, replaced, heardNewer}
 use Rattle.station_rules.proofs.Cells
+use Rattle.station_rules.proofs.Setters.{Shaped}
 use Rattle.station_rules.proofs.Shape.{heardNewer-shaped}
 use Rattle.group_rules.proofs.Run.{Run, linksOf}
-use Rattle.group_rules.proofs.Version.{Stands, Cell, Caught, shown, caught-same}
+use Rattle.group_rules.proofs.Version.{Stands, Caught, shown, caught-same}
 use Rattle.group_rules.proofs.Standing.{Formed}
 
 -- an acknowledgement at most two behind, read modulo 3, is one of this very broadcast; and one that was there is still one
@@ -45,18 +46,6 @@ raised-step false c t l e = sym e
 module _ (R : Run) where
   abbrev L : Links
   L = linksOf R
-
-  -- the same values, the same cell
-  pub cell-move :
-      {u p q v : ℕ} {held held′ acked acked′ : Bool} {label label′ : ℕ} {r r′ : Record} → held′ ≡ held → acked′ ≡ acked → label′ ≡ label →
-      r′ ≡ r → Cell R u p q v held acked label r → Cell R u p q v held′ acked′ label′ r′
-  cell-move {q = q} a b c d x =
-      record {
-        is-held = a ∙ x .is-held;
-        is-acked = b ∙ x .is-acked;
-        is-label = c ∙ x .is-label;
-        stands = λ w e. subst (λ i. Stands R i q w) (sym d) (x .stands w e);
-      }
 
   pub caught-move :
       {u p q v : ℕ} {before lane lane′ : Lane} {taken taken′ : List Body} → lane′ ≡ lane → taken′ ≡ taken →
@@ -98,14 +87,16 @@ module _ (R : Run) where
       record { lane-now = d .lane-now; taken-now = append-nil taken ∙ d .taken-now }
 
   pub stands-replaced :
-      (n : ℕ) (old r : Record) (k w : ℕ) → n ≡ R .n → length (old .labels) ≡ 16 → Stands R r k w → Stands R (replaced n old r) k w
-  stands-replaced n old r k w e l t =
+      (s : Station) (r : Record) (w : ℕ) → s .n ≡ R .n → Shaped s → r .station < R .n → Stands R r (r .station) w →
+      Stands R (replaced (s .n) (recordOf s (r .station)) r) (r .station) w
+  stands-replaced s r w e shape l t =
       let high = R .high in
+      let old = recordOf s (r .station) in
       record {
-        station = Cells.replaced-station n old r ∙ t .station;
-        count = Cells.replaced-count n old r ∙ t .count;
-        body = Cells.replaced-body n old r ∙ t .body;
-        labels = λ i b. Cells.replaced-label n old r i (omega arith) (omega arith) ∙ t .labels i b;
+        station = Cells.replaced-station (s .n) old r ∙ t .station;
+        count = Cells.replaced-count (s .n) old r ∙ t .count;
+        body = Cells.replaced-body (s .n) old r ∙ t .body;
+        labels = λ i b. Cells.heard-label s r shape (omega arith) (omega arith) i (omega arith) ∙ t .labels i b;
       }
 
   pub formed-heard : (p : ℕ) (s : Station) (r : Record) → r .station < R .n → Formed R p s → Formed R p (heardNewer s r)

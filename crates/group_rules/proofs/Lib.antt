@@ -36,6 +36,7 @@ pub mod HistoryLists
 pub mod FromRun
 pub mod DemandThree
 -- examples
+pub mod Computing
 pub mod MarkedStatement
 pub mod Marked
 pub mod RunLines

@@ -15,7 +15,7 @@ use Rattle.station_rules.specs.declared.Setup.{Setup}
 use Rattle.station_rules.specs.declared.Station.{Station}
 use Rattle.station_rules.specs.State.{aloneSetup, freshStation}
 use Rattle.station_rules.specs.Limits.{stationInside}
-use Rattle.station_rules.proofs.Shape.{Shaped, fresh-shaped}
+use Rattle.station_rules.proofs.Setters.{Shaped, fresh-self, fresh-shaped}
 use Rattle.station_rules.proofs.StationLimits.{Inside, inside-open, inside-make}
 use Rattle.station_rules.proofs.LimitsFresh.{fresh-holds}
 use Rattle.group_rules.specs.State.{noStation, stationAt, sizeOf, memberInside, groupInside, freshGroup}
@@ -102,26 +102,18 @@ module _ (setup : Setup) (high : setup .n ≤ 16) where
             (rw (getD-replicate 16 k (freshStation aloneSetup 0) noStation l) (fresh-shaped aloneSetup 0)) (λ j m. fresh-shaped setup j);
       }
 
-  fresh-n : (k : ℕ) → freshStation setup k .n ≡ n
-  unfolding freshStation
-  fresh-n k = refl
-
-  fresh-number : (k : ℕ) → freshStation setup k .own ≡ k
-  unfolding freshStation
-  fresh-number k = refl
-
   pub fresh-members : 1 ≤ n → Members n (freshGroup setup)
   fresh-members low =
       record {
         low = low;
         high = high;
-        size = ap (λ (s : Station). s .n) (fresh-at 0 low) ∙ fresh-n 0;
+        size = ap (λ (s : Station). s .n) (fresh-at 0 low) ∙ fresh-self setup 0 .n;
         shape = fresh-shape;
         member =
             λ k l. record {
               inside = rw (fresh-at k l) (fresh-holds setup k high l);
-              size = rw (fresh-at k l) (fresh-n k);
-              own = rw (fresh-at k l) (fresh-number k);
+              size = rw (fresh-at k l) (fresh-self setup k .n);
+              own = rw (fresh-at k l) (fresh-self setup k .own);
             };
       }
 

@@ -16,7 +16,8 @@ use Rattle.places.proofs.Keeps.{set-keeps}
 use Rattle.lanes.specs.Waiting.{hasRoom}
 use Rattle.station_rules.specs.declared.Station.{Station}
 use Rattle.station_rules.specs.Calls.{posted}
-use Rattle.station_rules.proofs.Shape.{Shaped, posted-shaped}
+use Rattle.station_rules.proofs.Setters.{Shaped}
+use Rattle.station_rules.proofs.Shape.{posted-same, posted-shaped}
 use Rattle.station_rules.proofs.LimitsFresh.{posted-holds}
 use Rattle.group_rules.specs.declared.Post.{Post}
 use Rattle.group_rules.specs.State.{noStation, stationAt, sizeOf, groupInside}
@@ -85,8 +86,8 @@ module _ (n : ℕ) (g : List Station) (c : Members n g) (x : Post) where
             record {
               inside =
                   rw posted-at (posted-holds (stationAt g (x .station)) (x .body) (c .shape .stations (x .station) (omega (arith, c .high))) (m .inside) edit room);
-              size = rw posted-at (unfold posted in (m .size));
-              own = rw posted-at (unfold posted in (m .own));
+              size = rw posted-at (sym (posted-same (stationAt g (x .station)) (x .body) .n) ∙ m .size);
+              own = rw posted-at (sym (posted-same (stationAt g (x .station)) (x .body) .own) ∙ m .own);
             }
 
     set-members : postable (x .body) ≡ true → hasRoom (stationAt g (x .station) .waiting) ≡ true → Members n (afterPost g x)

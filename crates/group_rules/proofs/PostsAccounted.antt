@@ -17,15 +17,15 @@ use Rattle.places.proofs.Laws.{fill-below}
 use Rattle.station_rules.specs.declared.Setup.{Setup}
 use Rattle.station_rules.specs.declared.Station.{Station}
 use Rattle.station_rules.specs.declared.Taking.{Taking}
-use Rattle.lanes.specs.declared.Lane.{Lane}
-use Rattle.lanes.specs.Lane.{bodies, noLane}
-use Rattle.station_rules.specs.State.{laneAt, freshStation}
+use Rattle.lanes.specs.Lane.{bodies}
+use Rattle.station_rules.specs.State.{Cell, laneAt, freshStation}
 use Rattle.station_rules.specs.Hearing.{silent}
 use Rattle.station_rules.specs.Turn.{airs, rowOf, startedBody, turnReport, afterTurn}
 use Rattle.lanes.specs.Queue.{noSlot}
 use Rattle.lanes.specs.Waiting.{waitingEdits, waitingCount, hasRoom}
 use Rattle.lanes.proofs.WaitingLaws.{WaitingSized, none-edits, edits-count, posted-edits}
 use Rattle.station_rules.specs.Calls.{posted, noTurn}
+use Rattle.station_rules.proofs.Setters.{fresh-self, fresh-own}
 use Rattle.station_rules.proofs.LimitsHearing.{Hears}
 use Rattle.group_rules.specs.declared.Post.{Post}
 use Rattle.group_rules.specs.declared.Report.{Report}
@@ -100,7 +100,7 @@ module _ (n : ℕ) (g : List Station) (c : Members n g) (x : Post) (p : ℕ) whe
       go false e = ap (λ (h : List Station). waits h p) (post-refused g x e) ∙ sym (append-nil (waits g p))
 
 post-lane : (g : List Station) (x : Post) (p : ℕ) → ownEdits g p ≡ ownEdits ((postCall g x) .group) p
-post-lane g x p = ap (λ (l : List Lane). onlyEdits (bodies (getD l p noLane))) (post-same g x p .lanes)
+post-lane g x p = ap (λ (c : Cell). onlyEdits (bodies (c .lane))) (post-same g x p .cells p)
 
 -- a round
 
@@ -340,12 +340,11 @@ kept-continued n H [] c = c
 kept-continued n H (call ∷ calls) c = kept-continued n (next H call) calls (kept-next n H call c)
 
 fresh-waits : (setup : Setup) (p : ℕ) → waitingEdits (freshStation setup p .waiting) ≡ []
-unfolding freshStation
-fresh-waits setup p = none-edits
+fresh-waits setup p = ap waitingEdits (fresh-self setup p .waiting) ∙ none-edits
 
 fresh-lane : (setup : Setup) (p : ℕ) → p < 16 → onlyEdits (bodies (laneAt (freshStation setup p) p)) ≡ []
-unfolding freshStation bodies onlyEdits
-fresh-lane setup p l = rw (getD-replicate 16 p noLane noLane l)
+unfolding bodies onlyEdits
+fresh-lane setup p l = ap (λ (c : Cell). onlyEdits (bodies (c .lane))) (fresh-own setup p l)
 
 pub kept-begun : (setup : Setup) → Accepts setup → Kept (setup .n) (begun setup)
 unfolding begun

@@ -15,26 +15,13 @@ use Rattle.places.specs.Places.{anyBelow}
 use Rattle.station_rules.specs.declared.Setup.{Setup}
 use Rattle.station_rules.specs.declared.Station.{Station}
 use Rattle.lanes.specs.Lane.{pushed}
-use Rattle.lanes.proofs.WaitingLaws.{WaitingSized}
 use Rattle.station_rules.specs.State.{laneAt}
 use Rattle.station_rules.specs.Hearing.{Hearing}
 use Rattle.station_rules.specs.Turn as turn
+use Rattle.station_rules.proofs.Setters.{SameButWaiting}
 use Rattle.group_rules.specs.State.{stationAt, freshGroup}
 use Rattle.group_rules.specs.Calls.{heard, afterRound}
 use Rattle.group_rules.specs.History.{takingsOf, unlessEmpty}
-
--- two stations that differ in their waiting edits at most
-pub record SameButWaiting (s t : Station) : Type 0 where
-  pub n : s .n ≡ t .n
-  pub own : s .own ≡ t .own
-  pub acked : s .acked ≡ t .acked
-  pub body : s .body ≡ t .body
-  pub count : s .count ≡ t .count
-  pub labels : s .labels ≡ t .labels
-  pub held : s .held ≡ t .held
-  pub table : s .table ≡ t .table
-  pub lanes : s .lanes ≡ t .lanes
-  pub waiting : WaitingSized (s .waiting) → WaitingSized (t .waiting)
 
 pub record Run : Type 0 where
   -- what its fresh group was given, and N of it

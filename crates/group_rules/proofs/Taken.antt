@@ -26,8 +26,10 @@ use Rattle.station_rules.specs.declared.Setup.{Setup}
 use Rattle.station_rules.specs.declared.Station.{Station}
 use Rattle.station_rules.specs.State.{freshStation}
 use Rattle.station_rules.specs.Turn.{startedBody}
-use Rattle.station_rules.proofs.TurnParts.{started-stays, body-ends, body-stays, report-started}
+use Rattle.station_rules.proofs.TurnCells.{started-stays}
+use Rattle.station_rules.proofs.TurnParts.{body-ends, body-stays, report-started}
 use Rattle.group_rules.specs.State.{stationAt}
+use Rattle.station_rules.proofs.Setters.{fresh-self}
 use Rattle.group_rules.specs.History.{takingsOf, unlessEmpty}
 use Rattle.group_rules.specs.Demand.{Begins}
 use Rattle.group_rules.proofs.Run.{Run, linksOf, hearingIn, bodyAt, rises}
@@ -38,8 +40,7 @@ use Rattle.group_rules.proofs.Lists.{startedBy, heardBy, takenBy, start
 use Rattle.group_rules.proofs.Counting.{shown}
 
 fresh-body : (setup : Setup) (p : ℕ) → (freshStation setup p) .body ≡ Empty
-unfolding freshStation
-fresh-body setup p = refl
+fresh-body setup p = fresh-self setup p .body
 
 module _ (R : Run) where
   abbrev L : Links

@@ -7,15 +7,14 @@ use mathlib.Core.Path.{_≡_, refl, sym, ap, subst, _∙_}
 use native.Mathlib.Decide.{ℕ-discrete}
 use native.Mathlib.Omega.{arith}
 use lib.Dec.{eqb, ltb}
-use lib.ListN.{getD, replicate, length}
+use lib.ListN.{getD}
 use borrow.Author.Tests.{ltb-true, eq-eqb}
 use Rattle.kinds.specs.declared.Body.{Body}
 use Rattle.kinds.specs.declared.Body.the-variants.{Neutral}
 use Rattle.kinds.specs.Body.{isEmpty, isEdit}
 use Rattle.places.specs.Places.{gather}
-use Rattle.places.proofs.Laws.{allBelow-at, fill-below}
+use Rattle.places.proofs.Laws.{allBelow-at}
 use Rattle.lanes.specs.declared.Lane.{Lane}
-use Rattle.lanes.specs.declared.Slot.{Slot}
 use Rattle.station_rules.specs.declared.Station.{Station}
 use Rattle.station_rules.specs.declared.Taking.{Taking}
 use Rattle.lanes.specs.Lane.{bodies, laneOf, pushed, popped}
@@ -23,14 +22,16 @@ use Rattle.lanes.specs.Queue.{noSlot}
 use Rattle.lanes.specs.Waiting.{waitingEdits, waitingCount, nextEdit, withoutNext}
 use Rattle.lanes.proofs.WaitingLaws.{next-postable, started-edits}
 use Rattle.station_rules.specs.State.{laneAt}
-use Rattle.station_rules.specs.Turn.{airs, rowOf, startsEdit, startedBody, passed, rewritten, afterTurn}
+use Rattle.station_rules.specs.Turn.{airs, rowOf, startsEdit, startedBody, afterTurn}
 use Rattle.kinds.proofs.Laws.{edit-not-empty}
 use Rattle.kind_limits.proofs.Laws.{postable-edit}
-use Rattle.station_rules.proofs.Shape.{Shaped, lanesAfter-length}
+use Rattle.station_rules.proofs.Setters.{Shaped}
 use Rattle.station_rules.proofs.LimitsLane.{lane-most}
 use Rattle.station_rules.proofs.StationLimits.{Inside}
-use Rattle.station_rules.proofs.TurnParts.{airs-each}
-use Rattle.station_rules.proofs.TurnLaws.{laneAfter, after-aired, after-kept, Start, Start.anEdit, Start.aNeutral, Start.nothing, start, passed-waiting, passed-own-lane}
+use Rattle.station_rules.proofs.TurnParts.{airs-each, row-at}
+use Rattle.station_rules.proofs.TurnCells
+use Rattle.station_rules.proofs.TurnCells.{laneAfter, lane-after, turn-lane-own}
+use Rattle.station_rules.proofs.TurnLaws.{Start, Start.anEdit, Start.aNeutral, Start.nothing, start}
 use Rattle.group_rules.specs.History.{takingsOf, editsOf, onlyEdits}
 use Rattle.group_rules.proofs.Takings.{gathered-own}
 
@@ -62,9 +63,6 @@ unfolding bodies laneOf onlyEdits
 pushed-edits l b e = rw e (append-nil (ifEdit b))
 
 module _ (s : Station) (shape : Shaped s) (c : Inside s) where
-  fits : s .own < length (s .lanes)
-  fits = rw (shape .lanes) (omega (arith, c .high, c .own))
-
   own-most : (laneAt s (s .own)) .len ≤ 2
   own-most =
       let most : _≡_ {A = ℕ} (cond (eqb (s .own) (s .own)) 1 2) 1 = rw (eq-eqb (s .own) (s .own) refl) in
@@ -85,16 +83,19 @@ module _ (s : Station) (shape : Shaped s) (c : Inside s) where
       ≡ onlyEdits (bodies (laneAt s (s .own)))
   aired-account = go (airs s) refl
     where
+      after : laneAfter s (s .own) ≡ cond (airs s) (popped (laneAt s (s .own))) (laneAt s (s .own))
+      after = lane-after s shape (c .high) (c .own) (s .own) (c .own)
+
       go :
           (t : Bool) → airs s ≡ t →
           cond t (ifEdit ((laneAt s (s .own)) .first)) [] ++ onlyEdits (bodies (laneAfter s (s .own)))
           ≡ onlyEdits (bodies (laneAt s (s .own)))
-      go true e = rw (after-aired s (s .own) (c .own) fits e) (popped-edits (laneAt s (s .own)) (airs-own e) own-most)
-      go false e = rw (after-kept s (s .own) e)
+      go true e = rw (after, e) (popped-edits (laneAt s (s .own)) (airs-own e) own-most)
+      go false e = rw (after, e)
 
   -- the start: what starts leaves the waiting edits for the own lane, which is empty then
-  started-waiting : waitingEdits (s .waiting) ≡ ifEdit (startedBody s) ++ waitingEdits ((passed s) .waiting)
-  started-waiting = rw (passed-waiting s) (go (start s))
+  pub turn-waiting : waitingEdits (s .waiting) ≡ ifEdit (startedBody s) ++ waitingEdits ((afterTurn s) .waiting)
+  turn-waiting = rw (TurnCells.turn-waiting s) (go (start s))
     where
       go :
           Start s →
@@ -105,8 +106,8 @@ module _ (s : Station) (shape : Shaped s) (c : Inside s) where
       go (aNeutral e room b) = rw (e, b)
       go (nothing e b) = rw (e, b)
 
-  started-lane : onlyEdits (bodies (laneAfter s (s .own))) ++ ifEdit (startedBody s) ≡ onlyEdits (bodies (laneAt (passed s) (s .own)))
-  started-lane = rw (passed-own-lane s (rw (lanesAfter-length s) fits)) (go (start s))
+  started-lane : onlyEdits (bodies (laneAfter s (s .own))) ++ ifEdit (startedBody s) ≡ onlyEdits (bodies (laneAt (afterTurn s) (s .own)))
+  started-lane = rw (turn-lane-own s shape (c .high) (c .own)) (go (start s))
     where
       after : Lane
       after = laneAfter s (s .own)
@@ -120,18 +121,6 @@ module _ (s : Station) (shape : Shaped s) (c : Inside s) where
       go (aNeutral e room b) = rw (b, pushed-edits after Neutral room, none-edits after room)
       go (nothing e b) = rw b (append-nil (onlyEdits (bodies after)))
 
-  -- the own record's rewriting touches neither
-  rewritten-waiting : (afterTurn s) .waiting ≡ (passed s) .waiting
-  unfolding afterTurn rewritten
-  rewritten-waiting = refl
-
-  rewritten-lane : laneAt (afterTurn s) (s .own) ≡ laneAt (passed s) (s .own)
-  unfolding afterTurn rewritten
-  rewritten-lane = refl
-
-  pub turn-waiting : waitingEdits (s .waiting) ≡ ifEdit (startedBody s) ++ waitingEdits ((afterTurn s) .waiting)
-  turn-waiting = rw rewritten-waiting started-waiting
-
   own-lane :
       onlyEdits (bodies (laneAt s (s .own))) ++ ifEdit (startedBody s)
       ≡ cond (airs s) (ifEdit ((laneAt s (s .own)) .first)) [] ++ onlyEdits (bodies (laneAt (afterTurn s) (s .own)))
@@ -140,7 +129,7 @@ module _ (s : Station) (shape : Shaped s) (c : Inside s) where
       let after : List Body = onlyEdits (bodies (laneAfter s (s .own))) in
       ap (λ (l : List Body). l ++ ifEdit (startedBody s)) (sym aired-account)
       ∙ append-assoc row after (ifEdit (startedBody s))
-      ∙ ap (λ (l : List Body). row ++ l) (started-lane ∙ ap (λ (l : Lane). onlyEdits (bodies l)) (sym rewritten-lane))
+      ∙ ap (λ (l : List Body). row ++ l) started-lane
 
   pub turn-lane :
       (p : ℕ) → s .own ≡ p →
@@ -157,8 +146,7 @@ module _ (s : Station) (shape : Shaped s) (c : Inside s) where
 -- the own edit of a row
 pub row-account :
     (n : ℕ) (s : Station) (p : ℕ) → n ≤ 16 → s .n ≡ n → p < n → takingsOf p (editsOf n (rowOf s)) ≡ ifEdit ((laneAt s p) .first)
-unfolding editsOf rowOf
+unfolding editsOf
 row-account n s p high size l =
     gathered-own (λ k. isEdit ((getD (rowOf s) k noSlot) .body)) (λ k. (getD (rowOf s) k noSlot) .body) p n l
-    ∙ ap (λ (x : Slot). ifEdit (x .body))
-    (fill-below (s .n) (λ k. record { body = (laneAt s k) .first }) (replicate 16 noSlot) p noSlot (omega arith) (omega arith))
+    ∙ ap ifEdit (row-at s p (omega arith) (omega arith))

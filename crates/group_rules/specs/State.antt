@@ -1,32 +1,15 @@
 -- Document 01, "A group and its rounds": a group by its places, its limits, and the fresh group.
 use Prim.Native.Nat.{ℕ}
 use mathlib.Core.Bool.{Bool, _&&_}
-use mathlib.Core.List.{List, []}
+use mathlib.Core.List.{List}
 use lib.ListN.{getD, replicate}
 use lib.Dec.{eqb}
-use Rattle.kinds.specs.declared.Body.the-variants.{Empty}
 use Rattle.places.specs.Places.{allBelow, fill}
-use Rattle.lanes.specs.Waiting.{absentWaiting}
 use Rattle.station_rules.specs.declared.Setup.{Setup}
 use Rattle.station_rules.specs.declared.Station.{Station}
 use Rattle.station_rules.specs.State.{aloneSetup, freshStation}
+pub use Rattle.station_rules.specs.State.{noStation}
 use Rattle.station_rules.specs.Limits.{stationInside}
-
--- what stands past the end of a group
-abbrev pub noStation : Station
-noStation =
-    record {
-      n = 0;
-      own = 0;
-      waiting = absentWaiting;
-      acked = [];
-      body = Empty;
-      count = 0;
-      labels = [];
-      held = [];
-      table = [];
-      lanes = [];
-    }
 
 -- the station at place k
 abbrev pub stationAt : List Station → ℕ → Station

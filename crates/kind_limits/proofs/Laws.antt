@@ -1,7 +1,7 @@
 -- Laws of the limits, for the crates above. Numbers inside their limits are those of their body, by the cases of the
 -- table, since where a row's least is its most the number can be no other. Every limit is a number of 32 bits, and so is
 -- all that lies between two of them. No law names a limit: a row can change, and the laws stand.
-use Prim.Native.Nat.{ℕ, zero, suc, _^_, _<_, _≤_}
+use Prim.Native.Nat.{ℕ, zero, suc, _<_, _≤_}
 use native.Mathlib.Omega.{arith}
 use mathlib.Core.Bool.{Bool, true, false, _&&_, false≢true}
 use mathlib.Core.Path.{_≡_, refl, ap, _∙_}
@@ -95,6 +95,9 @@ small (suc (suc zero)) = record { event = omega arith; least = omega arith; most
 small (suc (suc (suc zero))) = record { event = omega arith; least = omega arith; most = omega arith }
 small (suc (suc (suc (suc zero)))) = record { event = omega arith; least = omega arith; most = omega arith }
 small (suc (suc (suc (suc (suc k))))) = record { event = omega arith; least = omega arith; most = omega arith }
+
+pub limits-fit : (k : ℕ) → SFits w32 (limitsOf k .«least_argument») × SFits w32 (limitsOf k .«most_argument»)
+limits-fit k = (record { sfits = (small k) .least }, record { sfits = (small k) .most })
 
 between-fits : (low a high : ℤ) → mag low < 2_147_483_648 → mag high < 2_147_483_648 → (leZ low a && leZ a high) ≡ true → SFits w32 a
 between-fits low (pos m) (pos h) p q e = record { sfits = omega (arith, leb-true m h (both (leZ low (pos m)) (leb m h) e .1)) }

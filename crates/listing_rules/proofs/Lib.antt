@@ -1,4 +1,5 @@
 pub mod Answers
+pub mod Computing
 pub mod Example
 pub mod Stopped
 pub mod Overlong

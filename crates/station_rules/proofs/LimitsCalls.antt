@@ -24,7 +24,7 @@ use Rattle.station_rules.specs.Limits.{stationInside}
 use Rattle.station_rules.specs.Hearing.{Hearing, silent, hearRecords}
 use Rattle.station_rules.specs.State.{aloneSetup}
 use Rattle.station_rules.specs.Calls.{freshCall, posted, postCall, hearCall, turnCall}
-use Rattle.station_rules.proofs.Shape.{Shaped}
+use Rattle.station_rules.proofs.Setters.{Shaped}
 use Rattle.station_rules.proofs.LimitsFresh.{fresh-inside, posted-inside}
 use Rattle.station_rules.proofs.LimitsHear.{Carried}
 use Rattle.station_rules.proofs.LimitsHearing.{AllCarried, hearRecords-inside}

@@ -9,28 +9,18 @@ use lib.IntN.{pos}
 use lib.ListN.{set, replicate}
 use Rattle.kinds.specs.declared.Body.{Body}
 use Rattle.kinds.specs.declared.Body.the-variants.{Empty, Neutral, Insert, Drop}
-use Rattle.kind_limits.specs.Limits.{postable, bodyInside, numbersInside}
-use Rattle.labels.specs.Newer.{isNewer}
-use Rattle.labels.specs.Label.{allLabels}
-use Rattle.label_words.specs.Packing.{packed, unpacked, allZero, wordInside}
-use Rattle.kinds.specs.Body.{bodyOf}
 use Rattle.kinds.specs.Refusals.{done, queueFull}
-use Rattle.places.specs.Places.{allBelow, anyBelow, fill, gather, tabulate}
 use Rattle.frame_rules.specs.declared.Record.{Record}
-use Rattle.frame_rules.specs.Words.{wordAt, wordBytes, signed, unsigned}
-use Rattle.frame_rules.specs.Record.{recordOf, recordBytes, bytesInside, framed}
-use Rattle.frame_rules.specs.Frame.{shapeWrong, addressWrong, recordsInside, frameRefusal, recordsOf, recordsBytes, frameBytes}
-use Rattle.frame_rules.specs.Calls.{tableRecords}
-use Rattle.lanes.specs.Lane.{bodies, laneOf}
-use Rattle.lanes.specs.Queue.{queueCapacity, noSlot, emptyQueue, queued, oldest, unqueued, queueBodies, queueInside}
-use Rattle.lanes.specs.Waiting.{noneWaiting, waitingEdits, waitingCount, hasRoom, withPosted, nextEdit, withoutNext, waitingInside}
+use Rattle.lanes.specs.Lane.{bodies}
+use Rattle.lanes.specs.Queue.{queueCapacity, noSlot}
+use Rattle.lanes.specs.Waiting.{waitingEdits}
 use Rattle.station_rules.specs.declared.Station.{Station}
 use Rattle.station_rules.specs.declared.TurnReport.{TurnReport}
-use Rattle.station_rules.specs.State.{sentRecords, aloneSetup, freshStation, labelOf, ackedOf, heldOf, laneAt}
-use Rattle.station_rules.specs.Limits.{stationInside, placeInside, recordInside, laneInside}
-use Rattle.station_rules.specs.Hearing.{Hearing, silent, replaced, heardNewer, hearRecord, hearRecords}
-use Rattle.station_rules.specs.Turn.{airs, rowOf, lanesAfter, ends, startedBody, passed, ownRecord, rewritten, afterTurn, turnReport}
-use Rattle.station_rules.specs.Calls.{posted, postCall, frameOf, hearCall}
+use Rattle.station_rules.specs.State.{aloneSetup, freshStation, labelOf, ackedOf, heldOf, laneAt}
+use Rattle.station_rules.specs.Hearing.{Hearing, silent, hearRecord}
+use Rattle.station_rules.specs.Turn.{afterTurn, turnReport}
+use Rattle.station_rules.specs.Calls.{postCall, frameOf, hearCall}
+use Rattle.station_rules.proofs.Computing.{stationRuns, frameRuns}
 
 abbrev edit : Body
 edit = Insert 7 (pos 100)
@@ -129,19 +119,19 @@ pub record Pair : Type 0 where
 
 -- by computation
 pub alone-runs : Alone
-unfolding postCall posted stationInside waitingInside queueInside placeInside recordInside laneInside postable bodyInside numbersInside freshStation noneWaiting emptyQueue withPosted hasRoom waitingCount queued nextEdit oldest withoutNext unqueued allBelow fill bodies laneOf airs rowOf lanesAfter ends startedBody passed ownRecord rewritten afterTurn turnReport
+unfolding stationRuns
 alone-runs = record { starts = refl; airs-it = refl }
 
 pub posts-runs : Posts
-unfolding posts postCall posted stationInside waitingInside queueInside placeInside recordInside laneInside postable bodyInside numbersInside freshStation noneWaiting emptyQueue withPosted hasRoom waitingCount queued allBelow bodies laneOf
+unfolding posts stationRuns
 posts-runs = record { thirty-second = refl; thirty-third = refl }
 
 pub frame-runs : Frame
-unfolding hearCall frameOf sentRecords tableRecords frameBytes recordsBytes recordBytes recordOf recordsOf wordBytes wordAt signed unsigned packed unpacked allLabels allZero wordInside frameRefusal shapeWrong addressWrong recordsInside bytesInside bodyOf gather tabulate anyBelow framed stationInside waitingInside queueInside placeInside recordInside laneInside bodyInside numbersInside freshStation noneWaiting emptyQueue allBelow fill isNewer replaced heardNewer hearRecord hearRecords
+unfolding frameRuns
 frame-runs = record { is-heard = refl; shows = refl }
 
 pub pair-runs : Pair
-unfolding postCall posted stationInside waitingInside queueInside placeInside recordInside laneInside postable bodyInside numbersInside freshStation noneWaiting emptyQueue withPosted hasRoom waitingCount queued nextEdit oldest withoutNext unqueued queueBodies waitingEdits allBelow fill bodies laneOf isNewer replaced heardNewer hearRecord airs rowOf lanesAfter ends startedBody passed ownRecord rewritten afterTurn turnReport
+unfolding stationRuns
 pair-runs =
     record {
       heard = (refl, refl, refl, refl, refl);

@@ -10,7 +10,7 @@ use Rattle.frame_rules.specs.Calls.{tableRecords}
 use Rattle.frame_rules.proofs.Limits.{fits-make}
 use Rattle.frame_rules.proofs.TableTrip.{table-read, table-accepted}
 use Rattle.station_rules.specs.declared.Station.{Station}
-use Rattle.station_rules.specs.State.{heldOf, recordOf, sentRecords}
+use Rattle.station_rules.specs.State.{cellOf, heldOf, recordOf, sentRecords}
 use Rattle.station_rules.specs.Hearing.{Hearing, hearRecords}
 use Rattle.station_rules.specs.Calls.{ownCountInside, frameOf}
 use Rattle.station_rules.proofs.StationLimits.{Inside}
@@ -21,17 +21,18 @@ module _ (s : Station) (c : Inside s) (fits : ownCountInside s ≡ true) where
   place k l e = c .places k l .held e .station
 
   pub record-fits : (k : ℕ) → k < s .n → heldOf s k ≡ true → recordFits (s .n) (recordOf s k) ≡ true
+  unfolding cellOf
   record-fits k l e =
       let h = c .places k l .held e in
       fits-make (s .n) (recordOf s k)
       (record { station = rw (h .station) l; count = sent-count s c fits k l e; body = h .body; labels = h .labels })
 
   pub sent-read : recordsOf (frameOf s) ≡ sentRecords s
-  unfolding sentRecords tableRecords frameOf
+  unfolding cellOf sentRecords tableRecords frameOf
   sent-read = table-read (s .n) (s .own) (s .held) (s .table) (c .high) place record-fits (c .held) (c .own)
 
   pub sent-accepted : (own : ℕ) → (s .own ≡ own → ⊥) → frameRefusal (frameOf s) (s .n) own ≡ done
-  unfolding sentRecords tableRecords frameOf
+  unfolding cellOf sentRecords tableRecords frameOf
   sent-accepted = table-accepted (s .n) (s .own) (s .held) (s .table) (c .high) place record-fits (c .held) (c .own)
 
   -- the hearer makes the same of the frame as of the table

@@ -2,7 +2,7 @@
 -- the facts.
 use Prim.Native.Nat.{ℕ, _≤_, _<_}
 use mathlib.Core.Bool.{Bool, true, false, cond, not, _&&_, _||_, false≢true}
-use mathlib.Core.Path.{_≡_, refl}
+use mathlib.Core.Path.{_≡_, refl, sym, subst}
 use lib.Dec.{leb, ltb, eqb}
 use borrow.Author.Tests.{leb-true, ltb-true, le-leb, lt-ltb, eqb-true, eq-eqb}
 use Rattle.kind_limits.specs.Limits.{bodyInside}
@@ -14,7 +14,7 @@ use Rattle.frame_rules.specs.Frame.{validNumber}
 use Rattle.places.specs.Places.{allBelow}
 use Rattle.places.proofs.Laws.{and-both, and-left, and-right, allBelow-at, allBelow-make}
 use Rattle.station_rules.specs.declared.Station.{Station}
-use Rattle.station_rules.specs.State.{labelOf, ackedOf, heldOf, recordOf, laneAt, recordLabel}
+use Rattle.station_rules.specs.State.{Cell, cellOf, labelOf, ackedOf, heldOf, recordOf, laneAt, recordLabel}
 use Rattle.lanes.specs.Waiting.{waitingInside}
 use Rattle.station_rules.specs.Limits.{laneInside, recordInside, placeInside, stationInside}
 
@@ -25,22 +25,32 @@ pub record RecordHolds (n own k : ℕ) (r : Record) : Type 0 where
   pub body : bodyInside (r .body) ≡ true
   pub labels : (j : ℕ) → j < n → isLabel (recordLabel r j) ≡ true
 
--- what a station has of station k, inside its limits
-pub record PlaceHolds (s : Station) (k : ℕ) : Type 0 where
-  pub label : isLabel (labelOf s k) ≡ true
-  pub held : heldOf s k ≡ true → RecordHolds (s .n) (s .own) k (recordOf s k)
-  pub lane : laneInside (cond (eqb k (s .own)) 1 2) (laneAt s k) ≡ true
+-- what station own has of station k, inside its limits
+pub record CellHolds (n own k : ℕ) (c : Cell) : Type 0 where
+  pub label : isLabel (c .label) ≡ true
+  pub held : c .held ≡ true → RecordHolds n own k (c .entry)
+  pub lane : laneInside (cond (eqb k own) 1 2) (c .lane) ≡ true
 
--- a station inside its limits
-pub record Inside (s : Station) : Type 0 where
-  pub low : 1 ≤ s .n
-  pub high : s .n ≤ 16
-  pub own : s .own < s .n
-  pub acked : ackedOf s (s .own) ≡ true
-  pub held : heldOf s (s .own) ≡ true
+abbrev pub PlaceHolds : Station → ℕ → Type 0
+PlaceHolds s k = CellHolds (s .n) (s .own) k (cellOf s k)
+
+-- a station inside the limits of station `number` among `size`
+pub record InsideAs (size number : ℕ) (s : Station) : Type 0 where
+  pub low : 1 ≤ size
+  pub high : size ≤ 16
+  pub own : number < size
+  pub acked : ackedOf s number ≡ true
+  pub held : heldOf s number ≡ true
   pub body : bodyInside (s .body) ≡ true
   pub waiting : waitingInside (s .waiting) ≡ true
-  pub places : (k : ℕ) → k < s .n → PlaceHolds s k
+  pub places : (k : ℕ) → k < size → CellHolds size number k (cellOf s k)
+
+-- inside its limits
+abbrev pub Inside : Station → Type 0
+Inside s = InsideAs (s .n) (s .own) s
+
+pub inside-as : (n own : ℕ) (s : Station) → s .n ≡ n → s .own ≡ own → InsideAs n own s → Inside s
+inside-as n own s e f c = subst (λ (m : ℕ). InsideAs m (s .own) s) (sym e) (subst (λ (p : ℕ). InsideAs n p s) (sym f) c)
 
 or-not-make : (a b : Bool) → (a ≡ true → b ≡ true) → (not a || b) ≡ true
 or-not-make true b h = h refl

@@ -20,7 +20,7 @@ use Rattle.station_rules.specs.declared.Heard.{Heard}
 use Rattle.station_rules.specs.declared.Turned.{Turned}
 use Rattle.lanes.specs.Queue.{noSlot}
 use Rattle.lanes.specs.Waiting.{hasRoom, withPosted}
-use Rattle.station_rules.specs.State.{recordOf, sentRecords, aloneSetup, freshStation}
+use Rattle.station_rules.specs.State.{recordOf, withWaiting, sentRecords, aloneSetup, freshStation}
 use Rattle.station_rules.specs.Limits.{stationInside}
 use Rattle.station_rules.specs.Hearing.{silent, hearRecords}
 use Rattle.station_rules.specs.Turn.{afterTurn, turnReport}
@@ -38,19 +38,7 @@ freshCall setup own =
 
 -- the station with one more waiting edit (source document 001, Algorithm 2, lines 1 and 2)
 unfoldable pub posted : Station → Body → Station
-posted s b =
-    record {
-      n = s .n;
-      own = s .own;
-      waiting = withPosted (s .waiting) b;
-      acked = s .acked;
-      body = s .body;
-      count = s .count;
-      labels = s .labels;
-      held = s .held;
-      table = s .table;
-      lanes = s .lanes;
-    }
+posted s b = withWaiting s (withPosted (s .waiting) b)
 
 -- 4, 3: what a post judges of the body and of the waiting edits
 abbrev pub postRefusal : Station → Body → ℕ

@@ -4,6 +4,7 @@ use borrow.Author.Tests.{not-true, not-false}
 use Rattle.lanes.specs.declared.Waiting.{Waiting}
 use Rattle.station_rules.specs.declared.Station.{Station}
 use Rattle.station_rules.specs.declared.Kept.{Kept}
+use Rattle.station_rules.specs.State.{withWaiting}
 use Rattle.station_rules.specs.Calls.{posted}
 use Rattle.station_rules.proofs.CallSteps.{post-outside, post-no-edit, post-full, post-done}
 use borrow.Author.Needs.{needs}
@@ -12,23 +13,7 @@ use Rattle.station.proofs.post.Tie as tie
 
 -- the answer with other waiting edits
 abbrev answer : Station → Waiting → Kept
-answer s w =
-    record {
-      refusal = 0;
-      station =
-          record {
-            n = s .n;
-            own = s .own;
-            waiting = w;
-            acked = s .acked;
-            body = s .body;
-            count = s .count;
-            labels = s .labels;
-            held = s .held;
-            table = s .table;
-            lanes = s .lanes;
-          };
-    }
+answer s w = record { refusal = 0; station = withWaiting s w }
 
 station-inside-requires : tie.Need-station-inside-requires
 station-inside-requires c κs = search needs

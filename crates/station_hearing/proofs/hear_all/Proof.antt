@@ -10,6 +10,7 @@ use borrow.Author.Tests.{not-true, not-false}
 use Rattle.frame_rules.specs.declared.Record.{Record}
 use Rattle.frame_rules.specs.Record.{recordOf}
 use Rattle.station_rules.specs.declared.Station.{Station}
+use Rattle.station_rules.specs.State.{cellOf}
 use Rattle.station_rules.specs.Hearing.{Hearing, silent, heeds, hearRecord}
 use Rattle.station_rules.specs.Inner.Frames.{FrameAt}
 use Rattle.station_rules.proofs.StationLimits.{Inside, inside-open}
@@ -166,6 +167,7 @@ module _ (c : tie.After-heard Inv-loop μ-loop) where
   read = c .before .before .before .before .before .before
 
   does : Does (old (turn read)) (s (turn read) .n) (s (turn read) .own) (k read) (seen (turn read)) (c .heard .result)
+  unfolding cellOf
   does =
       subst (λ (x : Record). Does (old (turn read)) (s (turn read) .n) (s (turn read) .own) (k read) x (c .heard .result)) (read-is read) (c .heard .ensures)
 
@@ -220,6 +222,7 @@ room c =
     (not-false _ (c .if2 .left)) (c .before .before .before .if1 .left)
 
 loop-again-2 : tie.Need-loop-again-2 Inv-loop μ-loop
+unfolding cellOf
 loop-again-2 c =
     let w = c .before .before .before .before .before .before in
     let v = turn (read w) in

@@ -10,7 +10,7 @@ use Rattle.frame_rules.specs.Frame.{validNumber}
 use Rattle.places.specs.Places.{allBelow}
 use Rattle.places.proofs.Laws.{allBelow-more, allBelow-fails}
 use Rattle.station_rules.specs.declared.Station.{Station}
-use Rattle.station_rules.specs.State.{ackedOf, heldOf}
+use Rattle.station_rules.specs.State.{cellOf, ackedOf, heldOf}
 use Rattle.lanes.specs.Waiting.{waitingInside}
 use Rattle.station_rules.specs.Limits.{placeInside, stationInside}
 use Rattle.station_rules.proofs.CallSteps.{valid-parts}
@@ -36,9 +36,11 @@ sixteen : (c : tie.Else1 Inv-loop μ-loop) → (1 ≤ c .before .before .args .t
 sixteen c = valid-parts _ _ (valid c)
 
 acked : (c : tie.Else2 Inv-loop μ-loop) → ackedOf (c .before .before .before .before .args .t1) (c .before .before .before .before .args .t1 .own) ≡ true
+unfolding cellOf
 acked c = not-false _ (c .if2 .left)
 
 held : (c : tie.Else3 Inv-loop μ-loop) → heldOf (c .before .before .before .before .before .before .args .t1) (c .before .before .before .before .before .before .args .t1 .own) ≡ true
+unfolding cellOf
 held c = not-false _ (c .if3 .left)
 
 body : (c : tie.Else4 Inv-loop μ-loop) → bodyInside (c .before .before .before .before .before .before .before .before .args .t1 .body) ≡ true
@@ -57,14 +59,14 @@ element-copy-out-if2 : tie.Need-element-copy-out-if2 Inv-loop μ-loop
 element-copy-out-if2 c = omega (arith, sixteen c)
 
 returns-2 : tie.Need-returns-2 Inv-loop μ-loop
-unfolding stationInside
+unfolding cellOf stationInside
 returns-2 c = rw (valid (c .before .before), not-true (ackedOf (c .before .before .before .before .args .t1) (c .before .before .before .before .args .t1 .own)) (c .if2 .taken))
 
 element-copy-out-if3 : tie.Need-element-copy-out-if3 Inv-loop μ-loop
 element-copy-out-if3 c = omega (arith, sixteen (c .before .before))
 
 returns-3 : tie.Need-returns-3 Inv-loop μ-loop
-unfolding stationInside
+unfolding cellOf stationInside
 returns-3 c =
     let s = c .before .before .before .before .before .before .args .t1 in
     rw (valid (c .before .before .before .before), acked (c .before .before), not-true (heldOf s (s .own)) (c .if3 .taken))
@@ -125,7 +127,7 @@ unfolding stationInside
 returns-6 c =
     let h = c .before .before .before .before .before .before .before in
     let s = h .before .before .before .before .before .before .before .before .before .before .before .before .args .t1 in
-    let e : placeInside s (h .loop .k) ≡ false = unfold placeInside in (sym (c .before .place-inside .ensures) ∙ not-true _ (c .if6 .taken)) in
+    let e : placeInside s (h .loop .k) ≡ false = unfold cellOf placeInside in (sym (c .before .place-inside .ensures) ∙ not-true _ (c .if6 .taken)) in
     rw (h .loop .inv .5) (sym (allBelow-fails (s .n) (placeInside s) (h .loop .k) (omega arith) e))
 
 add-k : tie.Need-add-k Inv-loop μ-loop
@@ -138,7 +140,7 @@ loop-again : tie.Need-loop-again Inv-loop μ-loop
 loop-again c =
     let h = c .before .before .before .before .before .before .before in
     let s = h .before .before .before .before .before .before .before .before .before .before .before .before .args .t1 in
-    let e : placeInside s (h .loop .k) ≡ true = unfold placeInside in (sym (c .before .place-inside .ensures) ∙ not-false _ (c .if6 .left)) in
+    let e : placeInside s (h .loop .k) ≡ true = unfold cellOf placeInside in (sym (c .before .place-inside .ensures) ∙ not-false _ (c .if6 .left)) in
     let w = h .loop .inv in
     (refl, refl, omega arith, w .3, w .4, w .5, allBelow-more (h .loop .k) (placeInside s) (w .6) e)
 

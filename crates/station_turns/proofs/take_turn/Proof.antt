@@ -9,6 +9,7 @@ use borrow.Author.Needs.{needs}
 use Rattle.places.specs.Places.{fill}
 use Rattle.lanes.specs.Lane.{noLane}
 use Rattle.station_rules.specs.declared.Station.{Station}
+use Rattle.station_rules.specs.State.{cellOf}
 use Rattle.station_rules.specs.Turn.{ends}
 use Rattle.lanes.specs.Waiting.{waitingCount}
 use Rattle.station_rules.proofs.StationLimits.{Inside, inside-open}
@@ -34,7 +35,7 @@ module _ (e : tie.After-all-acked) where
   own-in = omega (arith, inside .high, inside .own)
 
   ended : e .all-acked .result ≡ ends station
-  unfolding ends
+  unfolding cellOf ends
   ended = e .all-acked .ensures
 
 mul-own-lane : tie.Need-mul-own-lane
@@ -140,6 +141,7 @@ array-set-from-left c =
     search needs
 
 returns : tie.Need-returns
+unfolding cellOf
 returns c =
     let o = c .before in
     let m = o .before .before .before .before in
