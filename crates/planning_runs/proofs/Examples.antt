@@ -8,6 +8,7 @@ use lib.ListN.{getD}
 use Rattle.places.specs.Places.{tabulate}
 use Rattle.group_rules.specs.History.{History, Call, Call.round, historyOf, noRound, reportIn}
 use Rattle.group_rules.proofs.Computing.{groupRuns}
+use Rattle.planning_runs.specs.Runs.{sized}
 
 -- in which of the first eight rounds station p airs a row
 unfoldable pub airsIn : History → ℕ → List Bool
