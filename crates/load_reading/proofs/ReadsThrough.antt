@@ -13,7 +13,7 @@ use lib.ListN.{length}
 use borrow.Author.Tests.{lt-ltb, le-leb}
 use Rattle.kinds.specs.declared.Body.{Body}
 use Rattle.kinds.specs.declared.Body.the-variants.{Insert}
-use Rattle.kinds.specs.Body.{bodyOf, isEdit}
+use Rattle.kinds.specs.Body.{bodyOf}
 use Rattle.kinds.specs.Refusals.{done, queueFull, refuse}
 use Rattle.kind_limits.specs.Limits.{numbersInside, bodyInside, postable}
 use Rattle.kind_limits.proofs.Examples.{insert-small}
@@ -54,7 +54,7 @@ unfolding postedBody bodyOf
 insert-made d h = rw (insert-inside d h)
 
 is-insert : (d : ℕ) → d ≤ 65535 → postable (postedBody 2 (d + 1) (pos d)) ≡ true
-unfolding postable isEdit bodyInside
+unfolding postable bodyInside
 is-insert d h = rw (insert-made d h) (insert-inside d h)
 
 post-room :
