@@ -141,7 +141,7 @@ module _ (s : Station) (left : List Lane) (l : withArrays s (s .acked) (s .label
 -- the answer of a turn, by its parts
 module _
     (s : Station) (aired ended starts : Bool) (row : List Slot) (left : List Lane) (old : Body) (many : ℕ) (started body gone : Body)
-    (waiting : Waiting) (acked : List Bool)     (count next : ℕ) (over : List ℕ) (lane : Lane) where
+    (waiting : Waiting) (acked : List Bool) (count next : ℕ) (over : List ℕ) (lane : Lane) where
   -- before the own record is rewritten
   abbrev before : Station
   before =
