@@ -33,7 +33,7 @@ def paragraphs():
 
 
 def read_first():
-    """The lines of definitions in the ten folders to read first, without what the document marks as means of proof."""
+    """The lines of definitions in the folders to read first, those of the planning calls among them, without what the document marks as means of proof."""
     section = DOCUMENT.split("## What to read first")[1].split("\n## ")[0]
     marked = {ROOT / "crates" / "links" / "specs" / f"{name}.antt" for name in ("Clock", "Number", "Examples", "Log/Inside")}
     count = 0
