@@ -32,7 +32,26 @@ def paragraphs():
     return {name: re.findall(r"\w+", rest) for name, rest in found}
 
 
+def read_first():
+    """The lines of definitions in the folders to read first, those of the planning calls among them, without what the document marks as means of proof."""
+    section = DOCUMENT.split("## What to read first")[1].split("\n## ")[0]
+    marked = {ROOT / "crates" / "links" / "specs" / f"{name}.antt" for name in ("Clock", "Number", "Examples", "Log/Inside")}
+    count = 0
+    for folder in re.findall(r"`(\w+/specs)`", section.split("The listing has its own")[0]):
+        for path in (ROOT / "crates" / folder).rglob("*.antt"):
+            if path not in marked and "Inner" not in path.parts:
+                lines = (line.strip() for line in path.read_text(encoding="utf-8").splitlines())
+                count += sum(1 for line in lines if line and not re.match(r"--|(pub )?(use|mod) ", line))
+    return count
+
+
 class Architecture(unittest.TestCase):
+    def test_lines_to_read(self):
+        """The document says at most how many lines of definitions there are to read."""
+        most = re.search(r"at most ([\d,]+) lines", DOCUMENT)
+        self.assertGreater(read_first(), 500)
+        self.assertLessEqual(read_first(), int(most[1].replace(",", "")))
+
     def test_paragraphs(self):
         self.assertEqual({name: sorted(below) for name, below in paragraphs().items()}, direct())
 

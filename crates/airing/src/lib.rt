@@ -1,8 +1,13 @@
 // The airing step of a turn: where every lane has a body, the oldest of each makes the row.
 
 ghost use mathlib.Core.Path.{_≡_};
+ghost use mathlib.Core.Bool.{cond};
 ghost use Prim.Native.Nat.{_≤_};
-ghost use Rattle.airing.specs.Airing.{full, airing};
+ghost use lib.ListN.{getD, replicate};
+ghost use Rattle.places.specs.Places.{fill};
+ghost use Rattle.lanes.specs.Lane.{noLane, popped};
+ghost use Rattle.lanes.specs.Queue.{noSlot};
+ghost use Rattle.station_rules.specs.Turn.{eachHasBody, oldestOfEach};
 use kinds::Body;
 use lanes::Lane;
 use lanes::Slot;
@@ -17,7 +22,7 @@ pub struct Aired {
 // Has each of the first n lanes a body?
 fn all_full(n: usize, lanes: [Lane; 16]) -> bool
     requires { ⌜ n ≤ 16 ⌝ }
-    ensures { λ r. ⌜ r ≡ full n lanes ⌝ }
+    ensures { λ r. ⌜ r ≡ eachHasBody n (λ k. getD lanes k noLane) ⌝ }
 {
     let mut k: usize = 0;
     while k < n {
@@ -33,7 +38,9 @@ fn all_full(n: usize, lanes: [Lane; 16]) -> bool
 // A row aired from the first n lanes, or nothing.
 pub fn air(n: usize, lanes: [Lane; 16]) -> Aired
     requires { ⌜ n ≤ 16 ⌝ }
-    ensures { λ r. ⌜ r ≡ airing n lanes ⌝ }
+    ensures { λ r. ⌜ (r .aired ≡ eachHasBody n (λ k. getD lanes k noLane)) ×
+        (r .row ≡ cond (r .aired) (oldestOfEach n (λ k. getD lanes k noLane)) (replicate 16 noSlot)) ×
+        (r .left ≡ cond (r .aired) (fill n (λ k. popped (getD lanes k noLane)) lanes) lanes) ⌝ }
 {
     let slot = Slot { body: Body::Empty };
     let mut row = [slot; 16];

@@ -14,10 +14,10 @@ use Rattle.labels.specs.Newer.{isNewer}
 use Rattle.frame_rules.specs.declared.Record.{Record}
 use Rattle.frame_rules.specs.Record.{noRecord}
 use Rattle.station_rules.specs.declared.Station.{Station}
-use Rattle.station_rules.specs.State.{heldOf, recordOf, recordLabel, ownLabel}
+use Rattle.station_rules.specs.State.{Cell, cellOf, heldOf, recordOf, recordLabel, ownLabel}
 use Rattle.station_rules.specs.Hearing.{heeds, heardNewer}
-use Rattle.station_rules.proofs.Shape.{Shaped}
-use Rattle.station_rules.proofs.Cells.{heeds-own, heeds-newer, heard-n, heard-own, held-here, held-other, record-here, record-other, replaced-label, replaced-count}
+use Rattle.station_rules.proofs.Setters.{Shaped}
+use Rattle.station_rules.proofs.Cells.{heeds-own, heeds-newer, heard-n, heard-own, heard-here, heard-other, heard-label, replaced-count}
 use Rattle.station_rules.proofs.LimitsHear.{Carried, heeds-other}
 use Rattle.bars.specs.Bars.{barOf, barAt, barred, Bars}
 
@@ -115,6 +115,7 @@ module _ (s : Station) (bars : List ℕ) (r : Record) (b : BarsOf s bars) (high 
 
   -- the test of the code
   pub bar-heeds : ltb (r .count) (getD bars (4 * r .station + ownLabel r) 0) ≡ not (heeds s r)
+  unfolding cellOf
   bar-heeds =
       let k = r .station in
       let small : r .count < 256 = omega (arith, leb-true (r .count) (2 * (s .n - 1)) (carry .count)) in
@@ -150,21 +151,24 @@ module _ (s : Station) (bars : List ℕ) (r : Record) (b : BarsOf s bars) (high 
     anew = barred bars (r .station) (ownLabel r) (r .count)
 
     here : (x : ℕ) → x ≤ 2 → getD anew (4 * r .station + x) 0 ≡ barAt (next .own) (next .held) (next .table) (r .station) x
+    unfolding cellOf
     here x y =
         let k = r .station in
-        let a = held-here s r (rw (shape .held) low) in
-        let e = record-here s r (rw (shape .table) low) in
+        let e = heard-here s r shape low in
+        let a = ap (λ (z : Cell). z .held) e in
         let f : recordLabel (recordOf next k) k ≡ ownLabel r =
-        ap (λ (z : Record). recordLabel z k) e ∙ replaced-label (s .n) (recordOf s k) r k (carry .station) (rw (shape .record-labels k low) low) in
-        let g : (recordOf next k) .count ≡ r .count = ap (λ (z : Record). z .count) e ∙ replaced-count (s .n) (recordOf s k) r in
+        ap (λ (z : Cell). recordLabel (z .entry) k) e ∙ heard-label s r shape high low k (carry .station) in
+        let g : (recordOf next k) .count ≡ r .count = ap (λ (z : Cell). z .entry .count) e ∙ replaced-count (s .n) (recordOf s k) r in
         barred-here bars k (ownLabel r) (r .count) (b .size) low label-low x y
         ∙ sym (bar-other (next .own) (next .held) (next .table) k x (λ z. heeds-other s r h (z ∙ heard-own s r)) ∙ (λ i. barOf (a i) (f i) (g i) x))
 
     other : (j x : ℕ) → (j ≡ r .station → ⊥) → j < s .n → x ≤ 2 → getD anew (4 * j + x) 0 ≡ barAt (next .own) (next .held) (next .table) j x
+    unfolding cellOf
     other j x d l y =
+        let e = heard-other s r j d in
         barred-other bars (r .station) (ownLabel r) (r .count) (b .size) low label-low j x d y
         ∙ b .bar j x l y
-        ∙ sym (bar-cell (next .own) (s .own) (next .held) (s .held) (next .table) (s .table) j x (heard-own s r) (held-other s r j d) (record-other s r j d))
+        ∙ sym (bar-cell (next .own) (s .own) (next .held) (s .held) (next .table) (s .table) j x (heard-own s r) (ap (λ (z : Cell). z .held) e) (ap (λ (z : Cell). z .entry) e))
 
     bars-newer : BarsOf next anew
     bars-newer =

@@ -1,9 +1,11 @@
 // The commands of a script that take no time: a new group and a post, each with what it prints.
 
+use group_rules::Post;
 use kinds::Body;
 use lines::REFUSED;
 use listing_rules::Applied;
 use listing_rules::Session;
+use station_rules::Setup;
 ghost use mathlib.Core.Path.{_≡_};
 ghost use mathlib.Core.Bool.{cond};
 ghost use lib.Dec.{ltb};
@@ -11,7 +13,7 @@ ghost use Prim.Native.Nat.{_≤_};
 ghost use lib.ListN.{length};
 ghost use Rattle.group_rules.specs.Calls.{freshCall, postCall};
 ghost use Rattle.lines.specs.Lines.{Put};
-ghost use Rattle.listing_rules.specs.Listing.{AnswersPost, postedBody, sizedBy, refusedText};
+ghost use Rattle.listing_rules.specs.Listing.{AnswersPost, postedBody, setupOf, sizedBy, refusedText};
 
 // The body that a post's numbers name; Empty, which is no edit, where they name none.
 pub fn posted_body(kind: u32, event: u32, argument: i32) -> Body
@@ -36,7 +38,7 @@ fn named(station: usize, n: usize) -> usize
 // What a post's answer prints.
 fn put_post(s: Session, station: usize, refusal: u32, out: &mut [u8]) -> usize
     requires { ⌜ 35 ≤ length (now out) ⌝ }
-    ensures { λ r. ⌜ Put (now (out .entry)) (now (out .exit)) 0 r (refusedText s station refusal) ⌝ }
+    ensures { λ r. ⌜ Put (now (out .entry)) (now (out .exit)) 0 r (refusedText (s .n) (s .rounds) station refusal) ⌝ }
 {
     if refusal == 0 {
         return 0;
@@ -54,9 +56,9 @@ fn put_post(s: Session, station: usize, refusal: u32, out: &mut [u8]) -> usize
 
 // An `N` line: a new group, of which nothing is printed.
 pub fn apply_size(s: Session, n: usize) -> Applied
-    ensures { λ r. ⌜ (r .session ≡ sizedBy s n (freshCall n)) × (r .len ≡ 0) ⌝ }
+    ensures { λ r. ⌜ (r .session ≡ sizedBy s n (freshCall (setupOf n))) × (r .len ≡ 0) ⌝ }
 {
-    let made = group::fresh(n);
+    let made = group::fresh(Setup { n });
     let group = made.group;
     let session = Session {
         n,
@@ -68,13 +70,13 @@ pub fn apply_size(s: Session, n: usize) -> Applied
 }
 
 // A post, and its refusal where it is refused.
-pub fn apply_post(s: Session, station: usize, body: Body, out: &mut [u8]) -> Applied
+pub fn apply_post(s: Session, post: Post, out: &mut [u8]) -> Applied
     requires { ⌜ 35 ≤ length (now out) ⌝ }
-    ensures { λ r. ⌜ AnswersPost s station (postCall (s .group) station body) (now (out .entry)) (now (out .exit)) r ⌝ }
+    ensures { λ r. ⌜ AnswersPost s (post .station) (postCall (s .group) post) (now (out .entry)) (now (out .exit)) r ⌝ }
 {
     let before = s.group;
-    let made = group::post(before, station, body);
-    let len = put_post(s, station, made.refusal, out);
+    let made = group::post(before, post);
+    let len = put_post(s, post.station, made.refusal, out);
     let group = made.group;
     let session = Session {
         n: s.n,

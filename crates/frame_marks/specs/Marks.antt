@@ -7,7 +7,7 @@ use Rattle.frame_rules.specs.declared.Record.{Record}
 use Rattle.frame_rules.specs.Record.{recordOf}
 use Rattle.frame_rules.specs.Frame.{part}
 use Rattle.station_rules.specs.State.{ownLabel}
-use Rattle.station_rules.specs.Frames.{FrameAt}
+use Rattle.station_rules.specs.Inner.Frames.{FrameAt}
 
 -- record r of the frame that begins at start, and how many records it has
 abbrev pub recordAt : List ℕ → ℕ → ℕ → Record

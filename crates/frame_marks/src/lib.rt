@@ -18,10 +18,11 @@ pub fn put_marks(marks: &mut [u8], bytes: &[u8], start: usize)
     let mut r: usize = 0;
     while r < records {
         let at = start + 4 + 16 * r;
-        let k = bytes[at];
-        let label = record_reader::label_at(bytes, at + 12, k as usize);
-        marks[start + 2 * r] = 4 * k + label;
-        marks[start + 2 * r + 1] = bytes[at + 1];
+        let seen = record_reader::read_record(&bytes[at..at + 16]);
+        let k = seen.station;
+        let labels = seen.labels;
+        marks[start + 2 * r] = 4 * k + labels[k as usize];
+        marks[start + 2 * r + 1] = seen.count;
         r += 1;
     }
 }

@@ -1,11 +1,11 @@
 -- The frame check test by test: where one fails the definition's answer is known, and where all hold they say what the later tests rest on.
-use mathlib.Core.Path.{_≡_, refl, ap, _∙_}
+use mathlib.Core.Path.{_≡_, refl, sym, ap, _∙_}
 use mathlib.Core.Bool.{Bool, true, false, not, _&&_, _||_}
 use mathlib.Core.List.{List}
 use Prim.Native.Nat.{ℕ, _+_, _*_, _-_, _<_, _≤_}
 use native.Mathlib.Omega.{arith}
 use lib.Dec.{ltb, leb, eqb}
-use lib.ListN.{getD, length}
+use lib.ListN.{getD, drop, length}
 use lib.IntN.{ℤ}
 use mir.Syntax.{w32}
 use mir.Val.{SFits, toZ, ofZ}
@@ -13,8 +13,11 @@ use mir.ValLaws.{toZ-ofZ}
 use borrow.Author.Tests.{leb-true, ltb-true, ltb-false, eqb-true, eqb-false, not-false, lt-ltb, le-ltb, le-leb, lt-leb, eq-eqb, ne-eqb}
 use Rattle.kinds.specs.Refusals.{done, badNumber, badShape, badAddress, badRecord, refuse}
 use Rattle.kind_limits.specs.Limits.{numbersInside}
+use Rattle.places.specs.Places.{allBelow}
 use Rattle.places.proofs.Laws.{and-left, and-right, or-left, or-right}
-use Rattle.label_words.specs.Packing.{wordInside}
+use Rattle.labels.specs.Label.{isLabel}
+use Rattle.labels.proofs.Laws.{all-below}
+use Rattle.label_words.specs.Packing.{unpacked, allZero, wordInside}
 use Rattle.frame_rules.specs.Words.{wordAt, signed}
 use Rattle.frame_rules.specs.Record.{bytesInside}
 use Rattle.frame_rules.specs.Frame.{shapeWrong, addressWrong, recordsInside, validNumber, frameRefusal, checkRefusal}
@@ -26,14 +29,22 @@ pub judged :
 judged F p r e w z f h d q s =
     h ∙ ap (F e) (toZ-ofZ w32 z f) ∙ (λ i. F (d i) ((s ∙ ap signed q) i))
 
--- the same of what is judged in words
-pub in-words :
-    (p : List ℕ) (r : Bool) (e w : ℕ) → r ≡ numbersInside (getD p 2 0) e (signed w) → e ≡ wordAt p 4 → w ≡ wordAt p 8 →
-    r ≡ numbersInside (getD p 2 0) (wordAt p 4) (signed (wordAt p 8))
-in-words p r e w h d q = h ∙ (λ i. numbersInside (getD p 2 0) (d i) (signed (q i)))
+-- one record; the code asks for byte 3 before the labels, and the definition after them
+no-mark : (labels zeros : Bool) → ((labels && false) && zeros) ≡ false
+no-mark true zeros = refl
+no-mark false zeros = refl
 
--- one record
+with-mark : (labels zeros : Bool) → (labels && zeros) ≡ ((labels && true) && zeros)
+with-mark true zeros = refl
+with-mark false zeros = refl
+
 module _ (n : ℕ) (p : List ℕ) where
+  abbrev labels : Bool
+  labels = allBelow n (λ j. isLabel (getD (unpacked 16 (wordAt p 12)) j 0))
+
+  abbrev zeros : Bool
+  zeros = allZero (drop n (unpacked 16 (wordAt p 12)))
+
   pub far : n ≤ getD p 0 0 → false ≡ bytesInside n p
   unfolding bytesInside
   far a = simp (le-ltb _ _ a)
@@ -51,11 +62,12 @@ module _ (n : ℕ) (p : List ℕ) where
       module _ (c : numbersInside (getD p 2 0) (wordAt p 4) (signed (wordAt p 8)) ≡ true) where
         pub marked : (getD p 3 0 ≡ 0 → ⊥) → false ≡ bytesInside n p
         unfolding bytesInside
-        marked d = rw (lt-ltb _ _ a, le-leb _ _ b, c, ne-eqb _ _ d)
+        marked d = rw (lt-ltb _ _ a, le-leb _ _ b, c, ne-eqb _ _ d) (sym (no-mark labels zeros))
 
         pub by-labels : getD p 3 0 ≡ 0 → wordInside n (wordAt p 12) ≡ bytesInside n p
-        unfolding bytesInside
-        by-labels d = rw (lt-ltb _ _ a, le-leb _ _ b, c, eq-eqb _ _ d)
+        unfolding bytesInside wordInside
+        by-labels d =
+            rw (all-below n (unpacked 16 (wordAt p 12)), lt-ltb _ _ a, le-leb _ _ b, c, eq-eqb _ _ d) (with-mark labels zeros)
 
 -- the shape
 module _ (s : List ℕ) where

@@ -2,6 +2,7 @@
 pub mod Spelled
 pub mod Bytes
 pub mod Entries
+pub mod Limits
 pub mod Check
 -- there and back: a record, a frame, the frame of a table
 pub mod RecordTrip

@@ -1,12 +1,10 @@
 -- Document 01, "Frame bytes" and "Turned down": reading a whole frame, and writing one into a lent buffer.
-use mathlib.Core.Path.{_≡_}
-use Prim.Native.Nat.{ℕ, zero, suc, _+_, _≤_, _<_}
-use mathlib.Core.Bool.{Bool, true, false, cond, not, _&&_, _||_}
+use Prim.Native.Nat.{ℕ}
+use mathlib.Core.Bool.{Bool, false, cond, not, _&&_, _||_}
 use mathlib.Core.List.{List, _++_}
-use lib.ListN.{getD, take, drop, length, replicate}
+use lib.ListN.{getD, drop, length, replicate}
 use lib.Dec.{ltb, eqb}
 use Rattle.kinds.specs.Refusals.{done, badNumber, badRecord, shortBuffer}
-use Rattle.labels.specs.Label.{allLabels}
 use Rattle.places.specs.Places.{allBelow, fill, gather}
 use Rattle.frame_rules.specs.declared.Record.{Record}
 use Rattle.frame_rules.specs.declared.Reading.{Reading}
@@ -28,11 +26,6 @@ reading bytes n own =
 -- the records that a table holds of the first n stations, in their order, as a frame carries them
 unfoldable pub tableRecords : ℕ → List Bool → List Record → List Record
 tableRecords n held table = gather n (λ k. getD held k false) (λ k. framed n (getD table k noRecord))
-
--- how many records those are
-unfoldable pub heldCount : ℕ → List Bool → ℕ
-heldCount zero held = 0
-heldCount (suc k) held = heldCount k held + cond (getD held k false) 1 0
 
 -- the answer to writing a frame into room for some bytes: 9 where it is longer, else its length
 unfoldable pub written : List ℕ → ℕ → Written
@@ -61,9 +54,3 @@ frameBuffer n sender held table buffer =
     cond (validNumber n sender && tableFits n sender held table)
     (bufferWith (frameBytes n sender (tableRecords n held table)) buffer)
     buffer
-
--- what the records at the held places must be for a frame of them to be bytes
-pub record Writable (n : ℕ) (sender : ℕ) (held : List Bool) (table : List Record) : Type 0 where
-  pub few : n ≤ 16
-  pub below : sender < 256
-  pub labels : (k : ℕ) → k < n → getD held k false ≡ true → allLabels (take n ((getD table k noRecord) .labels)) ≡ true

@@ -2,3 +2,4 @@ pub mod Words
 pub mod Record
 pub mod Frame
 pub mod Calls
+pub mod Inner

@@ -1,15 +1,16 @@
 -- Document 01, "Frame bytes": the sixteen bytes of one record.
 use Prim.Native.Nat.{ℕ, _*_, _-_}
-use mathlib.Core.Bool.{Bool, _&&_}
+use mathlib.Core.Bool.{Bool, false, _&&_, _||_}
 use mathlib.Core.List.{List, [], _∷_, _++_}
-use lib.ListN.{getD, take, replicate}
+use lib.ListN.{getD, take, drop, replicate}
 use lib.Dec.{leb, ltb, eqb}
+use lib.IntN.{ℤ}
 use Rattle.kinds.specs.declared.Body.the-variants.{Empty}
 use Rattle.kinds.specs.Body.{kindOf, eventOf, argumentOf, bodyOf}
-use Rattle.kind_limits.specs.Limits.{numbersInside, bodyInside}
-use Rattle.labels.specs.Label.{allLabels}
-use Rattle.label_words.specs.Packing.{packed, unpacked, wordInside}
-use Rattle.places.specs.Places.{fill}
+use Rattle.kind_limits.specs.Limits.{numbersInside}
+use Rattle.labels.specs.Label.{isLabel}
+use Rattle.label_words.specs.Packing.{packed, unpacked, allZero}
+use Rattle.places.specs.Places.{allBelow, fill}
 use Rattle.frame_rules.specs.declared.Record.{Record}
 use Rattle.frame_rules.specs.Words.{wordAt, wordBytes, signed, unsigned}
 
@@ -48,21 +49,33 @@ noRecord = record { station = 0; count = 0; body = Empty; labels = [] }
 abbrev pub zeroRecord : Record
 zeroRecord = record { station = 0; count = 0; body = Empty; labels = replicate 16 0 }
 
--- the limits of one record in a frame among n stations
+-- "Record limits", of the fields of one record among n stations: the station below n, the count by its limit unless it is free, the body by the table of
+-- kinds, and the labels of the n stations 0 to 2
+abbrev pub fieldsInside : ℕ → Bool → ℕ → ℕ → ℕ → ℕ → ℤ → List ℕ → Bool
+fieldsInside n free station count kind event argument labels =
+    ltb station n
+    && (free || countInside n count)
+    && numbersInside kind event argument
+    && allBelow n (λ j. isLabel (getD labels j 0))
+
+-- the limits of a record
+abbrev pub recordLimits : ℕ → Bool → Record → Bool
+recordLimits n free r =
+    fieldsInside n free (r .station) (r .count) (kindOf (r .body)) (eventOf (r .body)) (argumentOf (r .body)) (r .labels)
+
+-- the limits of a record's sixteen bytes in a frame: byte 3 is zero too, and so are the labels from n up
 unfoldable pub bytesInside : ℕ → List ℕ → Bool
 bytesInside n bytes =
-    ltb (getD bytes 0 0) n
-    && countInside n (getD bytes 1 0)
-    && numbersInside (getD bytes 2 0) (wordAt bytes 4) (signed (wordAt bytes 8))
+    let labels = unpacked 16 (wordAt bytes 12) in
+    fieldsInside n false (getD bytes 0 0) (getD bytes 1 0) (getD bytes 2 0) (wordAt bytes 4) (signed (wordAt bytes 8)) labels
     && eqb (getD bytes 3 0) recordMark
-    && wordInside n (wordAt bytes 12)
+    && allZero (drop n labels)
 
--- the same limits of a record that is to be written
+-- a record that a frame may carry
 unfoldable pub recordFits : ℕ → Record → Bool
-recordFits n r =
-    ltb (r .station) n && countInside n (r .count) && bodyInside (r .body) && allLabels (take n (r .labels))
+recordFits n r = recordLimits n false r
 
--- the record of station k, inside these limits
+-- such a record, of station k
 unfoldable pub placeFits : ℕ → ℕ → Record → Bool
 placeFits n k r = eqb (r .station) k && recordFits n r
 

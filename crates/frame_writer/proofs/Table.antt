@@ -17,7 +17,8 @@ use Rattle.frame_rules.specs.declared.Record.{Record}
 use Rattle.frame_rules.specs.declared.Written.{Written}
 use Rattle.frame_rules.specs.Record.{recordBytes, framed, noRecord}
 use Rattle.frame_rules.specs.Frame.{recordsBytes, frameBytes}
-use Rattle.frame_rules.specs.Calls.{heldCount, tableRecords, written, bufferWith}
+use Rattle.frame_rules.specs.Calls.{tableRecords, written, bufferWith}
+use Rattle.frame_rules.specs.Inner.Writing.{heldCount}
 use Rattle.frame_rules.proofs.Bytes.{length-records, length-frame, records-append, framed-bytes}
 
 pub at-most-one : (b : Bool) → cond b 1 0 ≤ 1

@@ -4,7 +4,6 @@ ghost use mathlib.Core.Path.{_≡_};
 ghost use mathlib.Core.Bool.{true};
 ghost use Prim.Native.Nat.{_+_, _*_, _≤_, _<_};
 ghost use lib.ListN.{length, getD};
-ghost use Rattle.kind_words.specs.Spans.{spans};
 ghost use Rattle.frame_rules.specs.Record.{bytesInside};
 ghost use Rattle.frame_rules.specs.Frame.{shapeWrong, addressWrong, recordsInside, frameRefusal, checkRefusal};
 use kinds::refusals::BAD_ADDRESS;
@@ -16,8 +15,8 @@ use record_writer::FRAME_MARK;
 use record_writer::RECORD_MARK;
 
 // Are the sixteen bytes of a record inside its limits?
-fn record_inside(table: &[u32], part: &[u8], n: usize) -> bool
-    requires { ⌜ (now table ≡ spans) × (length (now part) ≡ 16) × (n ≤ 16) ⌝ }
+fn record_inside(part: &[u8], n: usize) -> bool
+    requires { ⌜ (length (now part) ≡ 16) × (n ≤ 16) ⌝ }
     ensures { λ r. ⌜ r ≡ bytesInside n (now (part .entry)) ⌝ }
 {
     if n <= record_reader::wide(part[0]) {
@@ -27,8 +26,8 @@ fn record_inside(table: &[u32], part: &[u8], n: usize) -> bool
         return false;
     }
     let event = record_reader::word_at(part, 4);
-    let argument = record_reader::word_at(part, 8);
-    if !kind_words::words_inside(table, part[2], event, argument) {
+    let argument = record_reader::signed(record_reader::word_at(part, 8));
+    if !kind_limits::numbers_inside(part[2] as u32, event, argument) {
         return false;
     }
     if part[3] != RECORD_MARK {
@@ -80,16 +79,16 @@ fn records_inside(bytes: &[u8], n: usize) -> bool
 {
     let count = record_reader::wide(bytes[2]);
     let sender = record_reader::wide(bytes[1]);
-    let table = kind_words::spans();
     let mut found = false;
     let mut least: usize = 0;
     let mut k: usize = 0;
     while k < count {
         let at = 4 + 16 * k;
-        if !record_inside(&table, &bytes[at..at + 16], n) {
+        let part = &bytes[at..at + 16];
+        if !record_inside(part, n) {
             return false;
         }
-        let station = record_reader::wide(bytes[at]);
+        let station = record_reader::wide(part[0]);
         if station < least {
             return false;
         }

@@ -6,21 +6,15 @@ ghost use Rattle.station_rules.specs.State.{freshStation};
 use frame_rules::Record;
 use kinds::Body;
 use lanes::Lane;
-use lanes::Queue;
-use lanes::Slot;
+use station_rules::Setup;
 use station_rules::Station;
 
-// Station own among n, as it begins.
-pub fn fresh_station(n: usize, own: usize) -> Station
+// Station own, as it begins.
+pub fn fresh_station(setup: Setup, own: usize) -> Station
     requires { ⌜ own < 16 ⌝ }
-    ensures { λ r. ⌜ r ≡ freshStation n own ⌝ }
+    ensures { λ r. ⌜ r ≡ freshStation setup own ⌝ }
 {
-    let slot = Slot { body: Body::Empty };
-    let slots = [slot; 32];
-    let waiting = Queue {
-        len: 0,
-        slots: slots,
-    };
+    let waiting = lanes::none_waiting();
     let mut acked = [false; 16];
     acked[own] = true;
     let mut held = [false; 16];
@@ -48,7 +42,7 @@ pub fn fresh_station(n: usize, own: usize) -> Station
     };
     let lanes = [lane; 16];
     Station {
-        n: n,
+        n: setup.n,
         own: own,
         waiting: waiting,
         acked: acked,

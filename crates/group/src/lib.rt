@@ -6,48 +6,49 @@ ghost use Rattle.group_rules.specs.State.{freshGroup};
 ghost use Rattle.group_rules.specs.Calls.{freshCall, postCall};
 use fresh_station::fresh_station;
 use group_rules::KeptGroup;
-use kinds::Body;
+use group_rules::Post;
 use kinds::refusals::BAD_NUMBER;
 use kinds::refusals::DONE;
 use kinds::refusals::OUTSIDE_LIMITS;
+use station_rules::Setup;
 use station_rules::Station;
 
-// The group of n, as it begins; a station alone, fresh, stands at each place from n up.
-fn fresh_group(n: usize) -> [Station; 16]
-    requires { ⌜ n ≤ 16 ⌝ }
-    ensures { λ r. ⌜ r ≡ freshGroup n ⌝ }
+// The group, as it begins; a station alone, fresh, stands at each place from N up.
+fn fresh_group(setup: Setup) -> [Station; 16]
+    requires { ⌜ setup .n ≤ 16 ⌝ }
+    ensures { λ r. ⌜ r ≡ freshGroup setup ⌝ }
 {
-    let other = fresh_station(1, 0);
+    let other = fresh_station(Setup { n: 1 }, 0);
     let mut group = [other; 16];
     let mut k: usize = 0;
-    while k < n {
-        group[k] = fresh_station(n, k);
+    while k < setup.n {
+        group[k] = fresh_station(setup, k);
         k += 1;
     }
     group
 }
 
-// Group fresh: the group of n, as it begins.
-pub fn fresh(n: usize) -> KeptGroup
-    ensures { λ r. ⌜ r ≡ freshCall n ⌝ }
+// Group fresh: the group, as it begins.
+pub fn fresh(setup: Setup) -> KeptGroup
+    ensures { λ r. ⌜ r ≡ freshCall setup ⌝ }
 {
-    if numbers::valid_number(n, 0) {
-        let group = fresh_group(n);
+    if numbers::valid_number(setup.n, 0) {
+        let group = fresh_group(setup);
         return KeptGroup {
             refusal: DONE,
             group: group,
         };
     }
-    let group = fresh_group(1);
+    let group = fresh_group(Setup { n: 1 });
     KeptGroup {
         refusal: BAD_NUMBER,
         group: group,
     }
 }
 
-// Group post: one more waiting edit at station k, where the station does not refuse it.
-pub fn post(g: [Station; 16], k: usize, body: Body) -> KeptGroup
-    ensures { λ r. ⌜ r ≡ postCall g k body ⌝ }
+// Group post: one more waiting edit at the post's station, where the station does not refuse it.
+pub fn post(g: [Station; 16], post: Post) -> KeptGroup
+    ensures { λ r. ⌜ r ≡ postCall g post ⌝ }
 {
     let mut z = KeptGroup {
         refusal: DONE,
@@ -58,10 +59,12 @@ pub fn post(g: [Station; 16], k: usize, body: Body) -> KeptGroup
         return z;
     }
     let first = z.group[0];
+    let k = post.station;
     if first.n <= k {
         z.refusal = BAD_NUMBER;
         return z;
     }
+    let body = post.body;
     let kept = station::post(z.group[k], body);
     let station = kept.station;
     z.refusal = kept.refusal;

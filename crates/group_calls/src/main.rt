@@ -2,6 +2,8 @@
 // the round reports, and one over every number of the group that it leaves. tests/model_rounds.py prints the same from the model.
 
 ghost use Prim.Native.Nat.{_≤_};
+use group_rules::Post;
+use station_rules::Setup;
 
 mod draws;
 mod lines;
@@ -10,14 +12,20 @@ mod lines;
 fn run(n: u32, rounds: u32)
     requires { ⌜ n ≤ 16 ⌝ }
 {
-    let fresh = group::fresh(n as usize);
+    let fresh = group::fresh(Setup { n: n as usize });
     let mut g = fresh.group;
     let mut state = n;
     let mut round: u32 = 0;
     while round < rounds {
         let post = draws::post(state, n as usize);
         let body = post.body;
-        let kept = group::post(g, post.station, body);
+        let kept = group::post(
+            g,
+            Post {
+                station: post.station,
+                body,
+            },
+        );
         let before = kept.group;
         let drawn = draws::masks(post.state);
         let masks = drawn.masks;

@@ -8,7 +8,7 @@ use Rattle.frame_rules.specs.Frame.{recordsOf}
 use Rattle.station_rules.specs.declared.Station.{Station}
 use Rattle.station_rules.specs.State.{sentRecords}
 use Rattle.station_rules.specs.Calls.{ownCountInside}
-use Rattle.station_rules.specs.Frames.{FrameAt}
+use Rattle.station_rules.specs.Inner.Frames.{FrameAt}
 use Rattle.group_rules.specs.State.{stationAt, sizeOf, groupInside}
 use Rattle.group_frames.specs.Frames.{frameStart, FramesBelow, FramesAt}
 use Rattle.group_rules.proofs.Members.{member-at}

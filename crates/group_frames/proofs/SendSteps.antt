@@ -11,7 +11,8 @@ use borrow.Author.Tests.{ne-eqb, eqb-true, eqb-false, ltb-false}
 use Rattle.kinds.specs.Refusals.{refuse}
 use Rattle.frame_rules.specs.Record.{countInside}
 use Rattle.frame_rules.specs.Frame.{frameBytes}
-use Rattle.frame_rules.specs.Calls.{tableRecords, bufferWith, Writable}
+use Rattle.frame_rules.specs.Calls.{tableRecords, bufferWith}
+use Rattle.frame_rules.specs.Inner.Writing.{Writable}
 use Rattle.places.specs.Places.{allBelow}
 use Rattle.places.proofs.Laws.{and-left, and-right}
 use Rattle.station_rules.specs.declared.Station.{Station}

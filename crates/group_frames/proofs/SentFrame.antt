@@ -19,9 +19,9 @@ use Rattle.frame_rules.proofs.Check.{accepted-frame}
 use Rattle.frame_rules.proofs.FrameTrip.{at-most}
 use Rattle.frame_rules.proofs.TableTrip.{table-fits}
 use Rattle.station_rules.specs.declared.Station.{Station}
-use Rattle.station_rules.specs.State.{sentRecords}
+use Rattle.station_rules.specs.State.{cellOf, sentRecords}
 use Rattle.station_rules.specs.Calls.{ownCountInside, frameOf}
-use Rattle.station_rules.specs.Frames.{FrameAt}
+use Rattle.station_rules.specs.Inner.Frames.{FrameAt}
 use Rattle.station_rules.proofs.StationLimits.{Inside}
 use Rattle.station_rules.proofs.SentFrame.{place, record-fits, sent-read, sent-accepted}
 use Rattle.frame_marks.specs.Marks.{recordAt}
@@ -32,7 +32,7 @@ module _ (s : Station) (c : Inside s) where
   records = tableRecords (s .n) (s .held) (s .table)
 
   pub frame-is : frameOf s ≡ frameBytes (s .n) (s .own) records
-  unfolding frameOf sentRecords tableRecords
+  unfolding cellOf frameOf sentRecords tableRecords
   frame-is = refl
 
   module _ (fits : ownCountInside s ≡ true) where
@@ -40,6 +40,7 @@ module _ (s : Station) (c : Inside s) where
     frame-length = ap length frame-is ∙ length-frame (s .n) (s .own) records
 
     records-few : length records ≤ 16
+    unfolding cellOf
     records-few =
         at-most (s .n) (s .own) records (c .high)
         (table-fits (s .n) (s .own) (s .held) (s .table) (c .high) (place s c fits) (record-fits s c fits) (c .held) (c .own))
@@ -48,7 +49,7 @@ module _ (s : Station) (c : Inside s) where
     frame-fits = omega (arith, frame-length, records-few)
 
     amount : getD (frameOf s) 2 0 ≡ length records
-    unfolding frameOf sentRecords tableRecords frameBytes
+    unfolding cellOf frameOf sentRecords tableRecords frameBytes
     amount = refl
 
     inside-parts : (k : ℕ) → k < length records → bytesInside (s .n) (part (frameOf s) k) ≡ true
@@ -91,7 +92,7 @@ module _ (s : Station) (c : Inside s) where
       counted = ap (λ (b : List ℕ). getD b 2 0) stands ∙ front
         where
           front : getD (frameOf s ++ rest) 2 0 ≡ length records
-          front = unfold frameOf in unfold sentRecords in unfold tableRecords in unfold frameBytes in refl
+          front = unfold frameOf in unfold cellOf in unfold sentRecords in unfold tableRecords in unfold frameBytes in refl
 
       part-is : (k : ℕ) → k < length records → part (drop start bytes) k ≡ part (frameOf s) k
       part-is k l =

@@ -11,7 +11,7 @@ use Rattle.places.specs.Places.{allBelow}
 use Rattle.station_rules.specs.declared.Station.{Station}
 use Rattle.station_rules.specs.Limits.{stationInside}
 use Rattle.station_rules.specs.Calls.{frameOf, ownCountInside}
-use Rattle.station_rules.specs.Frames.{FrameAt}
+use Rattle.station_rules.specs.Inner.Frames.{FrameAt}
 use Rattle.frame_marks.specs.Marks.{sizeAt, MarksAt}
 use Rattle.frame_changes.specs.Changes.{Ascending, ChangesAt}
 use Rattle.group_rules.specs.State.{stationAt, memberInside}

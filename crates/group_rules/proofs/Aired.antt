@@ -14,7 +14,7 @@ use lib.ListN.{getD, drop, length-drop}
 use lib.Seq.{getD-drop}
 use Rattle.kinds.specs.declared.Body.{Body}
 use Rattle.kinds.specs.declared.Body.the-variants.{Empty}
-use Rattle.kind_limits.specs.Limits.{isEdit}
+use Rattle.kinds.specs.Body.{isEdit}
 use Rattle.places.proofs.Later.{from-on}
 use Rattle.links.specs.Relay.{Links}
 use Rattle.links.specs.Clock.{news}

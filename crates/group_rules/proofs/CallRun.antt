@@ -2,7 +2,7 @@
 -- or refused, changes waiting edits only.
 use mathlib.Core.Bool.{Bool, true, false, cond}
 use mathlib.Core.List.{List, [], _∷_}
-use mathlib.Core.Path.{_≡_, refl, sym, _∙_}
+use mathlib.Core.Path.{_≡_, refl, _∙_}
 use Prim.Native.Nat.{ℕ, zero, suc, _≤_}
 use native.Mathlib.Decide.{ℕ-discrete, decLe}
 use native.Mathlib.Omega.{arith}
@@ -11,97 +11,66 @@ use lib.ListN.{length, set, length-set}
 use lib.Seq.{getD-set-same, getD-set-other, set-out}
 use Rattle.kinds.specs.declared.Body.{Body}
 use Rattle.kinds.specs.Refusals.{done}
+use Rattle.station_rules.specs.declared.Setup.{Setup}
 use Rattle.station_rules.specs.declared.Station.{Station}
 use Rattle.station_rules.specs.Calls.{posted}
-use Rattle.station_rules.proofs.Shape.{queued-slots}
+use Rattle.station_rules.proofs.Setters.{SameButWaiting, same-refl, same-trans}
+use Rattle.station_rules.proofs.Shape.{posted-same}
+use Rattle.group_rules.specs.declared.Post.{Post}
 use Rattle.group_rules.specs.State.{noStation, stationAt, freshGroup}
-use Rattle.group_rules.specs.Calls.{groupPostRefusal, postCall, afterRound}
+use Rattle.group_rules.specs.Calls.{groupPostRefusal, afterPost, postCall, afterRound}
 use Rattle.group_rules.specs.History.{Call, post, round}
-use Rattle.group_rules.proofs.Run.{Run, SameButWaiting}
+use Rattle.group_rules.proofs.Setups.{Accepts}
+use Rattle.group_rules.proofs.Run.{Run}
 
-same-refl : (s : Station) → SameButWaiting s s
-same-refl s =
-    record { n = refl; own = refl; acked = refl; body = refl; count = refl; labels = refl; held = refl; table = refl; lanes = refl; slots = refl }
-
-same-trans : (s t r : Station) → SameButWaiting s t → SameButWaiting t r → SameButWaiting s r
-same-trans s t r a b =
-    record {
-      n = a .n ∙ b .n;
-      own = a .own ∙ b .own;
-      acked = a .acked ∙ b .acked;
-      body = a .body ∙ b .body;
-      count = a .count ∙ b .count;
-      labels = a .labels ∙ b .labels;
-      held = a .held ∙ b .held;
-      table = a .table ∙ b .table;
-      lanes = a .lanes ∙ b .lanes;
-      slots = a .slots ∙ b .slots;
-    }
-
-posted-same : (s : Station) (b : Body) → SameButWaiting s (posted s b)
-unfolding posted
-posted-same s b =
-    record {
-      n = refl;
-      own = refl;
-      acked = refl;
-      body = refl;
-      count = refl;
-      labels = refl;
-      held = refl;
-      table = refl;
-      lanes = refl;
-      slots = sym (queued-slots (s .waiting) b);
-    }
-
-set-same : (g : List Station) (k : ℕ) (b : Body) (i : ℕ) → SameButWaiting (stationAt g i) (stationAt (set g k (posted (stationAt g k) b)) i)
-set-same g k b i = elim (ℕ-discrete i k) [ yes e ↦ here e | no d ↦ there d ]
+set-same : (g : List Station) (x : Post) (i : ℕ) → SameButWaiting (stationAt g i) (stationAt (afterPost g x) i)
+set-same g x i = elim (ℕ-discrete i (x .station)) [ yes e ↦ here e | no d ↦ there d ]
   where
     new : Station
-    new = posted (stationAt g k) b
+    new = posted (stationAt g (x .station)) (x .body)
 
-    here : i ≡ k → SameButWaiting (stationAt g i) (stationAt (set g k new) i)
+    here : i ≡ x .station → SameButWaiting (stationAt g i) (stationAt (set g (x .station) new) i)
     here e =
-        elim (decLe (suc k) (length g)) [
-          | yes l ↦ rw (e, getD-set-same g k new noStation l) (posted-same (stationAt g k) b)
-          | no l ↦ rw (set-out g k new (omega arith)) (same-refl (stationAt g i))
+        elim (decLe (suc (x .station)) (length g)) [
+          | yes l ↦ rw (e, getD-set-same g (x .station) new noStation l) (posted-same (stationAt g (x .station)) (x .body))
+          | no l ↦ rw (set-out g (x .station) new (omega arith)) (same-refl (stationAt g i))
         ]
 
-    there : (i ≡ k → ⊥) → SameButWaiting (stationAt g i) (stationAt (set g k new) i)
-    there d = rw (getD-set-other g k i new noStation d) (same-refl (stationAt g i))
+    there : (i ≡ x .station → ⊥) → SameButWaiting (stationAt g i) (stationAt (set g (x .station) new) i)
+    there d = rw (getD-set-other g (x .station) i new noStation d) (same-refl (stationAt g i))
 
-pub post-same : (g : List Station) (k : ℕ) (b : Body) (i : ℕ) → SameButWaiting (stationAt g i) (stationAt ((postCall g k b) .group) i)
+pub post-same : (g : List Station) (x : Post) (i : ℕ) → SameButWaiting (stationAt g i) (stationAt ((postCall g x) .group) i)
 unfolding postCall
-post-same g k b i = go (eqb (groupPostRefusal g k b) done)
+post-same g x i = go (eqb (groupPostRefusal g x) done)
   where
-    go : (c : Bool) → SameButWaiting (stationAt g i) (stationAt (cond c (set g k (posted (stationAt g k) b)) g) i)
-    go true = set-same g k b i
+    go : (c : Bool) → SameButWaiting (stationAt g i) (stationAt (cond c (afterPost g x) g) i)
+    go true = set-same g x i
     go false = same-refl (stationAt g i)
 
-pub length-post : (g : List Station) (k : ℕ) (b : Body) → length ((postCall g k b) .group) ≡ length g
+pub length-post : (g : List Station) (x : Post) → length ((postCall g x) .group) ≡ length g
 unfolding postCall
-length-post g k b = go (eqb (groupPostRefusal g k b) done)
+length-post g x = go (eqb (groupPostRefusal g x) done)
   where
-    go : (c : Bool) → length (cond c (set g k (posted (stationAt g k) b)) g) ≡ length g
-    go true = length-set g k (posted (stationAt g k) b)
+    go : (c : Bool) → length (cond c (afterPost g x) g) ≡ length g
+    go true = length-set g (x .station) (posted (stationAt g (x .station)) (x .body))
     go false = refl
 
 -- the group once the posts before the next round are done
 unfoldable pub afterPosts : List Station → List Call → List Station
 afterPosts g [] = g
-afterPosts g (post k b ∷ calls) = afterPosts ((postCall g k b) .group) calls
+afterPosts g (post x ∷ calls) = afterPosts ((postCall g x) .group) calls
 afterPosts g (round masks ∷ calls) = g
 
 -- the masks of the next round
 unfoldable pub nextMasks : List Call → List ℕ
 nextMasks [] = []
-nextMasks (post k b ∷ calls) = nextMasks calls
+nextMasks (post x ∷ calls) = nextMasks calls
 nextMasks (round masks ∷ calls) = masks
 
 -- the calls after the next round
 unfoldable pub afterNext : List Call → List Call
 afterNext [] = []
-afterNext (post k b ∷ calls) = afterNext calls
+afterNext (post x ∷ calls) = afterNext calls
 afterNext (round masks ∷ calls) = calls
 
 -- the calls after round u
@@ -115,55 +84,57 @@ masksOf calls zero = []
 masksOf calls (suc u) = nextMasks (callsAfter calls u)
 
 -- the group after round u
-unfoldable pub groupAfter : ℕ → List Call → ℕ → List Station
-groupAfter n calls zero = freshGroup n
-groupAfter n calls (suc u) = afterRound (afterPosts (groupAfter n calls u) (callsAfter calls u)) (masksOf calls (suc u))
+unfoldable pub groupAfter : Setup → List Call → ℕ → List Station
+groupAfter setup calls zero = freshGroup setup
+groupAfter setup calls (suc u) = afterRound (afterPosts (groupAfter setup calls u) (callsAfter calls u)) (masksOf calls (suc u))
 
 -- what a post keeps, the posts between two rounds keep
 pub posts-keep : (P : List Station → Type 0)
-    → ((g : List Station) (k : ℕ) (b : Body) → P g → P ((postCall g k b) .group))
+    → ((g : List Station) (x : Post) → P g → P ((postCall g x) .group))
     → (g : List Station) (calls : List Call)
     → P g
     → P (afterPosts g calls)
 unfolding afterPosts
 posts-keep P h g [] c = c
-posts-keep P h g (post k b ∷ calls) c = posts-keep P h ((postCall g k b) .group) calls (h g k b c)
+posts-keep P h g (post x ∷ calls) c = posts-keep P h ((postCall g x) .group) calls (h g x c)
 posts-keep P h g (round masks ∷ calls) c = c
 
 pub posts-same : (g : List Station) (calls : List Call) (i : ℕ) → SameButWaiting (stationAt g i) (stationAt (afterPosts g calls) i)
 posts-same g calls i =
     posts-keep
     (λ (x : List Station). SameButWaiting (stationAt g i) (stationAt x i))
-    (λ x k b c. same-trans (stationAt g i) (stationAt x i) (stationAt ((postCall x k b) .group) i) c (post-same x k b i))
+    (λ h x c. same-trans (stationAt g i) (stationAt h i) (stationAt ((postCall h x) .group) i) c (post-same h x i))
     g
     calls
     (same-refl (stationAt g i))
 
 pub length-posts : (g : List Station) (calls : List Call) → length (afterPosts g calls) ≡ length g
 length-posts g calls =
-    posts-keep (λ (x : List Station). length x ≡ length g) (λ x k b c. length-post x k b ∙ c) g calls refl
+    posts-keep (λ (x : List Station). length x ≡ length g) (λ h x c. length-post h x ∙ c) g calls refl
 
-pub group-first : (n : ℕ) (calls : List Call) → groupAfter n calls 0 ≡ freshGroup n
+pub group-first : (setup : Setup) (calls : List Call) → groupAfter setup calls 0 ≡ freshGroup setup
 unfolding groupAfter
-group-first n calls = refl
+group-first setup calls = refl
 
-pub group-step : (n : ℕ) (calls : List Call) (u : ℕ)
-    → groupAfter n calls (suc u) ≡ afterRound (afterPosts (groupAfter n calls u) (callsAfter calls u)) (masksOf calls (suc u))
+pub group-step : (setup : Setup) (calls : List Call) (u : ℕ)
+    → groupAfter setup calls (suc u) ≡ afterRound (afterPosts (groupAfter setup calls u) (callsAfter calls u)) (masksOf calls (suc u))
 unfolding groupAfter
-group-step n calls u = refl
+group-step setup calls u = refl
 
 -- the run of a list of calls
-abbrev pub runOf : (n : ℕ) → 1 ≤ n → n ≤ 16 → List Call → Run
-runOf n low high calls =
+abbrev pub runOf : (setup : Setup) → Accepts setup → List Call → Run
+runOf setup ok calls =
     record {
-      n = n;
-      low = low;
-      high = high;
+      setup = setup;
+      n = setup .n;
+      given = refl;
+      low = ok .low;
+      high = ok .high;
       masks = masksOf calls;
-      after = groupAfter n calls;
-      ready = λ u. afterPosts (groupAfter n calls u) (callsAfter calls u);
-      first = group-first n calls;
-      length-ready = λ u. length-posts (groupAfter n calls u) (callsAfter calls u);
-      posts = λ u k. posts-same (groupAfter n calls u) (callsAfter calls u) k;
-      step = λ u. group-step n calls u;
+      after = groupAfter setup calls;
+      ready = λ u. afterPosts (groupAfter setup calls u) (callsAfter calls u);
+      first = group-first setup calls;
+      length-ready = λ u. length-posts (groupAfter setup calls u) (callsAfter calls u);
+      posts = λ u k. posts-same (groupAfter setup calls u) (callsAfter calls u) k;
+      step = λ u. group-step setup calls u;
     }

@@ -1,18 +1,21 @@
 -- Demand 3, whole. The run of a list of calls stays inside its limits round by round, since its counts are bounded and no lane overflows; so none of its rounds is
 -- refused, the history of the list is that run, and each sentence is one of the facts about runs.
 use Prim.Native.Nat.{ℕ, zero, suc, _*_, _-_, _≤_, _<_}
-use mathlib.Core.Bool.{Bool, true, false}
+use mathlib.Core.Bool.{true}
 use mathlib.Core.List.{List}
 use mathlib.Core.Path.{_≡_, ap, _∙_}
 use native.Mathlib.Omega.{arith}
-use lib.ListN.{getD, length}
-use Rattle.frame_rules.specs.declared.Record.{Record}
-use Rattle.frame_rules.specs.Record.{noRecord}
-use Rattle.station_rules.specs.State.{heldOf, recordOf}
+use lib.ListN.{length}
+use Rattle.kinds.specs.Refusals.{done}
+use Rattle.station_rules.specs.declared.Setup.{Setup}
+use Rattle.station_rules.specs.State.{Cell, heldOf, recordOf}
+use Rattle.station_rules.proofs.Setters.{SameButWaiting}
 use Rattle.group_rules.specs.State.{stationAt}
+use Rattle.group_rules.specs.Calls.{groupFreshRefusal}
 use Rattle.group_rules.specs.History.{History, Call, historyOf}
 use Rattle.group_rules.specs.Demand.{Demand, DemandThree}
-use Rattle.group_rules.proofs.Run.{Run, SameButWaiting}
+use Rattle.group_rules.proofs.Setups.{Accepts, accepts}
+use Rattle.group_rules.proofs.Run.{Run}
 use Rattle.group_rules.proofs.Simulation as simulation
 use Rattle.group_rules.proofs.Members.{Members, members-inside, fresh-members}
 use Rattle.group_rules.proofs.MembersPost.{post-members}
@@ -20,19 +23,25 @@ use Rattle.group_rules.proofs.MembersRound.{Runs, after-members}
 use Rattle.group_rules.proofs.Lanes.{never-overfull}
 use Rattle.group_rules.proofs.CallRun.{runOf, callsAfter, groupAfter, group-first, group-step, posts-keep}
 use Rattle.group_rules.proofs.HistoryRun.{Unrefused, history-group}
-use Rattle.group_rules.proofs.PostsAccounted.{posts-accounted, posts-counted}
+use Rattle.group_rules.proofs.PostsAccounted.{posts-started, starts-aired, starts-reported, posts-accounted, posts-counted}
 use Rattle.group_rules.proofs.HistoryInside.{lanes-bounded}
 use Rattle.group_rules.proofs.FromRun as from-run
 
-module _ (n : ℕ) (low : 1 ≤ n) (high : n ≤ 16) (calls : List Call) where
+module _ (setup : Setup) (accepted : groupFreshRefusal setup ≡ done) (calls : List Call) where
+  abbrev n : ℕ
+  n = setup .n
+
+  abbrev ok : Accepts setup
+  ok = accepts setup accepted
+
   abbrev R : Run
-  R = runOf n low high calls
+  R = runOf setup ok calls
 
   abbrev H : History
-  H = historyOf n calls
+  H = historyOf setup calls
 
-  ready-members : (u : ℕ) → Members n (groupAfter n calls u) → Members n (R .ready u)
-  ready-members u c = posts-keep (Members n) (λ g k b m. post-members n g m k b) (groupAfter n calls u) (callsAfter calls u) c
+  ready-members : (u : ℕ) → Members n (groupAfter setup calls u) → Members n (R .ready u)
+  ready-members u c = posts-keep (Members n) (λ g x m. post-members n g m x) (groupAfter setup calls u) (callsAfter calls u) c
 
   round-runs : (u : ℕ) → Members n (R .ready u) → Runs (R .ready u) (R .masks (suc u))
   round-runs u c =
@@ -43,11 +52,11 @@ module _ (n : ℕ) (low : 1 ≤ n) (high : n ≤ 16) (calls : List Call) where
       }
 
   -- the group is inside its limits after every round
-  after-rounds : (u : ℕ) → Members n (groupAfter n calls u)
-  after-rounds zero = rw (group-first n calls) (fresh-members n high low)
+  after-rounds : (u : ℕ) → Members n (groupAfter setup calls u)
+  after-rounds zero = rw (group-first setup calls) (fresh-members setup (ok .high) (ok .low))
   after-rounds (suc u) =
       let c = ready-members u (after-rounds u) in
-      rw (group-step n calls u) (after-members n (R .ready u) c (R .masks (suc u)) (round-runs u c))
+      rw (group-step setup calls u) (after-members n (R .ready u) c (R .masks (suc u)) (round-runs u c))
 
   -- no round of the run is refused
   pub free : Unrefused R
@@ -58,7 +67,7 @@ module _ (n : ℕ) (low : 1 ≤ n) (high : n ≤ 16) (calls : List Call) where
 
   -- a station of the group that the list leaves is one after a round, its waiting edits apart
   left : (p : ℕ) → SameButWaiting (stationAt (R .after (length (H .rounds))) p) (stationAt (H .group) p)
-  left p = rw (history-group n low high calls free) (R .posts (length (H .rounds)) p)
+  left p = rw (history-group setup ok calls free) (R .posts (length (H .rounds)) p)
 
   own-count : (p : ℕ) → p < n → stationAt (H .group) p .count ≤ 2 * (n - 1)
   own-count p l = omega (arith, left p .count, simulation.count-bounded R (length (H .rounds)) p l)
@@ -68,25 +77,28 @@ module _ (n : ℕ) (low : 1 ≤ n) (high : n ≤ 16) (calls : List Call) where
       recordOf (stationAt (H .group) p) s .count ≤ 2 * (n - 1)
   held-count p s lp ls h =
       let last = length (H .rounds) in
-      let held : heldOf (stationAt (R .after last) p) s ≡ true = ap (λ (t : List Bool). getD t s false) (left p .held) ∙ h in
+      let held : heldOf (stationAt (R .after last) p) s ≡ true = ap (λ (c : Cell). c .held) (left p .cells s) ∙ h in
       omega (
         arith,
-        ap (λ (t : List Record). getD t s noRecord .count) (left p .table),
+        ap (λ (c : Cell). c .entry .count) (left p .cells s),
         simulation.held-count-bounded R last p lp s ls held,
       )
 
   demand : Demand n H
   demand =
       record {
-        taken-begins-started = from-run.taken-begins-started n low high calls free;
-        aired-lists-agree = from-run.aired-lists-agree n low high calls free;
-        no-round-refused = from-run.no-round-refused n low high calls free;
+        taken-begins-started = from-run.taken-begins-started setup ok calls free;
+        aired-lists-agree = from-run.aired-lists-agree setup ok calls free;
+        no-round-refused = from-run.no-round-refused setup ok calls free;
         own-count-bounded = own-count;
         held-count-bounded = held-count;
-        lanes-bounded = lanes-bounded n low high calls;
-        posts-accounted = posts-accounted n low high calls;
-        posts-counted = posts-counted n low high calls;
-        ends-exactly = from-run.ends-exactly n low high calls free;
+        lanes-bounded = lanes-bounded setup ok calls;
+        posts-started = posts-started setup ok calls;
+        starts-aired = starts-aired setup ok calls;
+        starts-reported = starts-reported setup ok calls;
+        posts-accounted = posts-accounted setup ok calls;
+        posts-counted = posts-counted setup ok calls;
+        ends-exactly = from-run.ends-exactly setup ok calls free;
       }
 
 pub demand-three : DemandThree

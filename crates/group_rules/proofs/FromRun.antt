@@ -13,12 +13,14 @@ use Rattle.links.specs.EndRule.{EndsIn}
 use Rattle.links.proofs.EndRule.{ends-rule}
 use Rattle.places.specs.Places.{anyBelow}
 use Rattle.places.proofs.Laws.{anyBelow-none}
+use Rattle.station_rules.specs.declared.Setup.{Setup}
 use Rattle.station_rules.specs.Calls.{ownCountInside}
 use Rattle.group_rules.specs.declared.RoundDone.{RoundDone}
 use Rattle.group_rules.specs.State.{stationAt, sizeOf, groupInside}
 use Rattle.group_rules.specs.Calls.{heard, roundRefusal}
 use Rattle.group_rules.specs.History.{History, Call, historyOf, noRound, started, takenFrom, airedList, endsAt, startedIn}
 use Rattle.group_rules.specs.Demand.{Begins}
+use Rattle.group_rules.proofs.Setups.{Accepts}
 use Rattle.group_rules.proofs.Run.{Run, linksOf}
 use Rattle.group_rules.proofs.Simulation.{ready-formed}
 use Rattle.group_rules.proofs.Taken as taken
@@ -44,18 +46,21 @@ unrefused R inside fits u =
     anyBelow-none (sizeOf g) (λ i. (heard g masks i) .overfull) (λ i l. never-overfull R u i (omega arith)) in
     rw (inside u, a, b)
 
-module _ (n : ℕ) (low : 1 ≤ n) (high : n ≤ 16) (calls : List Call) (free : Unrefused (runOf n low high calls)) where
+module _ (setup : Setup) (ok : Accepts setup) (calls : List Call) (free : Unrefused (runOf setup ok calls)) where
+  abbrev n : ℕ
+  n = setup .n
+
   abbrev R : Run
-  R = runOf n low high calls
+  R = runOf setup ok calls
 
   abbrev H : History
-  H = historyOf n calls
+  H = historyOf setup calls
 
   abbrev last : ℕ
   last = length (H .rounds)
 
   same : H .rounds ≡ roundsBy R last
-  same = history-rounds n low high calls free
+  same = history-rounds setup ok calls free
 
   pub taken-begins-started : (p s : ℕ) → p < n → s < n → Begins (takenFrom H p s) (started H s)
   taken-begins-started p s lp ls =
@@ -81,4 +86,4 @@ module _ (n : ℕ) (low : 1 ≤ n) (high : n ≤ 16) (calls : List Call) (free :
   ends-exactly s u ls l =
       let e = ends-list R H last same s u ls l in
       let b = starts-list R H last same s u ls (omega arith) in
-      rw (e, b, history-links n low high calls free) (ends-rule (linksOf R) u s)
+      rw (e, b, history-links setup ok calls free) (ends-rule (linksOf R) u s)

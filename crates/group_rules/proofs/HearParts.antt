@@ -3,14 +3,13 @@
 use Prim.Native.Nat.{ℕ, suc, _+_, _%_, _≤_, _<_}
 use mathlib.Core.Bool.{Bool, true, false, cond, not, _&&_, _||_, or-true}
 use mathlib.Core.List.{List, [], _∷_, _++_, append-nil}
-use mathlib.Core.Path.{_≡_, sym, ap, _∙_, subst}
+use mathlib.Core.Path.{_≡_, sym, ap, _∙_}
 use native.Mathlib.Decide.{ℕ-discrete}
 use native.Mathlib.Omega.{arith}
 use borrow.Author.Tests.{lt-ltb, le-ltb, eq-eqb, ne-eqb}
-use lib.ListN.{length}
 use lib.Dec.{ltb, eqb}
 use Rattle.kinds.specs.declared.Body.{Body}
-use Rattle.kinds.specs.Body.{kindOf}
+use Rattle.kinds.specs.Body.{isEmpty}
 use Rattle.labels.specs.Label.{successor}
 use Rattle.links.specs.Relay.{Links}
 use Rattle.links.specs.Number.{numOf, got}
@@ -19,11 +18,13 @@ use Rattle.lanes.specs.declared.Lane.{Lane}
 use Rattle.places.proofs.Laws.{cond-not}
 use Rattle.station_rules.specs.declared.Station.{Station}
 use Rattle.lanes.specs.Lane.{pushed}
+use Rattle.station_rules.specs.State.{recordOf}
 use Rattle.station_rules.specs.Hearing.{raised, replaced, heardNewer}
 use Rattle.station_rules.proofs.Cells
+use Rattle.station_rules.proofs.Setters.{Shaped}
 use Rattle.station_rules.proofs.Shape.{heardNewer-shaped}
 use Rattle.group_rules.proofs.Run.{Run, linksOf}
-use Rattle.group_rules.proofs.Version.{Stands, Cell, Caught, shown, caught-same}
+use Rattle.group_rules.proofs.Version.{Stands, Caught, shown, caught-same}
 use Rattle.group_rules.proofs.Standing.{Formed}
 
 -- an acknowledgement at most two behind, read modulo 3, is one of this very broadcast; and one that was there is still one
@@ -45,18 +46,6 @@ raised-step false c t l e = sym e
 module _ (R : Run) where
   abbrev L : Links
   L = linksOf R
-
-  -- the same values, the same cell
-  pub cell-move :
-      {u p q v : ℕ} {held held′ acked acked′ : Bool} {label label′ : ℕ} {r r′ : Record} → held′ ≡ held → acked′ ≡ acked → label′ ≡ label →
-      r′ ≡ r → Cell R u p q v held acked label r → Cell R u p q v held′ acked′ label′ r′
-  cell-move {q = q} a b c d x =
-      record {
-        is-held = a ∙ x .is-held;
-        is-acked = b ∙ x .is-acked;
-        is-label = c ∙ x .is-label;
-        stands = λ w e. subst (λ i. Stands R i q w) (sym d) (x .stands w e);
-      }
 
   pub caught-move :
       {u p q v : ℕ} {before lane lane′ : Lane} {taken taken′ : List Body} → lane′ ≡ lane → taken′ ≡ taken →
@@ -82,8 +71,8 @@ module _ (R : Run) where
       numOf L k (suc w) ≡ cond b (suc (numOf L k v)) (numOf L k v) →
       got L u p k ≤ numOf L k v → numOf L k (suc w) ≤ got L u p k + 1 →
       body ≡ shown R k (suc w) → Caught R u p k v before lane taken →
-      Caught R u p k (suc w) before (cond (b && not (eqb (kindOf body) 0)) (pushed lane body) lane)
-      (taken ++ cond (b && not (eqb (kindOf body) 0)) (body ∷ []) [])
+      Caught R u p k (suc w) before (cond (b && not (isEmpty body)) (pushed lane body) lane)
+      (taken ++ cond (b && not (isEmpty body)) (body ∷ []) [])
   caught-step u p k v w true body before lane taken e low high f c =
       let still = not-risen u p k v w e high in
       let up = risen u p k v w e low in
@@ -91,21 +80,23 @@ module _ (R : Run) where
       let y : taken ≡ [] = c .taken-now ∙ rw still in
       record {
         lane-now = rw (up, x, f);
-        taken-now = rw (up, y, f) (cond-not (eqb (kindOf (shown R k (suc w))) 0) (shown R k (suc w) ∷ []) []);
+        taken-now = rw (up, y, f) (cond-not (isEmpty (shown R k (suc w))) (shown R k (suc w) ∷ []) []);
       }
   caught-step u p k v w false body before lane taken e low high f c =
       let d = caught-same R u p k v (suc w) before lane taken (sym e) c in
       record { lane-now = d .lane-now; taken-now = append-nil taken ∙ d .taken-now }
 
   pub stands-replaced :
-      (n : ℕ) (old r : Record) (k w : ℕ) → n ≡ R .n → length (old .labels) ≡ 16 → Stands R r k w → Stands R (replaced n old r) k w
-  stands-replaced n old r k w e l t =
+      (s : Station) (r : Record) (w : ℕ) → s .n ≡ R .n → Shaped s → r .station < R .n → Stands R r (r .station) w →
+      Stands R (replaced (s .n) (recordOf s (r .station)) r) (r .station) w
+  stands-replaced s r w e shape l t =
       let high = R .high in
+      let old = recordOf s (r .station) in
       record {
-        station = Cells.replaced-station n old r ∙ t .station;
-        count = Cells.replaced-count n old r ∙ t .count;
-        body = Cells.replaced-body n old r ∙ t .body;
-        labels = λ i b. Cells.replaced-label n old r i (omega arith) (omega arith) ∙ t .labels i b;
+        station = Cells.replaced-station (s .n) old r ∙ t .station;
+        count = Cells.replaced-count (s .n) old r ∙ t .count;
+        body = Cells.replaced-body (s .n) old r ∙ t .body;
+        labels = λ i b. Cells.heard-label s r shape (omega arith) (omega arith) i (omega arith) ∙ t .labels i b;
       }
 
   pub formed-heard : (p : ℕ) (s : Station) (r : Record) → r .station < R .n → Formed R p s → Formed R p (heardNewer s r)

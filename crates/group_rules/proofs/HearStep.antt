@@ -10,7 +10,7 @@ use native.Mathlib.Omega.{arith}
 use borrow.Author.Tests.{lt-ltb}
 use lib.Dec.{leb, eqb}
 use Rattle.kinds.specs.declared.Body.{Body}
-use Rattle.kinds.specs.Body.{kindOf}
+use Rattle.kinds.specs.Body.{isEmpty}
 use Rattle.labels.specs.Label.{successor}
 use Rattle.links.specs.Relay.{Links}
 use Rattle.links.specs.Clock.{news}
@@ -27,16 +27,16 @@ use Rattle.places.proofs.Laws.{anyBelow-ext, anyBelow-add}
 use Rattle.station_rules.specs.declared.Station.{Station}
 use Rattle.station_rules.specs.declared.Taking.{Taking}
 use Rattle.lanes.specs.Lane.{pushed}
-use Rattle.station_rules.specs.State.{labelOf, ackedOf, recordOf, laneAt, recordLabel}
+use Rattle.station_rules.specs.State.{Cell, labelOf, ackedOf, recordOf, laneAt, recordLabel}
 use Rattle.station_rules.specs.Hearing.{Hearing, heeds, advances, takes, raised, heardNewer, hearRecord}
 use Rattle.station_rules.proofs.HearRecord.{heardOne, hearRecord-skips, hearRecord-heeds}
 use Rattle.station_rules.proofs.Cells
 use Rattle.group_rules.specs.History.{takingsOf}
 use Rattle.group_rules.proofs.Run.{Run, linksOf}
-use Rattle.group_rules.proofs.Version.{Stands, CellAt, Caught, Alike, gains, shown-same}
+use Rattle.group_rules.proofs.Version.{Stands, CellStands, CellAt, Caught, Alike, gains, shown-same}
 use Rattle.group_rules.proofs.Outcome.{Outcome, skipped, renewed, advanced, outcome}
 use Rattle.group_rules.proofs.Standing.{Standing, standing-alike, standing-count}
-use Rattle.group_rules.proofs.HearParts.{acked-mod, label-step, raised-step, cell-move, caught-move, not-risen, risen, lane-before, caught-step, stands-replaced, formed-heard}
+use Rattle.group_rules.proofs.HearParts.{acked-mod, label-step, raised-step, caught-move, not-risen, risen, lane-before, caught-step, stands-replaced, formed-heard}
 use Rattle.group_rules.proofs.Takings.{takingsOf-append, taking-other, taking-here}
 
 module _ (R : Run) where
@@ -68,8 +68,8 @@ module _ (R : Run) where
         within-round : suc w ≤ suc u
         within-round = omega (arith, news-limit L u j k)
 
-        takes-is : takes s r ≡ (b && not (eqb (kindOf (r .body)) 0))
-        takes-is = ap (λ (x : Bool). x && not (eqb (kindOf (r .body)) 0)) adv
+        takes-is : takes s r ≡ (b && not (isEmpty (r .body)))
+        takes-is = ap (λ (x : Bool). x && not (isEmpty (r .body))) adv
 
         had : got L u p k ≤ numOf L k (vs k)
         had =
@@ -103,20 +103,19 @@ module _ (R : Run) where
         cell-here =
             let f = c .formed in
             let high = R .high in
+            let e = Cells.heard-here s r (f .shape) (omega arith) in
             record {
-              is-held = Cells.held-here s r (omega (arith, f .shape .held)) ∙ sym (lt-ltb 0 (suc w) (omega arith));
-              is-acked = Cells.acked-here s r (omega (arith, f .shape .acked)) ∙ ack;
+              is-held = ap (λ (x : Cell). x .held) e ∙ sym (lt-ltb 0 (suc w) (omega arith));
+              is-acked = ap (λ (x : Cell). x .acked) e ∙ ack;
               is-label =
-                  Cells.label-here s r (omega (arith, f .shape .labels))
+                  ap (λ (x : Cell). x .label) e
                   ∙ ap (λ (x : Bool). cond x (successor (labelOf s k)) (labelOf s k)) adv
                   ∙ label-step b (labelOf s k) (numOf L k (vs k))
                   (numOf L k (suc w)) (c .cells k lk .is-label) number;
               stands =
-                  λ x e.
-                  subst (λ i. Stands R (recordOf s′ k) k i) (omega (arith, e))
-                  (subst (λ i. Stands R i k w) (sym (Cells.record-here s r (omega (arith, f .shape .table))))
-                  (stands-replaced R (s .n) (recordOf s k) r k w (f .size)
-                  (f .shape .record-labels k (omega arith)) t));
+                  λ x z.
+                  subst (λ i. Stands R (recordOf s′ k) k i) (omega (arith, z))
+                  (subst (λ (y : Cell). Stands R (y .entry) k w) (sym e) (stands-replaced R s r w (f .size) (f .shape) lk t));
             }
 
         cells-after :
@@ -128,10 +127,8 @@ module _ (R : Run) where
             (subst (λ v. CellAt R u p k v s′)
             (sym here) cell-here)
         cells-after q l (no d) =
-            cell-move R (Cells.held-other s r q d) (Cells.acked-other s r q d) (Cells.label-other s r q d)
-            (Cells.record-other s r q d)
-            (subst (λ v. CellAt R u p q v s)
-            (sym (rest q d)) (c .cells q l))
+            subst (λ (x : Cell). CellStands R u p q (vs′ q) x) (sym (Cells.heard-other s r q d))
+            (subst (λ v. CellAt R u p q v s) (sym (rest q d)) (c .cells q l))
 
         caught-after :
             (q : ℕ) → q < R .n → Dec (q ≡ k) →
@@ -146,7 +143,7 @@ module _ (R : Run) where
             (takingsOf k (h .takings ++ taking)))
             (sym here)
             (caught-move R
-            (Cells.lane-here s r (omega (arith, c .formed .shape .lanes))
+            (ap (λ (x : Cell). x .lane) (Cells.heard-here s r (c .formed .shape) (omega arith))
             ∙ ap
             (λ (x : Bool). cond x (pushed (laneAt s k) (r .body)) (laneAt s k))
             takes-is)
@@ -156,7 +153,7 @@ module _ (R : Run) where
             (caught-step R u p k (vs k) w b (r .body) (laneAt first k) (laneAt s k)
             (takingsOf k (h .takings)) number had near (t .body) (c .caught k lk))))
         caught-after q l (no d) =
-            caught-move R (Cells.lane-other s r q d)
+            caught-move R (ap (λ (x : Cell). x .lane) (Cells.heard-other s r q d))
             (takingsOf-append q (h .takings) taking
             ∙ ap (λ (x : List Body). takingsOf q (h .takings) ++ x) (taking-other q k (takes s r) (r .body) (λ e. d (sym e)))
             ∙ append-nil (takingsOf q (h .takings)))

@@ -6,17 +6,19 @@ use mathlib.Core.List.{List, [], _∷_}
 use mathlib.Core.Path.{_≡_}
 use native.Mathlib.Omega.{arith}
 use lib.Dec.{eqb}
+use Rattle.station_rules.specs.declared.Setup.{Setup}
 use Rattle.station_rules.specs.State.{laneAt}
 use Rattle.station_rules.proofs.LimitsLane.{lane-most}
 use Rattle.group_rules.specs.State.{stationAt, groupInside}
 use Rattle.group_rules.specs.History.{History, Call, Call.post, Call.round, next, begun, continued, historyOf}
+use Rattle.group_rules.proofs.Setups.{Accepts}
 use Rattle.group_rules.proofs.Members.{Members, members-inside, fresh-members}
 use Rattle.group_rules.proofs.MembersPost.{post-members}
 use Rattle.group_rules.proofs.MembersRound.{round-members}
 
 pub members-next : (n : ℕ) (H : History) (call : Call) → Members n (H .group) → Members n ((next H call) .group)
 unfolding next
-members-next n H (post k b) c = post-members n (H .group) c k b
+members-next n H (post x) c = post-members n (H .group) c x
 members-next n H (round masks) c = round-members n (H .group) c masks
 
 members-continued : (n : ℕ) (H : History) (calls : List Call) → Members n (H .group) → Members n ((continued H calls) .group)
@@ -24,22 +26,25 @@ unfolding continued
 members-continued n H [] c = c
 members-continued n H (call ∷ calls) c = members-continued n (next H call) calls (members-next n H call c)
 
-pub members-begun : (n : ℕ) → 1 ≤ n → n ≤ 16 → Members n ((begun n) .group)
+pub members-begun : (setup : Setup) → Accepts setup → Members (setup .n) ((begun setup) .group)
 unfolding begun
-members-begun n low high = fresh-members n high low
+members-begun setup ok = fresh-members setup (ok .high) (ok .low)
 
-module _ (n : ℕ) (low : 1 ≤ n) (high : n ≤ 16) (calls : List Call) where
-  pub history-members : Members n ((historyOf n calls) .group)
-  history-members = members-continued n (begun n) calls (members-begun n low high)
+module _ (setup : Setup) (ok : Accepts setup) (calls : List Call) where
+  abbrev n : ℕ
+  n = setup .n
 
-  pub history-inside : groupInside ((historyOf n calls) .group) ≡ true
-  history-inside = members-inside n ((historyOf n calls) .group) history-members
+  pub history-members : Members n ((historyOf setup calls) .group)
+  history-members = members-continued n (begun setup) calls (members-begun setup ok)
+
+  pub history-inside : groupInside ((historyOf setup calls) .group) ≡ true
+  history-inside = members-inside n ((historyOf setup calls) .group) history-members
 
   -- no lane above two
-  pub lanes-bounded : (p s : ℕ) → p < n → s < n → (laneAt (stationAt ((historyOf n calls) .group) p) s) .len ≤ 2
+  pub lanes-bounded : (p s : ℕ) → p < n → s < n → (laneAt (stationAt ((historyOf setup calls) .group) p) s) .len ≤ 2
   lanes-bounded p s l m =
       let member = history-members .member p l in
-      let station = stationAt ((historyOf n calls) .group) p in
+      let station = stationAt ((historyOf setup calls) .group) p in
       go (eqb s (station .own))
       (lane-most (cond (eqb s (station .own)) 1 2) (laneAt station s) (member .inside .places s (omega (arith, member .size)) .lane))
     where

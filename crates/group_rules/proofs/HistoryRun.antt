@@ -8,17 +8,19 @@ use native.Mathlib.Nat.{zero-add, suc-add}
 use native.Mathlib.Omega.{arith}
 use lib.ListN.{length, getD, replicate, length-append, List·getD-append, List·getD-eq-default}
 use lib.Seq.{getD-at}
-use Rattle.kinds.specs.declared.Body.{Body}
 use Rattle.kinds.specs.Refusals.{done}
 use Rattle.links.specs.Log.{masksIn}
 use Rattle.links.specs.Relay.{ofMasks, ofLog}
 use Rattle.places.specs.Places.{fill}
 use Rattle.places.proofs.Laws.{fill-below}
+use Rattle.station_rules.specs.declared.Setup.{Setup}
 use Rattle.station_rules.specs.declared.Station.{Station}
 use Rattle.group_rules.specs.declared.RoundDone.{RoundDone}
+use Rattle.group_rules.specs.declared.Post.{Post}
 use Rattle.group_rules.specs.State.{sizeOf}
 use Rattle.group_rules.specs.Calls.{noReport, reportOf, roundRefusal, roundCall}
 use Rattle.group_rules.specs.History.{History, Call, post, round, next, begun, continued, historyOf, noRound, reportIn}
+use Rattle.group_rules.proofs.Setups.{Accepts}
 use Rattle.group_rules.proofs.Run.{Run, linksOf}
 use Rattle.group_rules.proofs.Simulation.{ready-formed}
 use Rattle.group_rules.proofs.CallRun.{afterPosts, nextMasks, afterNext, callsAfter, masksOf, groupAfter, runOf}
@@ -86,9 +88,12 @@ module _ (R : Run) where
 abbrev pub Unrefused : Run → Type 0
 Unrefused R = (u : ℕ) → roundRefusal (R .ready u) (R .masks (suc u)) ≡ done
 
-module _ (n : ℕ) (low : 1 ≤ n) (high : n ≤ 16) (calls : List Call) (free : Unrefused (runOf n low high calls)) where
+module _ (setup : Setup) (ok : Accepts setup) (calls : List Call) (free : Unrefused (runOf setup ok calls)) where
+  abbrev n : ℕ
+  n = setup .n
+
   abbrev R : Run
-  R = runOf n low high calls
+  R = runOf setup ok calls
 
   -- u rounds are done, and these calls are still to come
   record Tied (u : ℕ) (H : History) (ahead : List Call) : Type 0 where
@@ -98,13 +103,13 @@ module _ (n : ℕ) (low : 1 ≤ n) (high : n ≤ 16) (calls : List Call) (free :
     rest : afterNext ahead ≡ callsAfter calls (suc u)
     masks : nextMasks ahead ≡ R .masks (suc u)
 
-  tied-first : Tied 0 (begun n) calls
+  tied-first : Tied 0 (begun setup) calls
   unfolding begun roundsBy logBy groupAfter callsAfter masksOf
   tied-first = record { rounds = refl; log = refl; group = refl; rest = refl; masks = refl }
 
-  tied-post : (u : ℕ) (H : History) (k : ℕ) (b : Body) (ahead : List Call) → Tied u H (post k b ∷ ahead) → Tied u (next H (post k b)) ahead
+  tied-post : (u : ℕ) (H : History) (x : Post) (ahead : List Call) → Tied u H (post x ∷ ahead) → Tied u (next H (post x)) ahead
   unfolding next afterPosts afterNext nextMasks
-  tied-post u H k b ahead t = record { rounds = t .rounds; log = t .log; group = t .group; rest = t .rest; masks = t .masks }
+  tied-post u H x ahead t = record { rounds = t .rounds; log = t .log; group = t .group; rest = t .rest; masks = t .masks }
 
   -- the next calls and masks of the run
   calls-step : (u : ℕ) → callsAfter calls (suc (suc u)) ≡ afterNext (callsAfter calls (suc u))
@@ -120,16 +125,17 @@ module _ (n : ℕ) (low : 1 ≤ n) (high : n ≤ 16) (calls : List Call) (free :
   unfolding afterPosts afterNext nextMasks
   round-parts g masks ahead = (refl, refl, refl)
 
-  round-next : (H : History) (masks : List ℕ)
-      → next H (round masks)
-      ≡ record {
-        group = (roundCall (H .group) masks) .group;
-        rounds = H .rounds ++ (roundCall (H .group) masks ∷ []);
-        log = H .log ++ (masks ∷ []);
-        accepted = H .accepted;
-      }
+  next-group : (H : History) (masks : List ℕ) → (next H (round masks)) .group ≡ (roundCall (H .group) masks) .group
   unfolding next
-  round-next H masks = refl
+  next-group H masks = refl
+
+  next-rounds : (H : History) (masks : List ℕ) → (next H (round masks)) .rounds ≡ H .rounds ++ (roundCall (H .group) masks ∷ [])
+  unfolding next
+  next-rounds H masks = refl
+
+  next-log : (H : History) (masks : List ℕ) → (next H (round masks)) .log ≡ H .log ++ (masks ∷ [])
+  unfolding next
+  next-log H masks = refl
 
   rounds-step : (u : ℕ) → roundsBy R (suc u) ≡ roundsBy R u ++ (roundIn R u ∷ [])
   unfolding roundsBy
@@ -150,27 +156,26 @@ module _ (n : ℕ) (low : 1 ≤ n) (high : n ≤ 16) (calls : List Call) (free :
       let m : masks ≡ R .masks (suc u) = sym (parts .2) ∙ t .masks in
       let c : ahead ≡ callsAfter calls (suc u) = sym (parts .1) ∙ t .rest in
       let e : roundCall (H .group) masks ≡ roundIn R u = ap₂ roundCall g m ∙ round-call R u (free u) in
-      rw (round-next H masks)
-      (record {
-        rounds = ap₂ (λ (l : List RoundDone) (r : RoundDone). l ++ (r ∷ [])) (t .rounds) e ∙ sym (rounds-step u);
-        log = ap₂ (λ (l : List (List ℕ)) (r : List ℕ). l ++ (r ∷ [])) (t .log) m ∙ sym (log-step u);
-        group = ap₂ afterPosts (ap (λ (r : RoundDone). r .group) e ∙ roundIn-group u) c;
+      record {
+        rounds = next-rounds H masks ∙ ap₂ (λ (l : List RoundDone) (r : RoundDone). l ++ (r ∷ [])) (t .rounds) e ∙ sym (rounds-step u);
+        log = next-log H masks ∙ ap₂ (λ (l : List (List ℕ)) (r : List ℕ). l ++ (r ∷ [])) (t .log) m ∙ sym (log-step u);
+        group = ap₂ afterPosts (next-group H masks ∙ ap (λ (r : RoundDone). r .group) e ∙ roundIn-group u) c;
         rest = ap afterNext c ∙ sym (calls-step u);
         masks = ap nextMasks c ∙ sym (masks-step u);
-      })
+      }
 
   tied-last : (u : ℕ) (H : History) (ahead : List Call) → Tied u H ahead → (v : ℕ) × Tied v (continued H ahead) []
   unfolding continued
   tied-last u H [] t = (u, t)
-  tied-last u H (post k b ∷ ahead) t = tied-last u (next H (post k b)) ahead (tied-post u H k b ahead t)
+  tied-last u H (post x ∷ ahead) t = tied-last u (next H (post x)) ahead (tied-post u H x ahead t)
   tied-last u H (round masks ∷ ahead) t = tied-last (suc u) (next H (round masks)) ahead (tied-round u H masks ahead t)
 
   abbrev H : History
-  H = historyOf n calls
+  H = historyOf setup calls
 
   tied : Tied (length (H .rounds)) H []
   tied =
-      let t = tied-last 0 (begun n) calls tied-first in
+      let t = tied-last 0 (begun setup) calls tied-first in
       let e : t .0 ≡ length (H .rounds) = sym (ap length (t .1 .rounds) ∙ length-rounds R (t .0)) in
       subst (λ (v : ℕ). Tied v H []) e (t .1)
 

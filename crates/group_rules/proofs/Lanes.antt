@@ -9,22 +9,25 @@ use native.Mathlib.Decide.{ℕ-discrete, decLe}
 use native.Mathlib.Omega.{arith}
 use borrow.Author.Tests.{lt-ltb, le-ltb, lt-leb, eqb-true}
 use lib.Dec.{eqb, ltb, leb}
-use lib.ListN.{length, getD, drop, length-drop, length-append, getD-replicate}
+use lib.ListN.{length, drop, length-drop, length-append}
 use lib.Seq.{drop-drop, drop-append-le}
 use Rattle.kinds.specs.declared.Body.{Body}
-use Rattle.kinds.specs.Body.{kindOf}
+use Rattle.kinds.specs.Body.{isEmpty}
 use Rattle.links.specs.Relay.{Links}
 use Rattle.links.specs.Clock.{news}
 use Rattle.links.proofs.Clock.{news-own, news-other, news-start}
 use Rattle.places.specs.Places.{allBelow}
-use Rattle.places.proofs.Laws.{allBelow-ext, anyBelow-none}
+use Rattle.places.proofs.Laws.{cond-not, allBelow-ext, anyBelow-none}
 use Rattle.lanes.specs.declared.Lane.{Lane}
+use Rattle.station_rules.specs.declared.Setup.{Setup}
 use Rattle.station_rules.specs.declared.Station.{Station}
 use Rattle.lanes.specs.Lane.{noLane, pushed, popped}
-use Rattle.station_rules.specs.State.{laneAt, freshStation}
-use Rattle.station_rules.specs.Turn.{airs, lanesAfter, mayStart, startedBody, afterTurn}
+use Rattle.station_rules.specs.State.{Cell, laneAt, freshStation}
+use Rattle.station_rules.specs.Turn.{airs, mayStart, startedBody, afterTurn}
+use Rattle.station_rules.proofs.Setters.{fresh-own, fresh-other}
+use Rattle.station_rules.proofs.TurnCells.{laneAfter, lane-after, turn-lane-own, turn-lane-other}
 use Rattle.lanes.proofs.LaneLaws.{Holds, holds-none, holds-pushed, holds-popped}
-use Rattle.station_rules.proofs.TurnParts.{airs-each, started-waits, report-aired, lanesAfter-at, lane-other, lane-own}
+use Rattle.station_rules.proofs.TurnParts.{airs-each, started-waits, report-aired}
 use Rattle.group_rules.specs.State.{stationAt}
 use Rattle.group_rules.specs.History.{unlessEmpty}
 use Rattle.group_rules.proofs.Run.{Run, linksOf, hearingIn, bodyAt, rises, comes}
@@ -60,9 +63,12 @@ ltb-sub a b =
       | no h ↦ le-ltb 0 (a - b) (omega arith) ∙ sym (le-ltb b a (omega arith))
     ]
 
-fresh-lane : (n p s : ℕ) → s < 16 → laneAt (freshStation n p) s ≡ noLane
-unfolding freshStation
-fresh-lane n p s l = getD-replicate 16 s noLane noLane l
+fresh-lane : (setup : Setup) (p s : ℕ) → p < 16 → s < 16 → laneAt (freshStation setup p) s ≡ noLane
+fresh-lane setup p s h l =
+    elim (ℕ-discrete s p) [
+      | yes e ↦ rw e (ap (λ (c : Cell). c .lane) (fresh-own setup p h))
+      | no d ↦ ap (λ (c : Cell). c .lane) (fresh-other setup p s l d)
+    ]
 
 module _ (R : Run) where
   abbrev L : Links
@@ -82,7 +88,7 @@ module _ (R : Run) where
   afterLane u p s = laneAt (stationAt (R .after u) p) s
 
   abbrev airedLane : ℕ → ℕ → ℕ → Lane
-  airedLane u p s = getD (lanesAfter ((hearingIn R u p) .station)) s noLane
+  airedLane u p s = laneAfter ((hearingIn R u p) .station) s
 
   -- all that is carried from round to round
   record Carried (u : ℕ) : Type 0 where
@@ -90,7 +96,7 @@ module _ (R : Run) where
     lanes : (p s : ℕ) → p < R .n → s < R .n → Holds (afterLane u p s) (drop (rowsBy R u p) (had u p s))
 
   ready-lane : (u p s : ℕ) → laneAt (stationAt (R .ready u) p) s ≡ afterLane u p s
-  ready-lane u p s = ap (λ (l : List Lane). getD l s noLane) (sym ((R .posts u p) .lanes))
+  ready-lane u p s = ap (λ (c : Cell). c .lane) (sym ((R .posts u p) .cells s))
 
   rowsBy-step : (u p : ℕ) → rowsBy R (suc u) p ≡ cond (airs ((hearingIn R u p) .station)) (suc (rowsBy R u p)) (rowsBy R u p)
   unfolding rowsBy
@@ -134,7 +140,7 @@ module _ (R : Run) where
           (had u p s)
           b
           (rises R u p s)
-          (eqb (kindOf b) 0)
+          (isEmpty b)
           (c .lanes p s lp ls)
           (omega (arith, len, ahead L (madeBy R) (rowsBy R) u (c .counting) u p s (omega arith) lp ls))
           (omega (arith, len, rows-limit L (madeBy R) (rowsBy R) u (c .counting) u p s (omega arith) lp ls)))
@@ -162,7 +168,7 @@ module _ (R : Run) where
   has-aired u p s lp ls c =
       let t = (hearingIn R u p) .station in
       let m = heard-standing R u p lp .formed in
-      rw (rowsBy-step u p, lanesAfter-at t s (omega (arith, m .size)) (omega (arith, m .shape .lanes, R .high)))
+      rw (rowsBy-step u p, lane-after t (m .shape) (omega (arith, m .size, R .high)) (omega (arith, m .size, m .own)) s (omega (arith, m .size)))
       (lowered (heardLane u p s) (rowsBy R u p) (hasHeard u p s) (airs t) (has-heard u p s lp ls c))
 
   -- of itself a station has, until it starts a body, what it had started
@@ -172,7 +178,7 @@ module _ (R : Run) where
       ap (λ (k : ℕ). startedAt R p k) v ∙ startedAt-some R p u
 
   -- the rules of counting in one round more
-  starts-low : (u p : ℕ) → p < R .n → Carried u → (eqb (kindOf (startedBody ((hearingIn R u p) .station))) 0) ≡ false
+  starts-low : (u p : ℕ) → p < R .n → Carried u → (isEmpty (startedBody ((hearingIn R u p) .station))) ≡ false
       → madeBy R u p ≤ rowsBy R (suc u) p
   starts-low u p lp c k = go (mayStart t) refl
     where
@@ -183,8 +189,8 @@ module _ (R : Run) where
       go true e =
           let h = has-aired u p p lp lp c in
           let z : (airedLane u p p) .len ≡ 0 =
-          ap (λ (k : ℕ). (getD (lanesAfter t) k noLane) .len) (sym (heard-standing R u p lp .formed .own))
-          ∙ eqb-true ((getD (lanesAfter t) (t .own) noLane) .len) 0 e in
+          ap (λ (k : ℕ). (laneAfter t k) .len) (sym (heard-standing R u p lp .formed .own))
+          ∙ eqb-true ((laneAfter t (t .own)) .len) 0 e in
           omega (
             arith,
             h .many,
@@ -193,23 +199,23 @@ module _ (R : Run) where
             ap length (own-heard u p),
           )
       go false e =
-          let z : true ≡ false = sym (ap (λ (b : Body). eqb (kindOf b) 0) (started-waits t e)) ∙ k in
+          let z : true ≡ false = sym (ap (λ (b : Body). isEmpty b) (started-waits t e)) ∙ k in
           absurd (true≢false z)
 
   one-more : (u p : ℕ) → p < R .n → Carried u
       → (madeBy R (suc u) p ≡ madeBy R u p) ⊎ ((madeBy R u p ≤ rowsBy R (suc u) p) × (madeBy R (suc u) p ≡ suc (madeBy R u p)))
-  one-more u p lp c = go (eqb (kindOf b) 0) refl
+  one-more u p lp c = go (isEmpty b) refl
     where
       b : Body
       b = startedBody ((hearingIn R u p) .station)
 
-      more : (z : Bool) → eqb (kindOf b) 0 ≡ z → madeBy R (suc u) p ≡ madeBy R u p + length (cond z [] (b ∷ []))
+      more : (z : Bool) → isEmpty b ≡ z → madeBy R (suc u) p ≡ madeBy R u p + length (cond z [] (b ∷ []))
       more z e =
           ap length (startedBy-step R u p)
           ∙ length-append (startedBy R u p) (unlessEmpty b)
           ∙ ap (λ (y : Bool). madeBy R u p + length (cond y [] (b ∷ []))) e
 
-      go : (z : Bool) → eqb (kindOf b) 0 ≡ z
+      go : (z : Bool) → isEmpty b ≡ z
           → (madeBy R (suc u) p ≡ madeBy R u p) ⊎ ((madeBy R u p ≤ rowsBy R (suc u) p) × (madeBy R (suc u) p ≡ suc (madeBy R u p)))
       go true e = inl (omega (arith, more true e))
       go false e = inr (starts-low u p lp c e, omega (arith, more false e))
@@ -243,6 +249,12 @@ module _ (R : Run) where
       m : Formed R p t
       m = heard-standing R u p lp .formed
 
+      few : t .n ≤ 16
+      few = omega (arith, m .size, R .high)
+
+      below : t .own < t .n
+      below = omega (arith, m .size, m .own)
+
       own : p ≡ s → Holds (laneAt (afterTurn t) s) (drop (rowsBy R (suc u) p) (had (suc u) p s))
       own e =
           let C = counted u c in
@@ -252,13 +264,12 @@ module _ (R : Run) where
           ∙ startedAt-some R p (suc u)
           ∙ startedBy-step R u p
           ∙ ap (λ (xs : List Body). xs ++ unlessEmpty b) (sym (own-heard u p)) in
-          let l : laneAt (afterTurn t) p ≡ cond (not (eqb (kindOf b) 0)) (pushed (airedLane u p p) b) (airedLane u p p) =
+          let l : laneAt (afterTurn t) p ≡ cond (not (isEmpty b)) (pushed (airedLane u p p) b) (airedLane u p p) =
           subst
-          (λ (k : ℕ).
-          laneAt (afterTurn t) k
-          ≡ cond (not (eqb (kindOf b) 0)) (pushed (getD (lanesAfter t) k noLane) b) (getD (lanesAfter t) k noLane))
+          (λ (k : ℕ). laneAt (afterTurn t) k ≡ cond (not (isEmpty b)) (pushed (laneAfter t k) b) (laneAfter t k))
           (m .own)
-          (lane-own t (omega (arith, m .own, m .shape .lanes, R .high))) in
+          (turn-lane-own t (m .shape) few below
+          ∙ sym (cond-not (isEmpty b) (pushed (laneAfter t (t .own)) b) (laneAfter t (t .own)))) in
           rw (← e, v, l)
           (grown
           (airedLane u p p)
@@ -266,7 +277,7 @@ module _ (R : Run) where
           (hasHeard u p p)
           b
           true
-          (eqb (kindOf b) 0)
+          (isEmpty b)
           (has-aired u p p lp lp c)
           (omega (
             arith,
@@ -284,7 +295,7 @@ module _ (R : Run) where
       other d =
           let v : news L (suc u) p s ≡ min (suc u) (news L (suc u) p s) = omega (arith, news-other L (suc u) p s d) in
           let w : had (suc u) p s ≡ hasHeard u p s = ap (λ (k : ℕ). startedAt R s k) v in
-          rw (lane-other t s (λ e. d (sym (m .own) ∙ sym e)), w) (has-aired u p s lp ls c)
+          rw (turn-lane-other t (m .shape) few below s (omega (arith, m .size)) (λ e. d (sym (m .own) ∙ sym e)), w) (has-aired u p s lp ls c)
 
   carried : (u : ℕ) → Carried u
   carried zero =
@@ -298,7 +309,7 @@ module _ (R : Run) where
             };
         lanes =
             λ p s lp ls.
-            rw (first-at R p lp, fresh-lane (R .n) p s (omega (arith, R .high)), rowsBy-none p, had-none p s) holds-none;
+            rw (first-at R p lp, fresh-lane (R .setup) p s (omega (arith, R .high)) (omega (arith, R .high)), rowsBy-none p, had-none p s) holds-none;
       }
   carried (suc u) =
       let c = carried u in

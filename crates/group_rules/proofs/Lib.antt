@@ -1,9 +1,11 @@
 -- The way to demand 3, in the order in which it is best read.
 
--- every call leaves a group inside its limits
+-- what fresh accepts; every call leaves a group inside its limits
+pub mod Setups
 pub mod Members
 pub mod MembersPost
 pub mod MembersRound
+pub mod CallSteps
 pub mod HistoryInside
 -- accepted posts: in a turn, and over a list of calls
 pub mod Takings
@@ -34,6 +36,8 @@ pub mod HistoryLists
 pub mod FromRun
 pub mod DemandThree
 -- examples
+pub mod Computing
+pub mod MarkedStatement
 pub mod Marked
 pub mod RunLines
 pub mod RunExamples

@@ -5,20 +5,18 @@ use mathlib.Core.Bool.{true, false}
 use mathlib.Core.List.{List, [], _∷_}
 use mathlib.Core.Path.{_≡_, refl, sym, ap, _∙_}
 use native.Mathlib.Omega.{arith}
-use lib.Dec.{leb, eqb}
+use lib.Dec.{eqb}
 use lib.IntN.{ℤ}
 use lib.ListN.{getD, set}
-use borrow.Author.Tests.{le-leb}
 use Rattle.kinds.specs.declared.Body.{Body}
 use Rattle.kinds.specs.declared.Body.the-variants.{Empty, Neutral, Insert}
-use Rattle.kinds.specs.Body.{kindOf}
-use Rattle.kind_limits.specs.Limits.{isEdit, bodyInside, numbersInside}
+use Rattle.kinds.specs.Body.{isEmpty}
+use Rattle.kind_limits.specs.Limits.{postable, bodyInside, numbersInside}
 use Rattle.kinds.specs.Refusals.{done, notAnEdit}
-use Rattle.kind_limits.proofs.Laws.{edit-inside, edit-kind, edit-not-empty, argument-outside}
+use Rattle.kind_limits.proofs.Laws.{postable-inside, postable-not-empty, argument-outside}
 use Rattle.kind_limits.proofs.Examples as kinds
 use Rattle.labels.proofs.Examples as labels
 use Rattle.label_words.proofs.Examples as words
-use Rattle.labels.specs.Label.{allLabels}
 use Rattle.frame_rules.specs.Words.{wordAt}
 use Rattle.frame_rules.specs.Record.{recordFits}
 use Rattle.frame_rules.specs.Frame.{part, checkRefusal, recordsFit}
@@ -29,48 +27,68 @@ use Rattle.station_rules.proofs.Bodies as held
 use Rattle.station_rules.proofs.Examples as station
 use Rattle.station_rules.specs.declared.Station.{Station}
 use Rattle.station_rules.specs.Calls.{posted, postCall}
-use Rattle.lanes.specs.Queue.{noSlot, noneWaiting, queued, unqueued, oldest}
-use Rattle.lanes.specs.Lane.{laneOf, bodies}
-use Rattle.station_rules.specs.Turn.{airs, rowOf, lanesAfter, ends, startedBody, passed, ownRecord, rewritten, afterTurn, turnReport}
-use Rattle.station_rules.specs.State.{freshStation}
-use Rattle.station_rules.specs.Limits.{stationInside, queueInside, placeInside, recordInside, laneInside}
+use Rattle.lanes.specs.Queue.{queueCapacity, noSlot}
+use Rattle.lanes.specs.Waiting.{waitingCount}
+use Rattle.station_rules.specs.Hearing.{Hearing, silent}
+use Rattle.station_rules.specs.Turn.{turnReport}
+use Rattle.station_rules.specs.State.{aloneSetup, freshStation}
+use Rattle.station_rules.specs.Limits.{stationInside}
 use Rattle.places.specs.Places.{allBelow, anyBelow, fill}
 use Rattle.links.specs.Log.{hearsIn}
-use Rattle.group_rules.specs.State.{stationAt, freshGroup, groupInside}
-use Rattle.group_rules.specs.Calls.{groupPostRefusal, roundRefusal, hearing, afterRound, reportOf, roundCall, postCall as groupPost}
-use Rattle.group_rules.specs.History.{History, Call.post, Call.round, next, begun, continued}
-use Rattle.group_rules.specs.Marked.{Marked, oneStation, turnIn, insertFrame}
+use Rattle.group_rules.specs.State.{stationAt, sizeOf, freshGroup}
+use Rattle.group_rules.specs.Calls.{roundRefusal, hearing, afterRound, reportOf, roundCall}
+use Rattle.group_rules.specs.History.{History, reportIn, Call.post, Call.round, next, begun, continued}
+use Rattle.group_rules.proofs.MarkedStatement.{Marked, oneStation, turnIn, insertFrame}
+use Rattle.group_rules.proofs.Computing.{groupRuns}
+use Rattle.group_rules.proofs.MembersRound.{round-done}
+
+-- a station alone hears nobody, so a round is its turn
+module _ (g : List Station) (masks : List ℕ) (one : sizeOf g ≡ 1) where
+  hears-none : hearing g masks 0 1 ≡ silent (stationAt g 0)
+  unfolding hearing hearsIn
+  hears-none = rw one
+
+  alone-turn : roundRefusal g masks ≡ done → (reportIn (roundCall g masks) 0) .turn ≡ turnReport (stationAt g 0)
+  unfolding roundCall reportOf fill
+  alone-turn e =
+      rw (e, one)
+      (ap (λ (k : ℕ). turnReport ((hearing g masks 0 k) .station)) one ∙ ap (λ (h : Hearing). turnReport (h .station)) hears-none)
 
 -- a group of one in which one edit is posted
-module _ (b : Body) (e : isEdit b ≡ true) where
+module _ (b : Body) (e : postable b ≡ true) where
   inside : bodyInside b ≡ true
-  inside = edit-inside b e
+  inside = postable-inside b e
 
-  kind : eqb (kindOf b) 0 ≡ false
-  kind = edit-not-empty b e
-
-  positive : leb 1 (kindOf b) ≡ true
-  positive = le-leb 1 (kindOf b) (omega (arith, edit-kind b e))
+  kind : isEmpty b ≡ false
+  kind = postable-not-empty b e
 
   -- the group once the edit is posted
   before : List Station
-  before = set (freshGroup 1) 0 (posted (freshStation 1 0) b)
+  before = set (freshGroup aloneSetup) 0 (posted (freshStation aloneSetup 0) b)
 
   abbrev ready : History
-  ready = record { group = before; rounds = []; log = []; accepted = record { source = 0; body = b } ∷ [] }
+  ready = record { group = before; rounds = []; log = []; accepted = record { station = 0; body = b } ∷ []; starts = [] }
 
-  post-done : next (begun 1) (post 0 b) ≡ ready
-  unfolding before next begun groupPost groupPostRefusal freshGroup freshStation noneWaiting posted queued groupInside stationInside queueInside placeInside recordInside laneInside allBelow anyBelow numbersInside bodyInside fill
+  size : sizeOf before ≡ 1
+  unfolding before groupRuns
+  size = refl
+
+  post-done : next (begun aloneSetup) (post (record { station = 0; body = b })) ≡ ready
+  unfolding before groupRuns
   post-done = simp e
 
   module _ (masks₁ masks₂ : List ℕ) where
     one-done : roundRefusal before masks₁ ≡ done
-    unfolding before roundRefusal hearing hearsIn freshGroup freshStation noneWaiting posted queued groupInside stationInside queueInside placeInside recordInside laneInside allBelow anyBelow numbersInside bodyInside fill
+    unfolding before groupRuns
     one-done = simp e
 
+    size-after : sizeOf (afterRound before masks₁) ≡ 1
+    unfolding before groupRuns
+    size-after = simp kind
+
     two-done : roundRefusal (afterRound before masks₁) masks₂ ≡ done
-    unfolding before roundRefusal freshGroup freshStation noneWaiting posted queued groupInside stationInside queueInside placeInside recordInside laneInside allBelow anyBelow numbersInside bodyInside fill afterRound hearing hearsIn afterTurn passed rewritten ownRecord startedBody ends lanesAfter airs oldest unqueued laneOf bodies
-    two-done = simp (kind, inside, positive)
+    unfolding before groupRuns
+    two-done = simp (kind, inside)
 
     abbrev ran : History
     ran = continued ready (round masks₁ ∷ round masks₂ ∷ [])
@@ -80,34 +98,36 @@ module _ (b : Body) (e : isEdit b ≡ true) where
     post-first = ap (λ (H : History). continued H (round masks₁ ∷ round masks₂ ∷ [])) post-done
 
     turn-one : turnIn ran 0 ≡ turnReport (stationAt before 0)
-    unfolding before continued next roundCall reportOf hearing hearsIn fill freshGroup freshStation noneWaiting posted queued
-    turn-one = rw one-done
+    unfolding continued next
+    turn-one = alone-turn before masks₁ size one-done
 
     turn-two : turnIn ran 1 ≡ turnReport (stationAt (afterRound before masks₁) 0)
-    unfolding before continued next roundCall reportOf fill freshGroup freshStation noneWaiting posted queued afterRound hearing hearsIn afterTurn passed rewritten ownRecord startedBody ends lanesAfter airs oldest unqueued laneOf bodies
-    turn-two = rw (one-done, two-done)
+    unfolding continued next
+    turn-two =
+        ap (λ (g : List Station). (reportIn (roundCall g masks₂) 0) .turn) (round-done before masks₁ (ap (λ (k : ℕ). eqb k done) one-done))
+        ∙ alone-turn (afterRound before masks₁) masks₂ size-after two-done
 
     starts :
         let t = turnIn (oneStation b masks₁ masks₂) 0 in
         (t .aired ≡ false) × (t .ended ≡ true) × (t .«ended_body» ≡ Empty) × (t .«started_body» ≡ b)
-    unfolding before turnReport freshGroup freshStation noneWaiting posted queued startedBody ends lanesAfter airs oldest allBelow fill
+    unfolding before groupRuns
     starts = rw (post-first, turn-one) (refl, refl, refl, refl)
 
     aired :
         let t = turnIn (oneStation b masks₁ masks₂) 1 in
         (t .aired ≡ true) × ((getD (t .row) 0 noSlot) .body ≡ b) × (t .ended ≡ true) × (t .«ended_body» ≡ b) × (t .«started_body» ≡ Neutral)
-    unfolding before turnReport rowOf freshGroup freshStation noneWaiting posted queued afterRound hearing hearsIn afterTurn passed rewritten ownRecord startedBody ends lanesAfter airs oldest unqueued laneOf bodies allBelow fill
+    unfolding before groupRuns
     aired = rw (post-first, turn-two) (simp kind (refl, refl, refl, refl, refl))
 
--- of two posts to a station with room, one an edit and one not, the first is taken and the second gives 4
+-- of two posts to a station with room, one that may be posted and one not, the first is taken and the second gives 4
 posts :
-    (s : Station) → stationInside s ≡ true → s .waiting .len < 32 → (a b : Body) → isEdit a ≡ true → isEdit b ≡ false →
+    (s : Station) → stationInside s ≡ true → waitingCount (s .waiting) < queueCapacity → (a b : Body) → postable a ≡ true → postable b ≡ false →
     ((postCall s a) .refusal ≡ done) × ((postCall s b) .refusal ≡ notAnEdit)
 posts s i room a b p q = (station.taken s i a p room, station.refused s i b q)
 
 -- a frame of one insert inside its limits is accepted
 framed : (start : ℤ) → bodyInside (Insert 1 start) ≡ true → checkRefusal (insertFrame start) 2 0 ≡ done
-unfolding recordsFit recordFits allBelow anyBelow allLabels
+unfolding recordsFit recordFits bodyInside allBelow anyBelow
 framed start h =
     sym (by-frame (insertFrame start) 2 0 refl)
     ∙ frames.written-accepted 2 1 _ (omega arith) (simp h) 0 (λ e. omega arith) (omega arith)
@@ -130,7 +150,7 @@ marked =
       m10 =
           λ s inside room event least most.
           let e = kinds.m10 event least most in posts s inside room _ _ (e .0) (e .1);
-      m10-framed = framed _ (edit-inside _ (kinds.m10 1 (omega arith) (omega arith) .0));
+      m10-framed = framed _ (postable-inside _ (kinds.m10 1 (omega arith) (omega arith) .0));
       m10-frame =
           λ bytes n own k valid shape address below kind start.
           body-outside bytes n own k valid shape address below

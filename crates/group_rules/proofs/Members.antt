@@ -11,13 +11,15 @@ use borrow.Author.Tests.{eqb-true, eq-eqb}
 use Rattle.places.specs.Places.{allBelow}
 use Rattle.places.proofs.Laws.{and-both, and-left, and-right, allBelow-at, allBelow-make, length-fill, fill-below}
 use Rattle.places.proofs.Keeps.{fill-keeps}
+use Rattle.station_rules.specs.declared.Setup.{Setup}
 use Rattle.station_rules.specs.declared.Station.{Station}
-use Rattle.station_rules.specs.State.{freshStation}
+use Rattle.station_rules.specs.State.{aloneSetup, freshStation}
 use Rattle.station_rules.specs.Limits.{stationInside}
-use Rattle.station_rules.proofs.Shape.{Shaped, fresh-shaped}
+use Rattle.station_rules.proofs.Setters.{Shaped, fresh-self, fresh-shaped}
 use Rattle.station_rules.proofs.StationLimits.{Inside, inside-open, inside-make}
 use Rattle.station_rules.proofs.LimitsFresh.{fresh-holds}
 use Rattle.group_rules.specs.State.{noStation, stationAt, sizeOf, memberInside, groupInside, freshGroup}
+use Rattle.group_rules.proofs.Setups.{Accepts}
 
 -- station k is a member of the group of n
 pub record Member (n : ℕ) (g : List Station) (k : ℕ) : Type 0 where
@@ -82,43 +84,38 @@ members-inside n g c =
         and-both (inside-make (stationAt g k) (m .inside))
         (and-both (eq-eqb (stationAt g k .n) (sizeOf g) (m .size ∙ sym (c .size))) (eq-eqb (stationAt g k .own) k (m .own)))
 
-module _ (n : ℕ) (high : n ≤ 16) where
-  pub fresh-at : (k : ℕ) → k < n → stationAt (freshGroup n) k ≡ freshStation n k
-  unfolding freshGroup
-  fresh-at k l = fill-below n (freshStation n) (replicate 16 (freshStation 1 0)) k noStation l (omega arith)
+module _ (setup : Setup) (high : setup .n ≤ 16) where
+  abbrev n : ℕ
+  n = setup .n
 
-  pub fresh-shape : GroupShaped (freshGroup n)
+  pub fresh-at : (k : ℕ) → k < n → stationAt (freshGroup setup) k ≡ freshStation setup k
+  unfolding freshGroup
+  fresh-at k l = fill-below n (freshStation setup) (replicate 16 (freshStation aloneSetup 0)) k noStation l (omega arith)
+
+  pub fresh-shape : GroupShaped (freshGroup setup)
   unfolding freshGroup
   fresh-shape =
       record {
-        places = length-fill n (freshStation n) (replicate 16 (freshStation 1 0));
+        places = length-fill n (freshStation setup) (replicate 16 (freshStation aloneSetup 0));
         stations =
-            λ k l. fill-keeps Shaped n (freshStation n) (replicate 16 (freshStation 1 0)) noStation k l
-            (rw (getD-replicate 16 k (freshStation 1 0) noStation l) (fresh-shaped 1 0)) (λ j m. fresh-shaped n j);
+            λ k l. fill-keeps Shaped n (freshStation setup) (replicate 16 (freshStation aloneSetup 0)) noStation k l
+            (rw (getD-replicate 16 k (freshStation aloneSetup 0) noStation l) (fresh-shaped aloneSetup 0)) (λ j m. fresh-shaped setup j);
       }
 
-  fresh-n : (k : ℕ) → freshStation n k .n ≡ n
-  unfolding freshStation
-  fresh-n k = refl
-
-  fresh-number : (k : ℕ) → freshStation n k .own ≡ k
-  unfolding freshStation
-  fresh-number k = refl
-
-  pub fresh-members : 1 ≤ n → Members n (freshGroup n)
+  pub fresh-members : 1 ≤ n → Members n (freshGroup setup)
   fresh-members low =
       record {
         low = low;
         high = high;
-        size = ap (λ (s : Station). s .n) (fresh-at 0 low) ∙ fresh-n 0;
+        size = ap (λ (s : Station). s .n) (fresh-at 0 low) ∙ fresh-self setup 0 .n;
         shape = fresh-shape;
         member =
             λ k l. record {
-              inside = rw (fresh-at k l) (fresh-holds n k high l);
-              size = rw (fresh-at k l) (fresh-n k);
-              own = rw (fresh-at k l) (fresh-number k);
+              inside = rw (fresh-at k l) (fresh-holds setup k high l);
+              size = rw (fresh-at k l) (fresh-self setup k .n);
+              own = rw (fresh-at k l) (fresh-self setup k .own);
             };
       }
 
-pub fresh-inside : (n : ℕ) → 1 ≤ n → n ≤ 16 → groupInside (freshGroup n) ≡ true
-fresh-inside n low high = members-inside n (freshGroup n) (fresh-members n high low)
+pub fresh-inside : (setup : Setup) → Accepts setup → groupInside (freshGroup setup) ≡ true
+fresh-inside setup ok = members-inside (setup .n) (freshGroup setup) (fresh-members setup (ok .high) (ok .low))

@@ -6,69 +6,71 @@ use mathlib.Core.List.{List}
 use mathlib.Core.Path.{_≡_, refl, sym, subst, _∙_}
 use native.Mathlib.Decide.{ℕ-discrete}
 use native.Mathlib.Omega.{arith}
-use lib.Dec.{eqb, leb, ltb}
+use lib.Dec.{eqb, ltb}
 use lib.ListN.{set, length-set}
 use lib.Seq.{getD-set-same, getD-set-other}
-use borrow.Author.Tests.{ltb-true, leb-false}
-use Rattle.kinds.specs.declared.Body.{Body}
-use Rattle.kind_limits.specs.Limits.{isEdit}
+use borrow.Author.Tests.{ltb-true}
+use Rattle.kind_limits.specs.Limits.{postable}
 use Rattle.kinds.specs.Refusals.{done}
 use Rattle.places.proofs.Keeps.{set-keeps}
+use Rattle.lanes.specs.Waiting.{hasRoom}
 use Rattle.station_rules.specs.declared.Station.{Station}
 use Rattle.station_rules.specs.Calls.{posted}
-use Rattle.station_rules.proofs.Shape.{Shaped, posted-shaped}
+use Rattle.station_rules.proofs.Setters.{Shaped}
+use Rattle.station_rules.proofs.Shape.{posted-same, posted-shaped}
 use Rattle.station_rules.proofs.LimitsFresh.{posted-holds}
+use Rattle.group_rules.specs.declared.Post.{Post}
 use Rattle.group_rules.specs.State.{noStation, stationAt, sizeOf, groupInside}
-use Rattle.group_rules.specs.Calls.{groupPostRefusal, postCall}
+use Rattle.group_rules.specs.Calls.{groupPostRefusal, afterPost, postCall}
 use Rattle.group_rules.proofs.Members.{Member, GroupShaped, Members, members-open, members-inside}
 
 -- what an accepted post shows
-pub record Accepted (g : List Station) (k : ℕ) (b : Body) : Type 0 where
+pub record Accepted (g : List Station) (x : Post) : Type 0 where
   pub inside : groupInside g ≡ true
-  pub below : k < sizeOf g
-  pub edit : isEdit b ≡ true
-  pub room : stationAt g k .waiting .len < 32
+  pub below : x .station < sizeOf g
+  pub edit : postable (x .body) ≡ true
+  pub room : hasRoom (stationAt g (x .station) .waiting) ≡ true
 
-pub accepted : (g : List Station) (k : ℕ) (b : Body) → eqb (groupPostRefusal g k b) done ≡ true → Accepted g k b
+pub accepted : (g : List Station) (x : Post) → eqb (groupPostRefusal g x) done ≡ true → Accepted g x
 unfolding groupPostRefusal
-accepted g k b h = go (groupInside g) (ltb k (sizeOf g)) (isEdit b) (leb 32 (stationAt g k .waiting .len)) refl refl refl refl h
+accepted g x h = go (groupInside g) (ltb (x .station) (sizeOf g)) (postable (x .body)) (hasRoom (stationAt g (x .station) .waiting)) refl refl refl refl h
   where
     go :
-        (a c d e : Bool) → groupInside g ≡ a → ltb k (sizeOf g) ≡ c → isEdit b ≡ d → leb 32 (stationAt g k .waiting .len) ≡ e →
-        eqb (cond (not a) 2 (cond (not c) 1 (cond (not d) 4 (cond e 3 0)))) 0 ≡ true → Accepted g k b
-    go true true true false p q r s z =
-        record { inside = p; below = ltb-true k (sizeOf g) q; edit = r; room = leb-false 32 (stationAt g k .waiting .len) s }
-    go true true true true p q r s z = absurd (false≢true z)
+        (a c d e : Bool) → groupInside g ≡ a → ltb (x .station) (sizeOf g) ≡ c → postable (x .body) ≡ d → hasRoom (stationAt g (x .station) .waiting) ≡ e →
+        eqb (cond (not a) 2 (cond (not c) 1 (cond (not d) 4 (cond (not e) 3 0)))) 0 ≡ true → Accepted g x
+    go true true true true p q r s z =
+        record { inside = p; below = ltb-true (x .station) (sizeOf g) q; edit = r; room = s }
+    go true true true false p q r s z = absurd (false≢true z)
     go true true false e p q r s z = absurd (false≢true z)
     go true false d e p q r s z = absurd (false≢true z)
     go false c d e p q r s z = absurd (false≢true z)
 
 pub post-accepted :
-    (g : List Station) (k : ℕ) (b : Body) → eqb ((postCall g k b) .refusal) done ≡ true →
-    (postCall g k b) .group ≡ set g k (posted (stationAt g k) b)
+    (g : List Station) (x : Post) → eqb ((postCall g x) .refusal) done ≡ true →
+    (postCall g x) .group ≡ afterPost g x
 unfolding postCall
-post-accepted g k b e = rw e
+post-accepted g x e = rw e
 
-pub post-refused : (g : List Station) (k : ℕ) (b : Body) → eqb ((postCall g k b) .refusal) done ≡ false → (postCall g k b) .group ≡ g
+pub post-refused : (g : List Station) (x : Post) → eqb ((postCall g x) .refusal) done ≡ false → (postCall g x) .group ≡ g
 unfolding postCall
-post-refused g k b e = rw e
+post-refused g x e = rw e
 
-pub post-refusal : (g : List Station) (k : ℕ) (b : Body) → (postCall g k b) .refusal ≡ groupPostRefusal g k b
+pub post-refusal : (g : List Station) (x : Post) → (postCall g x) .refusal ≡ groupPostRefusal g x
 unfolding postCall
-post-refusal g k b = refl
+post-refusal g x = refl
 
-module _ (n : ℕ) (g : List Station) (c : Members n g) (k : ℕ) (b : Body) where
-  module _ (below : k < n) where
-    pub posted-at : stationAt (set g k (posted (stationAt g k) b)) k ≡ posted (stationAt g k) b
-    posted-at = getD-set-same g k (posted (stationAt g k) b) noStation (rw (c .shape .places) (omega (arith, c .high)))
+module _ (n : ℕ) (g : List Station) (c : Members n g) (x : Post) where
+  module _ (below : x .station < n) where
+    pub posted-at : stationAt (afterPost g x) (x .station) ≡ posted (stationAt g (x .station)) (x .body)
+    posted-at = getD-set-same g (x .station) (posted (stationAt g (x .station)) (x .body)) noStation (rw (c .shape .places) (omega (arith, c .high)))
 
-    pub posted-other : (j : ℕ) → (j ≡ k → ⊥) → stationAt (set g k (posted (stationAt g k) b)) j ≡ stationAt g j
-    posted-other j ne = getD-set-other g k j (posted (stationAt g k) b) noStation ne
+    pub posted-other : (j : ℕ) → (j ≡ x .station → ⊥) → stationAt (afterPost g x) j ≡ stationAt g j
+    posted-other j ne = getD-set-other g (x .station) j (posted (stationAt g (x .station)) (x .body)) noStation ne
 
-    posted-member : isEdit b ≡ true → stationAt g k .waiting .len < 32 → (j : ℕ) → j < n → Member n (set g k (posted (stationAt g k) b)) j
+    posted-member : postable (x .body) ≡ true → hasRoom (stationAt g (x .station) .waiting) ≡ true → (j : ℕ) → j < n → Member n (afterPost g x) j
     posted-member edit room j l =
-        elim (ℕ-discrete j k) [
-          | yes same ↦ subst (Member n (set g k (posted (stationAt g k) b))) (sym same) here
+        elim (ℕ-discrete j (x .station)) [
+          | yes same ↦ subst (Member n (afterPost g x)) (sym same) here
           | no ne ↦
               let m = c .member j l in
               record {
@@ -78,17 +80,17 @@ module _ (n : ℕ) (g : List Station) (c : Members n g) (k : ℕ) (b : Body) whe
               }
         ]
       where
-        here : Member n (set g k (posted (stationAt g k) b)) k
+        here : Member n (afterPost g x) (x .station)
         here =
-            let m = c .member k below in
+            let m = c .member (x .station) below in
             record {
               inside =
-                  rw posted-at (posted-holds (stationAt g k) b (c .shape .stations k (omega (arith, c .high))) (m .inside) edit room);
-              size = rw posted-at (unfold posted in (m .size));
-              own = rw posted-at (unfold posted in (m .own));
+                  rw posted-at (posted-holds (stationAt g (x .station)) (x .body) (c .shape .stations (x .station) (omega (arith, c .high))) (m .inside) edit room);
+              size = rw posted-at (sym (posted-same (stationAt g (x .station)) (x .body) .n) ∙ m .size);
+              own = rw posted-at (sym (posted-same (stationAt g (x .station)) (x .body) .own) ∙ m .own);
             }
 
-    set-members : isEdit b ≡ true → stationAt g k .waiting .len < 32 → Members n (set g k (posted (stationAt g k) b))
+    set-members : postable (x .body) ≡ true → hasRoom (stationAt g (x .station) .waiting) ≡ true → Members n (afterPost g x)
     set-members edit room =
         record {
           low = c .low;
@@ -96,24 +98,24 @@ module _ (n : ℕ) (g : List Station) (c : Members n g) (k : ℕ) (b : Body) whe
           size = posted-member edit room 0 (c .low) .size;
           shape =
               record {
-                places = length-set g k (posted (stationAt g k) b) ∙ c .shape .places;
+                places = length-set g (x .station) (posted (stationAt g (x .station)) (x .body)) ∙ c .shape .places;
                 stations =
-                    λ j l. set-keeps Shaped g k (posted (stationAt g k) b) noStation j (rw (c .shape .places) l) (c .shape .stations j l)
-                    (posted-shaped (stationAt g k) b (c .shape .stations k (omega (arith, c .high))));
+                    λ j l. set-keeps Shaped g (x .station) (posted (stationAt g (x .station)) (x .body)) noStation j (rw (c .shape .places) l) (c .shape .stations j l)
+                    (posted-shaped (stationAt g (x .station)) (x .body) (c .shape .stations (x .station) (omega (arith, c .high))));
               };
           member = posted-member edit room;
         }
 
-  pub post-members : Members n ((postCall g k b) .group)
-  post-members = go (eqb ((postCall g k b) .refusal) done) refl
+  pub post-members : Members n ((postCall g x) .group)
+  post-members = go (eqb ((postCall g x) .refusal) done) refl
     where
-      go : (t : Bool) → eqb ((postCall g k b) .refusal) done ≡ t → Members n ((postCall g k b) .group)
+      go : (t : Bool) → eqb ((postCall g x) .refusal) done ≡ t → Members n ((postCall g x) .group)
       go true e =
-          let a : Accepted g k b = accepted g k b (rw (post-refusal g k b) at e) in
-          rw (post-accepted g k b e) (set-members (omega (arith, a .below, c .size)) (a .edit) (a .room))
-      go false e = rw (post-refused g k b e) c
+          let a : Accepted g x = accepted g x (rw (post-refusal g x) at e) in
+          rw (post-accepted g x e) (set-members (omega (arith, a .below, c .size)) (a .edit) (a .room))
+      go false e = rw (post-refused g x e) c
 
 pub post-inside :
-    (g : List Station) (k : ℕ) (b : Body) → GroupShaped g → groupInside g ≡ true → groupInside ((postCall g k b) .group) ≡ true
-post-inside g k b shape h =
-    members-inside (sizeOf g) ((postCall g k b) .group) (post-members (sizeOf g) g (members-open g shape h) k b)
+    (g : List Station) (x : Post) → GroupShaped g → groupInside g ≡ true → groupInside ((postCall g x) .group) ≡ true
+post-inside g x shape h =
+    members-inside (sizeOf g) ((postCall g x) .group) (post-members (sizeOf g) g (members-open g shape h) x)

@@ -18,11 +18,11 @@ use Rattle.station_rules.specs.State.{sentRecords}
 use Rattle.station_rules.specs.Calls.{ownCountInside}
 use Rattle.station_rules.specs.Hearing.{silent, hearRecords}
 use Rattle.station_rules.specs.Turn.{afterTurn}
-use Rattle.station_rules.proofs.Shape.{Shaped, afterTurn-shaped}
+use Rattle.station_rules.proofs.Setters.{Shaped}
 use Rattle.station_rules.proofs.LimitsHearing.{Hears, AllCarried, hears-none, hears-records, takings-bounded}
 use Rattle.station_rules.proofs.LimitsSent.{sent-carried}
 use Rattle.station_rules.proofs.LimitsTurn.{turn-holds}
-use Rattle.station_rules.proofs.TurnCells.{turn-n, turn-own}
+use Rattle.station_rules.proofs.TurnCells.{turn-n, turn-own, afterTurn-shaped}
 use Rattle.group_rules.specs.State.{noStation, stationAt, sizeOf, groupInside}
 use Rattle.group_rules.specs.Calls.{hearing, heard, roundRefusal, afterRound, roundCall}
 use Rattle.group_rules.proofs.Members.{Member, GroupShaped, Members, members-open, members-inside}

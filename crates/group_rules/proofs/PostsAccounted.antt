@@ -1,6 +1,6 @@
--- Accepted posts are all accounted for, in their order, after every list of calls: the first were aired, then comes what stands in the own lane, and the last
--- wait. One invariant is carried from call to call: the group is inside its limits, and the lists agree. A post adds one waiting edit; a turn moves edits on;
--- a refused call changes nothing.
+-- Accepted posts are all accounted for, in their order, after every list of calls: the first started, and the last wait; of those that started the first were
+-- aired, and the last stand in the own lane. One invariant is carried from call to call: the group is inside its limits, and the lists agree. A post adds one
+-- waiting edit; a turn moves edits on; a refused call changes nothing.
 use Prim.Native.Nat.{ℕ, _+_, _≤_, _<_}
 use mathlib.Core.Bool.{Bool, true, false, cond}
 use mathlib.Core.List.{List, [], _∷_, _++_, append-nil, append-assoc}
@@ -10,31 +10,37 @@ use native.Mathlib.Omega.{arith}
 use lib.Dec.{eqb}
 use lib.ListN.{getD, set, length, length-append, replicate, getD-replicate}
 use Rattle.kinds.specs.declared.Body.{Body}
+use Rattle.kinds.specs.Body.{isEdit}
 use Rattle.kinds.specs.Refusals.{done}
 use Rattle.places.specs.Places.{fill}
 use Rattle.places.proofs.Laws.{fill-below}
+use Rattle.station_rules.specs.declared.Setup.{Setup}
 use Rattle.station_rules.specs.declared.Station.{Station}
 use Rattle.station_rules.specs.declared.Taking.{Taking}
-use Rattle.lanes.specs.Lane.{bodies, noLane}
-use Rattle.station_rules.specs.State.{laneAt, freshStation}
+use Rattle.lanes.specs.Lane.{bodies}
+use Rattle.station_rules.specs.State.{Cell, laneAt, freshStation}
 use Rattle.station_rules.specs.Hearing.{silent}
-use Rattle.station_rules.specs.Turn.{airs, rowOf, turnReport, afterTurn}
-use Rattle.lanes.specs.Queue.{noSlot, waitingBodies}
-use Rattle.lanes.proofs.QueueLaws.{waiting-none, waiting-length, waiting-queued}
+use Rattle.station_rules.specs.Turn.{airs, rowOf, startedBody, turnReport, afterTurn}
+use Rattle.lanes.specs.Queue.{noSlot}
+use Rattle.lanes.specs.Waiting.{waitingEdits, waitingCount, hasRoom}
+use Rattle.lanes.proofs.WaitingLaws.{WaitingSized, none-edits, edits-count, posted-edits}
 use Rattle.station_rules.specs.Calls.{posted, noTurn}
-use Rattle.station_rules.proofs.LimitsQueue.{queue-most}
+use Rattle.station_rules.proofs.Setters.{fresh-self, fresh-own}
 use Rattle.station_rules.proofs.LimitsHearing.{Hears}
+use Rattle.group_rules.specs.declared.Post.{Post}
 use Rattle.group_rules.specs.declared.Report.{Report}
 use Rattle.group_rules.specs.declared.RoundDone.{RoundDone}
 use Rattle.group_rules.specs.State.{stationAt, sizeOf}
-use Rattle.group_rules.specs.Calls.{postCall, heard, noReport, reportOf, roundRefusal, roundCall}
-use Rattle.group_rules.specs.History.{History, Call, Call.post, Call.round, next, begun, continued, historyOf, reportIn, collect, takingsOf, editsOf, airedList, onlyEdits}
+use Rattle.group_rules.specs.Calls.{afterPost, postCall, heard, noReport, reportOf, roundRefusal, roundCall}
+use Rattle.group_rules.specs.History.{History, Call, Call.post, Call.round, next, begun, continued, historyOf, reportIn, startsIn, unlessEmpty, collect, takingsOf, postsAt, started, editsOf, airedList, onlyEdits}
+use Rattle.group_rules.proofs.Setups.{Accepts}
 use Rattle.group_rules.proofs.Members.{Members, fresh-at}
 use Rattle.group_rules.proofs.MembersPost.{accepted, post-accepted, post-refused, post-refusal, posted-at, posted-other}
 use Rattle.group_rules.proofs.MembersRound.{Runs, runs, run-hears, run-room, after-at, round-done, round-refused}
 use Rattle.group_rules.proofs.HistoryInside.{members-next, members-begun}
-use Rattle.group_rules.proofs.TurnAccount.{ifEdit, kept, turn-account, row-account}
-use Rattle.group_rules.proofs.Takings.{takingsOf-append, taking-other, taking-here}
+use Rattle.group_rules.proofs.TurnAccount.{ifEdit, turn-waiting, turn-lane, row-account}
+use Rattle.group_rules.proofs.Takings.{takingsOf-append, postsAt-append, post-other, post-here, posts-gathered, onlyEdits-append, onlyEdits-unless}
+use Rattle.group_rules.proofs.CallRun.{post-same}
 
 module _ {A : Type 0} where
   pub collect-last : (f : RoundDone → List A) (rs : List RoundDone) (r : RoundDone) → collect f (rs ++ (r ∷ [])) ≡ collect f rs ++ f r
@@ -46,57 +52,63 @@ module _ {A : Type 0} where
 abbrev airedOf : ℕ → Report → List Taking
 airedOf n r = cond (r .turn .aired) (editsOf n (r .turn .row)) []
 
-abbrev Accounted : ℕ → History → ℕ → Type 0
-Accounted n H p = takingsOf p (H .accepted) ≡ takingsOf p (airedList n H p) ++ kept (stationAt (H .group) p) p
+-- what waits at a station, and the edits in its own lane
+abbrev waits : List Station → ℕ → List Body
+waits g p = waitingEdits (stationAt g p .waiting)
+
+abbrev ownEdits : List Station → ℕ → List Body
+ownEdits g p = onlyEdits (bodies (laneAt (stationAt g p) p))
 
 -- a post
 
-posted-kept : (s : Station) (b : Body) (p : ℕ) → s .waiting .len < length (s .waiting .slots) → kept (posted s b) p ≡ kept s p ++ (b ∷ [])
+posted-waits :
+    (s : Station) (b : Body) → WaitingSized (s .waiting) → hasRoom (s .waiting) ≡ true →
+    waitingEdits ((posted s b) .waiting) ≡ waitingEdits (s .waiting) ++ (b ∷ [])
 unfolding posted
-posted-kept s b p l =
-    let lane : List Body = onlyEdits (bodies (laneAt s p)) in
-    ap (λ (w : List Body). lane ++ w) (waiting-queued (s .waiting) b l)
-    ∙ sym (append-assoc lane (waitingBodies (s .waiting)) (b ∷ []))
+posted-waits s b c l = posted-edits (s .waiting) b c l
 
-module _ (n : ℕ) (g : List Station) (c : Members n g) (k : ℕ) (b : Body) where
-  -- one more at the station of an accepted post
-  post-kept :
-      (p : ℕ) →
-      kept (stationAt ((postCall g k b) .group) p) p
-      ≡ kept (stationAt g p) p
-      ++ takingsOf p (cond (eqb ((postCall g k b) .refusal) done) (record { source = k; body = b } ∷ []) [])
-  unfolding takingsOf
-  post-kept p = go (eqb ((postCall g k b) .refusal) done) refl
+-- the posts that a call adds to the accepted ones
+abbrev accepts : List Station → Post → List Post
+accepts g x = cond (eqb ((postCall g x) .refusal) done) (x ∷ []) []
+
+module _ (n : ℕ) (g : List Station) (c : Members n g) (x : Post) (p : ℕ) where
+  -- one more waits at the station of an accepted post
+  post-waits : waits ((postCall g x) .group) p ≡ waits g p ++ postsAt p (accepts g x)
+  unfolding postsAt
+  post-waits = go (eqb ((postCall g x) .refusal) done) refl
     where
       go :
-          (t : Bool) → eqb ((postCall g k b) .refusal) done ≡ t →
-          kept (stationAt ((postCall g k b) .group) p) p
-          ≡ kept (stationAt g p) p ++ takingsOf p (cond t (record { source = k; body = b } ∷ []) [])
+          (t : Bool) → eqb ((postCall g x) .refusal) done ≡ t →
+          waits ((postCall g x) .group) p ≡ waits g p ++ postsAt p (cond t (x ∷ []) [])
       go true e =
-          let made = accepted g k b (rw (post-refusal g k b) at e) in
+          let k = x .station in
+          let made = accepted g x (rw (post-refusal g x) at e) in
           let below : k < n = omega (arith, c .size, made .below) in
-          let room : stationAt g k .waiting .len < length (stationAt g k .waiting .slots) =
-          omega (arith, made .room, c .shape .stations k (omega (arith, c .high)) .slots) in
-          elim (ℕ-discrete p k) [
+          let sized : WaitingSized (stationAt g k .waiting) = c .shape .stations k (omega (arith, c .high)) .waiting in
+          ap (λ (h : List Station). waits h p) (post-accepted g x e)
+          ∙ elim (ℕ-discrete p k) [
             | yes same ↦
-                ap (λ (h : List Station). kept (stationAt h p) p) (post-accepted g k b e)
-                ∙ subst
-                (λ (j : ℕ).
-                kept (stationAt (set g k (posted (stationAt g k) b)) j) j
-                ≡ kept (stationAt g j) j ++ takingsOf j (record { source = k; body = b } ∷ []))
-                (sym same)
-                (ap (λ (s : Station). kept s k) (posted-at n g c k b below)
-                ∙ posted-kept (stationAt g k) b k room
-                ∙ ap (λ (l : List Body). kept (stationAt g k) k ++ l) (sym (taking-here k true b)))
+                subst (λ (j : ℕ). waits (afterPost g x) j ≡ waits g j ++ postsAt j (x ∷ [])) (sym same)
+                (ap (λ (s : Station). waitingEdits (s .waiting)) (posted-at n g c x below)
+                ∙ posted-waits (stationAt g k) (x .body) sized (made .room)
+                ∙ ap (λ (l : List Body). waits g k ++ l) (sym (post-here x)))
             | no ne ↦
-                ap (λ (h : List Station). kept (stationAt h p) p) (post-accepted g k b e)
-                ∙ ap (λ (s : Station). kept s p) (posted-other n g c k b below p ne)
-                ∙ sym (append-nil (kept (stationAt g p) p))
-                ∙ ap (λ (l : List Body). kept (stationAt g p) p ++ l) (sym (taking-other p k true b (λ z. ne (sym z))))
+                ap (λ (s : Station). waitingEdits (s .waiting)) (posted-other n g c x below p ne)
+                ∙ sym (append-nil (waits g p))
+                ∙ ap (λ (l : List Body). waits g p ++ l) (sym (post-other p x (λ z. ne (sym z))))
           ]
-      go false e = ap (λ (h : List Station). kept (stationAt h p) p) (post-refused g k b e) ∙ sym (append-nil (kept (stationAt g p) p))
+      go false e = ap (λ (h : List Station). waits h p) (post-refused g x e) ∙ sym (append-nil (waits g p))
+
+post-lane : (g : List Station) (x : Post) (p : ℕ) → ownEdits g p ≡ ownEdits ((postCall g x) .group) p
+post-lane g x p = ap (λ (c : Cell). onlyEdits (bodies (c .lane))) (post-same g x p .cells p)
 
 -- a round
+
+-- the edits of p among those that a round reports as started
+starts-own : (n : ℕ) (r : RoundDone) (p : ℕ) → p < n → postsAt p (startsIn n r) ≡ ifEdit ((reportIn r p) .turn .«started_body»)
+unfolding startsIn
+starts-own n r p l =
+    posts-gathered (λ k. isEdit ((reportIn r k) .turn .«started_body»)) (λ k. (reportIn r k) .turn .«started_body») p n l
 
 reports-done :
     (g : List Station) (masks : List ℕ) → eqb (roundRefusal g masks) done ≡ true →
@@ -111,6 +123,14 @@ reports-refused g masks e = rw e
 noReport-aired : (n : ℕ) → airedOf n noReport ≡ []
 unfolding noReport noTurn
 noReport-aired n = refl
+
+noReport-started : ifEdit (noReport .turn .«started_body») ≡ []
+unfolding noReport noTurn
+noReport-started = refl
+
+report-starts : (g : List Station) (masks : List ℕ) (p : ℕ) → (reportOf g masks p) .turn .«started_body» ≡ startedBody ((heard g masks p) .station)
+unfolding reportOf turnReport
+report-starts g masks p = refl
 
 module _ (n : ℕ) (g : List Station) (c : Members n g) (masks : List ℕ) (p : ℕ) (below : p < n) where
   -- what is aired of a station's own in a round that is not refused
@@ -133,58 +153,117 @@ module _ (n : ℕ) (g : List Station) (c : Members n g) (masks : List ℕ) (p : 
       go true = row-account n s p (c .high) size below
       go false = refl
 
-  done-aired :
-      eqb (roundRefusal g masks) done ≡ true →
-      airedOf n (reportIn (roundCall g masks) p) ≡ airedOf n (reportOf g masks p)
-  done-aired e =
-      ap (airedOf n)
-      (ap (λ (l : List Report). getD l p noReport) (reports-done g masks e)
-      ∙ fill-below (sizeOf g) (reportOf g masks) (replicate 16 noReport) p noReport (omega (arith, c .size)) (omega (arith, c .high)))
+  done-report : eqb (roundRefusal g masks) done ≡ true → reportIn (roundCall g masks) p ≡ reportOf g masks p
+  done-report e =
+      ap (λ (l : List Report). getD l p noReport) (reports-done g masks e)
+      ∙ fill-below (sizeOf g) (reportOf g masks) (replicate 16 noReport) p noReport (omega (arith, c .size)) (omega (arith, c .high))
 
-  refused-aired : eqb (roundRefusal g masks) done ≡ false → airedOf n (reportIn (roundCall g masks) p) ≡ []
-  refused-aired e =
-      ap (airedOf n)
-      (ap (λ (l : List Report). getD l p noReport) (reports-refused g masks e)
-      ∙ getD-replicate 16 p noReport noReport (omega (arith, c .high)))
-      ∙ noReport-aired n
+  refused-report : eqb (roundRefusal g masks) done ≡ false → reportIn (roundCall g masks) p ≡ noReport
+  refused-report e =
+      ap (λ (l : List Report). getD l p noReport) (reports-refused g masks e)
+      ∙ getD-replicate 16 p noReport noReport (omega (arith, c .high))
 
-  -- what leaves is aired
-  round-kept :
-      kept (stationAt g p) p ≡ takingsOf p (airedOf n (reportIn (roundCall g masks) p)) ++ kept (stationAt ((roundCall g masks) .group) p) p
-  unfolding takingsOf
-  round-kept = go (eqb (roundRefusal g masks) done) refl
+  own-starts : sizeOf g ≡ n → postsAt p (startsIn (sizeOf g) (roundCall g masks)) ≡ ifEdit ((reportIn (roundCall g masks) p) .turn .«started_body»)
+  own-starts size = starts-own (sizeOf g) (roundCall g masks) p (omega (arith, size))
+
+  -- what a round that is not refused does to the station
+  module _ (e : eqb (roundRefusal g masks) done ≡ true) where
+    s : Station
+    s = (heard g masks p) .station
+
+    hears : Hears (silent (stationAt g p)) (heard g masks p)
+    hears = run-hears n g c masks (runs g masks e) p below
+
+    lane-heard : laneAt s p ≡ laneAt (stationAt g p) p
+    unfolding s
+    lane-heard = subst (λ (j : ℕ). laneAt s j ≡ laneAt (stationAt g p) j) (c .member p below .own) (hears .lane)
+
+    after : stationAt ((roundCall g masks) .group) p ≡ afterTurn s
+    unfolding s
+    after = ap (λ (h : List Station). stationAt h p) (round-done g masks e) ∙ after-at n g c masks (runs g masks e) p below
+
+    starts-done : postsAt p (startsIn (sizeOf g) (roundCall g masks)) ≡ ifEdit (startedBody s)
+    unfolding s
+    starts-done = own-starts (c .size) ∙ ap (λ (r : Report). ifEdit (r .turn .«started_body»)) (done-report e) ∙ ap ifEdit (report-starts g masks p)
+
+    aired-done : takingsOf p (airedOf n (reportIn (roundCall g masks) p)) ≡ cond (airs s) (ifEdit ((laneAt s p) .first)) []
+    unfolding s
+    aired-done = ap (λ (r : Report). takingsOf p (airedOf n r)) (done-report e) ∙ report-aired (runs g masks e)
+
+    waits-done :
+        waits g p ≡ postsAt p (startsIn (sizeOf g) (roundCall g masks)) ++ waits ((roundCall g masks) .group) p
+    unfolding s
+    waits-done =
+        let inside = hears .inside (run-room n g c masks (runs g masks e) p below) in
+        ap waitingEdits (sym (hears .waiting))
+        ∙ turn-waiting s (hears .shaped) inside
+        ∙ (λ i. sym starts-done i ++ waitingEdits ((sym after i) .waiting))
+
+    lane-done :
+        ownEdits g p ++ postsAt p (startsIn (sizeOf g) (roundCall g masks))
+        ≡ takingsOf p (airedOf n (reportIn (roundCall g masks) p)) ++ ownEdits ((roundCall g masks) .group) p
+    unfolding s
+    lane-done =
+        let inside = hears .inside (run-room n g c masks (runs g masks e) p below) in
+        (λ i. onlyEdits (bodies (sym lane-heard i)) ++ starts-done i)
+        ∙ turn-lane s (hears .shaped) inside p (hears .own ∙ c .member p below .own)
+        ∙ (λ i. sym aired-done i ++ onlyEdits (bodies (laneAt (sym after i) p)))
+
+  -- a refused round leaves the station, starts nothing and airs nothing
+  module _ (e : eqb (roundRefusal g masks) done ≡ false) where
+    left : (roundCall g masks) .group ≡ g
+    left = round-refused g masks e
+
+    starts-refused : postsAt p (startsIn (sizeOf g) (roundCall g masks)) ≡ []
+    starts-refused =
+        own-starts (c .size) ∙ ap (λ (r : Report). ifEdit (r .turn .«started_body»)) (refused-report e) ∙ noReport-started
+
+    aired-refused : takingsOf p (airedOf n (reportIn (roundCall g masks) p)) ≡ []
+    unfolding takingsOf
+    aired-refused = ap (takingsOf p) (ap (airedOf n) (refused-report e) ∙ noReport-aired n)
+
+    waits-refused :
+        waits g p ≡ postsAt p (startsIn (sizeOf g) (roundCall g masks)) ++ waits ((roundCall g masks) .group) p
+    waits-refused = (λ i. sym starts-refused i ++ waits (sym left i) p)
+
+    lane-refused :
+        ownEdits g p ++ postsAt p (startsIn (sizeOf g) (roundCall g masks))
+        ≡ takingsOf p (airedOf n (reportIn (roundCall g masks) p)) ++ ownEdits ((roundCall g masks) .group) p
+    lane-refused =
+        ap (λ (l : List Body). ownEdits g p ++ l) starts-refused
+        ∙ append-nil (ownEdits g p)
+        ∙ (λ i. sym aired-refused i ++ ownEdits (sym left i) p)
+
+  -- what waited started or waits
+  round-waits : waits g p ≡ postsAt p (startsIn (sizeOf g) (roundCall g masks)) ++ waits ((roundCall g masks) .group) p
+  round-waits = go (eqb (roundRefusal g masks) done) refl
     where
-      s : Station
-      s = (heard g masks p) .station
-
       go :
           (t : Bool) → eqb (roundRefusal g masks) done ≡ t →
-          kept (stationAt g p) p ≡ takingsOf p (airedOf n (reportIn (roundCall g masks) p)) ++ kept (stationAt ((roundCall g masks) .group) p) p
-      go true e =
-          let run : Runs g masks = runs g masks e in
-          let hs : Hears (silent (stationAt g p)) (heard g masks p) = run-hears n g c masks run p below in
-          let own : s .own ≡ p = hs .own ∙ c .member p below .own in
-          let moved = turn-account s (hs .shaped) (hs .inside (run-room n g c masks run p below)) p own in
-          let lane : laneAt s p ≡ laneAt (stationAt g p) p =
-          subst (λ (j : ℕ). laneAt s j ≡ laneAt (stationAt g p) j) (c .member p below .own) (hs .lane) in
-          let same : kept s p ≡ kept (stationAt g p) p = rw (hs .waiting, lane) in
-          let group : kept (stationAt ((roundCall g masks) .group) p) p ≡ kept (afterTurn s) p =
-          ap (λ (h : List Station). kept (stationAt h p) p) (round-done g masks e)
-          ∙ ap (λ (x : Station). kept x p) (after-at n g c masks run p below) in
-          let aired : takingsOf p (airedOf n (reportIn (roundCall g masks) p)) ≡ cond (airs s) (ifEdit ((laneAt s p) .first)) [] =
-          ap (takingsOf p) (done-aired e) ∙ report-aired run in
-          sym same ∙ moved ∙ (λ i. sym aired i ++ sym group i)
-      go false e =
-          let group : kept (stationAt ((roundCall g masks) .group) p) p ≡ kept (stationAt g p) p =
-          ap (λ (h : List Station). kept (stationAt h p) p) (round-refused g masks e) in
-          let aired : takingsOf p (airedOf n (reportIn (roundCall g masks) p)) ≡ [] = ap (takingsOf p) (refused-aired e) in
-          (λ i. sym aired i ++ sym group i)
+          waits g p ≡ postsAt p (startsIn (sizeOf g) (roundCall g masks)) ++ waits ((roundCall g masks) .group) p
+      go true e = waits-done e
+      go false e = waits-refused e
+
+  -- what stood in the own lane, and what started, is aired or stands there
+  round-lane :
+      ownEdits g p ++ postsAt p (startsIn (sizeOf g) (roundCall g masks))
+      ≡ takingsOf p (airedOf n (reportIn (roundCall g masks) p)) ++ ownEdits ((roundCall g masks) .group) p
+  round-lane = go (eqb (roundRefusal g masks) done) refl
+    where
+      go :
+          (t : Bool) → eqb (roundRefusal g masks) done ≡ t →
+          ownEdits g p ++ postsAt p (startsIn (sizeOf g) (roundCall g masks))
+          ≡ takingsOf p (airedOf n (reportIn (roundCall g masks) p)) ++ ownEdits ((roundCall g masks) .group) p
+      go true e = lane-done e
+      go false e = lane-refused e
 
 -- call after call
 
 pub record Kept (n : ℕ) (H : History) : Type 0 where
   pub members : Members n (H .group)
-  pub accounted : (p : ℕ) → p < n → Accounted n H p
+  pub waiting : (p : ℕ) → p < n → postsAt p (H .accepted) ≡ postsAt p (H .starts) ++ waits (H .group) p
+  pub lane : (p : ℕ) → p < n → postsAt p (H .starts) ≡ takingsOf p (airedList n H p) ++ ownEdits (H .group) p
+  pub reported : (p : ℕ) → p < n → postsAt p (H .starts) ≡ onlyEdits (started H p)
 
 airedList-round :
     (n : ℕ) (H : History) (masks : List ℕ) (p : ℕ) →
@@ -195,31 +274,64 @@ airedList-round n H masks p =
     ap (takingsOf p) (collect-last (λ r. airedOf n (reportIn r p)) (H .rounds) (roundCall (H .group) masks))
     ∙ takingsOf-append p (collect (λ r. airedOf n (reportIn r p)) (H .rounds)) (airedOf n (reportIn (roundCall (H .group) masks) p))
 
+started-round :
+    (H : History) (masks : List ℕ) (p : ℕ) →
+    onlyEdits (started (next H (round masks)) p)
+    ≡ onlyEdits (started H p) ++ ifEdit ((reportIn (roundCall (H .group) masks) p) .turn .«started_body»)
+unfolding started next
+started-round H masks p =
+    let f : RoundDone → List Body = λ r. unlessEmpty ((reportIn r p) .turn .«started_body») in
+    let made = roundCall (H .group) masks in
+    ap onlyEdits (collect-last f (H .rounds) made)
+    ∙ onlyEdits-append (collect f (H .rounds)) (f made)
+    ∙ ap (λ (l : List Body). onlyEdits (collect f (H .rounds)) ++ l) (onlyEdits-unless ((reportIn made p) .turn .«started_body»))
+
 pub kept-next : (n : ℕ) (H : History) (call : Call) → Kept n H → Kept n (next H call)
 unfolding next
-kept-next n H (post k b) c =
+kept-next n H (post x) c =
     record {
-      members = members-next n H (post k b) (c .members);
-      accounted =
+      members = members-next n H (post x) (c .members);
+      waiting =
+          λ p l.
+          let more : List Post = accepts (H .group) x in
+          postsAt-append p (H .accepted) more
+          ∙ ap (λ (z : List Body). z ++ postsAt p more) (c .waiting p l)
+          ∙ append-assoc (postsAt p (H .starts)) (waits (H .group) p) (postsAt p more)
+          ∙ ap (λ (z : List Body). postsAt p (H .starts) ++ z) (sym (post-waits n (H .group) (c .members) x p));
+      lane =
           λ p l. unfold airedList in
-          let more : List Taking = cond (eqb ((postCall (H .group) k b) .refusal) done) (record { source = k; body = b } ∷ []) [] in
-          (takingsOf-append p (H .accepted) more
-          ∙ ap (λ (x : List Body). x ++ takingsOf p more) (c .accounted p l)
-          ∙ append-assoc (takingsOf p (airedList n H p)) (kept (stationAt (H .group) p) p) (takingsOf p more)
-          ∙ ap (λ (x : List Body). takingsOf p (airedList n H p) ++ x) (sym (post-kept n (H .group) (c .members) k b p)));
+          (c .lane p l ∙ ap (λ (z : List Body). takingsOf p (airedList n H p) ++ z) (post-lane (H .group) x p));
+      reported = λ p l. unfold started in (c .reported p l);
     }
 kept-next n H (round masks) c =
     record {
       members = members-next n H (round masks) (c .members);
-      accounted =
+      waiting =
           λ p l.
           let made = roundCall (H .group) masks in
+          let more : List Post = startsIn (sizeOf (H .group)) made in
+          c .waiting p l
+          ∙ ap (λ (z : List Body). postsAt p (H .starts) ++ z) (round-waits n (H .group) (c .members) masks p l)
+          ∙ sym (append-assoc (postsAt p (H .starts)) (postsAt p more) (waits (made .group) p))
+          ∙ ap (λ (z : List Body). z ++ waits (made .group) p) (sym (postsAt-append p (H .starts) more));
+      lane =
+          λ p l.
+          let made = roundCall (H .group) masks in
+          let more : List Post = startsIn (sizeOf (H .group)) made in
+          let aired : List Body = takingsOf p (airedList n H p) in
           let row : List Body = takingsOf p (airedOf n (reportIn made p)) in
-          let left : List Body = kept (stationAt (made .group) p) p in
-          c .accounted p l
-          ∙ ap (λ (x : List Body). takingsOf p (airedList n H p) ++ x) (round-kept n (H .group) (c .members) masks p l)
-          ∙ sym (append-assoc (takingsOf p (airedList n H p)) row left)
-          ∙ ap (λ (x : List Body). x ++ left) (sym (airedList-round n H masks p));
+          postsAt-append p (H .starts) more
+          ∙ ap (λ (z : List Body). z ++ postsAt p more) (c .lane p l)
+          ∙ append-assoc aired (ownEdits (H .group) p) (postsAt p more)
+          ∙ ap (λ (z : List Body). aired ++ z) (round-lane n (H .group) (c .members) masks p l)
+          ∙ sym (append-assoc aired row (ownEdits (made .group) p))
+          ∙ ap (λ (z : List Body). z ++ ownEdits (made .group) p) (sym (airedList-round n H masks p));
+      reported =
+          λ p l.
+          let more : List Post = startsIn (sizeOf (H .group)) (roundCall (H .group) masks) in
+          postsAt-append p (H .starts) more
+          ∙ (λ i. c .reported p l i ++ own-starts n (H .group) (c .members) masks p l (c .members .size) i)
+          ∙ sym (started-round H masks p);
     }
 
 pub kept-continued : (n : ℕ) (H : History) (calls : List Call) → Kept n H → Kept n (continued H calls)
@@ -227,53 +339,74 @@ unfolding continued
 kept-continued n H [] c = c
 kept-continued n H (call ∷ calls) c = kept-continued n (next H call) calls (kept-next n H call c)
 
-fresh-kept : (n p : ℕ) → p < 16 → kept (freshStation n p) p ≡ []
-unfolding freshStation bodies onlyEdits
-fresh-kept n p l = rw (getD-replicate 16 p noLane noLane l) waiting-none
+fresh-waits : (setup : Setup) (p : ℕ) → waitingEdits (freshStation setup p .waiting) ≡ []
+fresh-waits setup p = ap waitingEdits (fresh-self setup p .waiting) ∙ none-edits
 
-pub kept-begun : (n : ℕ) → 1 ≤ n → n ≤ 16 → Kept n (begun n)
+fresh-lane : (setup : Setup) (p : ℕ) → p < 16 → onlyEdits (bodies (laneAt (freshStation setup p) p)) ≡ []
+unfolding bodies onlyEdits
+fresh-lane setup p l = ap (λ (c : Cell). onlyEdits (bodies (c .lane))) (fresh-own setup p l)
+
+pub kept-begun : (setup : Setup) → Accepts setup → Kept (setup .n) (begun setup)
 unfolding begun
-kept-begun n low high =
+kept-begun setup ok =
     record {
-      members = members-begun n low high;
-      accounted =
-          λ p l. unfold airedList collect takingsOf in
-          (sym (fresh-kept n p (omega arith)) ∙ ap (λ (s : Station). kept s p) (sym (fresh-at n high p l)));
+      members = members-begun setup ok;
+      waiting =
+          λ p l. unfold postsAt in
+          (sym (fresh-waits setup p) ∙ ap (λ (s : Station). waitingEdits (s .waiting)) (sym (fresh-at setup (ok .high) p l)));
+      lane =
+          λ p l. unfold airedList collect takingsOf postsAt in
+          (sym (fresh-lane setup p (omega arith))
+          ∙ ap (λ (s : Station). onlyEdits (bodies (laneAt s p))) (sym (fresh-at setup (ok .high) p l)));
+      reported = λ p l. unfold postsAt started collect onlyEdits in refl;
     }
 
-pub kept-history : (n : ℕ) → 1 ≤ n → n ≤ 16 → (calls : List Call) → Kept n (historyOf n calls)
-kept-history n low high calls = kept-continued n (begun n) calls (kept-begun n low high)
+pub kept-history : (setup : Setup) → Accepts setup → (calls : List Call) → Kept (setup .n) (historyOf setup calls)
+kept-history setup ok calls = kept-continued (setup .n) (begun setup) calls (kept-begun setup ok)
 
-pub posts-accounted :
-    (n : ℕ) → 1 ≤ n → n ≤ 16 → (calls : List Call) → (p : ℕ) → p < n →
-    takingsOf p ((historyOf n calls) .accepted)
-    ≡ takingsOf p (airedList n (historyOf n calls) p)
-    ++ onlyEdits (bodies (laneAt (stationAt ((historyOf n calls) .group) p) p))
-    ++ waitingBodies ((stationAt ((historyOf n calls) .group) p) .waiting)
-posts-accounted n low high calls p l =
-    let H = historyOf n calls in
-    let s : Station = stationAt (H .group) p in
-    kept-history n low high calls .accounted p l
-    ∙ sym (append-assoc (takingsOf p (airedList n H p)) (onlyEdits (bodies (laneAt s p))) (waitingBodies (s .waiting)))
+module _ (setup : Setup) (ok : Accepts setup) (calls : List Call) where
+  abbrev n : ℕ
+  n = setup .n
 
-pub posts-counted :
-    (n : ℕ) → 1 ≤ n → n ≤ 16 → (calls : List Call) → (p : ℕ) → p < n →
-    length (takingsOf p ((historyOf n calls) .accepted))
-    ≡ (stationAt ((historyOf n calls) .group) p) .waiting .len
-    + length (onlyEdits (bodies (laneAt (stationAt ((historyOf n calls) .group) p) p)))
-    + length (takingsOf p (airedList n (historyOf n calls) p))
-posts-counted n low high calls p l =
-    let H = historyOf n calls in
-    let s : Station = stationAt (H .group) p in
-    let members = kept-history n low high calls .members in
-    let aired : List Body = takingsOf p (airedList n H p) in
-    let lane : List Body = onlyEdits (bodies (laneAt s p)) in
-    let short : s .waiting .len ≤ length (s .waiting .slots) =
-    omega (arith, queue-most (s .waiting) (members .member p l .inside .waiting), members .shape .stations p (omega arith) .slots) in
-    omega (
-      arith,
-      ap length (posts-accounted n low high calls p l),
-      length-append (aired ++ lane) (waitingBodies (s .waiting)),
-      length-append aired lane,
-      waiting-length (s .waiting) short,
-    )
+  abbrev H : History
+  H = historyOf setup calls
+
+  whole : Kept n H
+  whole = kept-history setup ok calls
+
+  pub posts-started : (p : ℕ) → p < n → postsAt p (H .accepted) ≡ postsAt p (H .starts) ++ waitingEdits ((stationAt (H .group) p) .waiting)
+  posts-started = whole .waiting
+
+  pub starts-aired :
+      (p : ℕ) → p < n → postsAt p (H .starts) ≡ takingsOf p (airedList n H p) ++ onlyEdits (bodies (laneAt (stationAt (H .group) p) p))
+  starts-aired = whole .lane
+
+  pub starts-reported : (p : ℕ) → p < n → postsAt p (H .starts) ≡ onlyEdits (started H p)
+  starts-reported = whole .reported
+
+  pub posts-accounted :
+      (p : ℕ) → p < n →
+      postsAt p (H .accepted)
+      ≡ takingsOf p (airedList n H p)
+      ++ onlyEdits (bodies (laneAt (stationAt (H .group) p) p))
+      ++ waitingEdits ((stationAt (H .group) p) .waiting)
+  posts-accounted p l = posts-started p l ∙ ap (λ (z : List Body). z ++ waits (H .group) p) (starts-aired p l)
+
+  pub posts-counted :
+      (p : ℕ) → p < n →
+      length (postsAt p (H .accepted))
+      ≡ waitingCount ((stationAt (H .group) p) .waiting)
+      + length (onlyEdits (bodies (laneAt (stationAt (H .group) p) p)))
+      + length (takingsOf p (airedList n H p))
+  posts-counted p l =
+      let s : Station = stationAt (H .group) p in
+      let members = whole .members in
+      let aired : List Body = takingsOf p (airedList n H p) in
+      let lane : List Body = onlyEdits (bodies (laneAt s p)) in
+      omega (
+        arith,
+        ap length (posts-accounted p l),
+        length-append (aired ++ lane) (waitingEdits (s .waiting)),
+        length-append aired lane,
+        edits-count (s .waiting) (members .shape .stations p (omega arith) .waiting) (members .member p l .inside .waiting),
+      )

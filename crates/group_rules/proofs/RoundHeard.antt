@@ -23,7 +23,6 @@ use Rattle.frame_rules.specs.Record.{framed}
 use Rattle.places.specs.Places.{gather}
 use Rattle.places.proofs.Laws.{anyBelow-none}
 use Rattle.station_rules.specs.declared.Station.{Station}
-use Rattle.frame_rules.specs.Calls.{tableRecords}
 use Rattle.station_rules.specs.State.{heldOf, recordOf, laneAt, sentRecords}
 use Rattle.station_rules.specs.Hearing.{Hearing, silent, hearRecord, hearRecords}
 use Rattle.station_rules.proofs.HearRecord.{hearRecord-skips}
@@ -173,7 +172,7 @@ module _ (R : Run) where
     pub hear-sent :
         Standing R u p first h vs →
         Standing R u p first (hearRecords h (sentRecords s)) (λ q. max (vs q) (news L u j q))
-    unfolding sentRecords tableRecords
+    unfolding sentRecords
     hear-sent c =
         let e = a .formed .size in
         let d = hear-frame (s .n) (omega arith) c in

@@ -1,14 +1,11 @@
 -- All rounds: the fresh group is as round 0 leaves it, what happens between two rounds touches no cell, and a round's hearing and turn lead on. One
 -- induction over the rounds.
 use Prim.Native.Nat.{ℕ, zero, suc, _%_, _<_}
-use mathlib.Core.Bool.{Bool, true, false}
-use mathlib.Core.List.{List}
 use mathlib.Core.Path.{_≡_, refl, sym, ap, _∙_, subst}
 use native.Mathlib.Decide.{ℕ-discrete}
 use native.Mathlib.Omega.{arith}
 use borrow.Author.Tests.{eq-eqb}
-use lib.ListN.{getD, set, length, replicate, getD-replicate}
-use lib.Seq.{getD-set-same, getD-set-other}
+use lib.ListN.{length}
 use lib.Dec.{eqb}
 use Rattle.links.specs.Relay.{Links}
 use Rattle.links.specs.Clock.{news}
@@ -17,29 +14,18 @@ use Rattle.links.proofs.Clock.{news-own, news-start}
 use Rattle.links.proofs.Number.{num-zero, start-zero}
 use Rattle.links.proofs.Hearing.{counted-zero}
 use Rattle.links.proofs.Got.{got-none, got-own}
-use Rattle.frame_rules.specs.declared.Record.{Record}
 use Rattle.station_rules.specs.declared.Station.{Station}
-use Rattle.frame_rules.specs.Record.{noRecord, zeroRecord}
-use Rattle.station_rules.specs.State.{recordOf, freshStation}
+use Rattle.station_rules.specs.State.{Cell, recordLabel, freshRecord, freshStation}
 use Rattle.station_rules.specs.Turn.{afterTurn}
 use Rattle.group_rules.specs.State.{stationAt, sizeOf}
-use Rattle.group_rules.proofs.Run.{Run, SameButWaiting, linksOf, hearingIn}
-use Rattle.station_rules.proofs.Shape.{fresh-shaped}
+use Rattle.group_rules.proofs.Run.{Run, linksOf, hearingIn}
+use Rattle.station_rules.proofs.Setters.{SameButWaiting, fresh-self, fresh-own, fresh-other, fresh-label-own, fresh-label-other, fresh-shaped}
 use Rattle.group_rules.proofs.Members.{fresh-at, fresh-shape}
 use Rattle.group_rules.proofs.MembersRound.{round-at, round-length}
-use Rattle.group_rules.proofs.Version.{Stands, CellAt}
+use Rattle.group_rules.proofs.Version.{Stands, CellStands, CellAt}
 use Rattle.group_rules.proofs.Standing.{Formed}
-use Rattle.group_rules.proofs.HearParts.{cell-move}
 use Rattle.group_rules.proofs.RoundHeard.{After, hear-round, heard-version}
 use Rattle.group_rules.proofs.TurnStep.{turn-step}
-
--- a list of sixteen of which one entry is another
-module _ {A : Type 0} (a b d : A) (p : ℕ) (lp : p < 16) where
-  one-here : getD (set (replicate 16 a) p b) p d ≡ b
-  one-here = getD-set-same (replicate 16 a) p b d lp
-
-  one-other : (q : ℕ) → q < 16 → (q ≡ p → ⊥) → getD (set (replicate 16 a) p b) q d ≡ a
-  one-other q l n = getD-set-other (replicate 16 a) p q b d n ∙ getD-replicate 16 q a d l
 
 module _ (R : Run) where
   abbrev L : Links
@@ -53,96 +39,77 @@ module _ (R : Run) where
             record {
               size = sym (e .n) ∙ a .formed .size;
               own = sym (e .own) ∙ a .formed .own;
-              shape =
-                  (let c = a .formed .shape in
-                  record {
-                    acked = ap length (sym (e .acked)) ∙ c .acked;
-                    labels = ap length (sym (e .labels)) ∙ c .labels;
-                    held = ap length (sym (e .held)) ∙ c .held;
-                    table = ap length (sym (e .table)) ∙ c .table;
-                    lanes = ap length (sym (e .lanes)) ∙ c .lanes;
-                    slots = sym (e .slots) ∙ c .slots;
-                    record-labels =
-                        λ q l. ap (λ (x : List Record). length ((getD x q noRecord) .labels)) (sym (e .table)) ∙ c .record-labels q l;
-                  });
+              shape = e .shape (a .formed .shape);
             };
         body = sym (e .body) ∙ a .body;
         count = sym (e .count) ∙ a .count;
-        cells =
-            λ q l.
-            cell-move R
-            (ap (λ (x : List Bool). getD x q false) (sym (e .held)))
-            (ap (λ (x : List Bool). getD x q false) (sym (e .acked)))
-            (ap (λ (x : List ℕ). getD x q 0) (sym (e .labels)))
-            (ap (λ (x : List Record). getD x q noRecord) (sym (e .table)))
-            (a .cells q l);
+        cells = λ q l. subst (λ (c : Cell). CellStands R u p q (news L u p q) c) (e .cells q) (a .cells q l);
       }
 
   -- the fresh group
   module _ (p : ℕ) (lp : p < R .n) where
-    pub first-at : stationAt (R .after 0) p ≡ freshStation (R .n) p
-    first-at = ap (λ g. stationAt g p) (R .first) ∙ fresh-at (R .n) (R .high) p lp
+    pub first-at : stationAt (R .after 0) p ≡ freshStation (R .setup) p
+    first-at = ap (λ g. stationAt g p) (R .first) ∙ fresh-at (R .setup) (omega (arith, R .given, R .high)) p (omega (arith, R .given))
 
-    fresh-labels : (q : ℕ) → q < R .n → Dec (q ≡ p) → getD (set (replicate 16 0) p 1) q 0 ≡ got L 0 p q % 3
+    fresh-labels : (q : ℕ) → q < R .n → Dec (q ≡ p) → recordLabel (freshRecord p) q ≡ got L 0 p q % 3
     fresh-labels q l (yes e) =
         let high = R .high in
-        subst (λ i. getD (set (replicate 16 0) p 1) i 0 ≡ got L 0 p i % 3) (sym e)
-        (one-here 0 1 0 p (omega arith) ∙ ap (λ (i : ℕ). i % 3) (sym (got-own L 0 p ∙ num-zero L p)))
+        subst (λ i. recordLabel (freshRecord p) i ≡ got L 0 p i % 3) (sym e)
+        (fresh-label-own (R .setup) p (omega arith) ∙ ap (λ (i : ℕ). i % 3) (sym (got-own L 0 p ∙ num-zero L p)))
     fresh-labels q l (no d) =
         let high = R .high in
-        one-other 0 1 0 p (omega arith) q (omega arith) d
+        fresh-label-other (R .setup) p q (omega arith) d
         ∙ ap (λ (i : ℕ). i % 3) (sym (got-none L 0 p q (news-start L p q (λ e. d (sym e)))))
 
     fresh-cell :
         (q : ℕ) → q < R .n → Dec (q ≡ p) →
-        CellAt R 0 p q (news L 0 p q) (freshStation (R .n) p)
-    unfolding freshStation gotOf numOf
+        CellAt R 0 p q (news L 0 p q) (freshStation (R .setup) p)
+    unfolding gotOf numOf
     fresh-cell q l (yes e) =
         let high = R .high in
-        subst (λ i. CellAt R 0 p i (news L 0 p i) (freshStation (R .n) p))
+        subst (λ i. CellAt R 0 p i (news L 0 p i) (freshStation (R .setup) p))
         (sym e)
-        (subst (λ v. CellAt R 0 p p v (freshStation (R .n) p))
+        (subst (λ v. CellAt R 0 p p v (freshStation (R .setup) p))
         (sym (news-own L 0 p))
+        (subst (λ (c : Cell). CellStands R 0 p p 1 c) (sym (fresh-own (R .setup) p (omega arith)))
         (record {
-          is-held = one-here false true false p (omega arith);
-          is-acked = one-here false true false p (omega arith) ∙ sym (eq-eqb (got L 0 p p) (num L 0 p) (got-own L 0 p));
-          is-label = one-here 0 1 0 p (omega arith) ∙ ap (λ (i : ℕ). i % 3) (sym (num-zero L p));
+          is-held = refl;
+          is-acked = sym (eq-eqb (got L 0 p p) (num L 0 p) (got-own L 0 p));
+          is-label = ap (λ (i : ℕ). i % 3) (sym (num-zero L p));
           stands =
               λ w f.
-              subst (λ i. Stands R (recordOf (freshStation (R .n) p) p) p i) (omega (arith, f))
-              (subst (λ r. Stands R r p 0) (sym (one-here zeroRecord _ noRecord p (omega arith)))
+              subst (λ i. Stands R (freshRecord p) p i) (omega (arith, f))
               (record {
                 station = refl;
                 count = sym (counted-zero L p);
                 body =
-                    ap (λ (s : Station). s .body) (sym first-at)
+                    sym (fresh-self (R .setup) p .body)
+                    ∙ ap (λ (s : Station). s .body) (sym first-at)
                     ∙ ap (λ (t : ℕ). (stationAt (R .after t) p) .body) (sym (start-zero L p));
                 labels = λ k b. fresh-labels k b (ℕ-discrete k p);
-              }));
-        }))
+              });
+        })))
     fresh-cell q l (no d) =
         let high = R .high in
-        subst (λ v. CellAt R 0 p q v (freshStation (R .n) p))
+        subst (λ v. CellAt R 0 p q v (freshStation (R .setup) p))
         (sym (news-start L p q (λ e. d (sym e))))
+        (subst (λ (c : Cell). CellStands R 0 p q 0 c) (sym (fresh-other (R .setup) p q (omega arith) d))
         (record {
-          is-held = one-other false true false p (omega arith) q (omega arith) d;
-          is-acked =
-              one-other false true false p (omega arith) q (omega arith) d ∙ ap (λ (m : ℕ). eqb 0 m) (sym (num-zero L p));
-          is-label = one-other 0 1 0 p (omega arith) q (omega arith) d;
+          is-held = refl;
+          is-acked = ap (λ (m : ℕ). eqb 0 m) (sym (num-zero L p));
+          is-label = refl;
           stands = λ w f. absurd (omega (arith, f));
-        })
+        }))
 
-    fresh-formed : Formed R p (freshStation (R .n) p)
-    unfolding freshStation
-    fresh-formed = record { size = refl; own = refl; shape = fresh-shaped (R .n) p }
+    fresh-formed : Formed R p (freshStation (R .setup) p)
+    fresh-formed = record { size = fresh-self (R .setup) p .n ∙ R .given; own = fresh-self (R .setup) p .own; shape = fresh-shaped (R .setup) p }
 
     fresh-after : After R 0 p (stationAt (R .after 0) p)
-    unfolding freshStation
     fresh-after =
         record {
           formed = subst (λ s. Formed R p s) (sym first-at) fresh-formed;
           body = ap (λ (t : ℕ). (stationAt (R .after t) p) .body) (sym (start-zero L p));
-          count = ap (λ (s : Station). s .count) first-at ∙ sym (counted-zero L p);
+          count = ap (λ (s : Station). s .count) first-at ∙ fresh-self (R .setup) p .count ∙ sym (counted-zero L p);
           cells =
               λ q l.
               subst (λ s. CellAt R 0 p q (news L 0 p q) s) (sym first-at)
@@ -151,7 +118,7 @@ module _ (R : Run) where
 
   -- sixteen stations
   pub after-length : (u : ℕ) → length (R .after u) ≡ 16
-  after-length zero = ap length (R .first) ∙ fresh-shape (R .n) (R .high) .places
+  after-length zero = ap length (R .first) ∙ fresh-shape (R .setup) (omega (arith, R .given, R .high)) .places
   after-length (suc u) =
       ap length (R .step u) ∙ round-length (R .ready u) (R .masks (suc u)) ∙ R .length-ready u ∙ after-length u
 

@@ -7,35 +7,27 @@ use mathlib.Core.Path.{_≡_}
 use lib.ListN.{length}
 use lib.Dec.{ltb, leb, eqb}
 use Rattle.kinds.specs.declared.Body.{Body}
-use Rattle.kinds.specs.Body.{kindOf}
+use Rattle.kinds.specs.Body.{isEmpty}
 use Rattle.links.specs.Relay.{Links, ofMasks}
 use Rattle.links.specs.Clock.{news}
 use Rattle.links.specs.Number as number
 use Rattle.places.specs.Places.{anyBelow}
+use Rattle.station_rules.specs.declared.Setup.{Setup}
 use Rattle.station_rules.specs.declared.Station.{Station}
 use Rattle.lanes.specs.Lane.{pushed}
 use Rattle.station_rules.specs.State.{laneAt}
 use Rattle.station_rules.specs.Hearing.{Hearing}
 use Rattle.station_rules.specs.Turn as turn
+use Rattle.station_rules.proofs.Setters.{SameButWaiting}
 use Rattle.group_rules.specs.State.{stationAt, freshGroup}
 use Rattle.group_rules.specs.Calls.{heard, afterRound}
 use Rattle.group_rules.specs.History.{takingsOf, unlessEmpty}
 
--- two stations that differ in their waiting edits at most, with the same number of slots for them
-pub record SameButWaiting (s t : Station) : Type 0 where
-  pub n : s .n ≡ t .n
-  pub own : s .own ≡ t .own
-  pub acked : s .acked ≡ t .acked
-  pub body : s .body ≡ t .body
-  pub count : s .count ≡ t .count
-  pub labels : s .labels ≡ t .labels
-  pub held : s .held ≡ t .held
-  pub table : s .table ≡ t .table
-  pub lanes : s .lanes ≡ t .lanes
-  pub slots : length (s .waiting .slots) ≡ length (t .waiting .slots)
-
 pub record Run : Type 0 where
+  -- what its fresh group was given, and N of it
+  pub setup : Setup
   pub n : ℕ
+  pub given : setup .n ≡ n
   pub low : 1 ≤ n
   pub high : n ≤ 16
   -- the masks of round u, from 1 on
@@ -43,7 +35,7 @@ pub record Run : Type 0 where
   -- the group after round u, and as the next round is given it
   pub after : ℕ → List Station
   pub ready : ℕ → List Station
-  pub first : after 0 ≡ freshGroup n
+  pub first : after 0 ≡ freshGroup setup
   pub length-ready : (u : ℕ) → length (ready u) ≡ length (after u)
   pub posts : (u k : ℕ) → SameButWaiting (stationAt (after u) k) (stationAt (ready u) k)
   pub step : (u : ℕ) → after (suc u) ≡ afterRound (ready u) (masks (suc u))
@@ -66,7 +58,7 @@ rises R u p s = ltb (number.got (linksOf R) u p s) (number.got (linksOf R) (suc 
 
 -- and a body other than Empty comes with it
 abbrev pub comes : Run → ℕ → ℕ → ℕ → Bool
-comes R u p s = rises R u p s && not (eqb (kindOf (bodyAt R s (news (linksOf R) (suc u) p s))) 0)
+comes R u p s = rises R u p s && not (isEmpty (bodyAt R s (news (linksOf R) (suc u) p s)))
 
 -- what the simulation shows of every round: which bodies are taken, what becomes of the lanes, and who ends
 pub record Simulated (R : Run) : Type 0 where

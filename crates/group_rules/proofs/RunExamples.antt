@@ -6,22 +6,9 @@ use lib.IntN.{pos}
 use lib.ListN.{replicate}
 use Rattle.kinds.specs.declared.Body.{Body}
 use Rattle.kinds.specs.declared.Body.the-variants.{Empty, Neutral, Insert}
-use Rattle.kind_limits.specs.Limits.{isEdit, bodyInside, numbersInside}
-use Rattle.links.specs.Log.{bit, hearsIn}
-use Rattle.places.specs.Places.{allBelow, anyBelow, fill, gather, tabulate}
-use Rattle.frame_rules.specs.Record.{framed}
-use Rattle.frame_rules.specs.Calls.{tableRecords}
-use Rattle.labels.specs.Newer.{isNewer}
-use Rattle.lanes.specs.Lane.{laneOf, bodies}
-use Rattle.lanes.specs.Queue.{noneWaiting, queued, unqueued, oldest}
-use Rattle.station_rules.specs.State.{sentRecords, freshStation}
-use Rattle.station_rules.specs.Limits.{laneInside, queueInside, recordInside, placeInside, stationInside}
-use Rattle.station_rules.specs.Hearing.{replaced, heardNewer, hearRecord, hearRecords}
-use Rattle.station_rules.specs.Turn.{airs, rowOf, lanesAfter, ends, startedBody, passed, ownRecord, rewritten, afterTurn, turnReport}
-use Rattle.station_rules.specs.Calls.{posted, noTurn}
-use Rattle.group_rules.specs.State.{groupInside, freshGroup}
-use Rattle.group_rules.specs.Calls.{groupPostRefusal, postCall, hearing, noReport, reportOf, roundRefusal, afterRound, roundCall}
-use Rattle.group_rules.specs.History.{History, Call.post, Call.round, next, begun, continued, historyOf, editsOf, collect, airedList, endsAt}
+use Rattle.places.specs.Places.{gather, tabulate}
+use Rattle.group_rules.specs.History.{History, Call.post, Call.round, historyOf, airedList, endsAt}
+use Rattle.group_rules.proofs.Computing.{groupRuns}
 use Rattle.group_rules.proofs.RunLines.{taken, aired, ended, linesOf, linesIn, edit, edits, run, seen, mesh}
 
 unfoldable pub seven : Body
@@ -29,7 +16,7 @@ seven = Insert 7 (pos 100)
 
 -- the calls of document 01's example
 unfoldable pub listing : History
-listing = historyOf 2 (post 0 seven ∷ replicate 3 (round (2 ∷ 1 ∷ [])))
+listing = historyOf (record { n = 2 }) (post (record { station = 0; body = seven }) ∷ replicate 3 (round (2 ∷ 1 ∷ [])))
 
 -- stations 0 and 2 hear station 1 only, and it hears both
 abbrev pub chain : History
@@ -50,7 +37,7 @@ pub record Runs : Type 0 where
 
 -- all by computation
 pub runs : Runs
-unfolding seven listing linesOf linesIn isEdit bodyInside numbersInside bit hearsIn allBelow anyBelow fill gather framed isNewer laneOf bodies noneWaiting queued unqueued oldest sentRecords tableRecords freshStation laneInside queueInside recordInside placeInside stationInside replaced heardNewer hearRecord hearRecords airs rowOf lanesAfter ends startedBody passed ownRecord rewritten afterTurn turnReport posted noTurn groupInside freshGroup groupPostRefusal postCall hearing noReport reportOf roundRefusal afterRound roundCall next begun continued editsOf edit run tabulate airedList collect endsAt
+unfolding groupRuns seven listing linesOf linesIn edit run
 runs =
     record {
       listing-one = refl;

@@ -9,7 +9,7 @@ use native.Mathlib.Omega.{arith}
 use borrow.Author.Tests.{lt-ltb, le-ltb, le-leb, ltb-true, eq-eqb, ne-eqb}
 use lib.Dec.{ltb, leb, eqb}
 use Rattle.kinds.specs.declared.Body.{Body}
-use Rattle.kinds.specs.Body.{kindOf}
+use Rattle.kinds.specs.Body.{isEmpty}
 use Rattle.links.specs.Relay.{Links}
 use Rattle.links.specs.Clock.{news}
 use Rattle.links.specs.Number as number
@@ -162,7 +162,7 @@ module _ (R : Run) where
 
   gains-comes : (u p q : ℕ) → q < R .n → gains R u p q (news L (suc u) p q) ≡ comes R u p q
   gains-comes u p q l =
-      ap₂ (λ (m : ℕ) (b : Body). ltb (got L u p q) m && not (eqb (kindOf b) 0))
+      ap₂ (λ (m : ℕ) (b : Body). ltb (got L u p q) m && not (isEmpty b))
       (sym (got-numOf L (suc u) p q))
       (sym (body-shown u q l (news L (suc u) p q)))
 

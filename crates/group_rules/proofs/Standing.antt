@@ -18,7 +18,7 @@ use Rattle.places.proofs.Laws.{anyBelow-ext}
 use Rattle.station_rules.specs.declared.Station.{Station}
 use Rattle.station_rules.specs.State.{laneAt}
 use Rattle.station_rules.specs.Hearing.{Hearing}
-use Rattle.station_rules.proofs.Shape.{Shaped}
+use Rattle.station_rules.proofs.Setters.{Shaped}
 use Rattle.group_rules.specs.History.{takingsOf}
 use Rattle.group_rules.proofs.Run.{Run, linksOf}
 use Rattle.group_rules.proofs.Version.{CellAt, Caught, Alike, gains, shown-same, alike-number, cell-alike, caught-same}
@@ -64,7 +64,7 @@ module _ (R : Run) where
         own-version = omega (arith, c .own-version, alike-later p (vs p) (vs′ p) (same p lp), below p lp);
         low = λ q l. omega (arith, c .low q l, alike-later q (vs q) (vs′ q) (same q l));
         high = below;
-        cells = λ q l. cell-alike R u p q (vs q) (vs′ q) _ _ _ _ lp (same q l) (c .cells q l);
+        cells = λ q l. cell-alike R u p q (vs q) (vs′ q) _ lp (same q l) (c .cells q l);
         caught = λ q l. caught-same R u p q (vs q) (vs′ q) _ _ _ (number q l) (c .caught q l);
         count =
             c .count

@@ -9,11 +9,11 @@ use native.Mathlib.Decide.{ℕ-discrete}
 use native.Mathlib.Nat.{zero-add, suc-add}
 use native.Mathlib.Omega.{arith}
 use borrow.Author.Tests.{eq-eqb, ne-eqb, lt-ltb, le-ltb}
-use lib.Dec.{eqb, ltb}
+use lib.Dec.{ltb}
 use lib.ListN.{length}
 use Rattle.kinds.specs.declared.Body.{Body}
 use Rattle.kinds.specs.declared.Body.the-variants.{Empty}
-use Rattle.kinds.specs.Body.{kindOf}
+use Rattle.kinds.specs.Body.{isEmpty}
 use Rattle.places.proofs.Later.{from-on}
 use Rattle.links.specs.Relay.{Links}
 use Rattle.links.specs.Clock.{news}
@@ -22,11 +22,14 @@ use Rattle.links.specs.Number as number
 use Rattle.links.proofs.Clock.{news-own, news-start, news-limit, news-keeps}
 use Rattle.links.proofs.Number.{step, num-zero}
 use Rattle.links.proofs.Got.{numOf-none, numOf-some, numOf-mono, got-numOf, got-step}
+use Rattle.station_rules.specs.declared.Setup.{Setup}
 use Rattle.station_rules.specs.declared.Station.{Station}
 use Rattle.station_rules.specs.State.{freshStation}
 use Rattle.station_rules.specs.Turn.{startedBody}
-use Rattle.station_rules.proofs.TurnParts.{started-stays, body-ends, body-stays, report-started}
+use Rattle.station_rules.proofs.TurnCells.{started-stays}
+use Rattle.station_rules.proofs.TurnParts.{body-ends, body-stays, report-started}
 use Rattle.group_rules.specs.State.{stationAt}
+use Rattle.station_rules.proofs.Setters.{fresh-self}
 use Rattle.group_rules.specs.History.{takingsOf, unlessEmpty}
 use Rattle.group_rules.specs.Demand.{Begins}
 use Rattle.group_rules.proofs.Run.{Run, linksOf, hearingIn, bodyAt, rises}
@@ -36,9 +39,8 @@ use Rattle.group_rules.proofs.Rounds.{first-at, after-at}
 use Rattle.group_rules.proofs.Lists.{startedBy, heardBy, takenBy, startedAt, madeBy}
 use Rattle.group_rules.proofs.Counting.{shown}
 
-fresh-body : (n p : ℕ) → (freshStation n p) .body ≡ Empty
-unfolding freshStation
-fresh-body n p = refl
+fresh-body : (setup : Setup) (p : ℕ) → (freshStation setup p) .body ≡ Empty
+fresh-body setup p = fresh-self setup p .body
 
 module _ (R : Run) where
   abbrev L : Links
@@ -114,7 +116,7 @@ module _ (R : Run) where
             ap (λ (xs : List Body). xs ++ unlessEmpty (bodyAt R s 1)) (startedAt-none s)
             ∙ ap
             (λ (b : Body). unlessEmpty b)
-            (bodyAt-some s 0 ∙ ap (λ (t : Station). t .body) (first-at R s l) ∙ fresh-body (R .n) s)
+            (bodyAt-some s 0 ∙ ap (λ (t : Station). t .body) (first-at R s l) ∙ fresh-body (R .setup) s)
             ),
       )
   next s (suc w) l =
@@ -214,7 +216,7 @@ module _ (R : Run) where
       one false x = omega arith
 
       go : (b : Bool) (x : Body) → length (cond b (unlessEmpty x) []) ≤ 1
-      go true x = one (eqb (kindOf x) 0) x
+      go true x = one (isEmpty x) x
       go false x = omega arith
 
   -- How many bodies a version shows.

@@ -1,13 +1,21 @@
--- The bodies of one station in a list of takings: those of two lists one after the other, and of a single entry.
-use Prim.Native.Nat.{ℕ}
+-- The bodies of one station in a list of takings or of posts: those of two lists one after the other, of a single entry, and of what is gathered with its
+-- place as station.
+use Prim.Native.Nat.{ℕ, zero, suc, _≤_, _<_}
 use mathlib.Core.Bool.{Bool, true, false, cond}
-use mathlib.Core.List.{List, [], _∷_, _++_, append-assoc}
-use mathlib.Core.Path.{_≡_, refl, sym, ap, _∙_}
+use mathlib.Core.List.{List, [], _∷_, _++_, append-nil, append-assoc, map, map-append}
+use mathlib.Core.Path.{_≡_, refl, sym, ap, subst, _∙_}
+use native.Mathlib.Decide.{ℕ-discrete}
+use native.Mathlib.Omega.{arith}
 use borrow.Author.Tests.{eq-eqb, ne-eqb}
 use lib.Dec.{eqb}
 use Rattle.kinds.specs.declared.Body.{Body}
+use Rattle.kinds.specs.Body.{isEmpty, isEdit}
+use Rattle.kinds.proofs.Laws.{edit-not-empty}
+use Rattle.places.specs.Places.{gather}
+use Rattle.places.proofs.Laws.{map-gather}
 use Rattle.station_rules.specs.declared.Taking.{Taking}
-use Rattle.group_rules.specs.History.{takingsOf}
+use Rattle.group_rules.specs.declared.Post.{Post}
+use Rattle.group_rules.specs.History.{takingsOf, postsAt, onlyEdits, unlessEmpty}
 
 pub takingsOf-append : (q : ℕ) (xs ys : List Taking) → takingsOf q (xs ++ ys) ≡ takingsOf q xs ++ takingsOf q ys
 unfolding takingsOf
@@ -25,3 +33,92 @@ pub taking-here : (k : ℕ) (b : Bool) (body : Body) → takingsOf k (cond b (re
 unfolding takingsOf
 taking-here k true body = rw (eq-eqb k k refl)
 taking-here k false body = refl
+
+-- what is gathered with its place as source: the bodies of one place
+module _ (test : ℕ → Bool) (body : ℕ → Body) (p : ℕ) where
+  abbrev takings : ℕ → List Taking
+  takings m = gather m test (λ k. record { source = k; body = body k })
+
+  abbrev last : ℕ → List Taking
+  last m = cond (test m) (record { source = m; body = body m } ∷ []) []
+
+  last-other : (m : ℕ) → (m ≡ p → ⊥) → takingsOf p (last m) ≡ []
+  last-other m ne = taking-other p m (test m) (body m) ne
+
+  last-own : (m : ℕ) → m ≡ p → takingsOf p (last m) ≡ cond (test p) (body p ∷ []) []
+  last-own m e =
+      subst (λ (k : ℕ). takingsOf p (last k) ≡ cond (test p) (body p ∷ []) []) (sym e) (taking-here p (test p) (body p))
+
+  before-own : (m : ℕ) → m ≤ p → takingsOf p (takings m) ≡ []
+  unfolding gather takingsOf
+  before-own zero l = refl
+  before-own (suc m) l =
+      takingsOf-append p (takings m) (last m)
+      ∙ ap (λ (x : List Body). x ++ takingsOf p (last m)) (before-own m (omega arith))
+      ∙ last-other m (λ e. absurd (omega arith))
+
+  pub gathered-own : (m : ℕ) → p < m → takingsOf p (takings m) ≡ cond (test p) (body p ∷ []) []
+  unfolding gather
+  gathered-own zero l = absurd (omega arith)
+  gathered-own (suc m) l =
+      takingsOf-append p (takings m) (last m)
+      ∙ elim (ℕ-discrete m p) [
+        | yes e ↦ ap (λ (x : List Body). x ++ takingsOf p (last m)) (before-own m (omega arith)) ∙ last-own m e
+        | no d ↦
+            ap (λ (x : List Body). x ++ takingsOf p (last m)) (gathered-own m (omega arith))
+            ∙ ap (λ (x : List Body). cond (test p) (body p ∷ []) [] ++ x) (last-other m d)
+            ∙ append-nil (cond (test p) (body p ∷ []) [])
+      ]
+
+-- posts are takings of their station
+abbrev takingOf : Post → Taking
+takingOf x = record { source = x .station; body = x .body }
+
+posts-takings : (q : ℕ) (xs : List Post) → postsAt q xs ≡ takingsOf q (map takingOf xs)
+unfolding postsAt takingsOf
+posts-takings q [] = refl
+posts-takings q (x ∷ xs) = ap (λ (z : List Body). cond (eqb (x .station) q) (x .body ∷ []) [] ++ z) (posts-takings q xs)
+
+pub postsAt-append : (q : ℕ) (xs ys : List Post) → postsAt q (xs ++ ys) ≡ postsAt q xs ++ postsAt q ys
+postsAt-append q xs ys =
+    posts-takings q (xs ++ ys)
+    ∙ ap (takingsOf q) (map-append takingOf xs ys)
+    ∙ takingsOf-append q (map takingOf xs) (map takingOf ys)
+    ∙ sym (λ i. posts-takings q xs i ++ posts-takings q ys i)
+
+pub post-other : (q : ℕ) (x : Post) → (x .station ≡ q → ⊥) → postsAt q (x ∷ []) ≡ []
+unfolding postsAt
+post-other q x d = rw (ne-eqb (x .station) q d)
+
+pub post-here : (x : Post) → postsAt (x .station) (x ∷ []) ≡ x .body ∷ []
+unfolding postsAt
+post-here x = rw (eq-eqb (x .station) (x .station) refl)
+
+pub posts-gathered :
+    (test : ℕ → Bool) (body : ℕ → Body) (p m : ℕ) → p < m →
+    postsAt p (gather m test (λ k. record { station = k; body = body k })) ≡ cond (test p) (body p ∷ []) []
+posts-gathered test body p m l =
+    posts-takings p (gather m test (λ k. record { station = k; body = body k }))
+    ∙ ap (takingsOf p) (map-gather takingOf m test (λ k. record { station = k; body = body k }))
+    ∙ gathered-own test body p m l
+
+-- the edits of two lists
+pub onlyEdits-append : (xs ys : List Body) → onlyEdits (xs ++ ys) ≡ onlyEdits xs ++ onlyEdits ys
+unfolding onlyEdits
+onlyEdits-append [] ys = refl
+onlyEdits-append (b ∷ xs) ys =
+    ap (λ (z : List Body). cond (isEdit b) (b ∷ []) [] ++ z) (onlyEdits-append xs ys)
+    ∙ sym (append-assoc (cond (isEdit b) (b ∷ []) []) (onlyEdits xs) (onlyEdits ys))
+
+-- a body that is not Empty, where it is an edit
+pub onlyEdits-unless : (b : Body) → onlyEdits (unlessEmpty b) ≡ cond (isEdit b) (b ∷ []) []
+unfolding onlyEdits
+onlyEdits-unless b = go (isEdit b) refl
+  where
+    go : (t : Bool) → isEdit b ≡ t → onlyEdits (unlessEmpty b) ≡ cond t (b ∷ []) []
+    go true e = rw (edit-not-empty b e, e)
+    go false e = blank (isEmpty b)
+      where
+        blank : (t : Bool) → onlyEdits (cond t [] (b ∷ [])) ≡ []
+        blank true = refl
+        blank false = rw e

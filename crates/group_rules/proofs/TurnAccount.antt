@@ -1,5 +1,5 @@
--- Posts in a turn: an edit that starts leaves the waiting ones for the own lane, and one that is aired leaves the own lane for the row. So the own
--- edit of the row, then the edits in the own lane, then the waiting ones stay the same list.
+-- Posts in a turn: an edit that starts leaves the waiting ones for the own lane, and one that is aired leaves the own lane for the row. So what waited is what
+-- started and then what waits, and what stood in the own lane, then what started, is the own edit of the row and then what stands in the own lane.
 use Prim.Native.Nat.{ℕ, zero, suc, _≤_, _<_}
 use mathlib.Core.Bool.{Bool, true, false, cond}
 use mathlib.Core.List.{List, [], _∷_, _++_, append-nil, append-assoc}
@@ -7,33 +7,33 @@ use mathlib.Core.Path.{_≡_, refl, sym, ap, subst, _∙_}
 use native.Mathlib.Decide.{ℕ-discrete}
 use native.Mathlib.Omega.{arith}
 use lib.Dec.{eqb, ltb}
-use lib.ListN.{getD, replicate, length}
+use lib.ListN.{getD}
 use borrow.Author.Tests.{ltb-true, eq-eqb}
 use Rattle.kinds.specs.declared.Body.{Body}
 use Rattle.kinds.specs.declared.Body.the-variants.{Neutral}
-use Rattle.kinds.specs.Body.{kindOf}
-use Rattle.kind_limits.specs.Limits.{isEdit}
+use Rattle.kinds.specs.Body.{isEmpty, isEdit}
 use Rattle.places.specs.Places.{gather}
-use Rattle.places.proofs.Laws.{allBelow-at, fill-below}
+use Rattle.places.proofs.Laws.{allBelow-at}
 use Rattle.lanes.specs.declared.Lane.{Lane}
-use Rattle.lanes.specs.declared.Slot.{Slot}
 use Rattle.station_rules.specs.declared.Station.{Station}
 use Rattle.station_rules.specs.declared.Taking.{Taking}
 use Rattle.lanes.specs.Lane.{bodies, laneOf, pushed, popped}
-use Rattle.lanes.specs.Queue.{noSlot, waitingBodies, oldest, unqueued}
-use Rattle.lanes.proofs.QueueLaws.{waiting-unqueued}
+use Rattle.lanes.specs.Queue.{noSlot}
+use Rattle.lanes.specs.Waiting.{waitingEdits, waitingCount, nextEdit, withoutNext}
+use Rattle.lanes.proofs.WaitingLaws.{next-postable, started-edits}
 use Rattle.station_rules.specs.State.{laneAt}
-use Rattle.station_rules.specs.Turn.{airs, rowOf, startsEdit, startedBody, passed, rewritten, afterTurn}
-use Rattle.kind_limits.proofs.Laws.{edit-not-empty}
-use Rattle.station_rules.proofs.BodyLaws.{neutral-no-edit}
-use Rattle.station_rules.proofs.Shape.{Shaped, lanesAfter-length}
+use Rattle.station_rules.specs.Turn.{airs, rowOf, startsEdit, startedBody, afterTurn}
+use Rattle.kinds.proofs.Laws.{edit-not-empty}
+use Rattle.kind_limits.proofs.Laws.{postable-edit}
+use Rattle.station_rules.proofs.Setters.{Shaped}
 use Rattle.station_rules.proofs.LimitsLane.{lane-most}
-use Rattle.station_rules.proofs.LimitsQueue.{queue-most, oldest-edit}
 use Rattle.station_rules.proofs.StationLimits.{Inside}
-use Rattle.station_rules.proofs.TurnParts.{airs-each}
-use Rattle.station_rules.proofs.TurnLaws.{laneAfter, after-aired, after-kept, Start, Start.anEdit, Start.aNeutral, Start.nothing, start, passed-waiting, passed-own-lane}
+use Rattle.station_rules.proofs.TurnParts.{airs-each, row-at}
+use Rattle.station_rules.proofs.TurnCells
+use Rattle.station_rules.proofs.TurnCells.{laneAfter, lane-after, turn-lane-own}
+use Rattle.station_rules.proofs.TurnLaws.{Start, Start.anEdit, Start.aNeutral, Start.nothing, start}
 use Rattle.group_rules.specs.History.{takingsOf, editsOf, onlyEdits}
-use Rattle.group_rules.proofs.Takings.{takingsOf-append, taking-other, taking-here}
+use Rattle.group_rules.proofs.Takings.{gathered-own}
 
 -- a body, where it is an edit
 abbrev pub ifEdit : Body → List Body
@@ -62,14 +62,7 @@ pushed-edits : (l : Lane) (b : Body) → l .len ≡ 0 → onlyEdits (bodies (pus
 unfolding bodies laneOf onlyEdits
 pushed-edits l b e = rw e (append-nil (ifEdit b))
 
--- the edits in the own lane, and then those that wait
-abbrev pub kept : Station → ℕ → List Body
-kept s p = onlyEdits (bodies (laneAt s p)) ++ waitingBodies (s .waiting)
-
 module _ (s : Station) (shape : Shaped s) (c : Inside s) where
-  fits : s .own < length (s .lanes)
-  fits = rw (shape .lanes) (omega (arith, c .high, c .own))
-
   own-most : (laneAt s (s .own)) .len ≤ 2
   own-most =
       let most : _≡_ {A = ℕ} (cond (eqb (s .own) (s .own)) 1 2) 1 = rw (eq-eqb (s .own) (s .own) refl) in
@@ -81,96 +74,79 @@ module _ (s : Station) (shape : Shaped s) (c : Inside s) where
       ltb-true 0 ((laneAt s (s .own)) .len)
       (allBelow-at (s .n) (λ k. ltb 0 ((laneAt s k) .len)) (sym (airs-each s) ∙ e) (s .own) (c .own))
 
+  next-is-edit : 0 < waitingCount (s .waiting) → isEdit (nextEdit (s .waiting)) ≡ true
+  next-is-edit w = postable-edit (nextEdit (s .waiting)) (next-postable (s .waiting) (c .waiting) w)
+
   -- the airing step
   aired-account :
       cond (airs s) (ifEdit ((laneAt s (s .own)) .first)) [] ++ onlyEdits (bodies (laneAfter s (s .own)))
       ≡ onlyEdits (bodies (laneAt s (s .own)))
   aired-account = go (airs s) refl
     where
+      after : laneAfter s (s .own) ≡ cond (airs s) (popped (laneAt s (s .own))) (laneAt s (s .own))
+      after = lane-after s shape (c .high) (c .own) (s .own) (c .own)
+
       go :
           (t : Bool) → airs s ≡ t →
           cond t (ifEdit ((laneAt s (s .own)) .first)) [] ++ onlyEdits (bodies (laneAfter s (s .own)))
           ≡ onlyEdits (bodies (laneAt s (s .own)))
-      go true e = rw (after-aired s (s .own) (c .own) fits e) (popped-edits (laneAt s (s .own)) (airs-own e) own-most)
-      go false e = rw (after-kept s (s .own) e)
+      go true e = rw (after, e) (popped-edits (laneAt s (s .own)) (airs-own e) own-most)
+      go false e = rw (after, e)
 
-  -- the start
-  started-account : kept (passed s) (s .own) ≡ onlyEdits (bodies (laneAfter s (s .own))) ++ waitingBodies (s .waiting)
-  started-account =
-      rw (passed-waiting s, passed-own-lane s (rw (lanesAfter-length s) fits)) (go (start s))
+  -- the start: what starts leaves the waiting edits for the own lane, which is empty then
+  pub turn-waiting : waitingEdits (s .waiting) ≡ ifEdit (startedBody s) ++ waitingEdits ((afterTurn s) .waiting)
+  turn-waiting = rw (TurnCells.turn-waiting s) (go (start s))
+    where
+      go :
+          Start s →
+          waitingEdits (s .waiting) ≡ ifEdit (startedBody s) ++ waitingEdits (cond (startsEdit s) (withoutNext (s .waiting)) (s .waiting))
+      go (anEdit e room w b) =
+          rw (e, b, next-is-edit w)
+          (started-edits (s .waiting) (shape .waiting) (c .waiting) w)
+      go (aNeutral e room b) = rw (e, b)
+      go (nothing e b) = rw (e, b)
+
+  started-lane : onlyEdits (bodies (laneAfter s (s .own))) ++ ifEdit (startedBody s) ≡ onlyEdits (bodies (laneAt (afterTurn s) (s .own)))
+  started-lane = rw (turn-lane-own s shape (c .high) (c .own)) (go (start s))
     where
       after : Lane
       after = laneAfter s (s .own)
 
       go :
           Start s →
-          onlyEdits (bodies (cond (eqb (kindOf (startedBody s)) 0) after (pushed after (startedBody s))))
-          ++ waitingBodies (cond (startsEdit s) (unqueued (s .waiting)) (s .waiting))
-          ≡ onlyEdits (bodies after) ++ waitingBodies (s .waiting)
+          onlyEdits (bodies after) ++ ifEdit (startedBody s)
+          ≡ onlyEdits (bodies (cond (isEmpty (startedBody s)) after (pushed after (startedBody s))))
       go (anEdit e room w b) =
-          let edit : isEdit (oldest (s .waiting)) ≡ true = oldest-edit (s .waiting) (c .waiting) w in
-          rw (e, b, edit-not-empty (oldest (s .waiting)) edit, pushed-edits after (oldest (s .waiting)) room, edit, none-edits after room)
-          (sym (waiting-unqueued (s .waiting) w (omega (arith, queue-most (s .waiting) (c .waiting), shape .slots))))
-      go (aNeutral e room b) = rw (e, b, pushed-edits after Neutral room, neutral-no-edit, none-edits after room)
-      go (nothing e b) = rw (e, b)
+          rw (b, edit-not-empty (nextEdit (s .waiting)) (next-is-edit w), pushed-edits after (nextEdit (s .waiting)) room, none-edits after room)
+      go (aNeutral e room b) = rw (b, pushed-edits after Neutral room, none-edits after room)
+      go (nothing e b) = rw b (append-nil (onlyEdits (bodies after)))
 
-  rewritten-same : kept (afterTurn s) (s .own) ≡ kept (passed s) (s .own)
-  unfolding afterTurn rewritten
-  rewritten-same = refl
-
-  own-account : kept s (s .own) ≡ cond (airs s) (ifEdit ((laneAt s (s .own)) .first)) [] ++ kept (afterTurn s) (s .own)
-  own-account =
+  own-lane :
+      onlyEdits (bodies (laneAt s (s .own))) ++ ifEdit (startedBody s)
+      ≡ cond (airs s) (ifEdit ((laneAt s (s .own)) .first)) [] ++ onlyEdits (bodies (laneAt (afterTurn s) (s .own)))
+  own-lane =
       let row : List Body = cond (airs s) (ifEdit ((laneAt s (s .own)) .first)) [] in
       let after : List Body = onlyEdits (bodies (laneAfter s (s .own))) in
-      ap (λ (l : List Body). l ++ waitingBodies (s .waiting)) (sym aired-account)
-      ∙ append-assoc row after (waitingBodies (s .waiting))
-      ∙ ap (λ (l : List Body). row ++ l) (sym (rewritten-same ∙ started-account))
+      ap (λ (l : List Body). l ++ ifEdit (startedBody s)) (sym aired-account)
+      ∙ append-assoc row after (ifEdit (startedBody s))
+      ∙ ap (λ (l : List Body). row ++ l) started-lane
 
-  pub turn-account : (p : ℕ) → s .own ≡ p → kept s p ≡ cond (airs s) (ifEdit ((laneAt s p) .first)) [] ++ kept (afterTurn s) p
-  turn-account p e =
-      subst (λ (q : ℕ). kept s q ≡ cond (airs s) (ifEdit ((laneAt s q) .first)) [] ++ kept (afterTurn s) q) e own-account
-
--- what is gathered with its place as source: the bodies of one place
-module _ (test : ℕ → Bool) (body : ℕ → Body) (p : ℕ) where
-  abbrev takings : ℕ → List Taking
-  takings m = gather m test (λ k. record { source = k; body = body k })
-
-  abbrev last : ℕ → List Taking
-  last m = cond (test m) (record { source = m; body = body m } ∷ []) []
-
-  last-other : (m : ℕ) → (m ≡ p → ⊥) → takingsOf p (last m) ≡ []
-  last-other m ne = taking-other p m (test m) (body m) ne
-
-  last-own : (m : ℕ) → m ≡ p → takingsOf p (last m) ≡ cond (test p) (body p ∷ []) []
-  last-own m e =
-      subst (λ (k : ℕ). takingsOf p (last k) ≡ cond (test p) (body p ∷ []) []) (sym e) (taking-here p (test p) (body p))
-
-  before-own : (m : ℕ) → m ≤ p → takingsOf p (takings m) ≡ []
-  unfolding gather takingsOf
-  before-own zero l = refl
-  before-own (suc m) l =
-      takingsOf-append p (takings m) (last m)
-      ∙ ap (λ (x : List Body). x ++ takingsOf p (last m)) (before-own m (omega arith))
-      ∙ last-other m (λ e. absurd (omega arith))
-
-  gathered-own : (m : ℕ) → p < m → takingsOf p (takings m) ≡ cond (test p) (body p ∷ []) []
-  unfolding gather
-  gathered-own zero l = absurd (omega arith)
-  gathered-own (suc m) l =
-      takingsOf-append p (takings m) (last m)
-      ∙ elim (ℕ-discrete m p) [
-        | yes e ↦ ap (λ (x : List Body). x ++ takingsOf p (last m)) (before-own m (omega arith)) ∙ last-own m e
-        | no d ↦
-            ap (λ (x : List Body). x ++ takingsOf p (last m)) (gathered-own m (omega arith))
-            ∙ ap (λ (x : List Body). cond (test p) (body p ∷ []) [] ++ x) (last-other m d)
-            ∙ append-nil (cond (test p) (body p ∷ []) [])
-      ]
+  pub turn-lane :
+      (p : ℕ) → s .own ≡ p →
+      onlyEdits (bodies (laneAt s p)) ++ ifEdit (startedBody s)
+      ≡ cond (airs s) (ifEdit ((laneAt s p) .first)) [] ++ onlyEdits (bodies (laneAt (afterTurn s) p))
+  turn-lane p e =
+      subst
+      (λ (q : ℕ).
+      onlyEdits (bodies (laneAt s q)) ++ ifEdit (startedBody s)
+      ≡ cond (airs s) (ifEdit ((laneAt s q) .first)) [] ++ onlyEdits (bodies (laneAt (afterTurn s) q)))
+      e
+      own-lane
 
 -- the own edit of a row
 pub row-account :
     (n : ℕ) (s : Station) (p : ℕ) → n ≤ 16 → s .n ≡ n → p < n → takingsOf p (editsOf n (rowOf s)) ≡ ifEdit ((laneAt s p) .first)
-unfolding editsOf rowOf
+unfolding editsOf
 row-account n s p high size l =
     gathered-own (λ k. isEdit ((getD (rowOf s) k noSlot) .body)) (λ k. (getD (rowOf s) k noSlot) .body) p n l
-    ∙ ap (λ (x : Slot). ifEdit (x .body))
-    (fill-below (s .n) (λ k. record { body = (laneAt s k) .first }) (replicate 16 noSlot) p noSlot (omega arith) (omega arith))
+    ∙ ap ifEdit (row-at s p (omega arith) (omega arith))

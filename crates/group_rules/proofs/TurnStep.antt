@@ -1,13 +1,12 @@
 -- The turn of a round: a station whose cells stand for the clocks of the round ends its broadcast exactly if the clocks say so, and is afterwards as the
 -- round leaves it, its own record being the newest version of itself.
-use Prim.Native.Nat.{ℕ, suc, _%_, _<_}
+use Prim.Native.Nat.{ℕ, suc, _%_, _≤_, _<_}
 use mathlib.Core.Bool.{Bool, true, false, cond, _||_}
 use mathlib.Core.Logic.{⊎-elim}
 use mathlib.Core.Path.{_≡_, refl, sym, ap, _∙_, subst}
 use native.Mathlib.Decide.{ℕ-discrete}
 use native.Mathlib.Omega.{arith}
 use borrow.Author.Tests.{lt-ltb, eq-eqb, ne-eqb}
-use lib.ListN.{length}
 use lib.Dec.{ltb, eqb}
 use Rattle.labels.specs.Label.{successor}
 use Rattle.links.specs.Relay.{Links}
@@ -29,8 +28,8 @@ use Rattle.station_rules.specs.Hearing.{Hearing}
 use Rattle.station_rules.specs.Turn as turn
 use Rattle.station_rules.specs.Turn.{passed, ownRecord, afterTurn, startedBody}
 use Rattle.station_rules.proofs.TurnParts.{ends-each}
+use Rattle.station_rules.proofs.Setters.{Shaped}
 use Rattle.station_rules.proofs.TurnCells
-use Rattle.station_rules.proofs.Shape.{afterTurn-shaped}
 use Rattle.group_rules.specs.State.{stationAt}
 use Rattle.group_rules.proofs.Run.{Run, linksOf}
 use Rattle.group_rules.proofs.Version.{Stands, shown}
@@ -76,6 +75,15 @@ module _ (R : Run) where
               ∙ ap (λ (v : ℕ). eqb (gotOf L q p v) (num L u p)) (clock q d)
               ∙ ap (λ (b : Bool). b || eqb (gotOf L q p (news L (suc u) p q)) (num L u p)) (sym (ne-eqb q p d))
 
+      shape : Shaped s
+      shape = c .formed .shape
+
+      few : s .n ≤ 16
+      few = omega (arith, c .formed .size, R .high)
+
+      below : s .own < s .n
+      below = omega (arith, c .formed .size, c .formed .own)
+
       formed-turn : Formed R p (afterTurn s)
       formed-turn =
           let f = c .formed in
@@ -83,7 +91,7 @@ module _ (R : Run) where
           record {
             size = TurnCells.turn-n s ∙ f .size;
             own = TurnCells.turn-own s ∙ f .own;
-            shape = afterTurn-shaped s (omega (arith, f .own)) (f .shape);
+            shape = TurnCells.afterTurn-shaped s (omega (arith, f .own)) (f .shape);
           }
 
       -- b says whether the broadcast ends
@@ -126,9 +134,8 @@ module _ (R : Run) where
 
         own-label-now : labelOf (afterTurn s) p ≡ num L (suc u) p % 3
         own-label-now =
-            let high = R .high in
             subst (λ i. labelOf (afterTurn s) i ≡ num L (suc u) p % 3) (c .formed .own)
-            (TurnCells.turn-label-own s (omega (arith, c .formed .own, c .formed .shape .labels))
+            (TurnCells.turn-label-own s shape few below
             ∙ ap
             (λ (x : Bool). cond x (successor (labelOf s (s .own))) (labelOf s (s .own)))
             ended
@@ -144,32 +151,23 @@ module _ (R : Run) where
             subst (λ i. labelOf (afterTurn s) i ≡ got L (suc u) p i % 3) (sym e)
             (own-label-now ∙ ap (λ (i : ℕ). i % 3) (sym (got-own L (suc u) p)))
         label-now q l (no d) =
-            TurnCells.turn-label-other s q (λ e. d (e ∙ c .formed .own))
+            TurnCells.turn-label-other s shape few below q (omega (arith, c .formed .size)) (λ e. d (e ∙ c .formed .own))
             ∙ c .cells q l .is-label
             ∙ ap (λ (i : ℕ). i % 3)
             (ap (λ (v : ℕ). numOf L q v) (clock q d) ∙ sym (got-numOf L (suc u) p q))
 
         own-stands : Stands R (ownRecord (passed s)) p (suc u)
         own-stands =
-            let high = R .high in
             record {
-              station = TurnCells.own-station s ∙ c .formed .own;
-              count = TurnCells.own-count s ∙ count-turn;
-              body = TurnCells.own-body s ∙ body-turn;
-              labels =
-                  λ k l.
-                  TurnCells.own-label s k (omega (arith, c .formed .size))
-                  (omega (
-                    arith,
-                    ap (λ (i : ℕ). length ((recordOf s i) .labels)) (c .formed .own) ∙ c .formed .shape .record-labels p (omega (arith, R .high)),
-                  ))
-                  ∙ label-now k l (ℕ-discrete k p);
+              station = TurnCells.own-station s shape few below ∙ c .formed .own;
+              count = TurnCells.own-count s shape few below ∙ count-turn;
+              body = TurnCells.own-body s shape few below ∙ body-turn;
+              labels = λ k l. TurnCells.own-label s shape few below k (omega (arith, c .formed .size)) ∙ label-now k l (ℕ-discrete k p);
             }
 
         acked-turn : (q : ℕ) → q < R .n → ackedOf (afterTurn s) q ≡ cond b (eqb q p) (ackedOf s q)
         acked-turn q l =
-            let high = R .high in
-            TurnCells.turn-acked s q (omega (arith, c .formed .size)) (omega (arith, c .formed .shape .acked))
+            TurnCells.turn-acked s shape few below q (omega (arith, c .formed .size))
             ∙ ap (λ (x : Bool). cond x (eqb q (s .own)) (ackedOf s q)) ended
             ∙ ap (λ (i : ℕ). cond b (eqb q i) (ackedOf s q)) (c .formed .own)
 
@@ -210,29 +208,28 @@ module _ (R : Run) where
         held-now : (q : ℕ) → q < R .n → Dec (q ≡ p) → heldOf (afterTurn s) q ≡ ltb 0 (news L (suc u) p q)
         held-now q l (yes e) =
             subst (λ i. heldOf (afterTurn s) i ≡ ltb 0 (news L (suc u) p i)) (sym e)
-            (TurnCells.turn-held s p
+            (TurnCells.turn-held s shape few below p (omega (arith, c .formed .size))
             ∙ c .cells p lp .is-held
             ∙ lt-ltb 0 (vs p) (omega (arith, c .own-version))
             ∙ sym (lt-ltb 0 (news L (suc u) p p) (omega (arith, news-own L (suc u) p))))
         held-now q l (no d) =
-            TurnCells.turn-held s q ∙ c .cells q l .is-held ∙ ap (λ (v : ℕ). ltb 0 v) (clock q d)
+            TurnCells.turn-held s shape few below q (omega (arith, c .formed .size)) ∙ c .cells q l .is-held ∙ ap (λ (v : ℕ). ltb 0 v) (clock q d)
 
         -- the table
         stands-now :
             (q : ℕ) → q < R .n → Dec (q ≡ p) → (w : ℕ) → news L (suc u) p q ≡ suc w →
             Stands R (recordOf (afterTurn s) q) q w
         stands-now q l (yes e) w f =
-            let high = R .high in
             subst (λ i. Stands R (recordOf (afterTurn s) i) i w) (sym e)
             (subst (λ i. Stands R (recordOf (afterTurn s) p) p i)
             (omega (arith, news-own L (suc u) p, f, ap (λ (i : ℕ). news L (suc u) p i) e))
             (subst (λ x. Stands R x p (suc u))
             (sym
             (ap (λ (i : ℕ). recordOf (afterTurn s) i) (sym (c .formed .own))
-            ∙ TurnCells.turn-record-own s (omega (arith, c .formed .own, c .formed .shape .table))))
+            ∙ TurnCells.turn-record-own s shape few below))
             own-stands))
         stands-now q l (no d) w f =
-            subst (λ x. Stands R x q w) (sym (TurnCells.turn-record-other s q (λ e. d (e ∙ c .formed .own))))
+            subst (λ x. Stands R x q w) (sym (TurnCells.turn-record-other s shape few below q (omega (arith, c .formed .size)) (λ e. d (e ∙ c .formed .own))))
             (c .cells q l .stands w (clock q d ∙ f))
 
         after-turn : After R (suc u) p (afterTurn s)

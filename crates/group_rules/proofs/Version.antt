@@ -11,7 +11,7 @@ use native.Mathlib.Omega.{arith}
 use borrow.Author.Tests.{lt-ltb}
 use lib.Dec.{ltb, eqb}
 use Rattle.kinds.specs.declared.Body.{Body}
-use Rattle.kinds.specs.Body.{kindOf}
+use Rattle.kinds.specs.Body.{isEmpty}
 use Rattle.links.specs.Relay.{Links}
 use Rattle.links.specs.Number.{start, num, numOf, got, gotOf, counted}
 use Rattle.links.proofs.Number.{num-positive, same-start}
@@ -22,7 +22,7 @@ use Rattle.frame_rules.specs.declared.Record.{Record}
 use Rattle.lanes.specs.declared.Lane.{Lane}
 use Rattle.station_rules.specs.declared.Station.{Station}
 use Rattle.lanes.specs.Lane.{pushed}
-use Rattle.station_rules.specs.State.{recordLabel, labelOf, ackedOf, heldOf, recordOf}
+use Rattle.station_rules.specs.State.{Cell, cellOf, recordLabel}
 use Rattle.group_rules.specs.State.{stationAt}
 use Rattle.group_rules.specs.History.{unlessEmpty}
 use Rattle.group_rules.proofs.Run.{Run, linksOf}
@@ -88,15 +88,15 @@ module _ (R : Run) where
       }
 
   -- the cell of q at p, where p has the broadcast that round u left it with, stands for version v
-  pub record Cell (u p q v : ℕ) (held acked : Bool) (label : ℕ) (r : Record) : Type 0 where
-    pub is-held : held ≡ ltb 0 v
-    pub is-acked : acked ≡ eqb (gotOf L q p v) (num L u p)
-    pub is-label : label ≡ numOf L q v % 3
-    pub stands : (w : ℕ) → v ≡ suc w → Stands r q w
+  pub record CellStands (u p q v : ℕ) (c : Cell) : Type 0 where
+    pub is-held : c .held ≡ ltb 0 v
+    pub is-acked : c .acked ≡ eqb (gotOf L q p v) (num L u p)
+    pub is-label : c .label ≡ numOf L q v % 3
+    pub stands : (w : ℕ) → v ≡ suc w → Stands (c .entry) q w
 
-  -- the same of a station's own arrays
+  -- the same of a station's cell
   abbrev pub CellAt : ℕ → ℕ → ℕ → ℕ → Station → Type 0
-  CellAt u p q v s = Cell u p q v (heldOf s q) (ackedOf s q) (labelOf s q) (recordOf s q)
+  CellAt u p q v s = CellStands u p q v (cellOf s q)
 
   pub alike-number : (q v v′ : ℕ) → Alike q v v′ → numOf L q v ≡ numOf L q v′
   alike-number q v v′ (inl e) = ap (λ (x : ℕ). numOf L q x) (sym e)
@@ -104,10 +104,9 @@ module _ (R : Run) where
       numOf-some L q v (a .0) (a .2) ∙ a .5 ∙ sym (numOf-some L q v′ (a .1) (a .3))
 
   pub cell-alike :
-      (u p q v v′ : ℕ) (held acked : Bool) (label : ℕ) (r : Record) → p < R .n → Alike q v v′ →
-      Cell u p q v held acked label r → Cell u p q v′ held acked label r
-  cell-alike u p q v v′ held acked label r lp (inl e) c = subst (λ x. Cell u p q x held acked label r) (sym e) c
-  cell-alike u p q v v′ held acked label r lp (inr a) c =
+      (u p q v v′ : ℕ) (x : Cell) → p < R .n → Alike q v v′ → CellStands u p q v x → CellStands u p q v′ x
+  cell-alike u p q v v′ x lp (inl e) c = subst (λ i. CellStands u p q i x) (sym e) c
+  cell-alike u p q v v′ x lp (inr a) c =
       record {
         is-held = c .is-held ∙ lt-ltb 0 v (omega (arith, a .2)) ∙ sym (lt-ltb 0 v′ (omega (arith, a .3)));
         is-acked =
@@ -119,13 +118,13 @@ module _ (R : Run) where
         is-label = c .is-label ∙ ap (λ (g : ℕ). g % 3) (alike-number q v v′ (inr a));
         stands =
             λ w e.
-            subst (λ i. Stands r q i) (omega (arith, a .3, e))
-            (stands-alike r q (a .0) (a .1) (a .4) (a .5) (a .6) (c .stands (a .0) (a .2)));
+            subst (λ i. Stands (x .entry) q i) (omega (arith, a .3, e))
+            (stands-alike (x .entry) q (a .0) (a .1) (a .4) (a .5) (a .6) (c .stands (a .0) (a .2)));
       }
 
   -- since round u version v of q brought p a new number, and with it a body other than Empty
   abbrev pub gains : ℕ → ℕ → ℕ → ℕ → Bool
-  gains u p q v = ltb (got L u p q) (numOf L q v) && not (eqb (kindOf (shown q v)) 0)
+  gains u p q v = ltb (got L u p q) (numOf L q v) && not (isEmpty (shown q v))
 
   -- what p took of q with it, and what became of the lane
   pub record Caught (u p q v : ℕ) (before lane : Lane) (taken : List Body) : Type 0 where

@@ -4,40 +4,46 @@ use mathlib.Core.Bool.{cond, not, _&&_}
 use mathlib.Core.List.{List, _++_}
 use lib.ListN.{set, replicate, length}
 use lib.Dec.{leb, ltb, eqb}
-use Rattle.kinds.specs.declared.Body.{Body}
 use Rattle.kinds.specs.Refusals.{done, badNumber, outsideLimits, laneFull, countTooHigh, refuse}
 use Rattle.links.specs.Log.{hearsIn}
 use Rattle.places.specs.Places.{anyBelow, fill}
+use Rattle.station_rules.specs.declared.Setup.{Setup}
 use Rattle.station_rules.specs.declared.Station.{Station}
-use Rattle.station_rules.specs.State.{sentRecords}
+use Rattle.station_rules.specs.State.{sentRecords, aloneSetup}
 use Rattle.station_rules.specs.Hearing.{Hearing, silent, hearRecords}
-pub use Rattle.station_rules.specs.Frames.{noTaking}
+pub use Rattle.station_rules.specs.Hearing.{noTaking}
 use Rattle.station_rules.specs.Turn.{afterTurn, turnReport}
 use Rattle.station_rules.specs.Calls.{posted, postRefusal, ownCountInside, noTurn}
+use Rattle.group_rules.specs.declared.Post.{Post}
 use Rattle.group_rules.specs.declared.Report.{Report}
 use Rattle.group_rules.specs.declared.KeptGroup.{KeptGroup}
 use Rattle.group_rules.specs.declared.RoundDone.{RoundDone}
 use Rattle.group_rules.specs.State.{stationAt, sizeOf, groupInside, freshGroup}
 
--- group fresh: 1; a refused call returns the fresh group of N = 1
-unfoldable pub freshCall : ℕ → KeptGroup
-freshCall n =
-    cond (leb 1 n && leb n 16)
-    (record { refusal = done; group = freshGroup n })
-    (record { refusal = badNumber; group = freshGroup 1 })
+-- group fresh: 1
+unfoldable pub groupFreshRefusal : Setup → ℕ
+groupFreshRefusal setup = refuse (not (leb 1 (setup .n) && leb (setup .n) 16)) badNumber done
+
+-- a refused call returns the fresh group of N = 1
+unfoldable pub freshCall : Setup → KeptGroup
+freshCall setup =
+    cond (eqb (groupFreshRefusal setup) done)
+    (record { refusal = done; group = freshGroup setup })
+    (record { refusal = groupFreshRefusal setup; group = freshGroup aloneSetup })
 
 -- group post: 2, 1, 4, 3
-unfoldable pub groupPostRefusal : List Station → ℕ → Body → ℕ
-groupPostRefusal g k b =
+unfoldable pub groupPostRefusal : List Station → Post → ℕ
+groupPostRefusal g x =
     refuse (not (groupInside g)) outsideLimits
-    (refuse (not (ltb k (sizeOf g))) badNumber (postRefusal (stationAt g k) b))
+    (refuse (not (ltb (x .station) (sizeOf g))) badNumber (postRefusal (stationAt g (x .station)) (x .body)))
 
-unfoldable pub postCall : List Station → ℕ → Body → KeptGroup
-postCall g k b =
-    record {
-      refusal = groupPostRefusal g k b;
-      group = cond (eqb (groupPostRefusal g k b) done) (set g k (posted (stationAt g k) b)) g;
-    }
+-- the group after a post that is not refused
+abbrev pub afterPost : List Station → Post → List Station
+afterPost g x = set g (x .station) (posted (stationAt g (x .station)) (x .body))
+
+unfoldable pub postCall : List Station → Post → KeptGroup
+postCall g x =
+    record { refusal = groupPostRefusal g x; group = cond (eqb (groupPostRefusal g x) done) (afterPost g x) g }
 
 -- station i once it has heard the frames of the senders below k of its mask, by ascending sender; each frame is of the group before any hearing
 unfoldable pub hearing : List Station → List ℕ → ℕ → ℕ → Hearing

@@ -5,40 +5,52 @@ use mathlib.Core.List.{List, [], _∷_, _++_}
 use lib.ListN.{getD, take}
 use lib.Dec.{eqb}
 use Rattle.kinds.specs.declared.Body.{Body}
-use Rattle.kinds.specs.Body.{kindOf}
-use Rattle.kind_limits.specs.Limits.{isEdit}
+use Rattle.kinds.specs.Body.{isEmpty, isEdit}
 use Rattle.kinds.specs.Refusals.{done}
 use Rattle.places.specs.Places.{gather}
+use Rattle.station_rules.specs.declared.Setup.{Setup}
 use Rattle.station_rules.specs.declared.Station.{Station}
 use Rattle.lanes.specs.declared.Slot.{Slot}
 use Rattle.station_rules.specs.declared.Taking.{Taking}
 use Rattle.lanes.specs.Queue.{noSlot}
+use Rattle.group_rules.specs.declared.Post.{Post}
 use Rattle.group_rules.specs.declared.Report.{Report}
 use Rattle.group_rules.specs.declared.RoundDone.{RoundDone}
-use Rattle.group_rules.specs.State.{freshGroup}
+use Rattle.group_rules.specs.State.{sizeOf, freshGroup}
 use Rattle.group_rules.specs.Calls.{postCall, roundCall, noReport}
 
 -- a group post or a round, with any arguments
 pub data Call : Type 0 where
-  post : ℕ → Body → Call
+  post : Post → Call
   round : List ℕ → Call
 
--- what a list of calls leaves: the group, what its rounds returned, the masks they were given, and its accepted posts, each with the station it was made at
+-- what a list of calls leaves: the group, what its rounds returned, the masks they were given, its accepted posts, and the edits that its turns started
 pub record History : Type 0 where
   pub group : List Station
   pub rounds : List RoundDone
   pub log : List (List ℕ)
-  pub accepted : List Taking
+  pub accepted : List Post
+  pub starts : List Post
+
+-- the report of station p in a round
+abbrev pub reportIn : RoundDone → ℕ → Report
+reportIn r p = getD (r .reports) p noReport
+
+-- the edits that the turns of a round of n stations report as started, in station order
+unfoldable pub startsIn : ℕ → RoundDone → List Post
+startsIn n r =
+    gather n (λ p. isEdit ((reportIn r p) .turn .«started_body»)) (λ p. record { station = p; body = (reportIn r p) .turn .«started_body» })
 
 -- one call more
 unfoldable pub next : History → Call → History
-next H (post k b) =
-    let made = postCall (H .group) k b in
+next H (post x) =
+    let made = postCall (H .group) x in
     record {
       group = made .group;
       rounds = H .rounds;
       log = H .log;
-      accepted = H .accepted ++ cond (eqb (made .refusal) done) (record { source = k; body = b } ∷ []) [];
+      accepted = H .accepted ++ cond (eqb (made .refusal) done) (x ∷ []) [];
+      starts = H .starts;
     }
 next H (round masks) =
     let made = roundCall (H .group) masks in
@@ -47,30 +59,27 @@ next H (round masks) =
       rounds = H .rounds ++ (made ∷ []);
       log = H .log ++ (masks ∷ []);
       accepted = H .accepted;
+      starts = H .starts ++ startsIn (sizeOf (H .group)) made;
     }
 
-unfoldable pub begun : ℕ → History
-begun n = record { group = freshGroup n; rounds = []; log = []; accepted = [] }
+unfoldable pub begun : Setup → History
+begun setup = record { group = freshGroup setup; rounds = []; log = []; accepted = []; starts = [] }
 
 unfoldable pub continued : History → List Call → History
 continued H [] = H
 continued H (c ∷ cs) = continued (next H c) cs
 
--- the history of a list of calls from the fresh group of n
-abbrev pub historyOf : ℕ → List Call → History
-historyOf n calls = continued (begun n) calls
+-- the history of a list of calls from a fresh group
+abbrev pub historyOf : Setup → List Call → History
+historyOf setup calls = continued (begun setup) calls
 
 -- a round that is not there
 abbrev pub noRound : RoundDone
 noRound = record { refusal = 0; group = []; reports = [] }
 
--- the report of station p in a round
-abbrev pub reportIn : RoundDone → ℕ → Report
-reportIn r p = getD (r .reports) p noReport
-
 -- a body, where it is not Empty
 abbrev pub unlessEmpty : Body → List Body
-unlessEmpty b = cond (eqb (kindOf b) 0) [] (b ∷ [])
+unlessEmpty b = cond (isEmpty b) [] (b ∷ [])
 
 module _ {A : Type 0} where
   -- what each round adds, round after round
@@ -83,6 +92,11 @@ unfoldable pub takingsOf : ℕ → List Taking → List Body
 takingsOf s [] = []
 takingsOf s (t ∷ ts) = cond (eqb (t .source) s) (t .body ∷ []) [] ++ takingsOf s ts
 
+-- the bodies of those posts that are made at station s
+unfoldable pub postsAt : ℕ → List Post → List Body
+postsAt s [] = []
+postsAt s (x ∷ xs) = cond (eqb (x .station) s) (x .body ∷ []) [] ++ postsAt s xs
+
 -- the term "started": what the turns of s report as started, the Empty ones left out
 unfoldable pub started : History → ℕ → List Body
 started H s = collect (λ r. unlessEmpty ((reportIn r s) .turn .«started_body»)) (H .rounds)
@@ -94,7 +108,7 @@ takenFrom H p s =
     (started H s)
     (collect (λ r. takingsOf s (take ((reportIn r p) .«takings_len») ((reportIn r p) .takings))) (H .rounds))
 
--- the edits of a row (all bodies of a row are inside their limits), each with its source, in station order
+-- the edits of a row, each with its source, in station order
 unfoldable pub editsOf : ℕ → List Slot → List Taking
 editsOf n row =
     gather n (λ k. isEdit ((getD row k noSlot) .body)) (λ k. record { source = k; body = (getD row k noSlot) .body })

@@ -2,4 +2,3 @@ pub mod State
 pub mod Calls
 pub mod History
 pub mod Demand
-pub mod Marked

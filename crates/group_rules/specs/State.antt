@@ -1,30 +1,15 @@
 -- Document 01, "A group and its rounds": a group by its places, its limits, and the fresh group.
 use Prim.Native.Nat.{ℕ}
 use mathlib.Core.Bool.{Bool, _&&_}
-use mathlib.Core.List.{List, []}
+use mathlib.Core.List.{List}
 use lib.ListN.{getD, replicate}
 use lib.Dec.{eqb}
-use Rattle.kinds.specs.declared.Body.the-variants.{Empty}
 use Rattle.places.specs.Places.{allBelow, fill}
+use Rattle.station_rules.specs.declared.Setup.{Setup}
 use Rattle.station_rules.specs.declared.Station.{Station}
-use Rattle.station_rules.specs.State.{freshStation}
+use Rattle.station_rules.specs.State.{aloneSetup, freshStation}
+pub use Rattle.station_rules.specs.State.{noStation}
 use Rattle.station_rules.specs.Limits.{stationInside}
-
--- what stands past the end of a group
-abbrev pub noStation : Station
-noStation =
-    record {
-      n = 0;
-      own = 0;
-      waiting = record { len = 0; slots = [] };
-      acked = [];
-      body = Empty;
-      count = 0;
-      labels = [];
-      held = [];
-      table = [];
-      lanes = [];
-    }
 
 -- the station at place k
 abbrev pub stationAt : List Station → ℕ → Station
@@ -43,6 +28,6 @@ memberInside g k =
 unfoldable pub groupInside : List Station → Bool
 groupInside g = memberInside g 0 && allBelow (sizeOf g) (memberInside g)
 
--- the fresh group of n; a station alone, fresh, stands at each place from n up
-unfoldable pub freshGroup : ℕ → List Station
-freshGroup n = fill n (freshStation n) (replicate 16 (freshStation 1 0))
+-- the fresh group; a station alone, fresh, stands at each place from N up
+unfoldable pub freshGroup : Setup → List Station
+freshGroup setup = fill (setup .n) (freshStation setup) (replicate 16 (freshStation aloneSetup 0))

@@ -1,8 +1,15 @@
 // The answers of a group's calls. The definitions of the calls, their laws and demand 3 stand beside; there is no code.
 
+use kinds::Body;
 use station_rules::Station;
 use station_rules::Taking;
 use station_rules::TurnReport;
+
+// What a group post is given: the station it is made at, and the body.
+pub struct Post {
+    pub station: usize,
+    pub body: Body,
+}
 
 // What a round reports of one station: the bodies it took in the order heard, and its turn.
 pub struct Report {

@@ -1,11 +1,9 @@
 // What a newer record does to what a station has of the record's station and to its count, and whether its body is taken.
 
 ghost use mathlib.Core.Path.{_≡_};
-ghost use mathlib.Core.Bool.{true, cond};
-ghost use Prim.Native.Nat.{_+_, _≤_, _<_};
-ghost use lib.ListN.{length, take, drop};
+ghost use mathlib.Core.Bool.{cond};
+ghost use Prim.Native.Nat.{_≤_, _<_};
 ghost use Rattle.labels.specs.Label.{successor};
-ghost use Rattle.frame_rules.specs.Record.{recordOf, bytesInside};
 ghost use Rattle.station_rules.specs.Hearing.{raised};
 ghost use Rattle.heard_records.specs.Effects.{Effects};
 use frame_rules::Record;
@@ -43,38 +41,34 @@ fn label_after(advances: bool, label: u8) -> u8
     labels::successor(label)
 }
 
-// What the record that begins at a place does, where the station has this own label and count, and of the record's station this acknowledgement, this label, these labels in the held
-// record and this many bodies in the lane.
+// What a record that was seen does, where the station has this own label and count, and of the record's station this acknowledgement, this label, this many bodies in the lane and this record,
+// whose labels from n up stay.
 pub fn heard(
-    bytes: &[u8],
-    at: usize,
+    seen: Record,
+    old: Record,
     n: usize,
     own: usize,
     own_label: u8,
     acked: bool,
     count: u8,
     label: u8,
-    kept: [u8; 16],
     lane_len: u8,
 ) -> Effect
-    requires { ⌜ (at + 16 ≤ length (now bytes)) × (n ≤ 16) × (own < 16) × (bytesInside n (take 16 (drop at (now bytes))) ≡ true) ⌝ }
-    ensures { λ r. ⌜ Effects n own «own_label» acked count label kept «lane_len» (recordOf (take 16 (drop at (now (bytes .entry))))) r ⌝ }
+    requires { ⌜ (n ≤ 16) × (own < 16) × (seen .station < 16) ⌝ }
+    ensures { λ r. ⌜ Effects n own «own_label» acked count label «lane_len» old seen r ⌝ }
 {
-    let seen = record_reader::read_record(&bytes[at..at + 16]);
-    let seen_label = record_reader::label_at(bytes, at + 12, seen.station as usize);
-    let answer = record_reader::label_at(bytes, at + 12, own);
-    let advances = seen_label == labels::successor(label);
-    let kind = bytes[at + 2];
-    let takes = advances & (kind != 0);
+    let body = seen.body;
+    let labels = seen.labels;
+    let advances = labels[seen.station as usize] == labels::successor(label);
+    let takes = advances & !kinds::is_empty(body);
     let count_now = count_after(advances, count);
     let label_now = label_after(advances, label);
-    let body = seen.body;
-    let word = record_reader::word_at(bytes, at + 12);
-    let over = label_words::unpack_over(n, word, kept);
+    let kept = old.labels;
+    let over = labels::over(n, labels, kept);
     Effect {
         overfull: takes & (2 <= lane_len),
         takes: takes,
-        acked: acked | (answer == own_label),
+        acked: acked | (labels[own] == own_label),
         count: count_now,
         label: label_now,
         entry: Record {

@@ -8,7 +8,7 @@ use mathlib.Core.List.{List}
 use lib.ListN.{getD, set, take, drop, length, replicate, length-take, drop-of-length-le}
 use lib.Seq.{drop-cons, getD-take}
 use Rattle.station_rules.specs.declared.Taking.{Taking}
-use Rattle.station_rules.specs.Frames.{noTaking}
+use Rattle.station_rules.specs.Hearing.{noTaking}
 use Rattle.station_rules.specs.Calls.{sourcesOf}
 
 pub sources-none : (t : List Taking) (len : ℕ) → replicate 16 false ≡ sourcesOf (drop len (take len t))

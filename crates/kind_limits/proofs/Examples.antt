@@ -7,18 +7,18 @@ use native.Mathlib.Omega.{arith}
 use lib.IntN.{pos, negsuc}
 use borrow.Author.Tests.{le-leb}
 use Rattle.kinds.specs.declared.Body.the-variants.{Insert, Shift}
-use Rattle.kind_limits.specs.Limits.{isEdit, bodyInside, numbersInside}
+use Rattle.kind_limits.specs.Limits.{postable, bodyInside, numbersInside}
 use Rattle.kind_limits.proofs.Laws.{argument-outside}
 
 module _ (event : ℕ) (least : 1 ≤ event) (most : event ≤ 99_999_999) where
   -- a shift of -90,000 is an edit, one of -90,001 is not
-  pub m9 : (isEdit (Shift event (negsuc 89_999)) ≡ true) × (isEdit (Shift event (negsuc 90_000)) ≡ false)
-  unfolding isEdit bodyInside numbersInside
+  pub m9 : (postable (Shift event (negsuc 89_999)) ≡ true) × (postable (Shift event (negsuc 90_000)) ≡ false)
+  unfolding postable bodyInside numbersInside
   m9 = simp (le-leb _ _ least, le-leb _ _ most) (refl, refl)
 
   -- a start of 2,699,999 is an edit's, 2,700,000 is not
-  pub m10 : (isEdit (Insert event (pos 2_699_999)) ≡ true) × (isEdit (Insert event (pos 2_700_000)) ≡ false)
-  unfolding isEdit bodyInside numbersInside
+  pub m10 : (postable (Insert event (pos 2_699_999)) ≡ true) × (postable (Insert event (pos 2_700_000)) ≡ false)
+  unfolding postable bodyInside numbersInside
   m10 = simp (le-leb _ _ least, le-leb _ _ most) (refl, refl)
 
 -- whatever the event, no body has a start of 2,700,000

@@ -1,7 +1,7 @@
 -- Laws of the limits, for the crates above. Numbers inside their limits are those of their body, by the cases of the
 -- table, since where a row's least is its most the number can be no other. Every limit is a number of 32 bits, and so is
 -- all that lies between two of them. No law names a limit: a row can change, and the laws stand.
-use Prim.Native.Nat.{ℕ, zero, suc, _^_, _<_, _≤_}
+use Prim.Native.Nat.{ℕ, zero, suc, _<_, _≤_}
 use native.Mathlib.Omega.{arith}
 use mathlib.Core.Bool.{Bool, true, false, _&&_, false≢true}
 use mathlib.Core.Path.{_≡_, refl, ap, _∙_}
@@ -9,13 +9,14 @@ use lib.Dec.{ltb, leb}
 use lib.IntN.{ℤ, pos, negsuc}
 use lib.ListN.{length}
 use lib.Signed.{leZ, mag}
-use borrow.Author.Tests.{leb-true, ltb-true, ne-eqb}
 use mir.Syntax.{w32}
 use mir.Val.{SFits}
+use borrow.Author.Tests.{leb-true, ltb-true}
+use Rattle.kinds.proofs.Laws.{edit-not-empty}
 use Rattle.places.proofs.Laws.{both}
 use Rattle.kinds.specs.declared.Body.{Body}
-use Rattle.kinds.specs.Body.{kindOf, eventOf, argumentOf, bodyOf, isEmpty}
-use Rattle.kind_limits.specs.Limits.{kinds, limitsOf, between, numbersInside, bodyInside, isEdit}
+use Rattle.kinds.specs.Body.{kindOf, eventOf, argumentOf, bodyOf, isEmpty, isEdit}
+use Rattle.kind_limits.specs.Limits.{kinds, limitsOf, between, numbersInside, bodyInside, postable}
 
 -- what the test on a kind, an event and an argument says
 record Inside (k e : ℕ) (a : ℤ) : Type 0 where
@@ -81,18 +82,63 @@ module _ (k e : ℕ) (a : ℤ) (h : numbersInside k e a ≡ true) where
   unfolding bodyInside
   inside-back = (λ i. numbersInside (kind-back i) (event-back i) (argument-back i)) ∙ h
 
--- an edit is inside its limits, and its kind is 2 or more
-pub edit-inside : (b : Body) → isEdit b ≡ true → bodyInside b ≡ true
-unfolding isEdit
-edit-inside b h = both (leb 2 (kindOf b)) (bodyInside b) h .1
+-- the limits of every row fit 32 bits, and so do the numbers between them
+record Small (k : ℕ) : Type 0 where
+  event : limitsOf k .«most_event» < 4_294_967_296
+  least : mag (limitsOf k .«least_argument») < 2_147_483_648
+  most : mag (limitsOf k .«most_argument») < 2_147_483_648
 
-pub edit-kind : (b : Body) → isEdit b ≡ true → 2 ≤ kindOf b
-unfolding isEdit
-edit-kind b h = leb-true 2 (kindOf b) (both (leb 2 (kindOf b)) (bodyInside b) h .0)
+small : (k : ℕ) → Small k
+small zero = record { event = omega arith; least = omega arith; most = omega arith }
+small (suc zero) = record { event = omega arith; least = omega arith; most = omega arith }
+small (suc (suc zero)) = record { event = omega arith; least = omega arith; most = omega arith }
+small (suc (suc (suc zero))) = record { event = omega arith; least = omega arith; most = omega arith }
+small (suc (suc (suc (suc zero)))) = record { event = omega arith; least = omega arith; most = omega arith }
+small (suc (suc (suc (suc (suc k))))) = record { event = omega arith; least = omega arith; most = omega arith }
+
+pub limits-fit : (k : ℕ) → SFits w32 (limitsOf k .«least_argument») × SFits w32 (limitsOf k .«most_argument»)
+limits-fit k = (record { sfits = (small k) .least }, record { sfits = (small k) .most })
+
+between-fits : (low a high : ℤ) → mag low < 2_147_483_648 → mag high < 2_147_483_648 → (leZ low a && leZ a high) ≡ true → SFits w32 a
+between-fits low (pos m) (pos h) p q e = record { sfits = omega (arith, leb-true m h (both (leZ low (pos m)) (leb m h) e .1)) }
+between-fits low (pos m) (negsuc h) p q e = absurd (false≢true (both (leZ low (pos m)) false e .1))
+between-fits (pos l) (negsuc m) high p q e = absurd (false≢true (both false (leZ (negsuc m) high) e .0))
+between-fits (negsuc l) (negsuc m) high p q e = record { sfits = omega (arith, leb-true m l (both (leb m l) (leZ (negsuc m) high) e .0)) }
+
+module _ (b : Body) (h : bodyInside b ≡ true) where
+  facts : Inside (kindOf b) (eventOf b) (argumentOf b)
+  unfolding bodyInside
+  facts = inside (kindOf b) (eventOf b) (argumentOf b) h
+
+  pub body-event-fits : eventOf b < 4_294_967_296
+  body-event-fits = omega (arith, facts .most, (small (kindOf b)) .event)
+
+  pub body-argument-fits : SFits w32 (argumentOf b)
+  body-argument-fits =
+      let s = small (kindOf b) in
+      between-fits (limitsOf (kindOf b) .«least_argument») (argumentOf b) (limitsOf (kindOf b) .«most_argument») (s .least) (s .most) (facts .argument)
+
+-- what may be posted is an edit, and inside its limits
+pub postable-edit : (b : Body) → postable b ≡ true → isEdit b ≡ true
+unfolding postable
+postable-edit b h = both (isEdit b) (bodyInside b) h .0
+
+pub postable-inside : (b : Body) → postable b ≡ true → bodyInside b ≡ true
+unfolding postable
+postable-inside b h = both (isEdit b) (bodyInside b) h .1
 
 -- so it is not Empty
-pub edit-not-empty : (b : Body) → isEdit b ≡ true → isEmpty b ≡ false
-edit-not-empty b h = ne-eqb (kindOf b) 0 (λ z. omega (arith, edit-kind b h))
+pub postable-not-empty : (b : Body) → postable b ≡ true → isEmpty b ≡ false
+postable-not-empty b h = edit-not-empty b (postable-edit b h)
+
+-- inside the limits the kind alone decides what may be posted
+pub inside-postable : (b : Body) → bodyInside b ≡ true → postable b ≡ isEdit b
+unfolding postable
+inside-postable b h = rw h (and-true (isEdit b))
+  where
+    and-true : (t : Bool) → (t && true) ≡ t
+    and-true true = refl
+    and-true false = refl
 
 -- an argument outside its kind's limits puts the numbers outside, whatever the event
 last-no : (a b c : Bool) → c ≡ false → (a && (b && c)) ≡ false
@@ -107,47 +153,3 @@ unfolding numbersInside
 argument-outside k e a h =
     let l = limitsOf k in
     last-no (ltb k (length kinds)) (leb (l .«least_event») e && leb e (l .«most_event»)) _ h
-
--- the limits of arguments have 32 bits
-small : {a b : ℤ} → mag a < 2 ^ 31 → mag b < 2 ^ 31 → SFits w32 a × SFits w32 b
-small p q = (record { sfits = p }, record { sfits = q })
-
-pub limits-fit : (k : ℕ) → SFits w32 (limitsOf k .«least_argument») × SFits w32 (limitsOf k .«most_argument»)
-limits-fit zero = small (omega arith) (omega arith)
-limits-fit (suc zero) = small (omega arith) (omega arith)
-limits-fit (suc (suc zero)) = small (omega arith) (omega arith)
-limits-fit (suc (suc (suc zero))) = small (omega arith) (omega arith)
-limits-fit (suc (suc (suc (suc zero)))) = small (omega arith) (omega arith)
-limits-fit (suc (suc (suc (suc (suc k))))) = small (omega arith) (omega arith)
-
--- and so have those of events
-events-fit : (k : ℕ) → limitsOf k .«most_event» < 4_294_967_296
-events-fit zero = omega arith
-events-fit (suc zero) = omega arith
-events-fit (suc (suc zero)) = omega arith
-events-fit (suc (suc (suc zero))) = omega arith
-events-fit (suc (suc (suc (suc zero)))) = omega arith
-events-fit (suc (suc (suc (suc (suc k))))) = omega arith
-
--- what lies between two numbers of 32 bits has 32 bits
-between-fits : (low high a : ℤ) → SFits w32 low → SFits w32 high → (leZ low a && leZ a high) ≡ true → SFits w32 a
-between-fits low (pos n) (pos m) p q h =
-    record { sfits = omega (arith, q .sfits, leb-true m n (both (leZ low (pos m)) (leb m n) h .1)) }
-between-fits low (negsuc n) (pos m) p q h = absurd (false≢true (both (leZ low (pos m)) false h .1))
-between-fits (pos l) high (negsuc m) p q h = absurd (false≢true (both false (leZ (negsuc m) high) h .0))
-between-fits (negsuc l) high (negsuc m) p q h =
-    record { sfits = omega (arith, p .sfits, leb-true m l (both (leb m l) (leZ (negsuc m) high) h .0)) }
-
--- the event and the argument of a body inside its limits have 32 bits
-module _ (b : Body) (h : bodyInside b ≡ true) where
-  within : Inside (kindOf b) (eventOf b) (argumentOf b)
-  unfolding bodyInside
-  within = inside (kindOf b) (eventOf b) (argumentOf b) h
-
-  pub event-fits : eventOf b < 4_294_967_296
-  event-fits = omega (arith, within .most, events-fit (kindOf b))
-
-  pub argument-fits : SFits w32 (argumentOf b)
-  argument-fits =
-      let f = limits-fit (kindOf b) in
-      between-fits _ _ (argumentOf b) (f .0) (f .1) (within .argument)

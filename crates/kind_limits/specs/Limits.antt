@@ -8,7 +8,7 @@ use lib.ListN.{length, getD}
 use lib.Signed.{leZ}
 use Rattle.kinds.specs.declared.Body.{Body}
 use Rattle.kind_limits.specs.declared.Limits.{Limits}
-use Rattle.kinds.specs.Body.{kindOf, eventOf, argumentOf}
+use Rattle.kinds.specs.Body.{kindOf, eventOf, argumentOf, isEdit}
 
 -- a row of the table: the least and the most of the event, then of the argument
 abbrev pub row : ℕ → ℕ → ℤ → ℤ → Limits
@@ -42,6 +42,6 @@ numbersInside kind event argument = ltb kind (length kinds) && between (limitsOf
 unfoldable pub bodyInside : Body → Bool
 bodyInside b = numbersInside (kindOf b) (eventOf b) (argumentOf b)
 
--- the term "edit": a body of kind 2, 3 or 4, here with its limits kept. This is what may be posted (else refusal 4), and what may wait
-unfoldable pub isEdit : Body → Bool
-isEdit b = leb 2 (kindOf b) && bodyInside b
+-- a body that may be posted (else refusal 4), and so one that may wait: an edit inside the limits of its kind
+unfoldable pub postable : Body → Bool
+postable b = isEdit b && bodyInside b

@@ -1,7 +1,7 @@
 // The one table of kinds with their limits, and the tests of bodies by it.
 
 ghost use mathlib.Core.Path.{_≡_};
-ghost use Rattle.kind_limits.specs.Limits.{numbersInside, bodyInside, isEdit};
+ghost use Rattle.kind_limits.specs.Limits.{numbersInside, bodyInside, postable};
 use kinds::Body;
 
 // One row of the table of kinds: the least and the most of its event and of its argument.
@@ -80,11 +80,11 @@ pub fn body_inside(body: Body) -> bool
     }
 }
 
-// Is the body an edit inside the limits of its kind?
-pub fn is_edit(body: Body) -> bool
-    ensures { λ r. ⌜ r ≡ isEdit body ⌝ }
+// May the body be posted: is it an edit inside the limits of its kind?
+pub fn postable(body: Body) -> bool
+    ensures { λ r. ⌜ r ≡ postable body ⌝ }
 {
-    if kinds::kind_of(body) < 2 {
+    if !kinds::is_edit(body) {
         return false;
     }
     body_inside(body)

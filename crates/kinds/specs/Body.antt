@@ -1,7 +1,7 @@
 -- Document 01, "Bodies, labels and records": what each case of the body enum stands for, as the three numbers of a record.
 use Prim.Native.Nat.{ℕ}
 use mathlib.Core.Bool.{Bool, cond}
-use lib.Dec.{eqb}
+use lib.Dec.{leb, eqb}
 use lib.IntN.{ℤ, pos}
 use Rattle.kinds.specs.declared.Body.{Body}
 use Rattle.kinds.specs.declared.Body.the-variants.{Empty, Neutral, Insert, Drop, Shift}
@@ -33,6 +33,10 @@ argumentOf (Shift event frames) = frames
 -- kind 0, which is never taken
 abbrev pub isEmpty : Body → Bool
 isEmpty b = eqb (kindOf b) 0
+
+-- the term "edit": kinds 2 to 4, whatever the numbers
+abbrev pub isEdit : Body → Bool
+isEdit b = leb 2 (kindOf b)
 
 -- the body of a kind with its event and argument; numbers that the kind does not have are left out, and a number that is no kind gives Empty
 unfoldable pub bodyOf : ℕ → ℕ → ℤ → Body

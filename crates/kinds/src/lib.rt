@@ -1,7 +1,7 @@
 // Bodies, and the refusal numbers.
 
 ghost use mathlib.Core.Path.{_≡_};
-ghost use Rattle.kinds.specs.Body.{kindOf, eventOf, argumentOf, bodyOf, isEmpty};
+ghost use Rattle.kinds.specs.Body.{kindOf, eventOf, argumentOf, bodyOf, isEmpty, isEdit};
 
 pub mod refusals;
 
@@ -58,6 +58,13 @@ pub fn is_empty(body: Body) -> bool
     ensures { λ r. ⌜ r ≡ isEmpty body ⌝ }
 {
     kind_of(body) == 0
+}
+
+// Is the body an edit?
+pub fn is_edit(body: Body) -> bool
+    ensures { λ r. ⌜ r ≡ isEdit body ⌝ }
+{
+    2 <= kind_of(body)
 }
 
 // The body of a kind with its event and argument. A kind leaves out the numbers that it does not have, and a number that is no kind gives Empty.

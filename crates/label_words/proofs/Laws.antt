@@ -1,14 +1,14 @@
 -- Laws of packing, for every number of labels together. A word has its labels for digits of base 4, the first the lowest, so each law
 -- goes label by label.
 use Prim.Native.Nat.{ℕ, zero, suc, _+_, _-_, _*_, _/_, _%_, _^_, _≤_, _<_}
-use native.Mathlib.Nat.{pow-le-pow-right, pow-succ', suc-add, zero-add, add-zero}
+use native.Mathlib.Nat.{pow-le-pow-right, pow-succ', suc-add, zero-add}
 use native.Mathlib.Omega.{arith}
 use mathlib.Core.Bool.{true, _&&_}
 use mathlib.Core.List.{List, [], _∷_, _++_, append-nil}
 use mathlib.Core.Path.{_≡_, refl, sym, ap, ap₂, _∙_}
 use lib.Dec.{eqb}
-use lib.ListN.{length, getD, take, drop, replicate}
-use lib.Seq.{length-take-le, take-at, drop-at, getD-drop, drop-drop}
+use lib.ListN.{length, take, drop, replicate}
+use lib.Seq.{length-take-le, take-at, drop-at}
 use borrow.Author.Tests.{eqb-true, eq-eqb}
 use Rattle.places.proofs.Laws.{both}
 use Rattle.labels.specs.Label.{allLabels}
@@ -56,16 +56,6 @@ unpacked-zero : (n : ℕ) → unpacked n 0 ≡ replicate n 0
 unfolding unpacked
 unpacked-zero zero = refl
 unpacked-zero (suc n) = ap (λ (l : List ℕ). 0 ∷ l) (unpacked-zero n)
-
--- what is left of a word from label k on: its first label is label k, and a quarter of it is left after that one
-module _ (l : List ℕ) (m k rest : ℕ) (left : drop k l ≡ unpacked (suc m) rest) where
-  pub next-label : getD l k 0 ≡ rest % 4
-  unfolding unpacked
-  next-label = sym (rw add-zero at (getD-drop k l 0 0)) ∙ ap (λ (x : List ℕ). getD x 0 0) left
-
-  pub labels-left : drop (k + 1) l ≡ unpacked m (rest / 4)
-  unfolding unpacked
-  labels-left = sym (drop-drop 1 k l) ∙ ap (drop 1) left
 
 -- unpacking more than was packed gives zeros after it
 pub unpack-pack-zeros :

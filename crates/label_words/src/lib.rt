@@ -1,10 +1,9 @@
-// Labels in a word: sixteen of them packed, unpacked, put over old ones, and what a word may hold.
+// Labels in a word: sixteen of them packed, unpacked, and what a word may hold.
 
 ghost use mathlib.Core.Path.{_≡_};
 ghost use mathlib.Core.Bool.{true};
 ghost use Prim.Native.Nat.{_≤_};
-ghost use lib.ListN.{take, getD};
-ghost use Rattle.places.specs.Places.{fill};
+ghost use lib.ListN.{take};
 ghost use Rattle.labels.specs.Label.{allLabels};
 ghost use Rattle.label_words.specs.Packing.{packed, unpacked, wordInside};
 
@@ -63,23 +62,4 @@ pub fn word_inside(word: u32, n: usize) -> bool
     let threes = (wide & (wide >> 1)) & 0x5555_5555;
     let above = wide >> (2 * n);
     (threes | above) == 0
-}
-
-// The first n labels of a word over the old ones: all sixteen are those of the word. A branch of its own for sixteen spares them a way through memory.
-pub fn unpack_over(n: usize, word: u32, old: [u8; 16]) -> [u8; 16]
-    requires { ⌜ n ≤ 16 ⌝ }
-    ensures { λ r. ⌜ r ≡ fill n (λ k. getD (unpacked 16 word) k 0) old ⌝ }
-{
-    if n == 16 {
-        return unpack(word);
-    }
-    let mut over = old;
-    let mut rest = word;
-    let mut k: usize = 0;
-    while k < n {
-        over[k] = (rest % 4) as u8;
-        rest = rest / 4;
-        k += 1;
-    }
-    over
 }

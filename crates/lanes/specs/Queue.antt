@@ -1,22 +1,30 @@
--- Document 01, "A station and its calls": the waiting edits, at most 32, in the order posted. What stands past the length is no part of the queue.
-use Prim.Native.Nat.{_+_, _-_}
+-- Document 01, "A station and its calls": edits in the order posted, oldest first. What stands past the length is no part of the queue.
+use Prim.Native.Nat.{ℕ, _+_, _-_}
+use mathlib.Core.Bool.{Bool, _&&_}
 use mathlib.Core.List.{List, _∷_, _++_, map}
+use lib.Dec.{leb}
 use lib.ListN.{take, drop, set, getD, replicate}
 use Rattle.kinds.specs.declared.Body.{Body}
 use Rattle.kinds.specs.declared.Body.the-variants.{Empty}
+use Rattle.kind_limits.specs.Limits.{postable}
+use Rattle.places.specs.Places.{allBelow}
 use Rattle.lanes.specs.declared.Slot.{Slot}
 use Rattle.lanes.specs.declared.Queue.{Queue}
+
+-- how many edits a queue has room for
+abbrev pub queueCapacity : ℕ
+queueCapacity = 32
 
 abbrev pub noSlot : Slot
 noSlot = record { body = Empty }
 
--- the waiting bodies, oldest first
-unfoldable pub waitingBodies : Queue → List Body
-waitingBodies q = map (λ slot. slot .body) (take (q .len) (q .slots))
+-- the bodies of a queue, oldest first
+unfoldable pub queueBodies : Queue → List Body
+queueBodies q = map (λ slot. slot .body) (take (q .len) (q .slots))
 
--- nothing waits
-unfoldable pub noneWaiting : Queue
-noneWaiting = record { len = 0; slots = replicate 32 noSlot }
+-- a queue without bodies
+unfoldable pub emptyQueue : Queue
+emptyQueue = record { len = 0; slots = replicate queueCapacity noSlot }
 
 -- a body put last
 unfoldable pub queued : Queue → Body → Queue
@@ -29,3 +37,7 @@ oldest q = (getD (q .slots) 0 noSlot) .body
 -- the oldest removed: those after it move up by one place, and the place that becomes free holds Empty
 unfoldable pub unqueued : Queue → Queue
 unqueued q = record { len = q .len - 1; slots = take (q .len - 1) (drop 1 (q .slots)) ++ (noSlot ∷ drop (q .len) (q .slots)) }
+
+-- no more than there is room for, and each may be posted
+unfoldable pub queueInside : Queue → Bool
+queueInside q = leb (q .len) queueCapacity && allBelow (q .len) (λ i. postable ((getD (q .slots) i noSlot) .body))

@@ -1,9 +1,11 @@
-// A lane of at most two bodies and a queue of up to 32 edits, both oldest first.
+// A lane of at most two bodies, and the edits that wait to start: one queue of them, oldest first.
 
 ghost use mathlib.Core.Path.{_≡_};
+ghost use mathlib.Core.Bool.{true};
 ghost use Prim.Native.Nat.{_≤_, _<_};
 ghost use Rattle.lanes.specs.Lane as laneSpec;
 ghost use Rattle.lanes.specs.Queue as queueSpec;
+ghost use Rattle.lanes.specs.Waiting as waitingSpec;
 use kinds::Body;
 
 // A body in an array.
@@ -18,10 +20,18 @@ pub struct Lane {
     pub second: Body,
 }
 
-// The edits that wait to start, oldest first.
+// How many edits a queue has room for.
+pub const QUEUE_CAPACITY: usize = 32;
+
+// Edits in the order posted, oldest first.
 pub struct Queue {
     pub len: usize,
-    pub slots: [Slot; 32],
+    pub slots: [Slot; QUEUE_CAPACITY],
+}
+
+// The edits of a station that wait to start.
+pub struct Waiting {
+    pub queue: Queue,
 }
 
 // The lane with one more body, put last.
@@ -52,9 +62,21 @@ pub fn pushed(lane: Lane, body: Body) -> Lane
     }
 }
 
+// A queue without edits.
+fn empty_queue() -> Queue
+    ensures { λ r. ⌜ r ≡ queueSpec.emptyQueue ⌝ }
+{
+    let slot = Slot { body: Body::Empty };
+    let slots = [slot; QUEUE_CAPACITY];
+    Queue {
+        len: 0,
+        slots: slots,
+    }
+}
+
 // The queue with one more body, put last.
-pub fn queued(queue: Queue, body: Body) -> Queue
-    requires { ⌜ queue .len < 32 ⌝ }
+fn queued(queue: Queue, body: Body) -> Queue
+    requires { ⌜ queue .len < queueSpec.queueCapacity ⌝ }
     ensures { λ r. ⌜ r ≡ queueSpec.queued queue body ⌝ }
 {
     let len = queue.len;
@@ -67,7 +89,7 @@ pub fn queued(queue: Queue, body: Body) -> Queue
 }
 
 // The oldest body.
-pub fn oldest(queue: Queue) -> Body
+fn oldest(queue: Queue) -> Body
     ensures { λ r. ⌜ r ≡ queueSpec.oldest queue ⌝ }
 {
     let slot = queue.slots[0];
@@ -75,8 +97,8 @@ pub fn oldest(queue: Queue) -> Body
 }
 
 // The queue without its oldest body.
-pub fn unqueued(queue: Queue) -> Queue
-    requires { ⌜ (0 < queue .len) × (queue .len ≤ 32) ⌝ }
+fn unqueued(queue: Queue) -> Queue
+    requires { ⌜ (0 < queue .len) × (queue .len ≤ queueSpec.queueCapacity) ⌝ }
     ensures { λ r. ⌜ r ≡ queueSpec.unqueued queue ⌝ }
 {
     let mut slots = queue.slots;
@@ -91,4 +113,84 @@ pub fn unqueued(queue: Queue) -> Queue
         len: queue.len - 1,
         slots: slots,
     }
+}
+
+// May each body of the queue be posted, and are there no more than it has room for?
+fn queue_inside(queue: Queue) -> bool
+    ensures { λ r. ⌜ r ≡ queueSpec.queueInside queue ⌝ }
+{
+    let len = queue.len;
+    if QUEUE_CAPACITY < len {
+        return false;
+    }
+    let mut i: usize = 0;
+    while i < len {
+        let slot = queue.slots[i];
+        let body = slot.body;
+        if !kind_limits::postable(body) {
+            return false;
+        }
+        i += 1;
+    }
+    true
+}
+
+// No edit waits.
+pub fn none_waiting() -> Waiting
+    ensures { λ r. ⌜ r ≡ waitingSpec.noneWaiting ⌝ }
+{
+    let queue = empty_queue();
+    Waiting { queue: queue }
+}
+
+// How many edits wait.
+pub fn waiting_count(waiting: Waiting) -> usize
+    ensures { λ r. ⌜ r ≡ waitingSpec.waitingCount waiting ⌝ }
+{
+    let queue = waiting.queue;
+    queue.len
+}
+
+// Is there room for one more edit?
+pub fn has_room(waiting: Waiting) -> bool
+    ensures { λ r. ⌜ r ≡ waitingSpec.hasRoom waiting ⌝ }
+{
+    let queue = waiting.queue;
+    queue.len < QUEUE_CAPACITY
+}
+
+// The waiting edits once one more is posted.
+pub fn with_posted(waiting: Waiting, body: Body) -> Waiting
+    requires { ⌜ waitingSpec.hasRoom waiting ≡ true ⌝ }
+    ensures { λ r. ⌜ r ≡ waitingSpec.withPosted waiting body ⌝ }
+{
+    let queue = waiting.queue;
+    let longer = queued(queue, body);
+    Waiting { queue: longer }
+}
+
+// The edit that starts next.
+pub fn next_edit(waiting: Waiting) -> Body
+    ensures { λ r. ⌜ r ≡ waitingSpec.nextEdit waiting ⌝ }
+{
+    let queue = waiting.queue;
+    oldest(queue)
+}
+
+// The waiting edits once the next one has started.
+pub fn without_next(waiting: Waiting) -> Waiting
+    requires { ⌜ (0 < waitingSpec.waitingCount waiting) × (waitingSpec.waitingInside waiting ≡ true) ⌝ }
+    ensures { λ r. ⌜ r ≡ waitingSpec.withoutNext waiting ⌝ }
+{
+    let queue = waiting.queue;
+    let shorter = unqueued(queue);
+    Waiting { queue: shorter }
+}
+
+// Are the waiting edits inside their limits?
+pub fn waiting_inside(waiting: Waiting) -> bool
+    ensures { λ r. ⌜ r ≡ waitingSpec.waitingInside waiting ⌝ }
+{
+    let queue = waiting.queue;
+    queue_inside(queue)
 }

@@ -1,5 +1,6 @@
 // One script line applied to a group, and the listing that comes of it.
 
+use group_rules::Post;
 use group_rules::RoundDone;
 use listing_rules::Applied;
 use listing_rules::Session;
@@ -59,7 +60,12 @@ fn obey(s: Session, command: Command, line: &[u8], out: &mut [u8]) -> Applied
             argument,
         } => {
             let body = commands::posted_body(kind, event, argument);
-            commands::apply_post(s, station as usize, body, out)
+            let place = station as usize;
+            let post = Post {
+                station: place,
+                body,
+            };
+            commands::apply_post(s, post, out)
         }
         Command::Round => apply_round(s, line, out),
         Command::Malformed => listing_ends::halt(s, out),

@@ -16,7 +16,7 @@ use Rattle.lines.specs.Lines.{Put}
 use Rattle.lines.proofs.Placed.{put-none}
 use Rattle.listing_rules.specs.declared.Session.{Session}
 use Rattle.listing_rules.specs.declared.Applied.{Applied}
-use Rattle.listing_rules.specs.Listing.{Answer, AnswersPost, AnswersRound, after, printed, obeyed, answered, halted, malformedText, sizedBy, postedBody}
+use Rattle.listing_rules.specs.Listing.{Answer, AnswersPost, AnswersRound, after, printed, obeyed, answered, halted, malformedText, setupOf, sizedBy, postedBody}
 
 chosen-first : (t : Bool) (a b : Session) → t ≡ true → cond t a b ≡ a
 chosen-first t a b e = rw e
@@ -50,7 +50,7 @@ by-command s masks k k' l m r e a = rw e a
 
 pub sized :
     (s : Session) (masks : List ℕ) (n : ℕ) (l : List ℕ) (r : Applied) →
-    r .session ≡ sizedBy s n (freshCall n) → r .len ≡ 0 → Answer (obeyed s masks (Size n)) (answered s masks (Size n)) l l r
+    r .session ≡ sizedBy s n (freshCall (setupOf n)) → r .len ≡ 0 → Answer (obeyed s masks (Size n)) (answered s masks (Size n)) l l r
 unfolding obeyed answered
 sized s masks n l r q z = record { session = q; put = go (r .len) z }
   where
@@ -66,11 +66,11 @@ round-made s k k' l m r e a = rw e at a
 
 pub posted :
     (s : Session) (masks : List ℕ) (station kind event : ℕ) (argument : ℤ) (body : Body) (l m : List ℕ) (r : Applied) →
-    body ≡ postedBody kind event argument → AnswersPost s station (postCall (s .group) station body) l m r →
+    body ≡ postedBody kind event argument → AnswersPost s station (postCall (s .group) (record { station = station; body = body })) l m r →
     Answer (obeyed s masks (Post station kind event argument)) (answered s masks (Post station kind event argument)) l m r
 unfolding obeyed answered
 posted s masks station kind event argument body l m r b a =
-    post-made s station _ _ l m r (ap (postCall (s .group) station) b) a
+    post-made s station _ _ l m r (ap (λ (x : Body). postCall (s .group) (record { station = station; body = x })) b) a
 
 pub rounded :
     (s : Session) (masks heard : List ℕ) (made : RoundDone) (l m : List ℕ) (r : Applied) → s .rounds < 999_999 →

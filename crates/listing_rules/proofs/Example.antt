@@ -5,29 +5,9 @@ use Prim.Native.Nat.{ℕ}
 use lib.IntN.{pos}
 use Rattle.kinds.specs.declared.Body.the-variants.{Empty, Neutral, Insert}
 use Rattle.column_writer.specs.Writing.{natColumns}
-use Rattle.lines.specs.Lines.{delivered, airing, ending, turnedDown}
-use Rattle.places.specs.Places.{allBelow, anyBelow, fill, gather, tabulate}
-use Rattle.kinds.specs.Body.{bodyOf}
-use Rattle.kind_limits.specs.Limits.{numbersInside, bodyInside, isEdit}
-use Rattle.labels.specs.Newer.{isNewer}
-use Rattle.links.specs.Log.{bit, hearsIn}
-use Rattle.frame_rules.specs.Record.{framed}
-use Rattle.frame_rules.specs.Calls.{tableRecords}
-use Rattle.lanes.specs.Lane.{bodies, laneOf}
-use Rattle.lanes.specs.Queue.{noneWaiting, queued, oldest, unqueued}
-use Rattle.station_rules.specs.State.{sentRecords, freshStation}
-use Rattle.station_rules.specs.Limits.{laneInside, queueInside, recordInside, placeInside, stationInside}
-use Rattle.station_rules.specs.Hearing.{replaced, heardNewer, hearRecord, hearRecords}
-use Rattle.station_rules.specs.Turn.{airs, rowOf, lanesAfter, ends, startedBody, passed, ownRecord, rewritten, afterTurn, turnReport}
-use Rattle.station_rules.specs.Calls.{posted, noTurn}
-use Rattle.group_rules.specs.State.{groupInside, freshGroup}
-use Rattle.group_rules.specs.Calls.{freshCall, groupPostRefusal, postCall, hearing, noReport, reportOf, roundRefusal, afterRound, roundCall}
-use Rattle.column_reader.specs.Reading.{started, grown, next, readFrom}
-use Rattle.column_writer.specs.Writing.{lead, columns}
-use Rattle.script.specs.Line.{fieldOf, sizeLine, postShaped, postLine, isMask, masksInside, roundLine, commandOf, maskAt, masksOf}
-use Rattle.lines.specs.Lines.{headBytes, bodyBytes, lineBytes, endLine}
-use Rattle.round_lines.specs.Reports.{joined, takenText, airedText, turnText, reportText, roundText}
-use Rattle.listing_rules.specs.Listing.{begun, postedBody, sizedBy, postedBy, roundedBy, obeyed, refusedText, answered, after, printed, restText, linesOf, listed, listingOf}
+use Rattle.lines.specs.Lines.{delivered, airing, ending, turnedDown, lineBytes, endLine}
+use Rattle.listing_rules.specs.Listing.{listingOf}
+use Rattle.listing_rules.proofs.Computing.{listingRuns}
 
 abbrev edit : Rattle.kinds.specs.declared.Body.Body
 edit = Insert 7 (pos 100)
@@ -55,14 +35,14 @@ pub example :
     ++ lineBytes 3 delivered 1 0 edit
     ++ lineBytes 3 airing 1 0 edit
     ++ endLine
-unfolding headBytes bodyBytes allBelow anyBelow fill gather tabulate bodyOf numbersInside bodyInside isEdit isNewer bit hearsIn framed bodies laneOf noneWaiting queued oldest unqueued sentRecords tableRecords freshStation laneInside queueInside recordInside placeInside stationInside replaced heardNewer hearRecord hearRecords airs rowOf lanesAfter ends startedBody passed ownRecord rewritten afterTurn turnReport posted noTurn groupInside freshGroup freshCall groupPostRefusal postCall hearing noReport reportOf roundRefusal afterRound roundCall started grown next readFrom lead columns fieldOf sizeLine postShaped postLine isMask masksInside roundLine commandOf maskAt masksOf lineBytes endLine joined takenText airedText turnText reportText roundText begun postedBody sizedBy postedBy roundedBy obeyed refusedText answered after printed restText linesOf listed listingOf
+unfolding listingRuns
 example = refl
 
 -- an empty script, and one whose first line is not `N`: the reading stops, whatever follows
 pub empty : listingOf [] ≡ lineBytes 0 turnedDown 0 11 Empty ++ endLine
-unfolding listingOf linesOf listed begun restText
+unfolding listingRuns
 empty = refl
 
 pub stops : listingOf (88 ∷ 10 ∷ script) ≡ lineBytes 0 turnedDown 0 11 Empty ++ endLine
-unfolding listingOf linesOf listed begun after printed obeyed answered commandOf sizeLine lineBytes headBytes bodyBytes columns lead endLine restText
+unfolding listingRuns
 stops = refl

@@ -1,4 +1,7 @@
 pub mod Answers
+pub mod Computing
 pub mod Example
 pub mod Stopped
 pub mod Overlong
+pub mod Commands
+pub mod ScriptCalls

@@ -11,6 +11,9 @@ use Rattle.kinds.specs.declared.Body.the-variants.{Empty}
 use Rattle.kinds.specs.Body.{bodyOf}
 use Rattle.kind_limits.specs.Limits.{numbersInside}
 use Rattle.kinds.specs.Refusals.{done, malformedLine}
+use Rattle.station_rules.specs.declared.Setup.{Setup}
+use Rattle.station_rules.specs.State.{aloneSetup}
+use Rattle.group_rules.specs.declared.Post as group
 use Rattle.group_rules.specs.declared.KeptGroup.{KeptGroup}
 use Rattle.group_rules.specs.declared.RoundDone.{RoundDone}
 use Rattle.group_rules.specs.State.{freshGroup}
@@ -25,11 +28,19 @@ use Rattle.round_lines.specs.Reports.{roundText}
 
 -- before any line is read: no size yet, no round done
 unfoldable pub begun : Session
-begun = record { n = 0; rounds = 0; stopped = false; group = freshGroup 1 }
+begun = record { n = 0; rounds = 0; stopped = false; group = freshGroup aloneSetup }
+
+-- what an `N` line gives the fresh group
+abbrev pub setupOf : ℕ → Setup
+setupOf n = record { n = n }
 
 -- the body that a post's numbers name; numbers that no body has are posted as Empty, which is no edit
 unfoldable pub postedBody : ℕ → ℕ → ℤ → Body
 postedBody kind event argument = cond (numbersInside kind event argument) (bodyOf kind event argument) Empty
+
+-- what a `P` line gives the group post
+abbrev pub postOf : ℕ → ℕ → ℕ → ℤ → group.Post
+postOf station kind event argument = record { station = station; body = postedBody kind event argument }
 
 -- a refusal, with the number of rounds done
 abbrev pub refusalText : ℕ → ℕ → ℕ → List ℕ
@@ -56,15 +67,15 @@ postedBy s made = record { n = s .n; rounds = s .rounds; stopped = false; group 
 unfoldable pub roundedBy : Session → RoundDone → Session
 roundedBy s made = record { n = s .n; rounds = s .rounds + 1; stopped = false; group = made .group }
 
--- what a post prints: a refusal; a station that is not below N is printed as 0
-unfoldable pub refusedText : Session → ℕ → ℕ → List ℕ
-refusedText s station refusal =
-    cond (eqb refusal done) [] (refusalText (s .rounds) (cond (ltb station (s .n)) station 0) refusal)
+-- what a post prints among n stations, so many rounds done: a refusal; a station that is not below n is printed as 0
+unfoldable pub refusedText : ℕ → ℕ → ℕ → ℕ → List ℕ
+refusedText n rounds station refusal =
+    cond (eqb refusal done) [] (refusalText rounds (cond (ltb station n) station 0) refusal)
 
 -- the session after a command, whose line has the masks of a round
 unfoldable pub obeyed : Session → List ℕ → Command → Session
-obeyed s masks (Size n) = sizedBy s n (freshCall n)
-obeyed s masks (Post station kind event argument) = postedBy s (postCall (s .group) station (postedBody kind event argument))
+obeyed s masks (Size n) = sizedBy s n (freshCall (setupOf n))
+obeyed s masks (Post station kind event argument) = postedBy s (postCall (s .group) (postOf station kind event argument))
 obeyed s masks Round = cond (ltb (s .rounds) lastRound) (roundedBy s (roundCall (s .group) masks)) (halted s)
 obeyed s masks Malformed = halted s
 
@@ -72,7 +83,7 @@ obeyed s masks Malformed = halted s
 unfoldable pub answered : Session → List ℕ → Command → List ℕ
 answered s masks (Size n) = []
 answered s masks (Post station kind event argument) =
-    refusedText s station ((postCall (s .group) station (postedBody kind event argument)) .refusal)
+    refusedText (s .n) (s .rounds) station ((postCall (s .group) (postOf station kind event argument)) .refusal)
 answered s masks Round =
     cond (ltb (s .rounds) lastRound)
     (roundText (s .n) (s .rounds + 1) ((roundCall (s .group) masks) .reports))
@@ -101,7 +112,7 @@ pub record Answer (after : Session) (text entry exit : List ℕ) (r : Applied) :
 
 -- the same of a post and of a round, by what the group's call returned
 abbrev pub AnswersPost : Session → ℕ → KeptGroup → List ℕ → List ℕ → Applied → Type 0
-AnswersPost s station made entry exit r = Answer (postedBy s made) (refusedText s station (made .refusal)) entry exit r
+AnswersPost s station made entry exit r = Answer (postedBy s made) (refusedText (s .n) (s .rounds) station (made .refusal)) entry exit r
 
 abbrev pub AnswersRound : Session → RoundDone → List ℕ → List ℕ → Applied → Type 0
 AnswersRound s made entry exit r = Answer (roundedBy s made) (roundText (s .n) (s .rounds + 1) (made .reports)) entry exit r

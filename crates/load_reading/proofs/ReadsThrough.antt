@@ -15,12 +15,14 @@ use Rattle.kinds.specs.declared.Body.{Body}
 use Rattle.kinds.specs.declared.Body.the-variants.{Insert}
 use Rattle.kinds.specs.Body.{bodyOf}
 use Rattle.kinds.specs.Refusals.{done, queueFull, refuse}
-use Rattle.kind_limits.specs.Limits.{numbersInside, bodyInside, isEdit}
+use Rattle.kind_limits.specs.Limits.{numbersInside, bodyInside, postable}
 use Rattle.kind_limits.proofs.Examples.{insert-small}
 use Rattle.places.specs.Places.{gather}
 use Rattle.station_rules.specs.declared.Station.{Station}
 use Rattle.group_rules.specs.State.{stationAt, sizeOf, groupInside}
-use Rattle.group_rules.specs.Calls.{freshCall, groupPostRefusal, postCall, roundCall}
+use Rattle.lanes.specs.Waiting.{hasRoom}
+use Rattle.group_rules.specs.declared.Post as group
+use Rattle.group_rules.specs.Calls.{freshCall, groupFreshRefusal, groupPostRefusal, postCall, roundCall}
 use Rattle.group_rules.proofs.Members.{Members, members-inside, fresh-members}
 use Rattle.group_rules.proofs.MembersPost.{post-members, post-refusal}
 use Rattle.group_rules.proofs.MembersRound.{round-members}
@@ -28,7 +30,7 @@ use Rattle.script.specs.declared.Command.{Command}
 use Rattle.script.specs.declared.Command.the-variants.{Size, Post, Round, Malformed}
 use Rattle.script.specs.Line.{commandOf, masksOf}
 use Rattle.listing_rules.specs.declared.Session.{Session}
-use Rattle.listing_rules.specs.Listing.{begun, postedBody, sizedBy, postedBy, roundedBy, halted, obeyed, after, malformedText, restText, lastRound}
+use Rattle.listing_rules.specs.Listing.{begun, setupOf, postOf, postedBody, sizedBy, postedBy, roundedBy, halted, obeyed, after, malformedText, restText, lastRound}
 use Rattle.load_spec.specs.Draws.{postDraw, posts, afterRound}
 use Rattle.load_spec.specs.Script.{sizeLine, postLine, maskLine, postLines, roundLines, roundsLines, scriptLines, scriptOf, lineOf}
 use Rattle.load_spec.proofs.Draws.{post-draw-small}
@@ -51,17 +53,17 @@ insert-made : (d : ℕ) → d ≤ 65535 → postedBody 2 (d + 1) (pos d) ≡ Ins
 unfolding postedBody bodyOf
 insert-made d h = rw (insert-inside d h)
 
-is-insert : (d : ℕ) → d ≤ 65535 → isEdit (postedBody 2 (d + 1) (pos d)) ≡ true
-unfolding isEdit bodyInside
+is-insert : (d : ℕ) → d ≤ 65535 → postable (postedBody 2 (d + 1) (pos d)) ≡ true
+unfolding postable bodyInside
 is-insert d h = rw (insert-made d h) (insert-inside d h)
 
 post-room :
-    (n : ℕ) (g : List Station) (p : ℕ) (b : Body) → Members n g → p < n → isEdit b ≡ true →
-    ((postCall g p b) .refusal ≡ done) ⊎ ((postCall g p b) .refusal ≡ queueFull)
+    (n : ℕ) (g : List Station) (x : group.Post) → Members n g → x .station < n → postable (x .body) ≡ true →
+    ((postCall g x) .refusal ≡ done) ⊎ ((postCall g x) .refusal ≡ queueFull)
 unfolding groupPostRefusal
-post-room n g p b c h e =
-    rw (post-refusal g p b, members-inside n g c, lt-ltb p (sizeOf g) (omega (arith, c .size)), e)
-    (go (leb 32 (stationAt g p .waiting .len)))
+post-room n g x c h e =
+    rw (post-refusal g x, members-inside n g c, lt-ltb (x .station) (sizeOf g) (omega (arith, c .size)), e)
+    (go (not (hasRoom (stationAt g (x .station) .waiting))))
   where
     go : (t : Bool) → (refuse t queueFull done ≡ done) ⊎ (refuse t queueFull done ≡ queueFull)
     go true = inr refl
@@ -88,7 +90,7 @@ module _ (n r : ℕ) (s : Session) (a : At n r s) where
           formed = λ f. let z : _≡_ {A = ℕ} 0 1 = cc in omega arith;
           room =
               ⊎-elim (λ q. inl (ap (postAnswer s) e ∙ q)) (λ q. inr (ap (postAnswer s) e ∙ q))
-              (post-room n (s .group) p (postedBody 2 (d + 1) (pos d)) (a .members) h (is-insert d small));
+              (post-room n (s .group) (postOf p 2 (d + 1) (pos d)) (a .members) h (is-insert d small));
         }
 
     post-after : At n r (after s (postLine p d))
@@ -99,7 +101,7 @@ module _ (n r : ℕ) (s : Session) (a : At n r s) where
           size = a .size;
           rounds = a .rounds;
           reading = refl;
-          members = post-members n (s .group) (a .members) p (postedBody 2 (d + 1) (pos d));
+          members = post-members n (s .group) (a .members) (postOf p 2 (d + 1) (pos d));
         })
 
   module _ (seed : ℕ) where
@@ -226,10 +228,10 @@ module _ (n : ℕ) (low : 1 ≤ n) (high : n ≤ 16) where
       }
 
   size-after : At n 0 (after begun (sizeLine n))
-  unfolding obeyed sizedBy freshCall begun
+  unfolding obeyed sizedBy freshCall groupFreshRefusal begun
   size-after =
       rw (obeys begun (sizeLine n) (Size n) refl said-size, le-leb 1 n low, le-leb n 16 high)
-      (record { size = refl; rounds = refl; reading = refl; members = fresh-members n high low })
+      (record { size = refl; rounds = refl; reading = refl; members = fresh-members (setupOf n) high low })
 
 -- what goes through all lines goes through the text of them
 goes-through : {s t : Session} {ls : List (List ℕ)} → Goes s ls t → t .stopped ≡ false → restText t 0 ≡ [] → Through s (allLines ls) t

@@ -11,13 +11,13 @@ use Rattle.script.specs.declared.Command.{Command}
 use Rattle.script.specs.declared.Command.the-variants.{Size, Post, Round, Malformed}
 use Rattle.script.specs.Line.{commandOf}
 use Rattle.listing_rules.specs.declared.Session.{Session}
-use Rattle.listing_rules.specs.Listing.{Lines, rest, line, begun, postedBody, after, closed, linesOf, lastRound}
+use Rattle.listing_rules.specs.Listing.{Lines, rest, line, begun, postOf, after, closed, linesOf, lastRound}
 use Rattle.load_spec.specs.Script.{scriptOf}
 
 -- what the group returns for a command that is a post
 abbrev pub postAnswer : Session → Command → ℕ
 postAnswer s (Size n) = done
-postAnswer s (Post station kind event argument) = (postCall (s .group) station (postedBody kind event argument)) .refusal
+postAnswer s (Post station kind event argument) = (postCall (s .group) (postOf station kind event argument)) .refusal
 postAnswer s Round = done
 postAnswer s Malformed = done
 

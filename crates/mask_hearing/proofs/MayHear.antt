@@ -12,7 +12,7 @@ use Rattle.station_rules.specs.declared.Station.{Station}
 use Rattle.station_rules.specs.State.{sentRecords}
 use Rattle.station_rules.specs.Limits.{stationInside}
 use Rattle.station_rules.specs.declared.HeardAll.{HeardAll}
-use Rattle.station_rules.specs.Frames.{FrameAt, HearsAll}
+use Rattle.station_rules.specs.Inner.Frames.{FrameAt, HearsAll}
 use Rattle.station_rules.proofs.StationLimits.{inside-open}
 use Rattle.frame_marks.specs.Marks.{MarksAt}
 use Rattle.frame_changes.specs.Changes.{ChangesAt}

@@ -7,7 +7,7 @@ ghost use lib.ListN.{drop, replicate};
 ghost use Rattle.frame_rules.specs.Frame.{recordsOf};
 ghost use Rattle.station_rules.specs.State.{sentRecords};
 ghost use Rattle.station_rules.specs.Limits.{stationInside};
-ghost use Rattle.station_rules.specs.Frames.{HearsAll};
+ghost use Rattle.station_rules.specs.Inner.Frames.{HearsAll};
 ghost use Rattle.group_frames.specs.Frames.{frameStart, FramesAt, MarksBelow};
 ghost use Rattle.mask_hearing.specs.Mask as spec;
 use frame_marks::FRAME_ROOM;

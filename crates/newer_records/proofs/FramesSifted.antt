@@ -6,8 +6,8 @@ use mathlib.Core.List.{List}
 use lib.ListN.{getD}
 use Rattle.station_rules.specs.declared.Station.{Station}
 use Rattle.station_rules.specs.Hearing.{silent}
-use Rattle.station_rules.specs.Frames.{hearFrames, FrameAt}
-use Rattle.station_rules.proofs.Shape.{Shaped}
+use Rattle.station_rules.specs.Inner.Frames.{hearFrames, FrameAt}
+use Rattle.station_rules.proofs.Setters.{Shaped}
 use Rattle.station_rules.proofs.StationLimits.{Inside}
 use Rattle.frame_marks.specs.Marks.{MarksAt}
 use Rattle.frame_changes.specs.Changes.{ChangesAt}

@@ -7,7 +7,7 @@ use mathlib.Core.List.{List}
 use lib.ListN.{getD}
 use Rattle.station_rules.specs.declared.Station.{Station}
 use Rattle.station_rules.specs.Hearing.{silent}
-use Rattle.station_rules.specs.Frames.{FrameAt}
+use Rattle.station_rules.specs.Inner.Frames.{FrameAt}
 use Rattle.station_rules.proofs.StationLimits.{Inside}
 use Rattle.frame_marks.specs.Marks.{sizeAt, MarksAt}
 use Rattle.frame_changes.specs.Changes.{Ascending, ChangesAt}

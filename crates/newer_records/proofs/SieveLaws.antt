@@ -16,9 +16,9 @@ use Rattle.places.specs.Places.{tabulate}
 use Rattle.station_rules.specs.declared.Station.{Station}
 use Rattle.station_rules.specs.State.{ownLabel}
 use Rattle.station_rules.specs.Hearing.{Hearing, silent, heeds, heardNewer, hearRecord, hearRecords}
-use Rattle.station_rules.specs.Frames.{hearFrames, FrameAt}
+use Rattle.station_rules.specs.Inner.Frames.{hearFrames, FrameAt}
 use Rattle.station_rules.proofs.HearRecord.{heardOne, hearRecord-skips, hearRecord-heeds}
-use Rattle.station_rules.proofs.Shape.{Shaped}
+use Rattle.station_rules.proofs.Setters.{Shaped}
 use Rattle.station_rules.proofs.StationLimits.{Inside}
 use Rattle.station_rules.proofs.LimitsHear.{Carried}
 use Rattle.station_rules.proofs.LimitsHearing.{Hears, hears-none, hears-record}

@@ -7,7 +7,7 @@ use lib.ListN.{getD}
 use Rattle.frame_rules.specs.declared.Record.{Record}
 use Rattle.station_rules.specs.declared.Station.{Station}
 use Rattle.station_rules.specs.Hearing.{Hearing, silent, heeds, hearRecord}
-use Rattle.station_rules.specs.Frames.{hearFrames}
+use Rattle.station_rules.specs.Inner.Frames.{hearFrames}
 use Rattle.frame_marks.specs.Marks.{recordAt, sizeAt}
 
 -- the record at a place, which is 16 × the number of its frame + its own number there

@@ -5,22 +5,10 @@ use mathlib.Core.List.{List, [], _∷_}
 use mathlib.Core.Path.{_≡_, refl}
 use Prim.Native.Nat.{ℕ}
 use lib.ListN.{getD}
-use Rattle.kind_limits.specs.Limits.{isEdit, bodyInside, numbersInside}
-use Rattle.links.specs.Log.{bit, hearsIn}
-use Rattle.places.specs.Places.{allBelow, anyBelow, fill, gather, tabulate}
-use Rattle.frame_rules.specs.Record.{framed}
-use Rattle.frame_rules.specs.Calls.{tableRecords}
-use Rattle.labels.specs.Newer.{isNewer}
-use Rattle.lanes.specs.Lane.{laneOf, bodies}
-use Rattle.lanes.specs.Queue.{noneWaiting, queued, unqueued, oldest}
-use Rattle.station_rules.specs.State.{sentRecords, freshStation}
-use Rattle.station_rules.specs.Limits.{laneInside, queueInside, recordInside, placeInside, stationInside}
-use Rattle.station_rules.specs.Hearing.{replaced, heardNewer, hearRecord, hearRecords}
-use Rattle.station_rules.specs.Turn.{airs, rowOf, lanesAfter, ends, startedBody, passed, ownRecord, rewritten, afterTurn, turnReport}
-use Rattle.station_rules.specs.Calls.{posted, noTurn}
-use Rattle.group_rules.specs.State.{groupInside, freshGroup}
-use Rattle.group_rules.specs.Calls.{groupPostRefusal, postCall, hearing, noReport, reportOf, roundRefusal, afterRound, roundCall}
-use Rattle.group_rules.specs.History.{History, Call, Call.round, historyOf, noRound, reportIn, next, begun, continued}
+use Rattle.places.specs.Places.{tabulate}
+use Rattle.group_rules.specs.History.{History, Call, Call.round, historyOf, noRound, reportIn}
+use Rattle.group_rules.proofs.Computing.{groupRuns}
+use Rattle.planning_runs.specs.Runs.{sized}
 
 -- in which of the first eight rounds station p airs a row
 unfoldable pub airsIn : History → ℕ → List Bool
@@ -41,10 +29,10 @@ eightRounds mask =
 
 pub record RowsNotMonotone : Type 0 where
   pub fewer-hearings :
-      airsIn (historyOf 3 (eightRounds 0)) 2 ≡ false ∷ false ∷ false ∷ false ∷ true ∷ false ∷ false ∷ true ∷ []
+      airsIn (historyOf (sized 3) (eightRounds 0)) 2 ≡ false ∷ false ∷ false ∷ false ∷ true ∷ false ∷ false ∷ true ∷ []
   pub one-more :
-      airsIn (historyOf 3 (eightRounds 1)) 2 ≡ false ∷ false ∷ false ∷ false ∷ true ∷ false ∷ false ∷ false ∷ []
+      airsIn (historyOf (sized 3) (eightRounds 1)) 2 ≡ false ∷ false ∷ false ∷ false ∷ true ∷ false ∷ false ∷ false ∷ []
 
 pub rows-not-monotone : RowsNotMonotone
-unfolding airsIn eightRounds isEdit bodyInside numbersInside bit hearsIn allBelow anyBelow fill gather tabulate framed isNewer laneOf bodies noneWaiting queued unqueued oldest sentRecords tableRecords freshStation laneInside queueInside recordInside placeInside stationInside replaced heardNewer hearRecord hearRecords airs rowOf lanesAfter ends startedBody passed ownRecord rewritten afterTurn turnReport posted noTurn groupInside freshGroup groupPostRefusal postCall hearing noReport reportOf roundRefusal afterRound roundCall next begun continued
+unfolding airsIn eightRounds tabulate groupRuns
 rows-not-monotone = record { fewer-hearings = refl; one-more = refl }

@@ -19,33 +19,33 @@ use Rattle.planning_spec.specs.LinkLog.{roundsOf, linksOf, logRefusal}
 use Rattle.planning_spec.specs.Forecast.{forecastCall}
 use Rattle.planning_spec.proofs.LinkLog.{accepted}
 use Rattle.planning_spec.proofs.Forecast.{forecast-done, perStation-below}
-use Rattle.planning_runs.specs.Runs.{endsReported, lastReported, RoundsHave}
-use Rattle.planning_runs.proofs.Reported.{reported-count, reported-last, rounds-same, rounds-number, masks-at}
+use Rattle.planning_runs.specs.Runs.{sized, endsReported, lastReported, RoundsHave}
+use Rattle.planning_runs.proofs.Reported.{group-taken, reported-count, reported-last, rounds-same, rounds-number, masks-at}
 
 -- For every log, however long: the ends that the rounds report are those that its links bring, in number and last round.
-pub runs-ends : (n : ℕ) → 1 ≤ n → n ≤ 16 → (calls : List Call) (log : List ℕ) → RoundsHave n (historyOf n calls) log
+pub runs-ends : (n : ℕ) → 1 ≤ n → n ≤ 16 → (calls : List Call) (log : List ℕ) → RoundsHave n (historyOf (sized n) calls) log
     → (s : ℕ) → s < n
-    → (endsReported (historyOf n calls) s (length (historyOf n calls .rounds)) ≡ endCount (linksOf n log) (roundsOf n log) s)
-    × (lastReported (historyOf n calls) s (length (historyOf n calls .rounds)) ≡ lastEnd (linksOf n log) (roundsOf n log) s)
+    → (endsReported (historyOf (sized n) calls) s (length (historyOf (sized n) calls .rounds)) ≡ endCount (linksOf n log) (roundsOf n log) s)
+    × (lastReported (historyOf (sized n) calls) s (length (historyOf (sized n) calls .rounds)) ≡ lastEnd (linksOf n log) (roundsOf n log) s)
 runs-ends n low high calls log has s ls =
-    let H = historyOf n calls in
+    let H = historyOf (sized n) calls in
     let e : roundsOf n log ≡ length (H .rounds) = rounds-number n low H log has in
     let same = rounds-same n low H log has in
     let u = roundsOf n log in
     let l : roundsOf n log ≤ length (H .rounds) = omega (arith, e) in (
       ap (λ (v : ℕ). endsReported H s v) (sym e)
-          ∙ reported-count n H (demand-three n low high calls) s ls u l
+          ∙ reported-count n H (demand-three (sized n) (group-taken n low high) calls) s ls u l
           ∙ endCount-same (ofLog n (H .log)) (linksOf n log) u same u s (le-refl u),
       ap (λ (v : ℕ). lastReported H s v) (sym e)
-          ∙ reported-last n H (demand-three n low high calls) s ls u l
+          ∙ reported-last n H (demand-three (sized n) (group-taken n low high) calls) s ls u l
           ∙ lastEnd-same (ofLog n (H .log)) (linksOf n log) u same u s (le-refl u),
     )
 
 -- And so the forecast's, where the call is not refused.
-pub runs-forecast : (n : ℕ) (calls : List Call) (log : List ℕ) → RoundsHave n (historyOf n calls) log
+pub runs-forecast : (n : ℕ) (calls : List Call) (log : List ℕ) → RoundsHave n (historyOf (sized n) calls) log
     → logRefusal n (length log) ≡ done → (s : ℕ) → s < n
-    → (endsReported (historyOf n calls) s (length (historyOf n calls .rounds)) ≡ getD (forecastCall n log .ends) s 0)
-    × (lastReported (historyOf n calls) s (length (historyOf n calls .rounds)) ≡ getD (forecastCall n log .last) s 0)
+    → (endsReported (historyOf (sized n) calls) s (length (historyOf (sized n) calls .rounds)) ≡ getD (forecastCall n log .ends) s 0)
+    × (lastReported (historyOf (sized n) calls) s (length (historyOf (sized n) calls .rounds)) ≡ getD (forecastCall n log .last) s 0)
 runs-forecast n calls log has e s ls =
     let a = accepted n (length log) e in
     let r = runs-ends n (a .some) (a .few) calls log has s ls in
@@ -71,17 +71,17 @@ continued-rounds H (masks ∷ rest) =
     let e = continued-rounds (next H (round masks)) rest in
     omega (arith, e, length-append (H .rounds) (roundCall (H .group) masks ∷ []))
 
-begun-log : (n : ℕ) → (begun n .log ≡ []) × (length (begun n .rounds) ≡ 0)
+begun-log : (n : ℕ) → (begun (sized n) .log ≡ []) × (length (begun (sized n) .rounds) ≡ 0)
 unfolding begun
 begun-log n = (refl, refl)
 
 pub rounds-have : (n : ℕ) (log : List ℕ) → length log ≡ roundsOf n log * n
-    → RoundsHave n (historyOf n (roundsOnly (cut n (roundsOf n log) log))) log
+    → RoundsHave n (historyOf (sized n) (roundsOnly (cut n (roundsOf n log) log))) log
 rounds-have n log whole =
     let rounds = cut n (roundsOf n log) log in
-    let e : length (historyOf n (roundsOnly rounds) .rounds) ≡ roundsOf n log =
-    omega (arith, continued-rounds (begun n) rounds, begun-log n .1, cut-length n (roundsOf n log) log) in
-    let f : historyOf n (roundsOnly rounds) .log ≡ rounds = continued-log (begun n) rounds ∙ ap (λ (l : List (List ℕ)). l ++ rounds) (begun-log n .0) in
+    let e : length (historyOf (sized n) (roundsOnly rounds) .rounds) ≡ roundsOf n log =
+    omega (arith, continued-rounds (begun (sized n)) rounds, begun-log n .1, cut-length n (roundsOf n log) log) in
+    let f : historyOf (sized n) (roundsOnly rounds) .log ≡ rounds = continued-log (begun (sized n)) rounds ∙ ap (λ (l : List (List ℕ)). l ++ rounds) (begun-log n .0) in
     record {
       whole = whole ∙ ap (λ (u : ℕ). u * n) (sym e);
       masks =

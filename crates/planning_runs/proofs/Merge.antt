@@ -23,8 +23,8 @@ use Rattle.planning_spec.specs.LinkLog.{roundsOf, linksOf}
 use Rattle.planning_spec.specs.Merge.{mergedLog, logsRefusal}
 use Rattle.planning_spec.proofs.LinkLog.{hearsIn-mask, whole-hears}
 use Rattle.planning_spec.proofs.Merge.{BothAccepted, both-accepted, merged-whole, part-first, part-second}
-use Rattle.planning_runs.specs.Runs.{EndReported, EndReportedBy, RoundsFollow}
-use Rattle.planning_runs.proofs.Reported.{reported-ends, reported-count, no-round, masks-at}
+use Rattle.planning_runs.specs.Runs.{sized, EndReported, EndReportedBy, RoundsFollow}
+use Rattle.planning_runs.proofs.Reported.{group-taken, reported-ends, reported-count, no-round, masks-at}
 
 -- The k-th end that is reported is the k-th of the links.
 module _ (n : ℕ) (H : History) (d : Demand n H) (s : ℕ) (ls : s < n) where
@@ -49,18 +49,18 @@ module _ (n : ℕ) (H : History) (d : Demand n H) (s : ℕ) (ls : s < n) where
 
 -- Any two lists of posts and rounds, where up to a round each hearing of the first is one of the second.
 pub runs-part : (n : ℕ) → 1 ≤ n → n ≤ 16 → (calls more : List Call) (last : ℕ)
-    → Part (ofLog n (historyOf n calls .log)) (ofLog n (historyOf n more .log)) last
-    → (s k u : ℕ) → s < n → u ≤ last → u ≤ length (historyOf n more .rounds)
-    → EndReported (historyOf n calls) s k u → EndReportedBy (historyOf n more) s k u
+    → Part (ofLog n (historyOf (sized n) calls .log)) (ofLog n (historyOf (sized n) more .log)) last
+    → (s k u : ℕ) → s < n → u ≤ last → u ≤ length (historyOf (sized n) more .rounds)
+    → EndReported (historyOf (sized n) calls) s k u → EndReportedBy (historyOf (sized n) more) s k u
 runs-part n low high calls more last part s k u ls l m e =
-    let H = historyOf n calls in
-    let G = historyOf n more in
+    let H = historyOf (sized n) calls in
+    let G = historyOf (sized n) more in
     let c =
-    ends-part (ofLog n (H .log)) (ofLog n (G .log)) last part s k u l (reported-comes n H (demand-three n low high calls) s ls k u e) in
+    ends-part (ofLog n (H .log)) (ofLog n (G .log)) last part s k u l (reported-comes n H (demand-three (sized n) (group-taken n low high) calls) s ls k u e) in
     record {
       round = c .round;
       by = c .by;
-      reports = comes-reported n G (demand-three n low high more) s ls k (c .round) (omega (arith, c .by)) (c .comes);
+      reports = comes-reported n G (demand-three (sized n) (group-taken n low high) more) s ls k (c .round) (omega (arith, c .by)) (c .comes);
     }
 
 -- Rounds that follow a log have its links, as far as they go.
@@ -99,12 +99,12 @@ module _ (n : ℕ) (first second : List ℕ) (taken : logsRefusal n (length firs
   merged = mergedLog n first second
 
   against : (log : List ℕ) (r : ℕ) → length log ≡ r * n → ((last : ℕ) → Part (linksOf n log) (linksOf n merged) last)
-      → (calls more : List Call) → RoundsFollow n (historyOf n calls) log → RoundsFollow n (historyOf n more) merged
-      → (s k u : ℕ) → s < n → u ≤ length (historyOf n more .rounds)
-      → EndReported (historyOf n calls) s k u → EndReportedBy (historyOf n more) s k u
+      → (calls more : List Call) → RoundsFollow n (historyOf (sized n) calls) log → RoundsFollow n (historyOf (sized n) more) merged
+      → (s k u : ℕ) → s < n → u ≤ length (historyOf (sized n) more .rounds)
+      → EndReported (historyOf (sized n) calls) s k u → EndReportedBy (historyOf (sized n) more) s k u
   against log r whole part calls more f g s k u ls l e =
-      let H = historyOf n calls in
-      let G = historyOf n more in
+      let H = historyOf (sized n) calls in
+      let G = historyOf (sized n) more in
       runs-part n (both .one .some) (both .one .few) calls more u
       (between (ofLog n (H .log)) (linksOf n log) (linksOf n merged) (ofLog n (G .log)) (length (H .rounds)) (length (G .rounds)) u (e .within) l
       (follow-same n r H log whole f) (part u)
@@ -112,16 +112,16 @@ module _ (n : ℕ) (first second : List ℕ) (taken : logsRefusal n (length firs
       (merged-whole n (length first / n) (length second / n) first second (both .one .whole) (both .two .whole)) g))
       s k u ls (le-refl u) l e
 
-  pub runs-first : (calls more : List Call) → RoundsFollow n (historyOf n calls) first → RoundsFollow n (historyOf n more) merged
-      → (s k u : ℕ) → s < n → u ≤ length (historyOf n more .rounds)
-      → EndReported (historyOf n calls) s k u → EndReportedBy (historyOf n more) s k u
+  pub runs-first : (calls more : List Call) → RoundsFollow n (historyOf (sized n) calls) first → RoundsFollow n (historyOf (sized n) more) merged
+      → (s k u : ℕ) → s < n → u ≤ length (historyOf (sized n) more .rounds)
+      → EndReported (historyOf (sized n) calls) s k u → EndReportedBy (historyOf (sized n) more) s k u
   runs-first =
       against first (length first / n) (both .one .whole)
       (part-first n (length first / n) (length second / n) first second (both .one .whole) (both .two .whole))
 
-  pub runs-second : (calls more : List Call) → RoundsFollow n (historyOf n calls) second → RoundsFollow n (historyOf n more) merged
-      → (s k u : ℕ) → s < n → u ≤ length (historyOf n more .rounds)
-      → EndReported (historyOf n calls) s k u → EndReportedBy (historyOf n more) s k u
+  pub runs-second : (calls more : List Call) → RoundsFollow n (historyOf (sized n) calls) second → RoundsFollow n (historyOf (sized n) more) merged
+      → (s k u : ℕ) → s < n → u ≤ length (historyOf (sized n) more .rounds)
+      → EndReported (historyOf (sized n) calls) s k u → EndReportedBy (historyOf (sized n) more) s k u
   runs-second =
       against second (length second / n) (both .two .whole)
       (part-second n (length first / n) (length second / n) first second (both .one .whole) (both .two .whole))

@@ -27,21 +27,29 @@ use Rattle.group_rules.proofs.Run.{Run}
 use Rattle.group_rules.proofs.CallRun.{runOf, group-first}
 use Rattle.group_rules.proofs.HistoryRun.{roundIn, rounds-at, history-rounds, history-links}
 use Rattle.group_rules.proofs.Simulation.{labels-got}
+use Rattle.group_rules.specs.Calls.{groupFreshRefusal}
+use Rattle.group_rules.proofs.Setups.{Accepts, accepts}
 use Rattle.group_rules.proofs.DemandThree.{free}
 use Rattle.planning_spec.specs.LinkLog.{roundsOf, linksOf}
 use Rattle.planning_spec.specs.Questions.{questionAt, questionCount, questionsRefusal, answerTo, never, questionsCall}
 use Rattle.planning_spec.proofs.LinkLog.{accepted}
 use Rattle.planning_spec.proofs.Questions.{asked, taken, call-answer}
-use Rattle.planning_runs.specs.Runs.{RoundsHave}
+use Rattle.planning_runs.specs.Runs.{sized, RoundsHave}
 use Rattle.planning_runs.specs.Advances.{labelAfter, advances, advancesBy, AdvancesIn, AnsweredBy, advanced, not-yet, RunAnswer}
-use Rattle.planning_runs.proofs.Reported.{rounds-same, rounds-number}
+use Rattle.planning_runs.proofs.Reported.{group-taken, rounds-same, rounds-number}
 
 module _ (n : ℕ) (low : 1 ≤ n) (high : n ≤ 16) (calls : List Call) (r s : ℕ) (lr : r < n) (ls : s < n) where
   abbrev H : History
-  H = historyOf n calls
+  H = historyOf (sized n) calls
+
+  taken-fresh : groupFreshRefusal (sized n) ≡ done
+  taken-fresh = group-taken n low high
+
+  abbrev ok : Accepts (sized n)
+  ok = accepts (sized n) taken-fresh
 
   abbrev R : Run
-  R = runOf n low high calls
+  R = runOf (sized n) ok calls
 
   abbrev L : Links
   L = ofLog n (H .log)
@@ -52,19 +60,19 @@ module _ (n : ℕ) (low : 1 ≤ n) (high : n ≤ 16) (calls : List Call) (r s : 
 
   group-at : (u : ℕ) → u < length (H .rounds) → (getD (H .rounds) u noRound) .group ≡ R .after (suc u)
   group-at u l =
-      ap (λ (rs : List RoundDone). (getD rs u noRound) .group) (history-rounds n low high calls (free n low high calls))
+      ap (λ (rs : List RoundDone). (getD rs u noRound) .group) (history-rounds (sized n) ok calls (free (sized n) taken-fresh calls))
       ∙ ap (λ (x : RoundDone). x .group) (rounds-at R (length (H .rounds)) u l)
       ∙ round-group u
 
   run-label : (u : ℕ) → labelOf (stationAt (R .after u) r) s ≡ got L u r s % 3
   run-label u =
       labels-got R u r lr s ls
-      ∙ ap (λ (M : Links). got M u r s % 3) (sym (history-links n low high calls (free n low high calls)))
+      ∙ ap (λ (M : Links). got M u r s % 3) (sym (history-links (sized n) ok calls (free (sized n) taken-fresh calls)))
 
   -- The label after a round is what is had then, by threes.
   pub label-got : (u : ℕ) → u ≤ length (H .rounds) → labelAfter n H r s u ≡ got L u r s % 3
   unfolding labelAfter
-  label-got zero l = ap (λ (g : List _). labelOf (stationAt g r) s) (sym (group-first n calls)) ∙ run-label 0
+  label-got zero l = ap (λ (g : List _). labelOf (stationAt g r) s) (sym (group-first (sized n) calls)) ∙ run-label 0
   label-got (suc u) l = ap (λ (g : List _). labelOf (stationAt g r) s) (group-at u l) ∙ run-label (suc u)
 
   -- It advances exactly where what is had rises.
@@ -143,28 +151,28 @@ module _ (n : ℕ) (low : 1 ≤ n) (high : n ≤ 16) (calls : List Call) (r s : 
 
 -- The answer over as many rounds as were done, whatever was posted.
 pub answer-advances : (n : ℕ) → 1 ≤ n → n ≤ 16 → (calls : List Call) (r s k : ℕ) → r < n → s < n → (r ≡ s → ⊥) → 1 ≤ k
-    → AnsweredBy n (historyOf n calls) r s k (answerIn (ofLog n (historyOf n calls .log)) r s k (length (historyOf n calls .rounds)))
+    → AnsweredBy n (historyOf (sized n) calls) r s k (answerIn (ofLog n (historyOf (sized n) calls .log)) r s k (length (historyOf (sized n) calls .rounds)))
 answer-advances n low high calls r s k lr ls d lk =
-    let last = length (historyOf n calls .rounds) in
-    let M = ofLog n (historyOf n calls .log) in
+    let last = length (historyOf (sized n) calls .rounds) in
+    let M = ofLog n (historyOf (sized n) calls .log) in
     go (answerIn M r s k last) (answer-relays M r s k last lk)
   where
-    go : (a : Option ℕ) → Answered (ofLog n (historyOf n calls .log)) r s k (length (historyOf n calls .rounds)) a
-        → AnsweredBy n (historyOf n calls) r s k a
+    go : (a : Option ℕ) → Answered (ofLog n (historyOf (sized n) calls .log)) r s k (length (historyOf (sized n) calls .rounds)) a
+        → AnsweredBy n (historyOf (sized n) calls) r s k a
     go (some u) (in-round l b) = advanced {u = u} (advances-brought n low high calls r s lr ls d k u lk l .1 b)
     go none (in-none f) =
         not-yet
         (λ u a.
         f
-        (has-later (ofLog n (historyOf n calls .log)) r s k u (length (historyOf n calls .rounds)) lk (a .within)
+        (has-later (ofLog n (historyOf (sized n) calls .log)) r s k u (length (historyOf (sized n) calls .rounds)) lk (a .within)
         (advances-brought n low high calls r s lr ls d k u lk (a .within) .0 a .has)))
 
 -- The same for a log that the rounds have, however long.
-pub log-advances : (n : ℕ) → 1 ≤ n → n ≤ 16 → (calls : List Call) (log : List ℕ) → RoundsHave n (historyOf n calls) log
+pub log-advances : (n : ℕ) → 1 ≤ n → n ≤ 16 → (calls : List Call) (log : List ℕ) → RoundsHave n (historyOf (sized n) calls) log
     → (r s k : ℕ) → r < n → s < n → (r ≡ s → ⊥) → 1 ≤ k
-    → AnsweredBy n (historyOf n calls) r s k (answerIn (linksOf n log) r s k (roundsOf n log))
+    → AnsweredBy n (historyOf (sized n) calls) r s k (answerIn (linksOf n log) r s k (roundsOf n log))
 log-advances n low high calls log has r s k lr ls d lk =
-    let H = historyOf n calls in
+    let H = historyOf (sized n) calls in
     let e : answerIn (ofLog n (H .log)) r s k (length (H .rounds)) ≡ answerIn (linksOf n log) r s k (roundsOf n log) =
     ap (λ (x : ℕ). answerIn (ofLog n (H .log)) r s k x) (sym (rounds-number n low H log has))
     ∙ answer-same (ofLog n (H .log)) (linksOf n log) (roundsOf n log) (rounds-same n low H log has) r s k (roundsOf n log) (le-refl (roundsOf n log)) in
@@ -172,10 +180,10 @@ log-advances n low high calls log has r s k lr ls d lk =
 
 -- And so the answers of a page: in every run from fresh whose rounds have this log, for two stations, the label of the receiver for the sender advances for the
 -- k-th time in the round answered, and never is the answer exactly where it does not.
-pub runs-questions : (n : ℕ) (calls : List Call) (log page : List ℕ) → RoundsHave n (historyOf n calls) log
+pub runs-questions : (n : ℕ) (calls : List Call) (log page : List ℕ) → RoundsHave n (historyOf (sized n) calls) log
     → questionsRefusal n log page ≡ done → (i : ℕ) → i < questionCount page
     → (questionAt page i .receiver ≡ questionAt page i .sender → ⊥)
-    → RunAnswer n (historyOf n calls) (questionAt page i .receiver) (questionAt page i .sender) (questionAt page i .number)
+    → RunAnswer n (historyOf (sized n) calls) (questionAt page i .receiver) (questionAt page i .sender) (questionAt page i .number)
     (getD (questionsCall n log page .answers) i never)
 unfolding answerTo
 runs-questions n calls log page has e i l other =

@@ -10,11 +10,12 @@ use Rattle.station_rules.specs.State.{labelOf}
 use Rattle.group_rules.specs.State.{stationAt, freshGroup}
 use Rattle.group_rules.specs.History.{History, noRound}
 use Rattle.planning_spec.specs.declared.QuestionAnswer.{QuestionAnswer}
+use Rattle.planning_runs.specs.Runs.{sized}
 use Rattle.planning_spec.specs.Questions.{arrivalOf}
 
 -- the label that r has for s as round u left it; round 0 is the fresh group
 unfoldable pub labelAfter : ℕ → History → ℕ → ℕ → ℕ → ℕ
-labelAfter n H r s zero = labelOf (stationAt (freshGroup n) r) s
+labelAfter n H r s zero = labelOf (stationAt (freshGroup (sized n)) r) s
 labelAfter n H r s (suc u) = labelOf (stationAt ((getD (H .rounds) u noRound) .group) r) s
 
 -- in round u it becomes its successor

@@ -4,7 +4,12 @@ use mathlib.Core.Bool.{true, cond}
 use mathlib.Core.List.{List, []}
 use mathlib.Core.Path.{_≡_}
 use lib.ListN.{getD, length}
+use Rattle.station_rules.specs.declared.Setup.{Setup}
 use Rattle.group_rules.specs.History.{History, endsAt}
+
+-- what the fresh group of n is given
+abbrev pub sized : ℕ → Setup
+sized n = record { n = n }
 
 -- how many ends s reports in the rounds up to u
 unfoldable pub endsReported : History → ℕ → ℕ → ℕ

@@ -1,11 +1,10 @@
 // Records read from their own sixteen bytes.
 
 ghost use mathlib.Core.Path.{_≡_};
-ghost use Prim.Native.Nat.{_+_, _*_, _≤_, _<_};
-ghost use lib.ListN.{length, getD};
+ghost use Prim.Native.Nat.{_+_, _*_, _≤_};
+ghost use lib.ListN.{length};
 ghost use Rattle.frame_rules.specs.Words.{wordAt, signed};
 ghost use Rattle.frame_rules.specs.Record.{recordOf};
-ghost use Rattle.label_words.specs.Packing.{unpacked};
 use frame_rules::Record;
 
 // A byte as a number.
@@ -39,14 +38,6 @@ pub fn signed(word: u32) -> i32
     } else {
         -1 - ((4_294_967_295 - word) as i32)
     }
-}
-
-// The label of station k in the word of labels that stands at a place.
-pub fn label_at(bytes: &[u8], at: usize, k: usize) -> u8
-    requires { ⌜ (at + 4 ≤ length (now bytes)) × (k < 16) ⌝ }
-    ensures { λ r. ⌜ r ≡ getD (unpacked 16 (wordAt (now (bytes .entry)) at)) k 0 ⌝ }
-{
-    (bytes[at + k / 4] >> (2 * (k % 4))) % 4
 }
 
 // The record that sixteen bytes hold.

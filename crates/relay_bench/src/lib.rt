@@ -3,8 +3,10 @@
 ghost use Prim.Native.Nat.{_+_, _≤_, _<_};
 ghost use lib.ListN.{length};
 use group_rules::KeptGroup;
+use group_rules::Post;
 use group_rules::Report;
 use kinds::Body;
+use station_rules::Setup;
 use station_rules::Station;
 use station_sums::mix;
 
@@ -100,14 +102,18 @@ fn masks_of(schedule: &[u8], number: u32) -> [u16; 16]
 fn posted(g: [Station; 16], n: usize, post: u32) -> KeptGroup
     requires { ⌜ 1 ≤ n ⌝ }
 {
-    group::post(g, place_of(post, n), body_of(post))
+    let made = Post {
+        station: place_of(post, n),
+        body: body_of(post),
+    };
+    group::post(g, made)
 }
 
 // From fresh, so many rounds; gives a checksum of what they report.
 fn run(schedule: &[u8], n: usize, rounds: u32) -> u32
     requires { ⌜ (1 ≤ n) × (n ≤ 16) × (32 ≤ length (now schedule)) ⌝ }
 {
-    let fresh = group::fresh(n);
+    let fresh = group::fresh(Setup { n });
     let mut g = fresh.group;
     let mut sum: u64 = 0;
     let mut number: u32 = 0;

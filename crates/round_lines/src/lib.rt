@@ -8,7 +8,7 @@ ghost use mathlib.Core.Path.{_≡_};
 ghost use Prim.Native.Nat.{_+_, _≤_};
 ghost use lib.ListN.{length};
 ghost use mathlib.Core.Bool.{_&&_};
-ghost use Rattle.kind_limits.specs.Limits.{isEdit};
+ghost use Rattle.kinds.specs.Body.{isEdit};
 ghost use Rattle.lines.specs.Lines.{Put};
 ghost use Rattle.round_lines.specs.Reports.{lineIf, takenText, airedText, turnText, reportText, roundText};
 
@@ -66,7 +66,7 @@ fn is_aired(aired: bool, body: Body) -> bool
     ensures { λ r. ⌜ r ≡ (aired && isEdit body) ⌝ }
 {
     if aired {
-        return kind_limits::is_edit(body);
+        return kinds::is_edit(body);
     }
     false
 }

@@ -13,7 +13,7 @@ use Rattle.station_rules.specs.declared.Turned.{Turned}
 use Rattle.station_rules.specs.State.{sentRecords}
 use Rattle.station_rules.specs.Limits.{stationInside}
 use Rattle.station_rules.specs.Hearing.{Hearing, silent}
-use Rattle.station_rules.specs.Frames.{hearFrames, HearsAll}
+use Rattle.station_rules.specs.Inner.Frames.{hearFrames, HearsAll}
 use Rattle.station_rules.specs.Turn.{afterTurn, turnReport}
 use Rattle.station_rules.specs.Calls.{turnDone}
 use Rattle.station_rules.proofs.StationLimits.{inside-make}

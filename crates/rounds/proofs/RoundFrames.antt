@@ -15,7 +15,7 @@ use Rattle.station_rules.specs.declared.Station.{Station}
 use Rattle.station_rules.specs.State.{sentRecords}
 use Rattle.station_rules.specs.Calls.{ownCountInside}
 use Rattle.station_rules.specs.Hearing.{Hearing, silent, hearRecords}
-use Rattle.station_rules.specs.Frames.{hearFrames}
+use Rattle.station_rules.specs.Inner.Frames.{hearFrames}
 use Rattle.group_rules.specs.State.{stationAt, sizeOf, groupInside}
 use Rattle.group_rules.specs.Calls.{hearing}
 use Rattle.group_frames.specs.Frames.{frameStart, FramesBelow}

@@ -21,7 +21,8 @@ use Rattle.group_rules.proofs.Members.{GroupShaped}
 use Rattle.group_frames.specs.Frames.{MarksBelow}
 use Rattle.group_frames.proofs.WrittenFrames.{AllSent}
 use Rattle.rounds.proofs.HeardTurn.{MayHear, HearsMask, reported, may-hear, full-is, may-turn, after-is, report-is}
-use Rattle.rounds.proofs.RoundSteps.{anyBelow-more, round-full, round-done}
+use Rattle.group_rules.proofs.CallSteps.{round-full, round-done}
+use Rattle.rounds.proofs.RoundSteps.{anyBelow-more}
 
 -- the answer once the stations below i have heard and taken their turn
 abbrev turned : List Station → List ℕ → ℕ → RoundDone

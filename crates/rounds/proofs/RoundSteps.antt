@@ -1,20 +1,19 @@
 -- The answers of a round, each with the tests on its way decided.
 use Prim.Native.Nat.{ℕ, _+_, _≤_, _<_}
 use native.Mathlib.Numerals.{add-one}
-use mathlib.Core.Bool.{Bool, true, false, not, false≢true}
+use mathlib.Core.Bool.{Bool, true, false, false≢true}
 use mathlib.Core.List.{List}
 use mathlib.Core.Path.{_≡_, refl, sym, ap, _∙_}
-use lib.ListN.{replicate}
 use borrow.Author.Tests.{le-leb, lt-ltb}
-use Rattle.places.specs.Places.{allBelow, anyBelow, fill}
-use Rattle.places.proofs.Laws.{and-both, allBelow-not, anyBelow-none, anyBelow-hit}
+use Rattle.places.specs.Places.{allBelow, anyBelow}
+use Rattle.places.proofs.Laws.{and-both}
 use Rattle.frame_rules.specs.Frame.{validNumber}
 use Rattle.station_rules.specs.declared.Station.{Station}
 use Rattle.station_rules.specs.Calls.{ownCountInside}
-use Rattle.group_rules.specs.declared.RoundDone.{RoundDone}
 use Rattle.group_rules.specs.State.{stationAt, sizeOf, memberInside, groupInside}
-use Rattle.group_rules.specs.Calls.{heard, noReport, reportOf, roundRefusal, afterRound, roundCall}
+use Rattle.group_rules.specs.Calls.{roundCall}
 use Rattle.group_rules.proofs.Members.{group-low, group-high}
+use Rattle.group_rules.proofs.CallSteps.{refused, round-outside, round-count}
 use Rattle.group_frames.specs.Frames.{judgedBelow}
 use Rattle.group_limits.proofs.GroupLimits.{group-judged}
 use Rattle.group_frames.proofs.SendSteps.{judged-is}
@@ -36,44 +35,9 @@ size-outside g v = go (groupInside g) refl
     go false e = e
 
 module _ (g : List Station) (masks : List ℕ) where
-  abbrev refused : ℕ → RoundDone
-  refused number = record { refusal = number; group = g; reports = replicate 16 noReport }
-
-  pub round-outside : groupInside g ≡ false → refused 2 ≡ roundCall g masks
-  unfolding roundCall roundRefusal
-  round-outside i = rw i
-
-  module _ (i : groupInside g ≡ true) where
-    abbrev tooHigh : ℕ → Bool
-    tooHigh k = not (ownCountInside (stationAt g k))
-
-    abbrev full : ℕ → Bool
-    full k = (heard g masks k) .overfull
-
-    pub round-count : allBelow (sizeOf g) (λ k. ownCountInside (stationAt g k)) ≡ false → refused 10 ≡ roundCall g masks
-    unfolding roundCall roundRefusal
-    round-count a =
-        let r = allBelow-not (sizeOf g) (λ k. ownCountInside (stationAt g k)) a in
-        rw (i, anyBelow-hit (sizeOf g) tooHigh (r .0) (r .1) (ap not (r .2)))
-
-    module _ (counts : (k : ℕ) → k < sizeOf g → ownCountInside (stationAt g k) ≡ true) where
-      none-high : anyBelow (sizeOf g) tooHigh ≡ false
-      none-high = anyBelow-none (sizeOf g) tooHigh (λ k l. ap not (counts k l))
-
-      pub round-full : (k : ℕ) → k < sizeOf g → full k ≡ true → refused 8 ≡ roundCall g masks
-      unfolding roundCall roundRefusal
-      round-full k l e = rw (i, none-high, anyBelow-hit (sizeOf g) full k l e)
-
-      pub round-done :
-          anyBelow (sizeOf g) full ≡ false →
-          record { refusal = 0; group = afterRound g masks; reports = fill (sizeOf g) (reportOf g masks) (replicate 16 noReport) }
-          ≡ roundCall g masks
-      unfolding roundCall roundRefusal
-      round-done e = rw (i, none-high, e)
-
   -- a group of which a station is refused
   pub round-judged :
-      (k r : ℕ) → k ≡ sizeOf g → 1 ≤ sizeOf g → r ≡ judgedBelow g k → (r ≡ 0 → ⊥) → refused r ≡ roundCall g masks
+      (k r : ℕ) → k ≡ sizeOf g → 1 ≤ sizeOf g → r ≡ judgedBelow g k → (r ≡ 0 → ⊥) → refused g masks r ≡ roundCall g masks
   round-judged k r e low is d =
       go (allBelow (sizeOf g) (memberInside g)) refl (allBelow (sizeOf g) (λ j. ownCountInside (stationAt g j))) refl
     where
@@ -83,9 +47,9 @@ module _ (g : List Station) (masks : List ℕ) where
       go :
           (a : Bool) → allBelow (sizeOf g) (memberInside g) ≡ a →
           (b : Bool) → allBelow (sizeOf g) (λ j. ownCountInside (stationAt g j)) ≡ b →
-          refused r ≡ roundCall g masks
+          refused g masks r ≡ roundCall g masks
       go true p true q = absurd (d (at ∙ judged-is g (sizeOf g) true p true q))
       go true p false q =
-          ap refused (at ∙ judged-is g (sizeOf g) true p false q) ∙ round-count (group-judged g low ∙ p) q
+          ap (refused g masks) (at ∙ judged-is g (sizeOf g) true p false q) ∙ round-count g masks (group-judged g low ∙ p) q
       go false p b q =
-          ap refused (at ∙ judged-is g (sizeOf g) false p b q) ∙ round-outside (group-judged g low ∙ p)
+          ap (refused g masks) (at ∙ judged-is g (sizeOf g) false p b q) ∙ round-outside g masks (group-judged g low ∙ p)

@@ -10,22 +10,23 @@ use kinds::refusals::OUTSIDE_LIMITS;
 use kinds::refusals::QUEUE_FULL;
 use lanes::Slot;
 use station_rules::Kept;
+use station_rules::Setup;
 use station_rules::Station;
 use station_rules::TurnReport;
 use station_rules::Turned;
 
-// Fresh: station own among n, as it begins.
-pub fn fresh(n: usize, own: usize) -> Kept
-    ensures { λ r. ⌜ r ≡ freshCall n own ⌝ }
+// Fresh: station own, as it begins.
+pub fn fresh(setup: Setup, own: usize) -> Kept
+    ensures { λ r. ⌜ r ≡ freshCall setup own ⌝ }
 {
-    if numbers::valid_number(n, own) {
-        let station = fresh_station::fresh_station(n, own);
+    if numbers::valid_number(setup.n, own) {
+        let station = fresh_station::fresh_station(setup, own);
         return Kept {
             refusal: DONE,
             station: station,
         };
     }
-    let station = fresh_station::fresh_station(1, 0);
+    let station = fresh_station::fresh_station(Setup { n: 1 }, 0);
     Kept {
         refusal: BAD_NUMBER,
         station: station,
@@ -42,22 +43,22 @@ pub fn post(s: Station, body: Body) -> Kept
             station: s,
         };
     }
-    if !kind_limits::is_edit(body) {
+    if !kind_limits::postable(body) {
         return Kept {
             refusal: NOT_AN_EDIT,
             station: s,
         };
     }
-    let queue = s.waiting;
-    if 32 <= queue.len {
+    let waiting = s.waiting;
+    if !lanes::has_room(waiting) {
         return Kept {
             refusal: QUEUE_FULL,
             station: s,
         };
     }
-    let waiting = lanes::queued(queue, body);
+    let more = lanes::with_posted(waiting, body);
     let mut station = s;
-    station.waiting = waiting;
+    station.waiting = more;
     Kept {
         refusal: DONE,
         station: station,

@@ -14,9 +14,8 @@ use Rattle.places.proofs.Laws.{length-tabulate, tabulate-at, fill-below}
 use Rattle.frame_rules.specs.declared.Record.{Record}
 use Rattle.frame_rules.specs.Record.{noRecord, framed}
 use Rattle.frame_rules.specs.Frame.{recordsOf}
-use Rattle.frame_rules.specs.Calls.{tableRecords}
 use Rattle.station_rules.specs.declared.Station.{Station}
-use Rattle.station_rules.specs.State.{heldOf, recordOf, recordLabel, ownLabel, sentRecords}
+use Rattle.station_rules.specs.State.{cellOf, heldOf, recordOf, recordLabel, ownLabel, sentRecords}
 use Rattle.station_rules.proofs.StationLimits.{Inside}
 use Rattle.frame_marks.specs.Marks.{recordAt, sizeAt, MarksAt}
 use Rattle.station_bars.specs.HeldMarks.{MarksFit, markStation, MarksHeld}
@@ -104,7 +103,7 @@ module _
   records = gather (s .n) (λ k. heldOf s k) (λ k. framed (s .n) (recordOf s k))
 
   read-all : tabulate size (recordAt bytes start) ≡ records
-  unfolding recordsOf sentRecords tableRecords
+  unfolding recordsOf sentRecords
   read-all = is
 
   size-is : size ≡ length records
@@ -153,6 +152,7 @@ module _
       }
 
   pub marks-held : MarksHeld (s .n) (s .held) (s .table) marks start size
+  unfolding cellOf
   marks-held =
       record {
         few = c .high;

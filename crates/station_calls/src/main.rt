@@ -4,6 +4,7 @@
 ghost use Prim.Native.Nat.{_<_};
 use kinds::Body;
 use lanes::Lane;
+use station_rules::Setup;
 use station_rules::Station;
 
 fn line(refusal: u32, other: u64, s: Station) {
@@ -16,7 +17,7 @@ fn line(refusal: u32, other: u64, s: Station) {
 }
 
 fn fresh(n: usize, own: usize) -> Station {
-    let k = station::fresh(n, own);
+    let k = station::fresh(Setup { n }, own);
     let s = k.station;
     line(k.refusal, 0, s);
     s

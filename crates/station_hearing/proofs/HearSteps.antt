@@ -14,9 +14,9 @@ use Rattle.lanes.specs.declared.Lane.{Lane}
 use Rattle.lanes.specs.Lane.{pushed, noLane}
 use Rattle.station_rules.specs.declared.Station.{Station}
 use Rattle.station_rules.specs.declared.Taking.{Taking}
-use Rattle.station_rules.specs.State.{ackedOf, labelOf, recordOf, laneAt}
+use Rattle.station_rules.specs.State.{cellOf, ackedOf, labelOf, recordOf, laneAt, withBroadcast, withArrays, withCell}
 use Rattle.station_rules.specs.Hearing.{Hearing, silent, heeds, takes, replaced, heardNewer, hearRecord}
-use Rattle.station_rules.specs.Frames.{noTaking}
+use Rattle.station_rules.specs.Hearing.{noTaking}
 use Rattle.station_rules.proofs.HearRecord.{heardOne, hearRecord-skips, hearRecord-heeds}
 use Rattle.station_rules.proofs.LimitsHearing.{Hears, takings-bounded}
 use Rattle.newer_records.specs.Newer.{placeRecord, heardAt}
@@ -118,23 +118,13 @@ module _ (h : Hearing) (r : Record) (s : Station) (t : List Taking) (l : ℕ) (a
 -- the station with what a record does stored in the places of station k, and with these lanes
 abbrev pub stored : Station → ℕ → Effect → List Lane → Station
 stored s k e lanes =
-    record {
-      n = s .n;
-      own = s .own;
-      waiting = s .waiting;
-      acked = set (s .acked) k (e .acked);
-      body = s .body;
-      count = e .count;
-      labels = set (s .labels) k (e .label);
-      held = set (s .held) k true;
-      table = set (s .table) k (e .entry);
-      lanes = lanes;
-    }
+    withArrays (withBroadcast s (s .body) (e .count)) (set (s .acked) k (e .acked)) (set (s .labels) k (e .label)) (set (s .held) k true)
+    (set (s .table) k (e .entry)) lanes
 
 -- what record r does at station s, which has the entries of station k for it
 abbrev pub Does : Station → ℕ → ℕ → ℕ → Record → Effect → Type 0
 Does s n own k r e =
-    Effects n own (labelOf s own) (ackedOf s k) (s .count) (labelOf s k) ((recordOf s k) .labels) ((laneAt s k) .len) r e
+    Effects n own (labelOf s own) (ackedOf s k) (s .count) (labelOf s k) ((laneAt s k) .len) (recordOf s k) r e
 
 -- a newer record of station k
 module _
@@ -145,6 +135,7 @@ module _
   here = rw (k-is, n-is, own-is) at does
 
   body-is : (e .entry) .body ≡ r .body
+  unfolding replaced
   body-is = ap (λ (x : Record). x .body) (here .entry)
 
   takes-is : (b : Bool) → e .takes ≡ b → takes s r ≡ b
@@ -155,11 +146,11 @@ module _
 
   -- where the body is not taken the lanes stay, and else its station's lane gets it
   stored-kept : e .takes ≡ false → stored s k e (s .lanes) ≡ heardNewer s r
-  unfolding heardNewer replaced
+  unfolding cellOf withCell heardNewer replaced
   stored-kept f = rw (here .acked, here .count, here .label, here .entry, k-is, takes-is false f, set-getD (s .lanes) (r .station) noLane)
 
   stored-taken : e .takes ≡ true → stored s k e (set (s .lanes) k (pushed (laneAt s k) ((e .entry) .body))) ≡ heardNewer s r
-  unfolding heardNewer replaced
+  unfolding cellOf withCell heardNewer replaced
   stored-taken f = rw (here .acked, here .count, here .label, here .entry, k-is, takes-is true f)
 
   pub newer-full : e .overfull ≡ true → (hearRecord h r) .overfull ≡ true

@@ -5,7 +5,7 @@ ghost use mathlib.Core.Bool.{true};
 ghost use Prim.Native.Nat.{ℕ, _+_, _≤_, _<_};
 ghost use lib.ListN.{getD, length};
 ghost use Rattle.station_rules.specs.Limits.{stationInside};
-ghost use Rattle.station_rules.specs.Frames.{FrameAt, HearsAll};
+ghost use Rattle.station_rules.specs.Inner.Frames.{FrameAt, HearsAll};
 ghost use Rattle.frame_marks.specs.Marks.{MarksAt};
 ghost use Rattle.frame_changes.specs.Changes.{ChangesAt};
 ghost use Rattle.bars.specs.Bars.{Bars};
@@ -46,19 +46,18 @@ pub fn hear_all(
         let place = newer.places[i] as usize;
         i += 1;
         let at = starts[place / 16] + 4 + 16 * (place % 16);
-        let k = bytes[at] as usize;
+        let seen = record_reader::read_record(&bytes[at..at + 16]);
+        let k = seen.station as usize;
         let old = station.table[k];
-        let kept = old.labels;
         let e = heard_records::heard(
-            bytes,
-            at,
+            seen,
+            old,
             n,
             own,
             station.labels[own],
             station.acked[k],
             station.count,
             station.labels[k],
-            kept,
             station.lanes[k].len,
         );
         if e.overfull {

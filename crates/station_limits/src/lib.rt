@@ -2,21 +2,20 @@
 
 ghost use mathlib.Core.Path.{_≡_};
 ghost use mathlib.Core.Bool.{cond, not, _||_};
-ghost use Prim.Native.Nat.{_≤_};
+ghost use Prim.Native.Nat.{_≤_, _<_};
 ghost use lib.Dec.{eqb};
 ghost use Rattle.frame_rules.specs.Record.{countInside};
 ghost use Rattle.station_rules.specs.Limits as spec;
 use frame_rules::Record;
 use kinds::Body;
 use lanes::Lane;
-use lanes::Queue;
 use station_rules::Station;
 
 // May a lane hold this body?
 fn takeable(body: Body) -> bool
     ensures { λ r. ⌜ r ≡ spec.takeable body ⌝ }
 {
-    if kinds::kind_of(body) < 1 {
+    if kinds::is_empty(body) {
         return false;
     }
     kind_limits::body_inside(body)
@@ -53,25 +52,6 @@ fn lane_inside(most: u8, lane: Lane) -> bool
     takeable(second)
 }
 
-fn queue_inside(queue: Queue) -> bool
-    ensures { λ r. ⌜ r ≡ spec.queueInside queue ⌝ }
-{
-    let len = queue.len;
-    if 32 < len {
-        return false;
-    }
-    let mut i: usize = 0;
-    while i < len {
-        let slot = queue.slots[i];
-        let body = slot.body;
-        if !kind_limits::is_edit(body) {
-            return false;
-        }
-        i += 1;
-    }
-    true
-}
-
 // May the record of station k have this count? The own record's may reach 255.
 fn count_inside(n: usize, own: usize, k: usize, count: u8) -> bool
     requires { ⌜ (1 ≤ n) × (n ≤ 16) ⌝ }
@@ -85,7 +65,7 @@ fn count_inside(n: usize, own: usize, k: usize, count: u8) -> bool
 
 // Is this a record of station k, inside its limits, in the table of station own among n?
 fn record_inside(n: usize, own: usize, k: usize, record: Record) -> bool
-    requires { ⌜ (1 ≤ n) × (n ≤ 16) ⌝ }
+    requires { ⌜ (n ≤ 16) × (k < n) ⌝ }
     ensures { λ r. ⌜ r ≡ spec.recordInside n own k «record» ⌝ }
 {
     if record.station as usize != k {
@@ -104,7 +84,7 @@ fn record_inside(n: usize, own: usize, k: usize, record: Record) -> bool
 
 // Is the record of station k inside its limits, if one is held?
 fn held_inside(n: usize, own: usize, k: usize, held: bool, record: Record) -> bool
-    requires { ⌜ (1 ≤ n) × (n ≤ 16) ⌝ }
+    requires { ⌜ (n ≤ 16) × (k < n) ⌝ }
     ensures { λ r. ⌜ r ≡ (not held || spec.recordInside n own k «record») ⌝ }
 {
     if !held {
@@ -123,7 +103,7 @@ fn place_inside(
     record: Record,
     lane: Lane,
 ) -> bool
-    requires { ⌜ (1 ≤ n) × (n ≤ 16) ⌝ }
+    requires { ⌜ (n ≤ 16) × (k < n) ⌝ }
     ensures { λ r. ⌜ r ≡ spec.entryInside n own k label held «record» lane ⌝ }
 {
     if 2 < label {
@@ -155,7 +135,7 @@ pub fn station_inside(s: Station) -> bool
         return false;
     }
     let waiting = s.waiting;
-    if !queue_inside(waiting) {
+    if !lanes::waiting_inside(waiting) {
         return false;
     }
     let mut k: usize = 0;

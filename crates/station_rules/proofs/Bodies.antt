@@ -2,15 +2,15 @@
 -- station that holds one outside them is outside its own, and each of its calls is refused with 2. No limit of a kind is
 -- named here: the table decides.
 use Prim.Native.Nat.{ℕ}
-use mathlib.Core.Bool.{Bool, true, false, true≢false}
+use mathlib.Core.Bool.{Bool, true, false, not, true≢false}
 use mathlib.Core.List.{List}
 use mathlib.Core.Path.{_≡_, refl, sym, _∙_}
-use lib.Dec.{leb}
 use Rattle.kinds.specs.declared.Body.{Body}
-use Rattle.kinds.specs.Body.{kindOf}
+use Rattle.kinds.specs.Body.{isEmpty}
 use Rattle.kinds.specs.Refusals.{outsideLimits}
 use Rattle.kind_limits.specs.Limits.{bodyInside}
-use Rattle.kind_limits.proofs.Laws.{edit-inside}
+use Rattle.kind_limits.proofs.Laws.{postable-inside}
+use Rattle.lanes.proofs.WaitingLaws.{waiting-postable}
 use Rattle.places.proofs.Laws.{and-right}
 use Rattle.station_rules.specs.declared.Station.{Station}
 use Rattle.station_rules.specs.Limits.{stationInside, takeable}
@@ -18,15 +18,14 @@ use Rattle.station_rules.specs.Bodies.{Holds}
 use Rattle.station_rules.specs.Bodies.Holds.{present, waiting, recorded, lane-first, lane-second}
 use Rattle.station_rules.specs.Calls.{postCall, writeRefusal, writeCall, hearCall, turnCall}
 use Rattle.station_rules.proofs.StationLimits.{Inside, inside-open}
-use Rattle.station_rules.proofs.LimitsQueue.{queue-edit}
 use Rattle.station_rules.proofs.LimitsLane.{lane-first as first-takeable, lane-second as second-takeable}
 
 taken-inside : (b : Body) → takeable b ≡ true → bodyInside b ≡ true
-taken-inside b h = and-right (leb 1 (kindOf b)) (bodyInside b) h
+taken-inside b h = and-right (not (isEmpty b)) (bodyInside b) h
 
 pub held-inside : (s : Station) (b : Body) → stationInside s ≡ true → Holds s b → bodyInside b ≡ true
 held-inside s b i present = (inside-open s i) .body
-held-inside s b i (waiting j l) = edit-inside b (queue-edit (s .waiting) ((inside-open s i) .waiting) j l)
+held-inside s b i (waiting j l) = postable-inside b (waiting-postable (s .waiting) ((inside-open s i) .waiting) j l)
 held-inside s b i (recorded k l e) = (inside-open s i) .places k l .held e .body
 held-inside s b i (lane-first k l p) = taken-inside b (first-takeable _ _ ((inside-open s i) .places k l .lane) p)
 held-inside s b i (lane-second k l p) = taken-inside b (second-takeable _ _ ((inside-open s i) .places k l .lane) p)

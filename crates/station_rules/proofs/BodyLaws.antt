@@ -1,22 +1,19 @@
--- Which bodies may be put where: an edit may be put into a lane, Neutral too, and Empty is inside its limits though no lane holds it.
-use mathlib.Core.Bool.{true, false}
-use mathlib.Core.Path.{_≡_, refl}
-use native.Mathlib.Omega.{arith}
-use lib.Dec.{leb}
-use borrow.Author.Tests.{le-leb}
+-- Which bodies may be put where: what may be posted may be put into a lane, Neutral too, and Empty is inside its limits though no lane holds it.
+use mathlib.Core.Bool.{true, not}
+use mathlib.Core.Path.{_≡_, refl, ap}
 use Rattle.kinds.specs.declared.Body.{Body}
 use Rattle.kinds.specs.declared.Body.the-variants.{Empty, Neutral}
-use Rattle.kinds.specs.Body.{kindOf}
-use Rattle.kind_limits.specs.Limits.{numbersInside, bodyInside, isEdit}
-use Rattle.kind_limits.proofs.Laws.{edit-inside, edit-kind}
+use Rattle.kinds.specs.Body.{isEmpty}
+use Rattle.kind_limits.specs.Limits.{numbersInside, bodyInside, postable}
+use Rattle.kind_limits.proofs.Laws.{postable-inside, postable-not-empty}
 use Rattle.places.proofs.Laws.{and-both, and-right}
 use Rattle.station_rules.specs.Limits.{takeable}
 
-pub edit-takeable : (b : Body) → isEdit b ≡ true → takeable b ≡ true
-edit-takeable b h = and-both (le-leb 1 (kindOf b) (omega (arith, edit-kind b h))) (edit-inside b h)
+pub postable-takeable : (b : Body) → postable b ≡ true → takeable b ≡ true
+postable-takeable b h = and-both (ap not (postable-not-empty b h)) (postable-inside b h)
 
 pub takeable-inside : (b : Body) → takeable b ≡ true → bodyInside b ≡ true
-takeable-inside b h = and-right (leb 1 (kindOf b)) (bodyInside b) h
+takeable-inside b h = and-right (not (isEmpty b)) (bodyInside b) h
 
 pub empty-inside : bodyInside Empty ≡ true
 unfolding bodyInside numbersInside
@@ -25,7 +22,3 @@ empty-inside = refl
 pub neutral-takeable : takeable Neutral ≡ true
 unfolding bodyInside numbersInside
 neutral-takeable = refl
-
-pub neutral-no-edit : isEdit Neutral ≡ false
-unfolding isEdit
-neutral-no-edit = refl

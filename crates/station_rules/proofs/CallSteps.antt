@@ -9,16 +9,19 @@ use lib.Seq.{take-at}
 use lib.Dec.{leb, ltb, eqb}
 use borrow.Author.Tests.{leb-true, ltb-true, le-leb, lt-leb, ne-eqb}
 use Rattle.kinds.specs.declared.Body.{Body}
-use Rattle.kind_limits.specs.Limits.{isEdit}
+use Rattle.kind_limits.specs.Limits.{postable}
 use Rattle.frame_rules.specs.Record.{bytesInside}
 use Rattle.frame_rules.specs.Frame.{validNumber, part, recordsInside, frameRefusal, recordsOf}
 use Rattle.frame_rules.proofs.Check.{accepted-frame, shape}
 use Rattle.places.proofs.Laws.{and-left, and-right, allBelow-at, allBelow-make}
+use Rattle.lanes.specs.Waiting.{hasRoom}
+use Rattle.station_rules.specs.declared.Setup.{Setup}
 use Rattle.station_rules.specs.declared.Station.{Station}
 use Rattle.station_rules.specs.declared.Taking.{Taking}
 use Rattle.station_rules.specs.Hearing.{Hearing, silent, hearRecords}
-use Rattle.station_rules.specs.Frames.{hearFrames, FrameAt, noTaking}
-use Rattle.station_rules.specs.State.{freshStation}
+use Rattle.station_rules.specs.Inner.Frames.{hearFrames, FrameAt}
+use Rattle.station_rules.specs.Hearing.{noTaking}
+use Rattle.station_rules.specs.State.{aloneSetup, freshStation}
 use Rattle.station_rules.specs.Limits.{stationInside}
 use Rattle.station_rules.specs.Calls.{freshCall, posted, postCall, sourcesOf, hearCall}
 
@@ -28,13 +31,17 @@ valid-parts n own h =
     (leb-true _ _ (and-left _ _ p), leb-true _ _ (and-right (leb 1 n) _ p), ltb-true _ _ (and-right (leb 1 n && leb n 16) _ h))
 
 -- fresh: 1
-pub fresh-done : (n own : ℕ) (s : Station) → validNumber n own ≡ true → s ≡ freshStation n own → record { refusal = 0; station = s } ≡ freshCall n own
+pub fresh-done :
+    (setup : Setup) (own : ℕ) (s : Station) → validNumber (setup .n) own ≡ true → s ≡ freshStation setup own →
+    record { refusal = 0; station = s } ≡ freshCall setup own
 unfolding freshCall
-fresh-done n own s v e = rw (v, e)
+fresh-done setup own s v e = rw (v, e)
 
-pub fresh-refused : (n own : ℕ) (s : Station) → validNumber n own ≡ false → s ≡ freshStation 1 0 → record { refusal = 1; station = s } ≡ freshCall n own
+pub fresh-refused :
+    (setup : Setup) (own : ℕ) (s : Station) → validNumber (setup .n) own ≡ false → s ≡ freshStation aloneSetup 0 →
+    record { refusal = 1; station = s } ≡ freshCall setup own
 unfolding freshCall
-fresh-refused n own s v e = rw (v, e)
+fresh-refused setup own s v e = rw (v, e)
 
 -- post: 2, 4, 3
 module _ (s : Station) (b : Body) where
@@ -42,17 +49,17 @@ module _ (s : Station) (b : Body) where
   unfolding postCall
   post-outside i = rw i
 
-  pub post-no-edit : stationInside s ≡ true → isEdit b ≡ false → record { refusal = 4; station = s } ≡ postCall s b
+  pub post-no-edit : stationInside s ≡ true → postable b ≡ false → record { refusal = 4; station = s } ≡ postCall s b
   unfolding postCall
   post-no-edit i e = rw (i, e)
 
-  pub post-full : stationInside s ≡ true → isEdit b ≡ true → 32 ≤ s .waiting .len → record { refusal = 3; station = s } ≡ postCall s b
+  pub post-full : stationInside s ≡ true → postable b ≡ true → hasRoom (s .waiting) ≡ false → record { refusal = 3; station = s } ≡ postCall s b
   unfolding postCall
-  post-full i e f = rw (i, e, le-leb 32 (s .waiting .len) f)
+  post-full i e f = rw (i, e, f)
 
-  pub post-done : stationInside s ≡ true → isEdit b ≡ true → s .waiting .len < 32 → record { refusal = 0; station = posted s b } ≡ postCall s b
+  pub post-done : stationInside s ≡ true → postable b ≡ true → hasRoom (s .waiting) ≡ true → record { refusal = 0; station = posted s b } ≡ postCall s b
   unfolding postCall
-  post-done i e f = rw (i, e, lt-leb 32 (s .waiting .len) f)
+  post-done i e f = rw (i, e, f)
 
 -- hear: 2, 5, 6, 7, 8
 module _ (s : Station) (bytes : List ℕ) where

@@ -1,23 +1,22 @@
--- Hearing cell by cell: the cell of station k is the entry at k of each array of the hearer. A record that the station heeds changes the cell of its own
--- station and the count, and no other cell.
+-- Hearing cell by cell: a record that the station heeds changes the cell of its own station and the count, and no other cell.
 use Prim.Native.Nat.{ℕ, _<_, _≤_}
 use mathlib.Core.Bool.{true, false, cond, _||_}
 use mathlib.Core.List.{List, [], _∷_, _++_}
-use mathlib.Core.Path.{_≡_, refl}
+use mathlib.Core.Path.{_≡_, refl, _∙_}
 use native.Mathlib.Omega.{arith}
 use lib.ListN.{getD, length, replicate}
-use lib.Seq.{getD-set-same, getD-set-other}
 use lib.Dec.{eqb}
 use borrow.Author.Tests.{eq-eqb, ne-eqb}
 use Rattle.labels.specs.Label.{successor}
 use Rattle.labels.specs.Newer.{isNewer}
 use Rattle.frame_rules.specs.declared.Record.{Record}
-use Rattle.frame_rules.specs.Record.{framed, noRecord}
+use Rattle.frame_rules.specs.Record.{framed}
 use Rattle.places.proofs.Laws.{fill-below, fill-above}
 use Rattle.station_rules.specs.declared.Station.{Station}
-use Rattle.lanes.specs.Lane.{noLane, pushed}
-use Rattle.station_rules.specs.State.{labelOf, ackedOf, heldOf, recordOf, laneAt, recordLabel, ownLabel}
+use Rattle.lanes.specs.Lane.{pushed}
+use Rattle.station_rules.specs.State.{cellOf, labelOf, ackedOf, heldOf, recordOf, laneAt, recordLabel, ownLabel, withBroadcast}
 use Rattle.station_rules.specs.Hearing.{Hearing, heeds, advances, takes, raised, replaced, heardNewer, hearRecord, hearRecords}
+use Rattle.station_rules.proofs.Setters.{Shaped, broadcast-cell, broadcast-shaped, cell-self, cell-here, cell-other}
 
 -- a station never heeds a record of itself, and heeds one of another station where it is newer
 module _ (s : Station) (r : Record) where
@@ -71,75 +70,55 @@ module _ (n : ℕ) (old r : Record) where
   replaced-body = refl
 
 module _ (s : Station) (r : Record) where
+  abbrev counted : Station
+  counted = withBroadcast s (s .body) (cond (advances s r) (raised (s .count)) (s .count))
+
   -- the other cells
-  pub label-other : (k : ℕ) → (k ≡ r .station → ⊥) → labelOf (heardNewer s r) k ≡ labelOf s k
+  pub heard-other : (k : ℕ) → (k ≡ r .station → ⊥) → cellOf (heardNewer s r) k ≡ cellOf s k
   unfolding heardNewer
-  label-other k d = getD-set-other (s .labels) (r .station) k _ 0 d
-
-  pub acked-other : (k : ℕ) → (k ≡ r .station → ⊥) → ackedOf (heardNewer s r) k ≡ ackedOf s k
-  unfolding heardNewer
-  acked-other k d = getD-set-other (s .acked) (r .station) k _ false d
-
-  pub held-other : (k : ℕ) → (k ≡ r .station → ⊥) → heldOf (heardNewer s r) k ≡ heldOf s k
-  unfolding heardNewer
-  held-other k d = getD-set-other (s .held) (r .station) k _ false d
-
-  pub record-other : (k : ℕ) → (k ≡ r .station → ⊥) → recordOf (heardNewer s r) k ≡ recordOf s k
-  unfolding heardNewer
-  record-other k d = getD-set-other (s .table) (r .station) k _ noRecord d
-
-  pub lane-other : (k : ℕ) → (k ≡ r .station → ⊥) → laneAt (heardNewer s r) k ≡ laneAt s k
-  unfolding heardNewer
-  lane-other k d = getD-set-other (s .lanes) (r .station) k _ noLane d
+  heard-other k d = cell-other counted (r .station) _ k d ∙ broadcast-cell s (s .body) _ k
 
   -- the cell of the record's own station
-  pub label-here :
-      r .station < length (s .labels) →
-      labelOf (heardNewer s r) (r .station) ≡ cond (advances s r) (successor (labelOf s (r .station))) (labelOf s (r .station))
+  pub heard-here :
+      Shaped s → r .station < 16 →
+      cellOf (heardNewer s r) (r .station)
+      ≡ record {
+        label = cond (advances s r) (successor (labelOf s (r .station))) (labelOf s (r .station));
+        acked = ackedOf s (r .station) || eqb (recordLabel r (s .own)) (labelOf s (s .own));
+        held = true;
+        entry = replaced (s .n) (recordOf s (r .station)) r;
+        lane = cond (takes s r) (pushed (laneAt s (r .station)) (r .body)) (laneAt s (r .station));
+      }
   unfolding heardNewer
-  label-here b = getD-set-same (s .labels) (r .station) _ 0 b
+  heard-here shape l = cell-here counted (r .station) _ (broadcast-shaped s (s .body) _ shape) l
 
-  pub acked-here :
-      r .station < length (s .acked) →
-      ackedOf (heardNewer s r) (r .station) ≡ (ackedOf s (r .station) || eqb (recordLabel r (s .own)) (labelOf s (s .own)))
-  unfolding heardNewer
-  acked-here b = getD-set-same (s .acked) (r .station) _ false b
-
-  pub held-here : r .station < length (s .held) → heldOf (heardNewer s r) (r .station) ≡ true
-  unfolding heardNewer
-  held-here b = getD-set-same (s .held) (r .station) _ false b
-
-  pub record-here :
-      r .station < length (s .table) → recordOf (heardNewer s r) (r .station) ≡ replaced (s .n) (recordOf s (r .station)) r
-  unfolding heardNewer
-  record-here b = getD-set-same (s .table) (r .station) _ noRecord b
-
-  pub lane-here :
-      r .station < length (s .lanes) →
-      laneAt (heardNewer s r) (r .station) ≡ cond (takes s r) (pushed (laneAt s (r .station)) (r .body)) (laneAt s (r .station))
-  unfolding heardNewer
-  lane-here b = getD-set-same (s .lanes) (r .station) _ noLane b
+  -- the labels below n of the record that is held afterwards
+  pub heard-label :
+      Shaped s → s .n ≤ 16 → r .station < 16 → (k : ℕ) → k < s .n →
+      recordLabel (replaced (s .n) (recordOf s (r .station)) r) k ≡ recordLabel r k
+  heard-label shape high l k m =
+      replaced-label (s .n) (recordOf s (r .station)) r k m (omega (arith, shape .record-labels (r .station) l))
 
   -- what is no cell
   pub heard-n : (heardNewer s r) .n ≡ s .n
   unfolding heardNewer
-  heard-n = refl
+  heard-n = cell-self counted (r .station) _ .n
 
   pub heard-own : (heardNewer s r) .own ≡ s .own
   unfolding heardNewer
-  heard-own = refl
+  heard-own = cell-self counted (r .station) _ .own
 
   pub heard-waiting : (heardNewer s r) .waiting ≡ s .waiting
   unfolding heardNewer
-  heard-waiting = refl
+  heard-waiting = cell-self counted (r .station) _ .waiting
 
   pub heard-body : (heardNewer s r) .body ≡ s .body
   unfolding heardNewer
-  heard-body = refl
+  heard-body = cell-self counted (r .station) _ .body
 
   pub heard-count : (heardNewer s r) .count ≡ cond (advances s r) (raised (s .count)) (s .count)
   unfolding heardNewer
-  heard-count = refl
+  heard-count = cell-self counted (r .station) _ .count
 
 -- records heard one list after the other
 pub hearRecords-append : (h : Hearing) (xs ys : List Record) → hearRecords h (xs ++ ys) ≡ hearRecords (hearRecords h xs) ys

@@ -6,7 +6,7 @@ use mathlib.Core.Path.{_≡_, sym, ap, _∙_}
 use native.Mathlib.Omega.{arith}
 use lib.Dec.{eqb}
 use Rattle.kinds.specs.declared.Body.{Body}
-use Rattle.kind_limits.specs.Limits.{isEdit}
+use Rattle.kind_limits.specs.Limits.{postable}
 use Rattle.labels.specs.Newer.{isNewer}
 use Rattle.labels.proofs.Examples as labels
 use Rattle.frame_rules.specs.declared.Record.{Record}
@@ -17,7 +17,9 @@ use Rattle.station_rules.specs.Limits.{stationInside}
 use Rattle.station_rules.specs.Hearing.{heeds}
 use Rattle.station_rules.specs.Calls.{posted, postCall}
 use Rattle.station_rules.proofs.CallSteps.{post-no-edit, post-full, post-done}
-use Rattle.station_rules.proofs.LimitsQueue.{queued-len}
+use Rattle.lanes.specs.Queue.{queueCapacity}
+use Rattle.lanes.specs.Waiting.{waitingCount}
+use Rattle.lanes.proofs.WaitingLaws.{room-below, room-full, posted-count}
 
 -- a station that holds a record of another station with some own label and count, and sees one with another
 pub record Seen (s : Station) (r : Record) (heldLabel heldCount seenLabel seenCount : ℕ) : Type 0 where
@@ -47,19 +49,19 @@ module _ (s : Station) (r : Record) where
 -- what a post at a station inside its limits returns. The table of kinds says which bodies are edits, and so M9 and M10
 -- name their numbers there and not here
 module _ (s : Station) (i : stationInside s ≡ true) where
-  pub refused : (b : Body) → isEdit b ≡ false → (postCall s b) .refusal ≡ 4
+  pub refused : (b : Body) → postable b ≡ false → (postCall s b) .refusal ≡ 4
   refused b e = sym (ap (λ (k : Kept). k .refusal) (post-no-edit s b i e))
 
-  pub taken : (b : Body) → isEdit b ≡ true → s .waiting .len < 32 → (postCall s b) .refusal ≡ 0
-  taken b e l = sym (ap (λ (k : Kept). k .refusal) (post-done s b i e l))
+  pub taken : (b : Body) → postable b ≡ true → waitingCount (s .waiting) < queueCapacity → (postCall s b) .refusal ≡ 0
+  taken b e l = sym (ap (λ (k : Kept). k .refusal) (post-done s b i e (room-below (s .waiting) l)))
 
   -- as long as fewer than 32 wait, an edit is accepted and waits
-  pub m11-room : (b : Body) → isEdit b ≡ true → s .waiting .len < 32 → ((postCall s b) .refusal ≡ 0) × ((postCall s b) .station .waiting .len ≡ s .waiting .len + 1)
-  m11-room b e l = (taken b e l, sym (ap (λ (k : Kept). k .station .waiting .len) (post-done s b i e l)) ∙ one-more)
+  pub m11-room : (b : Body) → postable b ≡ true → waitingCount (s .waiting) < queueCapacity → ((postCall s b) .refusal ≡ 0) × (waitingCount ((postCall s b) .station .waiting) ≡ waitingCount (s .waiting) + 1)
+  m11-room b e l = (taken b e l, sym (ap (λ (k : Kept). waitingCount (k .station .waiting)) (post-done s b i e (room-below (s .waiting) l))) ∙ one-more)
     where
-      one-more : (posted s b) .waiting .len ≡ s .waiting .len + 1
-      one-more = unfold posted in queued-len (s .waiting) b ∙ omega arith
+      one-more : waitingCount ((posted s b) .waiting) ≡ waitingCount (s .waiting) + 1
+      one-more = unfold posted in posted-count (s .waiting) b ∙ omega arith
 
   -- the 33rd waiting edit
-  pub m11 : (b : Body) → isEdit b ≡ true → s .waiting .len ≡ 32 → (postCall s b) .refusal ≡ 3
-  m11 b e l = sym (ap (λ (k : Kept). k .refusal) (post-full s b i e (omega arith)))
+  pub m11 : (b : Body) → postable b ≡ true → waitingCount (s .waiting) ≡ queueCapacity → (postCall s b) .refusal ≡ 3
+  m11 b e l = sym (ap (λ (k : Kept). k .refusal) (post-full s b i e (room-full (s .waiting) (omega arith))))

@@ -13,9 +13,10 @@ use denote.Struct as Struct
 use denote.Struct.Laws as Laws
 use Rattle.station_rules.specs.declared.Station.{Station}
 use Rattle.frame_rules.specs.Record.{noRecord}
-use Rattle.station_rules.specs.State.{recordOf}
-use Rattle.station_rules.proofs.Shape.{Shaped}
+use Rattle.station_rules.specs.State.{cellOf, recordOf}
+use Rattle.station_rules.proofs.Setters.{Shaped}
 use Rattle.frame_rules.proofs.Record as Carried
+use Rattle.lanes.proofs.WaitingOwned.{owned-sized}
 use Rattle.station_rules.proofs.Station as Declared
 use Rattle.station_rules.proofs.Station.Laws as DeclaredLaws
 
@@ -36,6 +37,7 @@ Owned s = shadow ((Struct.Declared.row Declared.the-type) .own s (Laws.val Decla
 labels-at :
     (s : Station) (us : List Val) → shadow (each (Carried.the-field .row .Denot) (Carried.the-field .row .own) ((Declared.the-type .to s) .1 .1 .1 .1 .1 .1 .1 .1 .0) us) →
     (k : ℕ) → k < length (s .table) → length ((recordOf s k) .labels) ≡ 16
+unfolding cellOf
 labels-at s us h k l =
     let f = Carried.the-type .to in
     let o = each-at (Carried.the-field .row .own) ((Declared.the-type .to s) .1 .1 .1 .1 .1 .1 .1 .1 .0) us h k (f noRecord) (rw (length-map (s .table) f) l) in
@@ -50,7 +52,7 @@ lengths-at s vs h =
       held = simp length-map at (h .1 .1 .1 .1 .1 .1 .1 .1 .1 .0 .1 .0 .1);
       table = simp length-map at (h .1 .1 .1 .1 .1 .1 .1 .1 .1 .1 .0 .1 .0 .1);
       lanes = simp length-map at (h .1 .1 .1 .1 .1 .1 .1 .1 .1 .1 .1 .0 .1 .0 .1);
-      slots = simp length-map at (h .1 .1 .1 .1 .0 .1 .1 .1 .0 .1 .0 .1);
+      waiting = owned-sized (s .waiting) _ (h .1 .1 .1 .1 .0);
       record-labels = λ k l. labels-at s (h .1 .1 .1 .1 .1 .1 .1 .1 .1 .1 .0 .0) (h .1 .1 .1 .1 .1 .1 .1 .1 .1 .1 .0 .1 .1) k (rw (simp length-map at (h .1 .1 .1 .1 .1 .1 .1 .1 .1 .1 .0 .1 .0 .1)) l);
     }
 

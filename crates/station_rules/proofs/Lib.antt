@@ -1,10 +1,10 @@
 -- the lengths of a station's arrays
 pub mod Lengths
+pub mod Setters
 pub mod Shape
 -- the limits as facts, and that every call keeps them
 pub mod BodyLaws
 pub mod LimitsLane
-pub mod LimitsQueue
 pub mod StationLimits
 pub mod LimitsFresh
 pub mod LimitsHear
@@ -16,13 +16,14 @@ pub mod Bodies
 -- what a heard record and a turn change, cell by cell and case by case
 pub mod HearRecord
 pub mod Cells
+pub mod TurnCells
 pub mod TurnLaws
 pub mod TurnParts
-pub mod TurnCells
 -- the answers of the calls, and a station's frame
 pub mod CallSteps
 pub mod WriteSteps
 pub mod SentFrame
 -- examples
+pub mod Computing
 pub mod Examples
 pub mod RunExamples

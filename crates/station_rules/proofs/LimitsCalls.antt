@@ -5,27 +5,26 @@ use mathlib.Core.Bool.{Bool, true, false, cond, not, _&&_, _||_, false≢true}
 use mathlib.Core.List.{List, [], _∷_}
 use mathlib.Core.Path.{_≡_, refl}
 use native.Mathlib.Omega.{arith}
-use lib.Dec.{leb, ltb, eqb}
+use lib.Dec.{ltb, eqb}
 use lib.ListN.{getD}
-use borrow.Author.Tests.{ltb-true, leb-false, le-leb}
 use Rattle.kinds.specs.declared.Body.{Body}
-use Rattle.kind_limits.specs.Limits.{numbersInside, isEdit}
+use Rattle.kind_limits.specs.Limits.{postable}
 use Rattle.kinds.specs.Refusals.{done, laneFull}
-use Rattle.kind_limits.proofs.Laws.{inside-back}
-use Rattle.label_words.specs.Packing.{unpacked, wordInside}
-use Rattle.labels.proofs.Laws.{all-at}
-use Rattle.label_words.proofs.Laws.{inside-all}
-use Rattle.frame_rules.specs.Words.{wordAt, signed}
 use Rattle.frame_rules.specs.Record as frames
+use Rattle.frame_rules.proofs.Limits.{fits-open}
+use Rattle.frame_rules.proofs.RecordTrip.{held-fits}
 use Rattle.frame_rules.specs.Frame.{validNumber, part, stationAt, shapeWrong, addressWrong, recordsInside, frameRefusal, recordsOf}
 use Rattle.places.specs.Places.{allBelow, anyBelow, tabulate}
-use Rattle.places.proofs.Laws.{and-left, and-right, allBelow-at}
+use Rattle.places.proofs.Laws.{and-left, allBelow-at}
+use Rattle.lanes.specs.Waiting.{hasRoom}
+use Rattle.station_rules.specs.declared.Setup.{Setup}
 use Rattle.station_rules.specs.declared.Station.{Station}
 use Rattle.station_rules.specs.declared.Heard.{Heard}
 use Rattle.station_rules.specs.Limits.{stationInside}
 use Rattle.station_rules.specs.Hearing.{Hearing, silent, hearRecords}
+use Rattle.station_rules.specs.State.{aloneSetup}
 use Rattle.station_rules.specs.Calls.{freshCall, posted, postCall, hearCall, turnCall}
-use Rattle.station_rules.proofs.Shape.{Shaped}
+use Rattle.station_rules.proofs.Setters.{Shaped}
 use Rattle.station_rules.proofs.LimitsFresh.{fresh-inside, posted-inside}
 use Rattle.station_rules.proofs.LimitsHear.{Carried}
 use Rattle.station_rules.proofs.LimitsHearing.{AllCarried, hearRecords-inside}
@@ -34,23 +33,9 @@ use Rattle.station_rules.proofs.LimitsTurn.{turn-inside}
 
 -- sixteen bytes inside the record limits
 pub bytes-carried : (n : ℕ) (bytes : List ℕ) → frames.bytesInside n bytes ≡ true → Carried n (frames.recordOf bytes)
-unfolding frames.bytesInside frames.recordOf
 bytes-carried n bytes h =
-    let station = ltb (getD bytes 0 0) n in
-    let count = frames.countInside n (getD bytes 1 0) in
-    let body = numbersInside (getD bytes 2 0) (wordAt bytes 4) (signed (wordAt bytes 8)) in
-    let mark = eqb (getD bytes 3 0) frames.recordMark in
-    let labels = wordInside n (wordAt bytes 12) in
-    let h₄ : (station && count && body && mark) ≡ true = and-left (station && count && body && mark) labels h in
-    let h₃ : (station && count && body) ≡ true = and-left (station && count && body) mark h₄ in
-    let h₂ : (station && count) ≡ true = and-left (station && count) body h₃ in
-    let whole = inside-all n (wordAt bytes 12) (and-right (station && count && body && mark) labels h) in
-    record {
-      station = ltb-true (getD bytes 0 0) n (and-left station count h₂);
-      count = and-right station count h₂;
-      body = inside-back (getD bytes 2 0) (wordAt bytes 4) (signed (wordAt bytes 8)) (and-right (station && count) body h₃);
-      labels = λ j l. le-leb (getD (unpacked 16 (wordAt bytes 12)) j 0) 2 (all-at (unpacked 16 (wordAt bytes 12)) whole j);
-    }
+    let l = fits-open n (frames.recordOf bytes) (held-fits n bytes h) in
+    record { station = l .station; count = l .count; body = l .body; labels = l .labels }
 
 -- a frame that passes the check of its records
 pub frame-carried : (n : ℕ) (bytes : List ℕ) → recordsInside bytes n ≡ true → AllCarried n (recordsOf bytes)
@@ -76,26 +61,26 @@ frame-carried n bytes h = go (getD bytes 2 0) (omega arith)
           (ih (omega arith)) (each j l, tt))
     ]
 
-pub fresh-call-inside : (n own : ℕ) → stationInside ((freshCall n own) .station) ≡ true
+pub fresh-call-inside : (setup : Setup) (own : ℕ) → stationInside ((freshCall setup own) .station) ≡ true
 unfolding freshCall
-fresh-call-inside n own = go (validNumber n own) refl
+fresh-call-inside setup own = go (validNumber (setup .n) own) refl
   where
     go :
-        (t : Bool) → validNumber n own ≡ t →
-        stationInside ((freshCall n own) .station) ≡ true
-    go true e = rw e (fresh-inside n own e)
-    go false e = rw e (fresh-inside 1 0 refl)
+        (t : Bool) → validNumber (setup .n) own ≡ t →
+        stationInside ((freshCall setup own) .station) ≡ true
+    go true e = rw e (fresh-inside setup own e)
+    go false e = rw e (fresh-inside aloneSetup 0 refl)
 
 module _ (s : Station) (shape : Shaped s) (inside : stationInside s ≡ true) where
   pub post-call-inside : (b : Body) → stationInside ((postCall s b) .station) ≡ true
   unfolding postCall
-  post-call-inside b = rw inside (go (isEdit b) (leb 32 (s .waiting .len)) refl refl)
+  post-call-inside b = rw inside (go (postable b) (hasRoom (s .waiting)) refl refl)
     where
       go :
-          (e f : Bool) → isEdit b ≡ e → leb 32 (s .waiting .len) ≡ f →
-          stationInside (cond (eqb (cond (not e) 4 (cond f 3 0)) 0) (posted s b) s) ≡ true
-      go true false p q = posted-inside s b shape inside p (leb-false 32 (s .waiting .len) q)
-      go true true p q = inside
+          (e f : Bool) → postable b ≡ e → hasRoom (s .waiting) ≡ f →
+          stationInside (cond (eqb (cond (not e) 4 (cond (not f) 3 0)) 0) (posted s b) s) ≡ true
+      go true true p q = posted-inside s b shape inside p q
+      go true false p q = inside
       go false f p q = inside
 
   pub turn-call-inside : stationInside ((turnCall s) .station) ≡ true

@@ -2,28 +2,28 @@
 -- get a third. Only the record's own place changes, and it is never the hearer's.
 use Prim.Native.Nat.{ℕ, _+_, _%_, _<_}
 use mathlib.Core.Bool.{Bool, true, false, cond, not, _&&_, _||_}
-use mathlib.Core.Path.{_≡_, refl, sym, subst, _∙_}
+use mathlib.Core.Path.{_≡_, refl, sym, ap, subst, _∙_}
 use native.Mathlib.Decide.{ℕ-discrete}
 use native.Mathlib.Omega.{arith}
 use lib.Dec.{leb, eqb}
 use borrow.Author.Tests.{leb-false, le-leb, ne-eqb, eqb-false, not-true}
-use Rattle.kinds.specs.Body.{kindOf}
+use Rattle.kinds.specs.Body.{isEmpty}
 use Rattle.kind_limits.specs.Limits.{bodyInside}
 use Rattle.labels.specs.Label.{isLabel, successor}
 use Rattle.labels.specs.Newer.{isNewer}
 use Rattle.frame_rules.specs.declared.Record.{Record}
 use Rattle.frame_rules.specs.Record.{countInside}
-use Rattle.places.proofs.Laws.{and-both, and-left, and-right, fill-below}
+use Rattle.places.proofs.Laws.{and-both, and-left, and-right}
 use Rattle.places.proofs.Keeps.{cond-keeps}
 use Rattle.station_rules.specs.declared.Station.{Station}
 use Rattle.lanes.specs.Lane.{pushed}
-use Rattle.station_rules.specs.State.{labelOf, heldOf, recordOf, laneAt, recordLabel, ownLabel}
+use Rattle.station_rules.specs.State.{Cell, cellOf, labelOf, heldOf, recordOf, laneAt, recordLabel, ownLabel}
 use Rattle.station_rules.specs.Limits.{laneInside, takeable}
 use Rattle.station_rules.specs.Hearing.{heeds, advances, takes, replaced, heardNewer}
-use Rattle.station_rules.proofs.Shape.{Shaped}
+use Rattle.station_rules.proofs.Setters.{Shaped}
 use Rattle.station_rules.proofs.LimitsLane.{pushed-inside}
-use Rattle.station_rules.proofs.StationLimits.{RecordHolds, PlaceHolds, Inside}
-use Rattle.station_rules.proofs.Cells.{heard-n, heard-own, heard-waiting, heard-body, label-here, label-other, acked-other, held-other, record-here, record-other, lane-here, lane-other}
+use Rattle.station_rules.proofs.StationLimits.{RecordHolds, CellHolds, Inside, inside-as}
+use Rattle.station_rules.proofs.Cells.{replaced-station, replaced-count, replaced-body, heard-label, heard-n, heard-own, heard-waiting, heard-body, heard-here, heard-other}
 
 -- a record that a frame among n stations may carry
 pub record Carried (n : ℕ) (r : Record) : Type 0 where
@@ -46,24 +46,18 @@ heeds-other s r h =
 
 takes-takeable : (s : Station) (r : Record) → bodyInside (r .body) ≡ true → takes s r ≡ true → takeable (r .body) ≡ true
 takes-takeable s r b h =
-    let ne : kindOf (r .body) ≡ 0 → ⊥ =
-    eqb-false (kindOf (r .body)) 0
-    (not-true (eqb (kindOf (r .body)) 0) (and-right (advances s r) (not (eqb (kindOf (r .body)) 0)) h)) in
-    and-both (le-leb 1 (kindOf (r .body)) (omega arith)) b
+    and-both (and-right (advances s r) (not (isEmpty (r .body))) h) b
 
 module _ (s : Station) (r : Record) (shape : Shaped s) (c : Inside s) (carry : Carried (s .n) r) where
   replaced-holds :
       (own : ℕ) → RecordHolds (s .n) own (r .station) (replaced (s .n) (recordOf s (r .station)) r)
-  unfolding replaced
   replaced-holds own =
+      let old = recordOf s (r .station) in
       record {
-        station = refl;
-        count = cond-or (eqb (r .station) own) (countInside (s .n) (r .count)) (carry .count);
-        body = carry .body;
-        labels =
-            λ j l. rw (fill-below (s .n) (recordLabel r) ((recordOf s (r .station)) .labels) j 0 l
-            (rw (shape .record-labels (r .station) (omega arith)) (omega arith)))
-            (carry .labels j l);
+        station = replaced-station (s .n) old r;
+        count = rw (replaced-count (s .n) old r) (cond-or (eqb (r .station) own) (countInside (s .n) (r .count)) (carry .count));
+        body = rw (replaced-body (s .n) old r) (carry .body);
+        labels = λ j l. rw (heard-label s r shape (c .high) (omega arith) j l) (carry .labels j l);
       }
     where
       cond-or : (a b : Bool) → b ≡ true → (a || b) ≡ true
@@ -81,49 +75,37 @@ module _ (s : Station) (r : Record) (shape : Shaped s) (c : Inside s) (carry : C
           pushed-inside 2 (laneAt s (r .station)) (r .body) before room room (takes-takeable s r (carry .body) e)
       go false e = before
 
-  heard-place :
-      (heeds s r ≡ true) → (takes s r && leb 2 ((laneAt s (r .station)) .len)) ≡ false → PlaceHolds (heardNewer s r) (r .station)
-  heard-place h full =
-      let below : r .station < 16 = omega arith in
+  heard-cell :
+      (heeds s r ≡ true) → (takes s r && leb 2 ((laneAt s (r .station)) .len)) ≡ false →
+      CellHolds (s .n) (s .own) (r .station) (cellOf (heardNewer s r) (r .station))
+  heard-cell h full =
       let before = c .places (r .station) (carry .station) in
       let most : _≡_ {A = ℕ} (cond (eqb (r .station) (s .own)) 1 2) 2 = rw (ne-eqb (r .station) (s .own) (heeds-other s r h)) in
-      record {
+      rw (heard-here s r shape (omega arith))
+      (record {
         label =
-            rw (label-here s r (rw (shape .labels) below))
-            (cond-keeps (λ (x : ℕ). isLabel x ≡ true) (advances s r) (successor (labelOf s (r .station))) (labelOf s (r .station))
-            (successor-label (labelOf s (r .station))) (before .label));
-        held =
-            λ e. rw (heard-n s r, heard-own s r, record-here s r (rw (shape .table) below)) (replaced-holds (s .own));
-        lane =
-            rw (heard-own s r, most, lane-here s r (rw (shape .lanes) below))
-            (heard-lane-inside h full (rw most at (before .lane)));
-      }
-
-  heard-place-other : (j : ℕ) → j < s .n → (j ≡ r .station → ⊥) → PlaceHolds (heardNewer s r) j
-  heard-place-other j l ne =
-      let before = c .places j l in
-      record {
-        label = rw (label-other s r j ne) (before .label);
-        held =
-            λ e. rw (heard-n s r, heard-own s r, record-other s r j ne) (before .held (sym (held-other s r j ne) ∙ e));
-        lane = rw (heard-own s r, lane-other s r j ne) (before .lane);
-      }
+            cond-keeps (λ (x : ℕ). isLabel x ≡ true) (advances s r) (successor (labelOf s (r .station))) (labelOf s (r .station))
+            (successor-label (labelOf s (r .station))) (before .label);
+        held = λ e. replaced-holds (s .own);
+        lane = rw most (heard-lane-inside h full (rw most at (before .lane)));
+      })
 
   pub heard-holds :
       (heeds s r ≡ true) → (takes s r && leb 2 ((laneAt s (r .station)) .len)) ≡ false → Inside (heardNewer s r)
   heard-holds h full =
-      let ne : s .own ≡ r .station → ⊥ = λ e. heeds-other s r h (sym e) in
-      record {
-        low = rw (heard-n s r) (c .low);
-        high = rw (heard-n s r) (c .high);
-        own = rw (heard-n s r, heard-own s r) (c .own);
-        acked = rw (heard-own s r, acked-other s r (s .own) ne) (c .acked);
-        held = rw (heard-own s r, held-other s r (s .own) ne) (c .held);
+      let same = heard-other s r (s .own) (λ e. heeds-other s r h (sym e)) in
+      inside-as (s .n) (s .own) (heardNewer s r) (heard-n s r) (heard-own s r)
+      (record {
+        low = c .low;
+        high = c .high;
+        own = c .own;
+        acked = ap (λ (x : Cell). x .acked) same ∙ c .acked;
+        held = ap (λ (x : Cell). x .held) same ∙ c .held;
         body = rw (heard-body s r) (c .body);
         waiting = rw (heard-waiting s r) (c .waiting);
         places =
             λ j l. elim (ℕ-discrete j (r .station)) [
-              | yes e ↦ subst (λ (i : ℕ). PlaceHolds (heardNewer s r) i) (sym e) (heard-place h full)
-              | no d ↦ heard-place-other j (rw (heard-n s r) at l) d
+              | yes e ↦ subst (λ (i : ℕ). CellHolds (s .n) (s .own) i (cellOf (heardNewer s r) i)) (sym e) (heard-cell h full)
+              | no d ↦ rw (heard-other s r j d) (c .places j l)
             ];
-      }
+      })

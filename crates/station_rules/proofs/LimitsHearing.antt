@@ -3,7 +3,7 @@
 use Prim.Native.Nat.{ℕ, suc, _+_, _*_, _≤_, _<_}
 use mathlib.Core.Bool.{Bool, true, false, cond, _&&_, _||_}
 use mathlib.Core.List.{List, [], _∷_, _++_, append-nil}
-use mathlib.Core.Path.{_≡_, refl, sym, subst, _∙_}
+use mathlib.Core.Path.{_≡_, refl, sym, ap, subst, _∙_}
 use native.Mathlib.Decide.{ℕ-discrete}
 use native.Mathlib.Omega.{arith}
 use lib.Dec.{leb, eqb}
@@ -14,65 +14,74 @@ use Rattle.places.specs.Places.{total}
 use Rattle.places.proofs.Laws.{or-left, or-right}
 use Rattle.places.proofs.Total.{total-ext, total-gap, total-raised}
 use Rattle.station_rules.specs.declared.Station.{Station}
-use Rattle.station_rules.specs.State.{laneAt}
+use Rattle.station_rules.specs.State.{Cell, laneAt}
 use Rattle.station_rules.specs.Limits.{stationInside}
 use Rattle.station_rules.specs.Hearing.{Hearing, silent, heeds, takes, heardNewer, hearRecord, hearRecords}
 use Rattle.station_rules.proofs.HearRecord.{heardOne, hearRecord-heeds, hearRecord-skips}
-use Rattle.station_rules.proofs.Shape.{Shaped, heardNewer-shaped}
+use Rattle.station_rules.proofs.Setters.{Shaped}
+use Rattle.station_rules.proofs.Shape.{heardNewer-shaped}
+use Rattle.lanes.specs.Lane.{pushed}
 use Rattle.lanes.proofs.LaneLaws.{len-pushed}
 use Rattle.station_rules.proofs.LimitsLane.{lane-most}
 use Rattle.station_rules.proofs.StationLimits.{Inside, inside-open, inside-make}
-use Rattle.station_rules.proofs.Cells.{heard-n, heard-own, heard-waiting, heard-body, lane-here, lane-other}
+use Rattle.station_rules.proofs.Cells.{heard-n, heard-own, heard-waiting, heard-body, heard-here, heard-other}
 use Rattle.station_rules.proofs.LimitsHear.{Carried, heeds-other, heard-holds}
 
 -- how many bodies stand in the lane of another station, and in all of those
-abbrev otherLen : Station → ℕ → ℕ
-otherLen s k = cond (eqb k (s .own)) 0 ((laneAt s k) .len)
+abbrev otherLen : ℕ → Station → ℕ → ℕ
+otherLen own s k = cond (eqb k own) 0 ((laneAt s k) .len)
 
 unfoldable pub otherLens : Station → ℕ
-otherLens s = total (s .n) (otherLen s)
+otherLens s = total (s .n) (otherLen (s .own) s)
 
 pub otherLens-most : (s : Station) → Inside s → otherLens s ≤ 30
 unfolding otherLens
 otherLens-most s c =
-    let gap : total (s .n) (otherLen s) + 2 ≤ s .n * 2 =
-    total-gap (s .n) 2 (otherLen s) each (s .own) (c .own) (rw (eq-eqb (s .own) (s .own) refl)) in
+    let gap : total (s .n) (otherLen (s .own) s) + 2 ≤ s .n * 2 =
+    total-gap (s .n) 2 (otherLen (s .own) s) each (s .own) (c .own) (rw (eq-eqb (s .own) (s .own) refl)) in
     omega (arith, c .high)
   where
-    each : (k : ℕ) → k < s .n → otherLen s k ≤ 2
+    each : (k : ℕ) → k < s .n → otherLen (s .own) s k ≤ 2
     each k l = go (eqb k (s .own)) refl
       where
         go : (t : Bool) → eqb k (s .own) ≡ t → cond t 0 ((laneAt s k) .len) ≤ 2
         go true e = omega arith
         go false e = lane-most 2 (laneAt s k) (rw e at (c .places k l .lane))
 
-module _ (s : Station) (r : Record) (other : r .station ≡ s .own → ⊥) where
-  otherLen-same : (j : ℕ) → (j ≡ r .station → ⊥) → otherLen (heardNewer s r) j ≡ otherLen s j
-  otherLen-same j ne = rw (heard-own s r, lane-other s r j ne)
+module _ (s : Station) (r : Record) (other : r .station ≡ s .own → ⊥) (shape : Shaped s) (b : r .station < 16) where
+  len-same : (j : ℕ) → (j ≡ r .station → ⊥) → otherLen (s .own) (heardNewer s r) j ≡ otherLen (s .own) s j
+  len-same j ne = ap (λ (c : Cell). cond (eqb j (s .own)) 0 (c .lane .len)) (heard-other s r j ne)
+
+  len-here :
+      otherLen (s .own) (heardNewer s r) (r .station)
+      ≡ (cond (takes s r) (pushed (laneAt s (r .station)) (r .body)) (laneAt s (r .station))) .len
+  len-here = rw (ne-eqb (r .station) (s .own) other) (ap (λ (c : Cell). c .lane .len) (heard-here s r shape b))
+
+  lens-heard : otherLens (heardNewer s r) ≡ total (s .n) (otherLen (s .own) (heardNewer s r))
+  unfolding otherLens
+  lens-heard = let n = heard-n s r in let own = heard-own s r in λ i. total (n i) (otherLen (own i) (heardNewer s r))
 
   -- nothing is taken
-  otherLens-kept : r .station < length (s .lanes) → takes s r ≡ false → otherLens (heardNewer s r) ≡ otherLens s
+  otherLens-kept : takes s r ≡ false → otherLens (heardNewer s r) ≡ otherLens s
   unfolding otherLens
-  otherLens-kept b e =
-      rw (heard-n s r) (total-ext (s .n) (otherLen (heardNewer s r)) (otherLen s) each)
+  otherLens-kept e = lens-heard ∙ total-ext (s .n) (otherLen (s .own) (heardNewer s r)) (otherLen (s .own) s) each
     where
-      each : (k : ℕ) → k < s .n → otherLen (heardNewer s r) k ≡ otherLen s k
+      each : (k : ℕ) → k < s .n → otherLen (s .own) (heardNewer s r) k ≡ otherLen (s .own) s k
       each k l =
           elim (ℕ-discrete k (r .station)) [
-            | yes same ↦ rw (same, heard-own s r, lane-here s r b, e)
-            | no ne ↦ otherLen-same k ne
+            | yes same ↦ rw same (len-here ∙ rw (e, ne-eqb (r .station) (s .own) other))
+            | no ne ↦ len-same k ne
           ]
 
   -- a body is taken
   otherLens-raised :
-      r .station < s .n → r .station < length (s .lanes) → takes s r ≡ true → (laneAt s (r .station)) .len < 2 →
-      otherLens (heardNewer s r) ≡ suc (otherLens s)
+      r .station < s .n → takes s r ≡ true → (laneAt s (r .station)) .len < 2 → otherLens (heardNewer s r) ≡ suc (otherLens s)
   unfolding otherLens
-  otherLens-raised l b e room =
-      rw (heard-n s r)
-      (total-raised (s .n) (otherLen s) (otherLen (heardNewer s r)) (r .station) l
-      (rw (heard-own s r, ne-eqb (r .station) (s .own) other, lane-here s r b, e) (len-pushed (laneAt s (r .station)) (r .body) room))
-      (λ k m ne. otherLen-same k ne))
+  otherLens-raised l e room =
+      lens-heard
+      ∙ total-raised (s .n) (otherLen (s .own) s) (otherLen (s .own) (heardNewer s r)) (r .station) l
+      (len-here ∙ rw (e, ne-eqb (r .station) (s .own) other) (len-pushed (laneAt s (r .station)) (r .body) room))
+      (λ k m ne. len-same k ne)
 
 -- what holds of a hearing h that began as a
 pub record Hears (a h : Hearing) : Type 0 where
@@ -111,9 +120,6 @@ module _ (a : Hearing) (c : Inside (a .station)) where
     below : r .station < 16
     below = omega (arith, c .high, carry .station)
 
-    fits : r .station < length (h .station .lanes)
-    fits = rw (hs .shaped .lanes) below
-
     takings-most :
         heeds (h .station) r ≡ true → (h .overfull || (takes (h .station) r && leb 2 ((laneAt (h .station) (r .station)) .len))) ≡ false →
         length (h .takings ++ cond (takes (h .station) r) (record { source = r .station; body = r .body } ∷ []) [])
@@ -134,11 +140,11 @@ module _ (a : Hearing) (c : Inside (a .station)) where
             let room : (laneAt (h .station) (r .station)) .len < 2 =
             leb-false 2 ((laneAt (h .station) (r .station)) .len) (rw taken at (or-right (h .overfull) full f)) in
             let more : otherLens (heardNewer (h .station) r) ≡ suc (otherLens (h .station)) =
-            otherLens-raised (h .station) r (heeds-other (h .station) r e) (here .station) fits taken room in
+            otherLens-raised (h .station) r (heeds-other (h .station) r e) (hs .shaped) below (here .station) taken room in
             rw (length-append (h .takings) (record { source = r .station; body = r .body } ∷ [])) (omega (arith, so-far))
         go false passed =
             let same : otherLens (heardNewer (h .station) r) ≡ otherLens (h .station) =
-            otherLens-kept (h .station) r (heeds-other (h .station) r e) fits passed in
+            otherLens-kept (h .station) r (heeds-other (h .station) r e) (hs .shaped) below passed in
             rw (append-nil (h .takings)) (omega (arith, so-far))
 
     hears-newer : heeds (h .station) r ≡ true → Hears a (heardOne h r)
@@ -151,7 +157,7 @@ module _ (a : Hearing) (c : Inside (a .station)) where
           waiting = heard-waiting (h .station) r ∙ hs .waiting;
           body = heard-body (h .station) r ∙ hs .body;
           lane =
-              lane-other (h .station) r (a .station .own) (λ z. heeds-other (h .station) r e (sym z ∙ sym (hs .own))) ∙ hs .lane;
+              ap (λ (x : Cell). x .lane) (heard-other (h .station) r (a .station .own) (λ z. heeds-other (h .station) r e (sym z ∙ sym (hs .own)))) ∙ hs .lane;
           shaped = heardNewer-shaped (h .station) r below (hs .shaped);
           inside =
               λ f. heard-holds (h .station) r (hs .shaped) (hs .inside (or-left (h .overfull) full f)) here e (or-right (h .overfull) full f);

@@ -1,39 +1,36 @@
 -- A turn keeps the limits: airing removes from lanes, what starts is inside its limits and goes into an own lane that is empty, the own label becomes a
 -- label, and the own record gets the station's present values.
 use Prim.Native.Nat.{ℕ, _<_}
-use mathlib.Core.Bool.{Bool, true, false, cond}
-use mathlib.Core.List.{List}
-use mathlib.Core.Path.{_≡_, refl, sym, subst, _∙_}
+use mathlib.Core.Bool.{Bool, true, cond}
+use mathlib.Core.Path.{_≡_, refl, sym, ap, subst, _∙_}
 use native.Mathlib.Decide.{ℕ-discrete}
 use native.Mathlib.Omega.{arith}
 use lib.Dec.{eqb}
-use lib.ListN.{getD, set, length}
-use lib.Seq.{getD-set-same, getD-set-other}
 use borrow.Author.Tests.{eq-eqb}
 use Rattle.kinds.specs.declared.Body.{Body}
 use Rattle.kinds.specs.declared.Body.the-variants.{Empty, Neutral}
-use Rattle.kinds.specs.Body.{kindOf}
+use Rattle.kinds.specs.Body.{isEmpty}
 use Rattle.kind_limits.specs.Limits.{bodyInside}
 use Rattle.labels.specs.Label.{isLabel, successor}
-use Rattle.places.specs.Places.{fill}
 use Rattle.places.proofs.Laws.{fill-below}
-use Rattle.places.proofs.Keeps.{cond-keeps, set-keeps}
+use Rattle.places.proofs.Keeps.{cond-keeps}
 use Rattle.lanes.specs.declared.Lane.{Lane}
-use Rattle.lanes.specs.declared.Queue.{Queue}
+use Rattle.lanes.specs.declared.Waiting.{Waiting}
 use Rattle.station_rules.specs.declared.Station.{Station}
-use Rattle.lanes.specs.Lane.{pushed}
-use Rattle.lanes.specs.Queue.{oldest, unqueued}
-use Rattle.frame_rules.specs.Record.{noRecord}
-use Rattle.station_rules.specs.State.{labelOf, heldOf, recordOf, laneAt}
-use Rattle.station_rules.specs.Limits.{laneInside, takeable, queueInside, stationInside}
+use Rattle.lanes.specs.Lane.{pushed, popped}
+use Rattle.lanes.specs.Waiting.{nextEdit, withoutNext, waitingInside}
+use Rattle.lanes.proofs.WaitingLaws as waiting
+use Rattle.station_rules.specs.State.{Cell, cellOf, labelOf, ackedOf, recordOf, laneAt, withEntry, withCell}
+use Rattle.station_rules.specs.Limits.{laneInside, takeable, stationInside}
 use Rattle.station_rules.specs.Turn.{airs, ends, startsEdit, startedBody, passed, ownRecord, rewritten, afterTurn}
-use Rattle.station_rules.proofs.BodyLaws.{edit-takeable, takeable-inside, empty-inside, neutral-takeable}
-use Rattle.station_rules.proofs.Shape.{Shaped, lanesAfter-length, passed-shaped}
+use Rattle.station_rules.proofs.BodyLaws.{postable-takeable, takeable-inside, empty-inside, neutral-takeable}
+use Rattle.station_rules.proofs.Setters.{Shaped, cell-self, cell-here, cell-other}
+use Rattle.station_rules.proofs.Shape.{passed-shaped}
 use Rattle.station_rules.proofs.LimitsLane.{popped-inside, pushed-inside}
-use Rattle.station_rules.proofs.LimitsQueue.{unqueued-inside, oldest-edit}
-use Rattle.station_rules.proofs.StationLimits.{RecordHolds, PlaceHolds, Inside, inside-open, inside-make}
+use Rattle.station_rules.proofs.StationLimits.{RecordHolds, CellHolds, InsideAs, Inside, inside-as, inside-open, inside-make}
 use Rattle.station_rules.proofs.LimitsHear.{successor-label}
-use Rattle.station_rules.proofs.TurnLaws.{laneAfter, after-aired, after-kept, Start, Start.anEdit, Start.aNeutral, Start.nothing, start, passed-own-lane, passed-other-lane}
+use Rattle.station_rules.proofs.TurnCells.{laneAfter, lane-after, passed-n, passed-own, passed-waiting, passed-body, passed-cell-own, passed-cell-other, turn-n, turn-own}
+use Rattle.station_rules.proofs.TurnLaws.{Start, Start.anEdit, Start.aNeutral, Start.nothing, start}
 
 module _ (s : Station) (shape : Shaped s) (c : Inside s) where
   -- what starts is Empty, or is put into an empty own lane, which may hold it
@@ -43,86 +40,71 @@ module _ (s : Station) (shape : Shaped s) (c : Inside s) where
     where
       go : Start s → P (startedBody s)
       go (anEdit e room w b) =
-          subst P (sym b) (some (oldest (s .waiting)) (edit-takeable (oldest (s .waiting)) (oldest-edit (s .waiting) (c .waiting) w)) room)
+          subst P (sym b) (some (nextEdit (s .waiting)) (postable-takeable (nextEdit (s .waiting)) (waiting.next-postable (s .waiting) (c .waiting) w)) room)
       go (aNeutral e room b) = subst P (sym b) (some Neutral neutral-takeable room)
       go (nothing e b) = subst P (sym b) none
 
   started-inside : bodyInside (startedBody s) ≡ true
   started-inside = started-cases (λ b. bodyInside b ≡ true) empty-inside (λ b h room. takeable-inside b h)
 
-  fits : (k : ℕ) → k < s .n → k < length (s .lanes)
-  fits k l = rw (shape .lanes) (omega (arith, c .high))
-
   after-inside : (k most : ℕ) → k < s .n → laneInside most (laneAt s k) ≡ true → laneInside most (laneAfter s k) ≡ true
-  after-inside k most l h = go (airs s) refl
-    where
-      go : (t : Bool) → airs s ≡ t → laneInside most (laneAfter s k) ≡ true
-      go true e = rw (after-aired s k l (fits k l) e) (popped-inside most (laneAt s k) h)
-      go false e = rw (after-kept s k e) h
+  after-inside k most l h =
+      rw (lane-after s shape (c .high) (c .own) k l)
+      (cond-keeps (λ (x : Lane). laneInside most x ≡ true) (airs s) (popped (laneAt s k)) (laneAt s k) (popped-inside most (laneAt s k) h) h)
 
-  own-inside : laneInside 1 (laneAt (passed s) (s .own)) ≡ true
+  -- the own lane gets what starts
+  own-inside :
+      laneInside 1 (cond (isEmpty (startedBody s)) (laneAfter s (s .own)) (pushed (laneAfter s (s .own)) (startedBody s))) ≡ true
   own-inside =
       let most : _≡_ {A = ℕ} (cond (eqb (s .own) (s .own)) 1 2) 1 = rw (eq-eqb (s .own) (s .own) refl) in
       let after : laneInside 1 (laneAfter s (s .own)) ≡ true =
       after-inside (s .own) 1 (c .own) (rw most at (c .places (s .own) (c .own) .lane)) in
-      rw (passed-own-lane s (rw (lanesAfter-length s) (fits (s .own) (c .own))))
-      (started-cases
-      (λ b. laneInside 1 (cond (eqb (kindOf b) 0) (laneAfter s (s .own)) (pushed (laneAfter s (s .own)) b)) ≡ true)
+      started-cases
+      (λ b. laneInside 1 (cond (isEmpty b) (laneAfter s (s .own)) (pushed (laneAfter s (s .own)) b)) ≡ true)
       after
-      (λ b h room. cond-keeps (λ (l : Lane). laneInside 1 l ≡ true) (eqb (kindOf b) 0) (laneAfter s (s .own)) (pushed (laneAfter s (s .own)) b)
+      (λ b h room. cond-keeps (λ (l : Lane). laneInside 1 l ≡ true) (isEmpty b) (laneAfter s (s .own)) (pushed (laneAfter s (s .own)) b)
       after
-      (pushed-inside 1 (laneAfter s (s .own)) b after (omega arith) (omega arith) h)))
+      (pushed-inside 1 (laneAfter s (s .own)) b after (omega arith) (omega arith) h))
 
-  lane-inside : (k : ℕ) → k < s .n → laneInside (cond (eqb k (s .own)) 1 2) (laneAt (passed s) k) ≡ true
-  lane-inside k l =
-      elim (ℕ-discrete k (s .own)) [
-        | yes same ↦
-            subst (λ (j : ℕ). laneInside (cond (eqb j (s .own)) 1 2) (laneAt (passed s) j) ≡ true) (sym same)
-            (rw (eq-eqb (s .own) (s .own) refl) own-inside)
-        | no ne ↦ rw (passed-other-lane s k ne) (after-inside k (cond (eqb k (s .own)) 1 2) l (c .places k l .lane))
-      ]
+  own-cell : CellHolds (s .n) (s .own) (s .own) (cellOf (passed s) (s .own))
+  own-cell =
+      let before = c .places (s .own) (c .own) in
+      rw (passed-cell-own s shape (c .high) (c .own))
+      (record {
+        label =
+            cond-keeps (λ (x : ℕ). isLabel x ≡ true) (ends s) (successor (labelOf s (s .own))) (labelOf s (s .own))
+            (successor-label (labelOf s (s .own))) (before .label);
+        held = before .held;
+        lane = rw (eq-eqb (s .own) (s .own) refl) own-inside;
+      })
 
-  label-inside : (k : ℕ) → k < s .n → isLabel (labelOf (passed s) k) ≡ true
-  unfolding passed
-  label-inside k l =
-      cond-keeps (λ (ls : List ℕ). isLabel (getD ls k 0) ≡ true) (ends s)
-      (set (s .labels) (s .own) (successor (labelOf s (s .own)))) (s .labels)
-      (set-keeps (λ (x : ℕ). isLabel x ≡ true) (s .labels) (s .own) (successor (labelOf s (s .own))) 0 k
-      (rw (shape .labels) (omega (arith, c .high))) (c .places k l .label) (successor-label (labelOf s (s .own))))
-      (c .places k l .label)
+  other-cell : (k : ℕ) → k < s .n → (k ≡ s .own → ⊥) → CellHolds (s .n) (s .own) k (cellOf (passed s) k)
+  other-cell k l d =
+      let before = c .places k l in
+      rw (passed-cell-other s shape (c .high) (c .own) k l d)
+      (record { label = before .label; held = before .held; lane = after-inside k (cond (eqb k (s .own)) 1 2) l (before .lane) })
 
-  passed-place : (k : ℕ) → k < s .n → PlaceHolds (passed s) k
-  passed-place k l =
-      record {
-        label = label-inside k l;
-        held = unfold passed in (c .places k l .held);
-        lane = lane-own k l;
-      }
-    where
-      lane-own : (j : ℕ) → j < s .n → laneInside (cond (eqb j ((passed s) .own)) 1 2) (laneAt (passed s) j) ≡ true
-      lane-own j m = rw (own-same) (lane-inside j m)
-        where
-          own-same : (passed s) .own ≡ s .own
-          own-same = unfold passed in refl
-
-  pub passed-holds : Inside (passed s)
-  unfolding passed
+  pub passed-holds : InsideAs (s .n) (s .own) (passed s)
   passed-holds =
+      let own = passed-cell-own s shape (c .high) (c .own) in
       record {
         low = c .low;
         high = c .high;
         own = c .own;
-        acked =
-            cond-keeps (λ (l : List Bool). getD l (s .own) false ≡ true) (ends s) (fill (s .n) (λ k. eqb k (s .own)) (s .acked)) (s .acked)
-            (fill-below (s .n) (λ k. eqb k (s .own)) (s .acked) (s .own) false (c .own) (rw (shape .acked) (omega (arith, c .high)))
-            ∙ eq-eqb (s .own) (s .own) refl)
-            (c .acked);
-        held = c .held;
-        body = cond-keeps (λ (b : Body). bodyInside b ≡ true) (ends s) (startedBody s) (s .body) started-inside (c .body);
+        acked = ap (λ (x : Cell). x .acked) own ∙ cond-keeps (λ (b : Bool). b ≡ true) (ends s) true (ackedOf s (s .own)) refl (c .acked);
+        held = ap (λ (x : Cell). x .held) own ∙ c .held;
+        body =
+            rw (passed-body s)
+            (cond-keeps (λ (b : Body). bodyInside b ≡ true) (ends s) (startedBody s) (s .body) started-inside (c .body));
         waiting =
-            cond-keeps (λ (q : Queue). queueInside q ≡ true) (startsEdit s) (unqueued (s .waiting)) (s .waiting)
-            (unqueued-inside (s .waiting) (shape .slots) (c .waiting)) (c .waiting);
-        places = passed-place;
+            rw (passed-waiting s)
+            (cond-keeps (λ (w : Waiting). waitingInside w ≡ true) (startsEdit s) (withoutNext (s .waiting)) (s .waiting)
+            (waiting.started-inside (s .waiting) (shape .waiting) (c .waiting)) (c .waiting));
+        places =
+            λ k l. elim (ℕ-discrete k (s .own)) [
+              | yes same ↦ subst (λ (j : ℕ). CellHolds (s .n) (s .own) j (cellOf (passed s) j)) (sym same) own-cell
+              | no d ↦ other-cell k l d
+            ];
       }
 
 module _ (s : Station) (shape : Shaped s) (c : Inside s) where
@@ -139,33 +121,37 @@ module _ (s : Station) (shape : Shaped s) (c : Inside s) where
             (c .places j l .label);
       }
 
-  rewritten-held : (k : ℕ) → k < s .n → heldOf s k ≡ true → RecordHolds (s .n) (s .own) k (recordOf (rewritten s) k)
-  unfolding rewritten
-  rewritten-held k l e =
-      elim (ℕ-discrete k (s .own)) [
-        | yes same ↦
-            subst (λ (j : ℕ). RecordHolds (s .n) (s .own) j (getD (set (s .table) (s .own) (ownRecord s)) j noRecord)) (sym same)
-            (rw (getD-set-same (s .table) (s .own) (ownRecord s) noRecord (rw (shape .table) (omega (arith, c .high, c .own)))) own-holds)
-        | no ne ↦ rw (getD-set-other (s .table) (s .own) k (ownRecord s) noRecord ne) (c .places k l .held e)
-      ]
-
-  pub rewritten-holds : Inside (rewritten s)
+  pub rewritten-holds : InsideAs (s .n) (s .own) (rewritten s)
   unfolding rewritten
   rewritten-holds =
+      let cell = withEntry (cellOf s (s .own)) (ownRecord s) in
+      let own : cellOf (withCell s (s .own) cell) (s .own) ≡ cell = cell-here s (s .own) cell shape (omega (arith, c .high, c .own)) in
+      let self = cell-self s (s .own) cell in
+      let before = c .places (s .own) (c .own) in
       record {
         low = c .low;
         high = c .high;
         own = c .own;
-        acked = c .acked;
-        held = c .held;
-        body = c .body;
-        waiting = c .waiting;
-        places = λ k l. record { label = c .places k l .label; held = rewritten-held k l; lane = c .places k l .lane };
+        acked = ap (λ (x : Cell). x .acked) own ∙ c .acked;
+        held = ap (λ (x : Cell). x .held) own ∙ c .held;
+        body = rw (self .body) (c .body);
+        waiting = rw (self .waiting) (c .waiting);
+        places =
+            λ k l. elim (ℕ-discrete k (s .own)) [
+              | yes same ↦
+                  subst (λ (j : ℕ). CellHolds (s .n) (s .own) j (cellOf (rewritten s) j)) (sym same)
+                  (rw own (record { label = before .label; held = λ e. own-holds; lane = before .lane }))
+              | no d ↦ rw (cell-other s (s .own) cell k d) (c .places k l)
+            ];
       }
 
 pub turn-holds : (s : Station) → Shaped s → Inside s → Inside (afterTurn s)
 unfolding afterTurn
-turn-holds s shape c = rewritten-holds (passed s) (passed-shaped s shape) (passed-holds s shape c)
+turn-holds s shape c =
+    let low : s .own < 16 = omega (arith, c .high, c .own) in
+    let p : Inside (passed s) = inside-as (s .n) (s .own) (passed s) (passed-n s) (passed-own s) (passed-holds s shape c) in
+    inside-as ((passed s) .n) ((passed s) .own) (afterTurn s) (turn-n s ∙ sym (passed-n s)) (turn-own s ∙ sym (passed-own s))
+    (rewritten-holds (passed s) (passed-shaped s low shape) p)
 
 pub turn-inside : (s : Station) → Shaped s → stationInside s ≡ true → stationInside (afterTurn s) ≡ true
 turn-inside s shape h = inside-make (afterTurn s) (turn-holds s shape (inside-open s h))

@@ -9,27 +9,18 @@ use lib.IntN.{pos}
 use lib.ListN.{set, replicate}
 use Rattle.kinds.specs.declared.Body.{Body}
 use Rattle.kinds.specs.declared.Body.the-variants.{Empty, Neutral, Insert, Drop}
-use Rattle.kind_limits.specs.Limits.{isEdit, bodyInside, numbersInside}
-use Rattle.labels.specs.Newer.{isNewer}
-use Rattle.labels.specs.Label.{allLabels}
-use Rattle.label_words.specs.Packing.{packed, unpacked, allZero, wordInside}
-use Rattle.kinds.specs.Body.{bodyOf}
 use Rattle.kinds.specs.Refusals.{done, queueFull}
-use Rattle.places.specs.Places.{allBelow, anyBelow, fill, gather, tabulate}
 use Rattle.frame_rules.specs.declared.Record.{Record}
-use Rattle.frame_rules.specs.Words.{wordAt, wordBytes, signed, unsigned}
-use Rattle.frame_rules.specs.Record.{recordOf, recordBytes, bytesInside, framed}
-use Rattle.frame_rules.specs.Frame.{shapeWrong, addressWrong, recordsInside, frameRefusal, recordsOf, recordsBytes, frameBytes}
-use Rattle.frame_rules.specs.Calls.{tableRecords}
-use Rattle.lanes.specs.Lane.{bodies, laneOf}
-use Rattle.lanes.specs.Queue.{noSlot, noneWaiting, queued, oldest, unqueued, waitingBodies}
+use Rattle.lanes.specs.Lane.{bodies}
+use Rattle.lanes.specs.Queue.{queueCapacity, noSlot}
+use Rattle.lanes.specs.Waiting.{waitingEdits}
 use Rattle.station_rules.specs.declared.Station.{Station}
 use Rattle.station_rules.specs.declared.TurnReport.{TurnReport}
-use Rattle.station_rules.specs.State.{sentRecords, freshStation, labelOf, ackedOf, heldOf, laneAt}
-use Rattle.station_rules.specs.Limits.{stationInside, queueInside, placeInside, recordInside, laneInside}
-use Rattle.station_rules.specs.Hearing.{Hearing, silent, replaced, heardNewer, hearRecord, hearRecords}
-use Rattle.station_rules.specs.Turn.{airs, rowOf, lanesAfter, ends, startedBody, passed, ownRecord, rewritten, afterTurn, turnReport}
-use Rattle.station_rules.specs.Calls.{posted, postCall, frameOf, hearCall}
+use Rattle.station_rules.specs.State.{aloneSetup, freshStation, labelOf, ackedOf, heldOf, laneAt}
+use Rattle.station_rules.specs.Hearing.{Hearing, silent, hearRecord}
+use Rattle.station_rules.specs.Turn.{afterTurn, turnReport}
+use Rattle.station_rules.specs.Calls.{postCall, frameOf, hearCall}
+use Rattle.station_rules.proofs.Computing.{stationRuns, frameRuns}
 
 abbrev edit : Body
 edit = Insert 7 (pos 100)
@@ -47,7 +38,7 @@ ending over next = record { aired = false; row = replicate 16 noSlot; ended = tr
 
 -- a station alone, with one edit posted: its first two turns
 abbrev alone : Station
-alone = with-edit (freshStation 1 0) edit
+alone = with-edit (freshStation aloneSetup 0) edit
 
 pub record Alone : Type 0 where
   pub starts : turnReport alone ≡ ending Empty edit
@@ -57,17 +48,17 @@ pub record Alone : Type 0 where
 
 -- a station alone, with so many edits posted
 unfoldable pub posts : ℕ → Station
-posts zero = freshStation 1 0
+posts zero = freshStation aloneSetup 0
 posts (suc k) = with-edit (posts k) edit
 
 pub record Posts : Type 0 where
   pub thirty-second : (postCall (posts 31) edit) .refusal ≡ done
-  pub thirty-third : (postCall (posts 32) edit) .refusal ≡ queueFull
+  pub thirty-third : (postCall (posts queueCapacity) edit) .refusal ≡ queueFull
 
 -- a frame that comes is heard
 pub record Frame : Type 0 where
-  pub is-heard : (hearCall (freshStation 2 0) (frameOf (freshStation 2 1))) .refusal ≡ done
-  pub shows : heldOf ((hearCall (freshStation 2 0) (frameOf (freshStation 2 1))) .station) 1 ≡ true
+  pub is-heard : (hearCall (freshStation (record { n = 2 }) 0) (frameOf (freshStation (record { n = 2 }) 1))) .refusal ≡ done
+  pub shows : heldOf ((hearCall (freshStation (record { n = 2 }) 0) (frameOf (freshStation (record { n = 2 }) 1))) .station) 1 ≡ true
 
 -- a record of station 1 with a count, a body, and its labels for station 0 and for itself
 abbrev of-one : ℕ → Body → ℕ → ℕ → Record
@@ -75,7 +66,7 @@ of-one count b zero-label own-label = record { station = 1; count = count; body 
 
 -- station 0 of two, with two edits posted, once it has heard the fresh station 1
 abbrev first : Hearing
-first = hearRecord (silent (with-edit (with-edit (freshStation 2 0) edit) other)) (of-one 0 Empty 0 1)
+first = hearRecord (silent (with-edit (with-edit (freshStation (record { n = 2 }) 0) edit) other)) (of-one 0 Empty 0 1)
 
 -- then a record that shows more, and acknowledges
 abbrev second : Hearing
@@ -107,7 +98,7 @@ pub record Pair : Type 0 where
   pub acknowledges : (ackedOf (second .station) 1 ≡ true) × (second .station .count ≡ 1) × (labelOf (second .station) 1 ≡ 1)
   -- all are acknowledged: the turn starts the first edit, and the other waits
   pub starts : turnReport (second .station) ≡ ending Empty edit
-  pub waits : waitingBodies (afterTurn (second .station) .waiting) ≡ other ∷ []
+  pub waits : waitingEdits (afterTurn (second .station) .waiting) ≡ other ∷ []
   -- that one ends while it stands in the own lane: Empty starts
   pub full : turnReport (third .station) ≡ ending edit Empty
   -- a body of station 1 is taken and fills the row
@@ -128,19 +119,19 @@ pub record Pair : Type 0 where
 
 -- by computation
 pub alone-runs : Alone
-unfolding postCall posted stationInside queueInside placeInside recordInside laneInside isEdit bodyInside numbersInside freshStation noneWaiting queued oldest unqueued allBelow fill bodies laneOf airs rowOf lanesAfter ends startedBody passed ownRecord rewritten afterTurn turnReport
+unfolding stationRuns
 alone-runs = record { starts = refl; airs-it = refl }
 
 pub posts-runs : Posts
-unfolding posts postCall posted stationInside queueInside placeInside recordInside laneInside isEdit bodyInside numbersInside freshStation noneWaiting queued allBelow bodies laneOf
+unfolding posts stationRuns
 posts-runs = record { thirty-second = refl; thirty-third = refl }
 
 pub frame-runs : Frame
-unfolding hearCall frameOf sentRecords tableRecords frameBytes recordsBytes recordBytes recordOf recordsOf wordBytes wordAt signed unsigned packed unpacked allLabels allZero wordInside frameRefusal shapeWrong addressWrong recordsInside bytesInside bodyOf gather tabulate anyBelow framed stationInside queueInside placeInside recordInside laneInside bodyInside numbersInside freshStation noneWaiting allBelow fill isNewer replaced heardNewer hearRecord hearRecords
+unfolding frameRuns
 frame-runs = record { is-heard = refl; shows = refl }
 
 pub pair-runs : Pair
-unfolding postCall posted stationInside queueInside placeInside recordInside laneInside isEdit bodyInside numbersInside freshStation noneWaiting queued oldest unqueued waitingBodies allBelow fill bodies laneOf isNewer replaced heardNewer hearRecord airs rowOf lanesAfter ends startedBody passed ownRecord rewritten afterTurn turnReport
+unfolding stationRuns
 pair-runs =
     record {
       heard = (refl, refl, refl, refl, refl);

@@ -3,19 +3,17 @@
 use Prim.Native.Nat.{ℕ, _<_}
 use mathlib.Core.Bool.{true}
 use mathlib.Core.Path.{_≡_, ap}
-use borrow.Author.Tests.{lt-ltb}
 use Rattle.kinds.specs.Refusals.{done}
 use Rattle.frame_rules.specs.Record.{recordFits}
 use Rattle.frame_rules.specs.Frame.{recordsOf, frameRefusal}
 use Rattle.frame_rules.specs.Calls.{tableRecords}
+use Rattle.frame_rules.proofs.Limits.{fits-make}
 use Rattle.frame_rules.proofs.TableTrip.{table-read, table-accepted}
-use Rattle.places.proofs.Laws.{and-both}
 use Rattle.station_rules.specs.declared.Station.{Station}
-use Rattle.station_rules.specs.State.{heldOf, recordOf, sentRecords}
+use Rattle.station_rules.specs.State.{cellOf, heldOf, recordOf, sentRecords}
 use Rattle.station_rules.specs.Hearing.{Hearing, hearRecords}
 use Rattle.station_rules.specs.Calls.{ownCountInside, frameOf}
 use Rattle.station_rules.proofs.StationLimits.{Inside}
-use Rattle.station_rules.proofs.WriteSteps.{writable}
 use Rattle.station_rules.proofs.LimitsSent.{sent-count}
 
 module _ (s : Station) (c : Inside s) (fits : ownCountInside s ≡ true) where
@@ -23,21 +21,18 @@ module _ (s : Station) (c : Inside s) (fits : ownCountInside s ≡ true) where
   place k l e = c .places k l .held e .station
 
   pub record-fits : (k : ℕ) → k < s .n → heldOf s k ≡ true → recordFits (s .n) (recordOf s k) ≡ true
-  unfolding recordFits
+  unfolding cellOf
   record-fits k l e =
       let h = c .places k l .held e in
-      and-both
-      (and-both
-      (and-both (lt-ltb ((recordOf s k) .station) (s .n) (rw (h .station) l)) (sent-count s c fits k l e))
-      (h .body))
-      (writable s c .labels k l e)
+      fits-make (s .n) (recordOf s k)
+      (record { station = rw (h .station) l; count = sent-count s c fits k l e; body = h .body; labels = h .labels })
 
   pub sent-read : recordsOf (frameOf s) ≡ sentRecords s
-  unfolding sentRecords tableRecords frameOf
+  unfolding cellOf sentRecords tableRecords frameOf
   sent-read = table-read (s .n) (s .own) (s .held) (s .table) (c .high) place record-fits (c .held) (c .own)
 
   pub sent-accepted : (own : ℕ) → (s .own ≡ own → ⊥) → frameRefusal (frameOf s) (s .n) own ≡ done
-  unfolding sentRecords tableRecords frameOf
+  unfolding cellOf sentRecords tableRecords frameOf
   sent-accepted = table-accepted (s .n) (s .own) (s .held) (s .table) (c .high) place record-fits (c .held) (c .own)
 
   -- the hearer makes the same of the frame as of the table

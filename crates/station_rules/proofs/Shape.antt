@@ -1,134 +1,94 @@
--- The lengths that a station's arrays have by their types: sixteen places, thirty-two slots, sixteen labels in each record of the table. Every step of
--- a station keeps them, for it only changes entries.
+-- Every step of a station keeps the lengths of its arrays, for it only changes entries: each is made of setters, and these keep them.
 use Prim.Native.Nat.{ℕ, _<_}
 use mathlib.Core.Bool.{Bool, true, false, cond, _&&_}
-use mathlib.Core.List.{List}
 use mathlib.Core.Path.{_≡_, refl, _∙_}
-use lib.ListN.{getD, set, length, length-set, replicate, getD-replicate}
 use native.Mathlib.Omega.{arith}
 use lib.Dec.{eqb, ltb}
 use borrow.Author.Tests.{ltb-true}
 use Rattle.kinds.specs.declared.Body.{Body}
-use Rattle.kinds.specs.Body.{kindOf}
-use Rattle.labels.specs.Label.{successor}
+use Rattle.kinds.specs.Body.{isEmpty}
 use Rattle.frame_rules.specs.declared.Record.{Record}
-use Rattle.places.specs.Places.{fill}
 use Rattle.places.proofs.Laws.{and-right, length-fill}
-use Rattle.places.proofs.Keeps.{set-keeps, cond-keeps}
-use Rattle.lanes.specs.declared.Lane.{Lane}
-use Rattle.lanes.specs.declared.Queue.{Queue}
+use Rattle.places.proofs.Keeps.{cond-keeps}
+use Rattle.lanes.specs.Lane.{popped}
+use Rattle.lanes.specs.Waiting.{waitingCount, withPosted, withoutNext}
+use Rattle.lanes.proofs.WaitingLaws as laws
+use Rattle.lanes.proofs.WaitingLaws.{WaitingSized}
 use Rattle.station_rules.specs.declared.Station.{Station}
-use Rattle.lanes.specs.Lane.{noLane, pushed, popped}
-use Rattle.lanes.specs.Queue.{queued, unqueued, noneWaiting}
-use Rattle.lanes.proofs.QueueLaws.{unqueued-slots}
-use Rattle.frame_rules.specs.Record.{noRecord, zeroRecord}
-use Rattle.station_rules.specs.State.{recordOf, recordLabel, labelOf, laneAt, freshStation}
+use Rattle.station_rules.specs.State.{recordOf, recordLabel, labelOf, laneAt, withBroadcast, withCell, withAcked, withLanes}
 use Rattle.station_rules.specs.Hearing.{replaced, heardNewer}
-use Rattle.station_rules.specs.Turn.{airs, ends, mayStart, startsEdit, startedBody, lanesAfter, passed, ownRecord, rewritten, afterTurn}
+use Rattle.station_rules.specs.Turn.{airs, ends, mayStart, startsEdit, startedBody, afterAiring, begins, takesOwn, passed, ownRecord, rewritten}
 use Rattle.station_rules.specs.Calls.{posted}
-
-pub record Shaped (s : Station) : Type 0 where
-  pub acked : length (s .acked) ≡ 16
-  pub labels : length (s .labels) ≡ 16
-  pub held : length (s .held) ≡ 16
-  pub table : length (s .table) ≡ 16
-  pub lanes : length (s .lanes) ≡ 16
-  pub slots : length (s .waiting .slots) ≡ 32
-  pub record-labels : (k : ℕ) → k < 16 → length ((recordOf s k) .labels) ≡ 16
-
-abbrev LabelsShaped : Record → Type 0
-LabelsShaped r = length (r .labels) ≡ 16
-
-pub fresh-shaped : (n own : ℕ) → Shaped (freshStation n own)
-unfolding freshStation noneWaiting
-fresh-shaped n own =
-    record {
-      acked = simp length-set;
-      labels = simp length-set;
-      held = simp length-set;
-      table = simp length-set;
-      lanes = refl;
-      slots = refl;
-      record-labels =
-          λ k h. set-keeps LabelsShaped (replicate 16 zeroRecord) own _ noRecord k h
-          (rw (getD-replicate 16 k zeroRecord noRecord h)) (simp length-set);
-    }
-
-pub queued-slots : (q : Queue) (b : Body) → length ((queued q b) .slots) ≡ length (q .slots)
-unfolding queued
-queued-slots q b = length-set (q .slots) (q .len) (record { body = b })
+use Rattle.station_rules.proofs.Setters.{LabelsShaped, Shaped, SameSelf, self-refl, lanes-self, SameButWaiting, waiting-same, waiting-shaped, broadcast-shaped, cell-shaped, acked-shaped, lanes-shaped}
 
 -- the waiting edits after a turn
-waiting-slots : (s : Station) → length (s .waiting .slots) ≡ 32 → length ((cond (startsEdit s) (unqueued (s .waiting)) (s .waiting)) .slots) ≡ 32
-waiting-slots s e = go (startsEdit s) refl
+waiting-sized : (s : Station) → WaitingSized (s .waiting) → WaitingSized (cond (startsEdit s) (withoutNext (s .waiting)) (s .waiting))
+waiting-sized s e = go (startsEdit s) refl
   where
-    go : (t : Bool) → startsEdit s ≡ t → length ((cond t (unqueued (s .waiting)) (s .waiting)) .slots) ≡ 32
+    go : (t : Bool) → startsEdit s ≡ t → WaitingSized (cond t (withoutNext (s .waiting)) (s .waiting))
     go true h =
-        let waits = ltb 0 (s .waiting .len) in
-        let some : 0 < s .waiting .len = ltb-true 0 (s .waiting .len) (and-right (mayStart s) waits (and-right (ends s) (mayStart s && waits) h)) in
-        unqueued-slots (s .waiting) some (omega arith) ∙ e
+        let waits = ltb 0 (waitingCount (s .waiting)) in
+        let some = ltb-true 0 (waitingCount (s .waiting)) (and-right (mayStart s) waits (and-right (ends s) (mayStart s && waits) h)) in
+        laws.started-sized (s .waiting) some e
     go false h = e
 
-pub posted-shaped : (s : Station) (b : Body) → Shaped s → Shaped (posted s b)
+-- a post changes waiting edits only
+pub posted-same : (s : Station) (b : Body) → SameButWaiting s (posted s b)
 unfolding posted
-posted-shaped s b c =
-    record {
-      acked = c .acked;
-      labels = c .labels;
-      held = c .held;
-      table = c .table;
-      lanes = c .lanes;
-      slots = queued-slots (s .waiting) b ∙ c .slots;
-      record-labels = c .record-labels;
-    }
+posted-same s b = waiting-same s (withPosted (s .waiting) b) (laws.posted-sized (s .waiting) b)
 
-replaced-labels : (n : ℕ) (old r : Record) → length (old .labels) ≡ 16 → LabelsShaped (replaced n old r)
+pub posted-shaped : (s : Station) (b : Body) → Shaped s → Shaped (posted s b)
+posted-shaped s b c = posted-same s b .shape c
+
+replaced-labels : (n : ℕ) (old r : Record) → LabelsShaped old → LabelsShaped (replaced n old r)
 unfolding replaced
 replaced-labels n old r e = length-fill n (recordLabel r) (old .labels) ∙ e
 
 pub heardNewer-shaped : (s : Station) (r : Record) → r .station < 16 → Shaped s → Shaped (heardNewer s r)
 unfolding heardNewer
 heardNewer-shaped s r b c =
-    record {
-      acked = length-set (s .acked) (r .station) _ ∙ c .acked;
-      labels = length-set (s .labels) (r .station) _ ∙ c .labels;
-      held = length-set (s .held) (r .station) _ ∙ c .held;
-      table = length-set (s .table) (r .station) _ ∙ c .table;
-      lanes = length-set (s .lanes) (r .station) _ ∙ c .lanes;
-      slots = c .slots;
-      record-labels =
-          λ k h. set-keeps LabelsShaped (s .table) (r .station) _ noRecord k (rw (c .table) h) (c .record-labels k h)
-          (replaced-labels (s .n) (recordOf s (r .station)) r (c .record-labels (r .station) b));
-    }
+    cell-shaped (withBroadcast s (s .body) _) (r .station) _
+    (replaced-labels (s .n) (recordOf s (r .station)) r (c .record-labels (r .station) b))
+    (broadcast-shaped s (s .body) _ c)
 
-pub lanesAfter-length : (s : Station) → length (lanesAfter s) ≡ length (s .lanes)
-unfolding lanesAfter
-lanesAfter-length s =
-    cond-keeps (λ (l : List Lane). length l ≡ length (s .lanes)) (airs s) (fill (s .n) (λ k. popped (laneAt s k)) (s .lanes)) (s .lanes)
-    (length-fill (s .n) (λ k. popped (laneAt s k)) (s .lanes)) refl
+-- the steps of a turn
+pub aired-self : (s : Station) → SameSelf (afterAiring s) s
+unfolding afterAiring
+aired-self s =
+    cond-keeps (λ (t : Station). SameSelf t s) (airs s) (withLanes s (λ k. popped (laneAt s k))) s
+    (lanes-self s (λ k. popped (laneAt s k))) (self-refl s)
 
-pub passed-shaped : (s : Station) → Shaped s → Shaped (passed s)
+pub aired-shaped : (s : Station) → Shaped s → Shaped (afterAiring s)
+unfolding afterAiring
+aired-shaped s c =
+    cond-keeps Shaped (airs s) (withLanes s (λ k. popped (laneAt s k))) s (lanes-shaped s (λ k. popped (laneAt s k)) c) c
+
+pub begins-shaped : (s : Station) (b : Body) → s .own < 16 → Shaped s → Shaped (begins s b)
+unfolding begins
+begins-shaped s b l c =
+    let t = withAcked (withBroadcast s b 0) (λ k. eqb k (s .own)) in
+    let shape : Shaped t = acked-shaped (withBroadcast s b 0) (λ k. eqb k (s .own)) (broadcast-shaped s b 0 c) in
+    cell-shaped t (s .own) _ (shape .record-labels (s .own) l) shape
+
+takesOwn-shaped : (s : Station) (b : Body) → s .own < 16 → Shaped s → Shaped (takesOwn s b)
+unfolding takesOwn
+takesOwn-shaped s b l c =
+    cond-keeps Shaped (isEmpty b) s (withCell s (s .own) _) c (cell-shaped s (s .own) _ (c .record-labels (s .own) l) c)
+
+begins-own : (s : Station) (b : Body) → (begins s b) .own ≡ s .own
+unfolding begins withCell withAcked
+begins-own s b = refl
+
+pub passed-shaped : (s : Station) → s .own < 16 → Shaped s → Shaped (passed s)
 unfolding passed
-passed-shaped s c =
-    let alone = fill (s .n) (λ k. eqb k (s .own)) (s .acked) in
-    let stepped = set (s .labels) (s .own) (successor (labelOf s (s .own))) in
-    let pushedLanes = set (lanesAfter s) (s .own) (pushed (getD (lanesAfter s) (s .own) noLane) (startedBody s)) in
-    record {
-      acked =
-          cond-keeps (λ (l : List Bool). length l ≡ 16) (ends s) alone (s .acked)
-          (length-fill (s .n) (λ k. eqb k (s .own)) (s .acked) ∙ c .acked) (c .acked);
-      labels =
-          cond-keeps (λ (l : List ℕ). length l ≡ 16) (ends s) stepped (s .labels)
-          (length-set (s .labels) (s .own) (successor (labelOf s (s .own))) ∙ c .labels) (c .labels);
-      held = c .held;
-      table = c .table;
-      lanes =
-          cond-keeps (λ (l : List Lane). length l ≡ 16) (eqb (kindOf (startedBody s)) 0) (lanesAfter s) pushedLanes
-          (lanesAfter-length s ∙ c .lanes)
-          (length-set (lanesAfter s) (s .own) (pushed (getD (lanesAfter s) (s .own) noLane) (startedBody s)) ∙ lanesAfter-length s ∙ c .lanes);
-      slots = waiting-slots s (c .slots);
-      record-labels = c .record-labels;
-    }
+passed-shaped s l c =
+    let t = afterAiring s in
+    let own : t .own < 16 = omega (arith, aired-self s .own) in
+    let shape : Shaped t = aired-shaped s c in
+    let next = begins t (startedBody s) in
+    let started : Shaped (takesOwn next (startedBody s)) =
+    takesOwn-shaped next (startedBody s) (omega (arith, begins-own t (startedBody s))) (begins-shaped t (startedBody s) own shape) in
+    cond-keeps Shaped (ends s) _ t (waiting-shaped (takesOwn next (startedBody s)) _ (waiting-sized s (c .waiting)) started) shape
 
 ownRecord-labels : (s : Station) → s .own < 16 → Shaped s → LabelsShaped (ownRecord s)
 unfolding ownRecord
@@ -136,23 +96,4 @@ ownRecord-labels s b c = length-fill (s .n) (labelOf s) ((recordOf s (s .own)) .
 
 pub rewritten-shaped : (s : Station) → s .own < 16 → Shaped s → Shaped (rewritten s)
 unfolding rewritten
-rewritten-shaped s b c =
-    record {
-      acked = c .acked;
-      labels = c .labels;
-      held = c .held;
-      table = length-set (s .table) (s .own) (ownRecord s) ∙ c .table;
-      lanes = c .lanes;
-      slots = c .slots;
-      record-labels =
-          λ k h. set-keeps LabelsShaped (s .table) (s .own) (ownRecord s) noRecord k (rw (c .table) h) (c .record-labels k h)
-          (ownRecord-labels s b c);
-    }
-
-passed-own : (s : Station) → (passed s) .own ≡ s .own
-unfolding passed
-passed-own s = refl
-
-pub afterTurn-shaped : (s : Station) → s .own < 16 → Shaped s → Shaped (afterTurn s)
-unfolding afterTurn
-afterTurn-shaped s b c = rewritten-shaped (passed s) (rw (passed-own s) b) (passed-shaped s c)
+rewritten-shaped s b c = cell-shaped s (s .own) _ (ownRecord-labels s b c) c

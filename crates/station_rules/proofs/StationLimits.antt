@@ -2,19 +2,21 @@
 -- the facts.
 use Prim.Native.Nat.{ℕ, _≤_, _<_}
 use mathlib.Core.Bool.{Bool, true, false, cond, not, _&&_, _||_, false≢true}
-use mathlib.Core.Path.{_≡_, refl}
+use mathlib.Core.Path.{_≡_, refl, sym, subst}
 use lib.Dec.{leb, ltb, eqb}
 use borrow.Author.Tests.{leb-true, ltb-true, le-leb, lt-ltb, eqb-true, eq-eqb}
 use Rattle.kind_limits.specs.Limits.{bodyInside}
 use Rattle.labels.specs.Label.{isLabel}
 use Rattle.frame_rules.specs.declared.Record.{Record}
-use Rattle.frame_rules.specs.Record.{countInside}
+use Rattle.frame_rules.specs.Record.{countInside, recordLimits}
+use Rattle.frame_rules.proofs.Limits.{limits-open, limits-make}
 use Rattle.frame_rules.specs.Frame.{validNumber}
 use Rattle.places.specs.Places.{allBelow}
 use Rattle.places.proofs.Laws.{and-both, and-left, and-right, allBelow-at, allBelow-make}
 use Rattle.station_rules.specs.declared.Station.{Station}
-use Rattle.station_rules.specs.State.{labelOf, ackedOf, heldOf, recordOf, laneAt, recordLabel}
-use Rattle.station_rules.specs.Limits.{laneInside, queueInside, recordInside, placeInside, stationInside}
+use Rattle.station_rules.specs.State.{Cell, cellOf, labelOf, ackedOf, heldOf, recordOf, laneAt, recordLabel}
+use Rattle.lanes.specs.Waiting.{waitingInside}
+use Rattle.station_rules.specs.Limits.{laneInside, recordInside, placeInside, stationInside}
 
 -- a record of station k inside the limits of the table of station own
 pub record RecordHolds (n own k : ℕ) (r : Record) : Type 0 where
@@ -23,22 +25,32 @@ pub record RecordHolds (n own k : ℕ) (r : Record) : Type 0 where
   pub body : bodyInside (r .body) ≡ true
   pub labels : (j : ℕ) → j < n → isLabel (recordLabel r j) ≡ true
 
--- what a station has of station k, inside its limits
-pub record PlaceHolds (s : Station) (k : ℕ) : Type 0 where
-  pub label : isLabel (labelOf s k) ≡ true
-  pub held : heldOf s k ≡ true → RecordHolds (s .n) (s .own) k (recordOf s k)
-  pub lane : laneInside (cond (eqb k (s .own)) 1 2) (laneAt s k) ≡ true
+-- what station own has of station k, inside its limits
+pub record CellHolds (n own k : ℕ) (c : Cell) : Type 0 where
+  pub label : isLabel (c .label) ≡ true
+  pub held : c .held ≡ true → RecordHolds n own k (c .entry)
+  pub lane : laneInside (cond (eqb k own) 1 2) (c .lane) ≡ true
 
--- a station inside its limits
-pub record Inside (s : Station) : Type 0 where
-  pub low : 1 ≤ s .n
-  pub high : s .n ≤ 16
-  pub own : s .own < s .n
-  pub acked : ackedOf s (s .own) ≡ true
-  pub held : heldOf s (s .own) ≡ true
+abbrev pub PlaceHolds : Station → ℕ → Type 0
+PlaceHolds s k = CellHolds (s .n) (s .own) k (cellOf s k)
+
+-- a station inside the limits of station `number` among `size`
+pub record InsideAs (size number : ℕ) (s : Station) : Type 0 where
+  pub low : 1 ≤ size
+  pub high : size ≤ 16
+  pub own : number < size
+  pub acked : ackedOf s number ≡ true
+  pub held : heldOf s number ≡ true
   pub body : bodyInside (s .body) ≡ true
-  pub waiting : queueInside (s .waiting) ≡ true
-  pub places : (k : ℕ) → k < s .n → PlaceHolds s k
+  pub waiting : waitingInside (s .waiting) ≡ true
+  pub places : (k : ℕ) → k < size → CellHolds size number k (cellOf s k)
+
+-- inside its limits
+abbrev pub Inside : Station → Type 0
+Inside s = InsideAs (s .n) (s .own) s
+
+pub inside-as : (n own : ℕ) (s : Station) → s .n ≡ n → s .own ≡ own → InsideAs n own s → Inside s
+inside-as n own s e f c = subst (λ (m : ℕ). InsideAs m (s .own) s) (sym e) (subst (λ (p : ℕ). InsideAs n p s) (sym f) c)
 
 or-not-make : (a b : Bool) → (a ≡ true → b ≡ true) → (not a || b) ≡ true
 or-not-make true b h = h refl
@@ -51,24 +63,20 @@ or-not-use false b h e = absurd (false≢true e)
 record-open : (n own k : ℕ) (r : Record) → recordInside n own k r ≡ true → RecordHolds n own k r
 unfolding recordInside
 record-open n own k r h =
-    let labels = allBelow n (λ j. isLabel (recordLabel r j)) in
-    let one = eqb (r .station) k in
-    let two = eqb k own || countInside n (r .count) in
-    let three = bodyInside (r .body) in
-    let front : (one && two && three) ≡ true = and-left (one && two && three) labels h in
+    let l = limits-open n (eqb k own) r (and-right (eqb (r .station) k) (recordLimits n (eqb k own) r) h) in
     record {
-      station = eqb-true (r .station) k (and-left one two (and-left (one && two) three front));
-      count = and-right one two (and-left (one && two) three front);
-      body = and-right (one && two) three front;
-      labels = allBelow-at n (λ j. isLabel (recordLabel r j)) (and-right (one && two && three) labels h);
+      station = eqb-true (r .station) k (and-left (eqb (r .station) k) (recordLimits n (eqb k own) r) h);
+      count = l .count;
+      body = l .body;
+      labels = l .labels;
     }
 
-record-make : (n own k : ℕ) (r : Record) → RecordHolds n own k r → recordInside n own k r ≡ true
+record-make : (n own k : ℕ) (r : Record) → k < n → RecordHolds n own k r → recordInside n own k r ≡ true
 unfolding recordInside
-record-make n own k r c =
-    and-both
-    (and-both (and-both (eq-eqb (r .station) k (c .station)) (c .count)) (c .body))
-    (allBelow-make n (λ j. isLabel (recordLabel r j)) (c .labels))
+record-make n own k r b c =
+    and-both (eq-eqb (r .station) k (c .station))
+    (limits-make n (eqb k own) r
+    (record { station = rw (c .station) b; count = c .count; body = c .body; labels = c .labels }))
 
 place-open : (s : Station) (k : ℕ) → placeInside s k ≡ true → PlaceHolds s k
 unfolding placeInside
@@ -85,12 +93,12 @@ place-open s k h =
       lane = and-right (label && (not (heldOf s k) || recorded)) lane h;
     }
 
-place-make : (s : Station) (k : ℕ) → PlaceHolds s k → placeInside s k ≡ true
+place-make : (s : Station) (k : ℕ) → k < s .n → PlaceHolds s k → placeInside s k ≡ true
 unfolding placeInside
-place-make s k c =
+place-make s k b c =
     and-both
     (and-both (c .label)
-    (or-not-make (heldOf s k) (recordInside (s .n) (s .own) k (recordOf s k)) (λ e. record-make (s .n) (s .own) k (recordOf s k) (c .held e))))
+    (or-not-make (heldOf s k) (recordInside (s .n) (s .own) k (recordOf s k)) (λ e. record-make (s .n) (s .own) k (recordOf s k) b (c .held e))))
     (c .lane)
 
 pub inside-open : (s : Station) → stationInside s ≡ true → Inside s
@@ -100,10 +108,10 @@ inside-open s h =
     let acked = ackedOf s (s .own) in
     let held = heldOf s (s .own) in
     let body = bodyInside (s .body) in
-    let queue = queueInside (s .waiting) in
+    let waiting = waitingInside (s .waiting) in
     let places = allBelow (s .n) (placeInside s) in
-    let h₅ : (valid && acked && held && body && queue) ≡ true = and-left (valid && acked && held && body && queue) places h in
-    let h₄ : (valid && acked && held && body) ≡ true = and-left (valid && acked && held && body) queue h₅ in
+    let h₅ : (valid && acked && held && body && waiting) ≡ true = and-left (valid && acked && held && body && waiting) places h in
+    let h₄ : (valid && acked && held && body) ≡ true = and-left (valid && acked && held && body) waiting h₅ in
     let h₃ : (valid && acked && held) ≡ true = and-left (valid && acked && held) body h₄ in
     let h₂ : (valid && acked) ≡ true = and-left (valid && acked) held h₃ in
     let h₁ : valid ≡ true = and-left valid acked h₂ in
@@ -115,10 +123,10 @@ inside-open s h =
       acked = and-right valid acked h₂;
       held = and-right (valid && acked) held h₃;
       body = and-right (valid && acked && held) body h₄;
-      waiting = and-right (valid && acked && held && body) queue h₅;
+      waiting = and-right (valid && acked && held && body) waiting h₅;
       places =
           λ k l. place-open s k
-          (allBelow-at (s .n) (placeInside s) (and-right (valid && acked && held && body && queue) places h) k l);
+          (allBelow-at (s .n) (placeInside s) (and-right (valid && acked && held && body && waiting) places h) k l);
     }
 
 pub inside-make : (s : Station) → Inside s → stationInside s ≡ true
@@ -132,4 +140,4 @@ inside-make s c =
     (c .held))
     (c .body))
     (c .waiting))
-    (allBelow-make (s .n) (placeInside s) (λ k l. place-make s k (c .places k l)))
+    (allBelow-make (s .n) (placeInside s) (λ k l. place-make s k l (c .places k l)))

@@ -1,107 +1,381 @@
--- The turn cell by cell: of another station's cell only the acknowledgement can change, and that only where the broadcast ends; the own label steps on
--- there, and the own record is made of the station's present values.
+-- The turn cell by cell: the airing step changes lanes, the end of the broadcast the acknowledgements and the own label, the start the own lane, and last the own
+-- record is rewritten. So of another station's cell only the acknowledgement and the lane can change, and cells from n up stay.
 use Prim.Native.Nat.{ℕ, _<_, _≤_}
 use mathlib.Core.Bool.{Bool, true, false, cond}
-use mathlib.Core.List.{List}
-use mathlib.Core.Path.{_≡_, refl}
-use lib.ListN.{getD, set, length}
-use lib.Seq.{getD-set-same, getD-set-other}
+use mathlib.Core.Path.{_≡_, refl, sym, ap, subst, _∙_}
+use native.Mathlib.Decide.{ℕ-discrete}
+use native.Mathlib.Omega.{arith}
 use lib.Dec.{eqb}
+use borrow.Author.Tests.{eq-eqb, ne-eqb}
+use Rattle.kinds.specs.declared.Body.{Body}
+use Rattle.kinds.specs.declared.Body.the-variants.{Empty}
+use Rattle.kinds.specs.Body.{isEmpty}
 use Rattle.labels.specs.Label.{successor}
-use Rattle.places.specs.Places.{fill}
+use Rattle.frame_rules.specs.declared.Record.{Record}
 use Rattle.places.proofs.Laws.{fill-below, fill-above}
 use Rattle.places.proofs.Keeps.{cond-keeps}
+use Rattle.lanes.specs.declared.Lane.{Lane}
+use Rattle.lanes.specs.Lane.{pushed, popped}
+use Rattle.lanes.specs.Waiting.{withoutNext}
 use Rattle.station_rules.specs.declared.Station.{Station}
-use Rattle.frame_rules.specs.Record.{noRecord}
-use Rattle.station_rules.specs.State.{labelOf, ackedOf, heldOf, recordOf, recordLabel}
-use Rattle.station_rules.specs.Turn.{ends, startedBody, passed, ownRecord, rewritten, afterTurn}
+use Rattle.station_rules.specs.State.{Cell, cellOf, labelOf, ackedOf, heldOf, recordOf, laneAt, recordLabel, withLabel, withEntry, withLane, withWaiting, withBroadcast, withCell, withAcked, withLanes}
+use Rattle.station_rules.specs.Turn.{airs, ends, startsEdit, startedBody, afterAiring, begins, takesOwn, passed, ownRecord, rewritten, afterTurn}
+use Rattle.station_rules.proofs.Setters.{Shaped, SameSelf, self-refl, withAck, waiting-cell, broadcast-cell, cell-self, cell-here, cell-other, acked-below, acked-above, lanes-below, lanes-above, broadcast-shaped, acked-shaped}
+use Rattle.station_rules.proofs.Shape.{aired-self, aired-shaped, begins-shaped, passed-shaped, rewritten-shaped}
 
+-- nothing starts where the broadcast goes on
+pub started-stays : (s : Station) → ends s ≡ false → startedBody s ≡ Empty
+unfolding startedBody
+started-stays s e = rw e
+
+-- the lane of station k after the airing step
+abbrev pub laneAfter : Station → ℕ → Lane
+laneAfter s k = laneAt (afterAiring s) k
+
+-- a body that starts
+module _ (s : Station) (b : Body) where
+  takesOwn-self : SameSelf (takesOwn s b) s
+  unfolding takesOwn
+  takesOwn-self = cond-keeps (λ (t : Station). SameSelf t s) (isEmpty b) s (withCell s (s .own) _) (self-refl s) (cell-self s (s .own) _)
+
+  takesOwn-own :
+      Shaped s → s .own < 16 →
+      cellOf (takesOwn s b) (s .own) ≡ withLane (cellOf s (s .own)) (cond (isEmpty b) (laneAt s (s .own)) (pushed (laneAt s (s .own)) b))
+  unfolding takesOwn
+  takesOwn-own shape l = go (isEmpty b)
+    where
+      own : Cell
+      own = withLane (cellOf s (s .own)) (pushed (laneAt s (s .own)) b)
+
+      go :
+          (t : Bool) →
+          cellOf (cond t s (withCell s (s .own) own)) (s .own)
+          ≡ withLane (cellOf s (s .own)) (cond t (laneAt s (s .own)) (pushed (laneAt s (s .own)) b))
+      go true = refl
+      go false = cell-here s (s .own) own shape l
+
+  takesOwn-other : (k : ℕ) → (k ≡ s .own → ⊥) → cellOf (takesOwn s b) k ≡ cellOf s k
+  unfolding takesOwn
+  takesOwn-other k d =
+      cond-keeps (λ (t : Station). cellOf t k ≡ cellOf s k) (isEmpty b) s (withCell s (s .own) _) refl (cell-other s (s .own) _ k d)
+
+-- what is no cell
 module _ (s : Station) where
+  passed-self :
+      ((passed s) .n ≡ s .n) × ((passed s) .own ≡ s .own) × ((passed s) .waiting ≡ cond (startsEdit s) (withoutNext (s .waiting)) (s .waiting))
+      × ((passed s) .body ≡ cond (ends s) (startedBody s) (s .body)) × ((passed s) .count ≡ cond (ends s) 0 (s .count))
+  unfolding passed begins withCell withAcked
+  passed-self = go (ends s) refl
+    where
+      next : Station
+      next = begins (afterAiring s) (startedBody s)
+
+      go :
+          (t : Bool) → ends s ≡ t →
+          ((passed s) .n ≡ s .n) × ((passed s) .own ≡ s .own) × ((passed s) .waiting ≡ cond (startsEdit s) (withoutNext (s .waiting)) (s .waiting))
+          × ((passed s) .body ≡ cond t (startedBody s) (s .body)) × ((passed s) .count ≡ cond t 0 (s .count))
+      go true e =
+          let c = takesOwn-self next (startedBody s) in
+          let a = aired-self s in
+          rw e (c .n ∙ a .n, c .own ∙ a .own, refl, c .body, c .count)
+      go false e = let a = aired-self s in rw e (a .n, a .own, a .waiting, a .body, a .count)
+
+  pub passed-n : (passed s) .n ≡ s .n
+  passed-n = passed-self .0
+
+  pub passed-own : (passed s) .own ≡ s .own
+  passed-own = passed-self .1
+
+  pub passed-waiting : (passed s) .waiting ≡ cond (startsEdit s) (withoutNext (s .waiting)) (s .waiting)
+  passed-waiting = passed-self .2
+
+  pub passed-body : (passed s) .body ≡ cond (ends s) (startedBody s) (s .body)
+  passed-body = passed-self .3
+
+  pub passed-count : (passed s) .count ≡ cond (ends s) 0 (s .count)
+  passed-count = passed-self .4
+
   pub turn-n : (afterTurn s) .n ≡ s .n
-  unfolding afterTurn rewritten passed
-  turn-n = refl
+  unfolding afterTurn rewritten withCell
+  turn-n = passed-n
 
   pub turn-own : (afterTurn s) .own ≡ s .own
-  unfolding afterTurn rewritten passed
-  turn-own = refl
+  unfolding afterTurn rewritten withCell
+  turn-own = passed-own
+
+  pub turn-waiting : (afterTurn s) .waiting ≡ cond (startsEdit s) (withoutNext (s .waiting)) (s .waiting)
+  unfolding afterTurn rewritten withCell
+  turn-waiting = passed-waiting
 
   pub turn-body : (afterTurn s) .body ≡ cond (ends s) (startedBody s) (s .body)
-  unfolding afterTurn rewritten passed
-  turn-body = refl
+  unfolding afterTurn rewritten withCell
+  turn-body = passed-body
 
   pub turn-count : (afterTurn s) .count ≡ cond (ends s) 0 (s .count)
-  unfolding afterTurn rewritten passed
-  turn-count = refl
+  unfolding afterTurn rewritten withCell
+  turn-count = passed-count
 
-  pub turn-held : (k : ℕ) → heldOf (afterTurn s) k ≡ heldOf s k
-  unfolding afterTurn rewritten passed
-  turn-held k = refl
+  pub afterTurn-shaped : s .own < 16 → Shaped s → Shaped (afterTurn s)
+  unfolding afterTurn
+  afterTurn-shaped l c = rewritten-shaped (passed s) (omega (arith, passed-own)) (passed-shaped s l c)
 
-  pub turn-label-other : (k : ℕ) → (k ≡ s .own → ⊥) → labelOf (afterTurn s) k ≡ labelOf s k
-  unfolding afterTurn rewritten passed
-  turn-label-other k d = go (ends s)
-    where
-      go : (b : Bool) → getD (cond b (set (s .labels) (s .own) (successor (labelOf s (s .own)))) (s .labels)) k 0 ≡ labelOf s k
-      go true = getD-set-other (s .labels) (s .own) k _ 0 d
-      go false = refl
-
-  pub turn-label-own :
-      s .own < length (s .labels) →
-      labelOf (afterTurn s) (s .own) ≡ cond (ends s) (successor (labelOf s (s .own))) (labelOf s (s .own))
-  unfolding afterTurn rewritten passed
-  turn-label-own l = go (ends s)
+module _ (s : Station) (shape : Shaped s) (high : s .n ≤ 16) (below : s .own < s .n) where
+  -- the airing step
+  pub aired-below :
+      (k : ℕ) → k < s .n → cellOf (afterAiring s) k ≡ withLane (cellOf s k) (cond (airs s) (popped (laneAt s k)) (laneAt s k))
+  unfolding afterAiring
+  aired-below k l = go (airs s)
     where
       go :
-          (b : Bool) →
-          getD (cond b (set (s .labels) (s .own) (successor (labelOf s (s .own)))) (s .labels)) (s .own) 0
-          ≡ cond b (successor (labelOf s (s .own))) (labelOf s (s .own))
-      go true = getD-set-same (s .labels) (s .own) _ 0 l
+          (t : Bool) →
+          cellOf (cond t (withLanes s (λ j. popped (laneAt s j))) s) k ≡ withLane (cellOf s k) (cond t (popped (laneAt s k)) (laneAt s k))
+      go true = lanes-below s (λ j. popped (laneAt s j)) shape high k l
       go false = refl
 
-  pub turn-acked :
-      (k : ℕ) → k < s .n → k < length (s .acked) → ackedOf (afterTurn s) k ≡ cond (ends s) (eqb k (s .own)) (ackedOf s k)
-  unfolding afterTurn rewritten passed
-  turn-acked k l b = go (ends s)
+  aired-above : (k : ℕ) → s .n ≤ k → cellOf (afterAiring s) k ≡ cellOf s k
+  unfolding afterAiring
+  aired-above k l =
+      cond-keeps (λ (t : Station). cellOf t k ≡ cellOf s k) (airs s) (withLanes s (λ j. popped (laneAt s j))) s
+      (lanes-above s (λ j. popped (laneAt s j)) k l) refl
+
+  -- the end of the broadcast
+  module _ (b : Body) where
+    abbrev only : Station
+    only = withAcked (withBroadcast s b 0) (λ k. eqb k (s .own))
+
+    only-below : (k : ℕ) → k < s .n → cellOf only k ≡ withAck (cellOf s k) (eqb k (s .own))
+    only-below k l =
+        acked-below (withBroadcast s b 0) (λ j. eqb j (s .own)) (broadcast-shaped s b 0 shape) high k l
+        ∙ ap (λ (c : Cell). withAck c (eqb k (s .own))) (broadcast-cell s b 0 k)
+
+    begins-own : cellOf (begins s b) (s .own) ≡ withLabel (withAck (cellOf s (s .own)) true) (successor (labelOf s (s .own)))
+    unfolding begins
+    begins-own =
+        cell-here only (s .own) (withLabel (cellOf only (s .own)) (successor (labelOf s (s .own))))
+        (acked-shaped (withBroadcast s b 0) (λ k. eqb k (s .own)) (broadcast-shaped s b 0 shape)) (omega arith)
+        ∙ ap (λ (c : Cell). withLabel c (successor (labelOf s (s .own)))) (only-below (s .own) below)
+        ∙ ap (λ (t : Bool). withLabel (withAck (cellOf s (s .own)) t) (successor (labelOf s (s .own)))) (eq-eqb (s .own) (s .own) refl)
+
+    begins-other : (k : ℕ) → k < s .n → (k ≡ s .own → ⊥) → cellOf (begins s b) k ≡ withAck (cellOf s k) false
+    unfolding begins
+    begins-other k l d =
+        cell-other only (s .own) _ k d ∙ only-below k l ∙ ap (λ (t : Bool). withAck (cellOf s k) t) (ne-eqb k (s .own) d)
+
+    begins-above : (k : ℕ) → s .n ≤ k → cellOf (begins s b) k ≡ cellOf s k
+    unfolding begins
+    begins-above k l =
+        cell-other only (s .own) _ k (λ e. absurd (omega arith))
+        ∙ acked-above (withBroadcast s b 0) (λ j. eqb j (s .own)) k l
+        ∙ broadcast-cell s b 0 k
+
+-- the station after the end and the start: its own cell, those of the others, and those from n up
+module _ (s : Station) (shape : Shaped s) (high : s .n ≤ 16) (below : s .own < s .n) where
+  abbrev aired : Station
+  aired = afterAiring s
+
+  abbrev next : Station
+  next = begins aired (startedBody s)
+
+  same : SameSelf aired s
+  same = aired-self s
+
+  aired-high : aired .n ≤ 16
+  aired-high = omega (arith, same .n)
+
+  aired-own : aired .own < aired .n
+  aired-own = omega (arith, same .n, same .own)
+
+  next-own : next .own ≡ s .own
+  unfolding begins withCell withAcked
+  next-own = same .own
+
+  next-shaped : Shaped next
+  next-shaped = begins-shaped aired (startedBody s) (omega (arith, same .own)) (aired-shaped s shape)
+
+  -- what the airing step leaves of a cell
+  aired-rest : (k : ℕ) → k < s .n → cellOf aired k ≡ withLane (cellOf s k) (laneAfter s k)
+  aired-rest k l =
+      aired-below s shape high below k l
+      ∙ ap (λ (x : Lane). withLane (cellOf s k) x) (sym (ap (λ (c : Cell). c .lane) (aired-below s shape high below k l)))
+
+  next-cell-own :
+      cellOf next (s .own)
+      ≡ withLabel (withAck (withLane (cellOf s (s .own)) (laneAfter s (s .own))) true) (successor (labelOf s (s .own)))
+  next-cell-own =
+      subst (λ (p : ℕ). cellOf next p ≡ withLabel (withAck (cellOf aired p) true) (successor (labelOf aired p))) (same .own)
+      (begins-own aired (aired-shaped s shape) aired-high aired-own (startedBody s))
+      ∙ ap (λ (c : Cell). withLabel (withAck c true) (successor (c .label))) (aired-rest (s .own) below)
+
+  pub passed-cell-own :
+      cellOf (passed s) (s .own)
+      ≡ record {
+        label = cond (ends s) (successor (labelOf s (s .own))) (labelOf s (s .own));
+        acked = cond (ends s) true (ackedOf s (s .own));
+        held = heldOf s (s .own);
+        entry = recordOf s (s .own);
+        lane = cond (isEmpty (startedBody s)) (laneAfter s (s .own)) (pushed (laneAfter s (s .own)) (startedBody s));
+      }
+  unfolding passed
+  passed-cell-own = go (ends s) refl
+    where
+      own : Cell
+      own = cellOf s (s .own)
+
+      go :
+          (t : Bool) → ends s ≡ t →
+          cellOf (cond t (withWaiting (takesOwn next (startedBody s)) (cond (startsEdit s) (withoutNext (s .waiting)) (s .waiting))) aired) (s .own)
+          ≡ record {
+            label = cond t (successor (own .label)) (own .label);
+            acked = cond t true (own .acked);
+            held = own .held;
+            entry = own .entry;
+            lane = cond (isEmpty (startedBody s)) (laneAfter s (s .own)) (pushed (laneAfter s (s .own)) (startedBody s));
+          }
+      go true e =
+          let b = startedBody s in
+          waiting-cell (takesOwn next b) _ (s .own)
+          ∙ subst
+          (λ (p : ℕ). cellOf (takesOwn next b) p ≡ withLane (cellOf next p) (cond (isEmpty b) (laneAt next p) (pushed (laneAt next p) b)))
+          next-own
+          (takesOwn-own next b next-shaped (omega (arith, next-own)))
+          ∙ ap (λ (c : Cell). withLane c (cond (isEmpty b) (c .lane) (pushed (c .lane) b))) next-cell-own
+      go false e = rw (started-stays s e) (aired-rest (s .own) below)
+
+  pub passed-cell-other :
+      (k : ℕ) → k < s .n → (k ≡ s .own → ⊥) →
+      cellOf (passed s) k ≡ withLane (withAck (cellOf s k) (cond (ends s) false (ackedOf s k))) (laneAfter s k)
+  unfolding passed
+  passed-cell-other k l d = go (ends s)
     where
       go :
-          (x : Bool) →
-          getD (cond x (fill (s .n) (λ i. eqb i (s .own)) (s .acked)) (s .acked)) k false ≡ cond x (eqb k (s .own)) (ackedOf s k)
-      go true = fill-below (s .n) (λ i. eqb i (s .own)) (s .acked) k false l b
-      go false = refl
+          (t : Bool) →
+          cellOf (cond t (withWaiting (takesOwn next (startedBody s)) (cond (startsEdit s) (withoutNext (s .waiting)) (s .waiting))) aired) k
+          ≡ withLane (withAck (cellOf s k) (cond t false (ackedOf s k))) (laneAfter s k)
+      go true =
+          let b = startedBody s in
+          waiting-cell (takesOwn next b) _ k
+          ∙ takesOwn-other next b k (λ e. d (e ∙ next-own))
+          ∙ begins-other aired (aired-shaped s shape) aired-high aired-own b k (omega (arith, same .n)) (λ e. d (e ∙ same .own))
+          ∙ ap (λ (c : Cell). withAck c false) (aired-rest k l)
+      go false = aired-rest k l
 
-  -- entries from n up stay
-  pub turn-acked-above : (k : ℕ) → s .n ≤ k → ackedOf (afterTurn s) k ≡ ackedOf s k
-  unfolding afterTurn rewritten passed
-  turn-acked-above k l =
-      cond-keeps (λ (a : List Bool). getD a k false ≡ ackedOf s k) (ends s) (fill (s .n) (λ i. eqb i (s .own)) (s .acked)) (s .acked)
-      (fill-above (s .n) (λ i. eqb i (s .own)) (s .acked) k false l) refl
+  passed-above : (k : ℕ) → s .n ≤ k → cellOf (passed s) k ≡ cellOf s k
+  unfolding passed
+  passed-above k l =
+      let b = startedBody s in
+      let d : k ≡ s .own → ⊥ = λ e. absurd (omega arith) in
+      cond-keeps (λ (t : Station). cellOf t k ≡ cellOf s k) (ends s) (withWaiting (takesOwn next b) _) aired
+      (waiting-cell (takesOwn next b) _ k
+      ∙ takesOwn-other next b k (λ e. d (e ∙ next-own))
+      ∙ begins-above aired (aired-shaped s shape) aired-high aired-own b k (omega (arith, same .n))
+      ∙ aired-above s shape high below k l)
+      (aired-above s shape high below k l)
 
-  pub own-label-above : (k : ℕ) → s .n ≤ k → recordLabel (ownRecord (passed s)) k ≡ recordLabel (recordOf s (s .own)) k
-  unfolding ownRecord passed
-  own-label-above k l = fill-above (s .n) (labelOf (passed s)) ((recordOf s (s .own)) .labels) k 0 l
+-- the station after its turn
+module _ (s : Station) (shape : Shaped s) (high : s .n ≤ 16) (below : s .own < s .n) where
+  pub turn-cell-own : cellOf (afterTurn s) (s .own) ≡ withEntry (cellOf (passed s) (s .own)) (ownRecord (passed s))
+  unfolding afterTurn rewritten
+  turn-cell-own =
+      subst
+      (λ (p : ℕ). cellOf (afterTurn s) p ≡ withEntry (cellOf (passed s) p) (ownRecord (passed s)))
+      (passed-own s)
+      (cell-here (passed s) ((passed s) .own) _ (passed-shaped s (omega arith) shape) (omega (arith, passed-own s)))
 
-  pub turn-record-other : (k : ℕ) → (k ≡ s .own → ⊥) → recordOf (afterTurn s) k ≡ recordOf s k
-  unfolding afterTurn rewritten passed
-  turn-record-other k d = getD-set-other (s .table) (s .own) k _ noRecord d
+  pub turn-cell-other : (k : ℕ) → (k ≡ s .own → ⊥) → cellOf (afterTurn s) k ≡ cellOf (passed s) k
+  unfolding afterTurn rewritten
+  turn-cell-other k d = cell-other (passed s) ((passed s) .own) _ k (λ e. d (e ∙ passed-own s))
 
-  pub turn-record-own : s .own < length (s .table) → recordOf (afterTurn s) (s .own) ≡ ownRecord (passed s)
-  unfolding afterTurn rewritten passed
-  turn-record-own l = getD-set-same (s .table) (s .own) (ownRecord (passed s)) noRecord l
+  -- cells from n up stay
+  pub turn-above : (k : ℕ) → s .n ≤ k → cellOf (afterTurn s) k ≡ cellOf s k
+  turn-above k l = turn-cell-other k (λ e. absurd (omega arith)) ∙ passed-above s shape high below k l
+
+  -- part by part
+  own-cell :
+      cellOf (afterTurn s) (s .own)
+      ≡ record {
+        label = cond (ends s) (successor (labelOf s (s .own))) (labelOf s (s .own));
+        acked = cond (ends s) true (ackedOf s (s .own));
+        held = heldOf s (s .own);
+        entry = ownRecord (passed s);
+        lane = cond (isEmpty (startedBody s)) (laneAfter s (s .own)) (pushed (laneAfter s (s .own)) (startedBody s));
+      }
+  own-cell = turn-cell-own ∙ ap (λ (c : Cell). withEntry c (ownRecord (passed s))) (passed-cell-own s shape high below)
+
+  other-cell :
+      (k : ℕ) → k < s .n → (k ≡ s .own → ⊥) →
+      cellOf (afterTurn s) k ≡ withLane (withAck (cellOf s k) (cond (ends s) false (ackedOf s k))) (laneAfter s k)
+  other-cell k l d = turn-cell-other k d ∙ passed-cell-other s shape high below k l d
+
+  pub turn-label-own : labelOf (afterTurn s) (s .own) ≡ cond (ends s) (successor (labelOf s (s .own))) (labelOf s (s .own))
+  turn-label-own = ap (λ (c : Cell). c .label) own-cell
+
+  pub turn-label-other : (k : ℕ) → k < s .n → (k ≡ s .own → ⊥) → labelOf (afterTurn s) k ≡ labelOf s k
+  turn-label-other k l d = ap (λ (c : Cell). c .label) (other-cell k l d)
+
+  pub turn-acked : (k : ℕ) → k < s .n → ackedOf (afterTurn s) k ≡ cond (ends s) (eqb k (s .own)) (ackedOf s k)
+  turn-acked k l =
+      elim (ℕ-discrete k (s .own)) [
+        | yes e ↦
+            subst (λ (p : ℕ). ackedOf (afterTurn s) p ≡ cond (ends s) (eqb p (s .own)) (ackedOf s p)) (sym e)
+            (ap (λ (c : Cell). c .acked) own-cell
+            ∙ ap (λ (b : Bool). cond (ends s) b (ackedOf s (s .own))) (sym (eq-eqb (s .own) (s .own) refl)))
+        | no d ↦
+            ap (λ (c : Cell). c .acked) (other-cell k l d)
+            ∙ ap (λ (b : Bool). cond (ends s) b (ackedOf s k)) (sym (ne-eqb k (s .own) d))
+      ]
+
+  pub turn-held : (k : ℕ) → k < s .n → heldOf (afterTurn s) k ≡ heldOf s k
+  turn-held k l =
+      elim (ℕ-discrete k (s .own)) [
+        | yes e ↦ subst (λ (p : ℕ). heldOf (afterTurn s) p ≡ heldOf s p) (sym e) (ap (λ (c : Cell). c .held) own-cell)
+        | no d ↦ ap (λ (c : Cell). c .held) (other-cell k l d)
+      ]
+
+  pub turn-record-own : recordOf (afterTurn s) (s .own) ≡ ownRecord (passed s)
+  turn-record-own = ap (λ (c : Cell). c .entry) own-cell
+
+  pub turn-record-other : (k : ℕ) → k < s .n → (k ≡ s .own → ⊥) → recordOf (afterTurn s) k ≡ recordOf s k
+  turn-record-other k l d = ap (λ (c : Cell). c .entry) (other-cell k l d)
+
+  pub turn-lane-own :
+      laneAt (afterTurn s) (s .own)
+      ≡ cond (isEmpty (startedBody s)) (laneAfter s (s .own)) (pushed (laneAfter s (s .own)) (startedBody s))
+  turn-lane-own = ap (λ (c : Cell). c .lane) own-cell
+
+  pub turn-lane-other : (k : ℕ) → k < s .n → (k ≡ s .own → ⊥) → laneAt (afterTurn s) k ≡ laneAfter s k
+  turn-lane-other k l d = ap (λ (c : Cell). c .lane) (other-cell k l d)
+
+  pub lane-after : (k : ℕ) → k < s .n → laneAfter s k ≡ cond (airs s) (popped (laneAt s k)) (laneAt s k)
+  lane-after k l = ap (λ (c : Cell). c .lane) (aired-below s shape high below k l)
 
   -- the own record
   pub own-station : (ownRecord (passed s)) .station ≡ s .own
-  unfolding ownRecord passed
-  own-station = refl
+  unfolding ownRecord
+  own-station = passed-own s
 
   pub own-count : (ownRecord (passed s)) .count ≡ (afterTurn s) .count
-  unfolding ownRecord afterTurn rewritten
+  unfolding ownRecord afterTurn rewritten withCell
   own-count = refl
 
   pub own-body : (ownRecord (passed s)) .body ≡ (afterTurn s) .body
-  unfolding ownRecord afterTurn rewritten
+  unfolding ownRecord afterTurn rewritten withCell
   own-body = refl
 
-  pub own-label :
-      (k : ℕ) → k < s .n → k < length ((recordOf s (s .own)) .labels) → recordLabel (ownRecord (passed s)) k ≡ labelOf (afterTurn s) k
-  unfolding ownRecord afterTurn rewritten passed
-  own-label k l b = fill-below (s .n) (labelOf (passed s)) ((recordOf s (s .own)) .labels) k 0 l b
+  old-labels : recordOf (passed s) ((passed s) .own) ≡ recordOf s (s .own)
+  old-labels = ap (λ (p : ℕ). recordOf (passed s) p) (passed-own s) ∙ ap (λ (c : Cell). c .entry) (passed-cell-own s shape high below)
+
+  pub own-label : (k : ℕ) → k < s .n → recordLabel (ownRecord (passed s)) k ≡ labelOf (afterTurn s) k
+  unfolding ownRecord
+  own-label k l =
+      fill-below ((passed s) .n) (labelOf (passed s)) ((recordOf (passed s) ((passed s) .own)) .labels) k 0 (omega (arith, passed-n s))
+      (omega (arith, passed-shaped s (omega arith) shape .record-labels ((passed s) .own) (omega (arith, passed-own s))))
+      ∙ elim (ℕ-discrete k (s .own)) [
+        | yes e ↦ subst (λ (p : ℕ). labelOf (passed s) p ≡ labelOf (afterTurn s) p) (sym e) (sym (ap (λ (c : Cell). c .label) turn-cell-own))
+        | no d ↦ sym (ap (λ (c : Cell). c .label) (turn-cell-other k d))
+      ]
+
+  pub own-label-above : (k : ℕ) → s .n ≤ k → recordLabel (ownRecord (passed s)) k ≡ recordLabel (recordOf s (s .own)) k
+  unfolding ownRecord
+  own-label-above k l =
+      fill-above ((passed s) .n) (labelOf (passed s)) ((recordOf (passed s) ((passed s) .own)) .labels) k 0 (omega (arith, passed-n s))
+      ∙ ap (λ (r : Record). recordLabel r k) old-labels

@@ -1,23 +1,20 @@
 -- What a turn does, case by case: the body it starts, the body it leaves, and what it reports. Each is the definition at one value of its test.
-use mathlib.Core.Bool.{Bool, true, false, cond, not}
-use mathlib.Core.Path.{_≡_, refl, sym, ap, _∙_}
+use mathlib.Core.Bool.{Bool, true, false, cond}
+use mathlib.Core.Path.{_≡_, refl, ap}
 use Prim.Native.Nat.{ℕ, _<_, _≤_}
 use native.Mathlib.Omega.{arith}
-use lib.Dec.{ltb, eqb}
-use lib.ListN.{getD, length, replicate}
+use lib.Dec.{ltb}
+use lib.ListN.{getD, replicate}
 use Rattle.kinds.specs.declared.Body.{Body}
 use Rattle.kinds.specs.declared.Body.the-variants.{Empty}
-use Rattle.kinds.specs.Body.{kindOf}
-use Rattle.places.specs.Places.{allBelow, fill}
-use Rattle.places.proofs.Laws.{cond-not, fill-below}
+use Rattle.places.specs.Places.{allBelow}
+use Rattle.places.proofs.Laws.{fill-below}
 use Rattle.lanes.specs.declared.Slot.{Slot}
-use Rattle.station_rules.specs.declared.Station.{Station}
-use Rattle.lanes.specs.Lane.{noLane, pushed, popped}
 use Rattle.lanes.specs.Queue.{noSlot}
+use Rattle.station_rules.specs.declared.Station.{Station}
 use Rattle.station_rules.specs.State.{ackedOf, laneAt}
-use Rattle.station_rules.specs.Turn.{airs, rowOf, lanesAfter, ends, mayStart, startedBody, passed, rewritten, afterTurn, turnReport}
-use Rattle.station_rules.proofs.Shape.{lanesAfter-length}
-use Rattle.station_rules.proofs.TurnLaws.{laneAfter, passed-own-lane, passed-other-lane}
+use Rattle.station_rules.specs.Turn.{airs, rowOf, ends, mayStart, startedBody, afterTurn, turnReport}
+use Rattle.station_rules.proofs.TurnCells.{turn-body}
 
 -- a row is aired where every lane has a body, and the broadcast ends where every station is acknowledged
 pub airs-each : (s : Station) → airs s ≡ allBelow (s .n) (λ k. ltb 0 ((laneAt s k) .len))
@@ -29,10 +26,6 @@ unfolding ends
 ends-each s = refl
 
 -- the body that starts
-pub started-stays : (s : Station) → ends s ≡ false → startedBody s ≡ Empty
-unfolding startedBody
-started-stays s e = rw e
-
 pub started-waits : (s : Station) → mayStart s ≡ false → startedBody s ≡ Empty
 unfolding startedBody
 started-waits s e = rw e (go (ends s))
@@ -43,12 +36,10 @@ started-waits s e = rw e (go (ends s))
 
 -- the body that the turn leaves
 pub body-ends : (s : Station) → ends s ≡ true → (afterTurn s) .body ≡ startedBody s
-unfolding afterTurn rewritten passed
-body-ends s e = rw e
+body-ends s e = rw e at (turn-body s)
 
 pub body-stays : (s : Station) → ends s ≡ false → (afterTurn s) .body ≡ s .body
-unfolding afterTurn rewritten passed
-body-stays s e = rw e
+body-stays s e = rw e at (turn-body s)
 
 -- what it reports
 pub report-started : (s : Station) → (turnReport s) .«started_body» ≡ startedBody s
@@ -66,29 +57,6 @@ report-aired s = refl
 pub report-row : (s : Station) → airs s ≡ true → (turnReport s) .row ≡ rowOf s
 unfolding turnReport
 report-row s e = rw e
-
--- a lane after the airing step, and after the turn
-pub lanesAfter-at : (s : Station) (k : ℕ) → k < s .n → k < length (s .lanes)
-    → laneAfter s k ≡ cond (airs s) (popped (laneAt s k)) (laneAt s k)
-unfolding lanesAfter
-lanesAfter-at s k l b = go (airs s)
-  where
-    go : (c : Bool)
-        → getD (cond c (fill (s .n) (λ i. popped (laneAt s i)) (s .lanes)) (s .lanes)) k noLane ≡ cond c (popped (laneAt s k)) (laneAt s k)
-    go true = fill-below (s .n) (λ i. popped (laneAt s i)) (s .lanes) k noLane l b
-    go false = refl
-
-pub lane-other : (s : Station) (k : ℕ) → (k ≡ s .own → ⊥) → laneAt (afterTurn s) k ≡ laneAfter s k
-unfolding afterTurn rewritten
-lane-other s k d = passed-other-lane s k d
-
-pub lane-own : (s : Station) → s .own < length (s .lanes)
-    → laneAt (afterTurn s) (s .own)
-    ≡ cond (not (eqb (kindOf (startedBody s)) 0)) (pushed (laneAfter s (s .own)) (startedBody s)) (laneAfter s (s .own))
-unfolding afterTurn rewritten
-lane-own s l =
-    passed-own-lane s (rw (lanesAfter-length s) l)
-    ∙ sym (cond-not (eqb (kindOf (startedBody s)) 0) (pushed (laneAfter s (s .own)) (startedBody s)) (laneAfter s (s .own)))
 
 -- the row that is aired
 pub row-at : (s : Station) (k : ℕ) → k < s .n → s .n ≤ 16 → (getD (rowOf s) k noSlot) .body ≡ (laneAt s k) .first

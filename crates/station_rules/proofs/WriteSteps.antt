@@ -9,15 +9,17 @@ use lib.Dec.{ltb}
 use borrow.Author.Tests.{leb-true}
 use Rattle.labels.proofs.Laws.{take-all}
 use Rattle.frame_rules.specs.Frame.{frameBytes}
-use Rattle.frame_rules.specs.Calls.{tableRecords, written, bufferWith, Writable}
+use Rattle.frame_rules.specs.Calls.{tableRecords, written, bufferWith}
+use Rattle.frame_rules.specs.Inner.Writing.{Writable}
 use Rattle.station_rules.specs.declared.Station.{Station}
-use Rattle.station_rules.specs.State.{recordOf, recordLabel, sentRecords}
+use Rattle.station_rules.specs.State.{cellOf, recordOf, recordLabel, sentRecords}
 use Rattle.station_rules.specs.Limits.{stationInside}
 use Rattle.station_rules.specs.Calls.{ownCountInside, frameOf, writeRefusal, writeCall, bufferAfter}
 use Rattle.station_rules.proofs.StationLimits.{Inside}
 
 -- the table of a station inside its limits
 pub writable : (s : Station) → Inside s → Writable (s .n) (s .own) (s .held) (s .table)
+unfolding cellOf
 writable s c =
     record {
       few = c .high;
@@ -27,7 +29,7 @@ writable s c =
 
 -- the records that are sent are those of the table
 pub frame-is : (s : Station) → frameBytes (s .n) (s .own) (tableRecords (s .n) (s .held) (s .table)) ≡ frameOf s
-unfolding tableRecords sentRecords frameOf
+unfolding cellOf tableRecords sentRecords frameOf
 frame-is s = refl
 
 module _ (s : Station) (b : List ℕ) where

@@ -3,13 +3,14 @@ use Prim.Native.Nat.{ℕ, _+_}
 use mathlib.Core.Bool.{Bool, true, false, cond, not}
 use mathlib.Core.List.{List, [], _∷_, _++_}
 use lib.ListN.{set, replicate, length, drop}
-use lib.Dec.{leb, ltb, eqb}
+use lib.Dec.{ltb, eqb}
 use Rattle.kinds.specs.declared.Body.{Body}
 use Rattle.kinds.specs.declared.Body.the-variants.{Empty}
-use Rattle.kind_limits.specs.Limits.{isEdit}
+use Rattle.kind_limits.specs.Limits.{postable}
 use Rattle.kinds.specs.Refusals.{done, badNumber, outsideLimits, queueFull, notAnEdit, laneFull, shortBuffer, countTooHigh, refuse}
 use Rattle.frame_rules.specs.Record.{countInside}
 use Rattle.frame_rules.specs.Frame.{validNumber, frameRefusal, recordsOf, frameBytes}
+use Rattle.station_rules.specs.declared.Setup.{Setup}
 use Rattle.station_rules.specs.declared.Station.{Station}
 use Rattle.station_rules.specs.declared.Taking.{Taking}
 use Rattle.station_rules.specs.declared.TurnReport.{TurnReport}
@@ -17,38 +18,31 @@ use Rattle.station_rules.specs.declared.Kept.{Kept}
 use Rattle.frame_rules.specs.declared.Written.{Written}
 use Rattle.station_rules.specs.declared.Heard.{Heard}
 use Rattle.station_rules.specs.declared.Turned.{Turned}
-use Rattle.lanes.specs.Queue.{noSlot, queued}
-use Rattle.station_rules.specs.State.{recordOf, sentRecords, freshStation}
+use Rattle.lanes.specs.Queue.{noSlot}
+use Rattle.lanes.specs.Waiting.{hasRoom, withPosted}
+use Rattle.station_rules.specs.State.{recordOf, withWaiting, sentRecords, aloneSetup, freshStation}
 use Rattle.station_rules.specs.Limits.{stationInside}
 use Rattle.station_rules.specs.Hearing.{silent, hearRecords}
 use Rattle.station_rules.specs.Turn.{afterTurn, turnReport}
 
--- "Fresh": 1; a refused call returns the fresh station of N = 1
-unfoldable pub freshCall : ℕ → ℕ → Kept
-freshCall n own =
-    cond (validNumber n own)
-    (record { refusal = done; station = freshStation n own })
-    (record { refusal = badNumber; station = freshStation 1 0 })
+-- "Fresh": 1
+abbrev pub freshRefusal : Setup → ℕ → ℕ
+freshRefusal setup own = refuse (not (validNumber (setup .n) own)) badNumber done
+
+-- a refused call returns the fresh station of N = 1
+unfoldable pub freshCall : Setup → ℕ → Kept
+freshCall setup own =
+    cond (eqb (freshRefusal setup own) done)
+    (record { refusal = done; station = freshStation setup own })
+    (record { refusal = freshRefusal setup own; station = freshStation aloneSetup 0 })
 
 -- the station with one more waiting edit (source document 001, Algorithm 2, lines 1 and 2)
 unfoldable pub posted : Station → Body → Station
-posted s b =
-    record {
-      n = s .n;
-      own = s .own;
-      waiting = queued (s .waiting) b;
-      acked = s .acked;
-      body = s .body;
-      count = s .count;
-      labels = s .labels;
-      held = s .held;
-      table = s .table;
-      lanes = s .lanes;
-    }
+posted s b = withWaiting s (withPosted (s .waiting) b)
 
--- 4, 3: what a post judges of the body and the queue
+-- 4, 3: what a post judges of the body and of the waiting edits
 abbrev pub postRefusal : Station → Body → ℕ
-postRefusal s b = refuse (not (isEdit b)) notAnEdit (refuse (leb 32 ((s .waiting) .len)) queueFull done)
+postRefusal s b = refuse (not (postable b)) notAnEdit (refuse (not (hasRoom (s .waiting))) queueFull done)
 
 -- "Post": 2, 4, 3
 unfoldable pub postCall : Station → Body → Kept

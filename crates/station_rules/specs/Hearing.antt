@@ -2,9 +2,9 @@
 use Prim.Native.Nat.{ℕ, _+_}
 use mathlib.Core.Bool.{Bool, true, false, cond, not, _&&_, _||_}
 use mathlib.Core.List.{List, [], _∷_, _++_}
-use lib.ListN.{set}
 use lib.Dec.{leb, ltb, eqb}
-use Rattle.kinds.specs.Body.{kindOf}
+use Rattle.kinds.specs.declared.Body.the-variants.{Empty}
+use Rattle.kinds.specs.Body.{isEmpty}
 use Rattle.labels.specs.Label.{successor}
 use Rattle.labels.specs.Newer.{isNewer}
 use Rattle.frame_rules.specs.declared.Record.{Record}
@@ -12,7 +12,7 @@ use Rattle.places.specs.Places.{fill}
 use Rattle.station_rules.specs.declared.Station.{Station}
 use Rattle.station_rules.specs.declared.Taking.{Taking}
 use Rattle.lanes.specs.Lane.{pushed}
-use Rattle.station_rules.specs.State.{labelOf, ackedOf, heldOf, recordOf, laneAt, recordLabel, ownLabel}
+use Rattle.station_rules.specs.State.{labelOf, ackedOf, heldOf, recordOf, laneAt, recordLabel, ownLabel, withBroadcast, withCell}
 
 -- the station heeds the record: it is of another station, and newer than the one held of it (source document 001, Algorithm 2, lines 6 to 8)
 abbrev pub heeds : Station → Record → Bool
@@ -21,13 +21,17 @@ heeds s r =
     not (eqb k (s .own))
     && isNewer (heldOf s k) (recordLabel (recordOf s k) k) ((recordOf s k) .count) (ownLabel r) (r .count)
 
+-- the record's own label comes after this one
+abbrev pub follows : ℕ → Record → Bool
+follows label r = eqb (ownLabel r) (successor label)
+
 -- it shows the next broadcast of its station: its own label comes after the hearer's label for that station (line 14)
 abbrev pub advances : Station → Record → Bool
-advances s r = eqb (ownLabel r) (successor (labelOf s (r .station)))
+advances s r = follows (labelOf s (r .station)) r
 
 -- its body is taken (line 17; Algorithm 3, line 4)
 abbrev pub takes : Station → Record → Bool
-takes s r = advances s r && not (eqb (kindOf (r .body)) 0)
+takes s r = advances s r && not (isEmpty (r .body))
 
 -- the seen record in the place of the held one, whose labels from n up stay (lines 9 to 11)
 unfoldable pub replaced : ℕ → Record → Record → Record
@@ -43,18 +47,18 @@ raised count = cond (ltb count 255) (count + 1) 255
 unfoldable pub heardNewer : Station → Record → Station
 heardNewer s r =
     let k = r .station in
-    record {
-      n = s .n;
-      own = s .own;
-      waiting = s .waiting;
-      acked = set (s .acked) k (ackedOf s k || eqb (recordLabel r (s .own)) (labelOf s (s .own)));
-      body = s .body;
-      count = cond (advances s r) (raised (s .count)) (s .count);
-      labels = set (s .labels) k (cond (advances s r) (successor (labelOf s k)) (labelOf s k));
-      held = set (s .held) k true;
-      table = set (s .table) k (replaced (s .n) (recordOf s k) r);
-      lanes = set (s .lanes) k (cond (takes s r) (pushed (laneAt s k) (r .body)) (laneAt s k));
-    }
+    withCell (withBroadcast s (s .body) (cond (advances s r) (raised (s .count)) (s .count))) k
+    (record {
+      label = cond (advances s r) (successor (labelOf s k)) (labelOf s k);
+      acked = ackedOf s k || eqb (recordLabel r (s .own)) (labelOf s (s .own));
+      held = true;
+      entry = replaced (s .n) (recordOf s k) r;
+      lane = cond (takes s r) (pushed (laneAt s k) (r .body)) (laneAt s k);
+    })
+
+-- an entry that no taking uses
+abbrev pub noTaking : Taking
+noTaking = record { source = 0; body = Empty }
 
 -- a station while it hears: what it took so far, in the order heard, and whether a lane that held two would have got a third
 pub record Hearing : Type 0 where

@@ -2,6 +2,6 @@ pub mod State
 pub mod Limits
 pub mod Bodies
 pub mod Hearing
-pub mod Frames
 pub mod Turn
 pub mod Calls
+pub mod Inner

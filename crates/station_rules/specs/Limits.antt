@@ -2,42 +2,32 @@
 -- station of which none is held are not looked at.
 use Prim.Native.Nat.{ℕ}
 use mathlib.Core.Bool.{Bool, cond, not, _&&_, _||_}
-use lib.ListN.{getD}
 use lib.Dec.{leb, eqb}
 use Rattle.kinds.specs.declared.Body.{Body}
-use Rattle.kinds.specs.Body.{kindOf}
-use Rattle.kind_limits.specs.Limits.{bodyInside, isEdit}
+use Rattle.kinds.specs.Body.{isEmpty}
+use Rattle.kind_limits.specs.Limits.{bodyInside}
 use Rattle.labels.specs.Label.{isLabel}
 use Rattle.frame_rules.specs.declared.Record.{Record}
-use Rattle.frame_rules.specs.Record.{countInside}
+use Rattle.frame_rules.specs.Record.{recordLimits}
 use Rattle.frame_rules.specs.Frame.{validNumber}
 use Rattle.places.specs.Places.{allBelow}
 use Rattle.lanes.specs.declared.Lane.{Lane}
-use Rattle.lanes.specs.declared.Queue.{Queue}
 use Rattle.station_rules.specs.declared.Station.{Station}
-use Rattle.lanes.specs.Queue.{noSlot}
-use Rattle.station_rules.specs.State.{labelOf, ackedOf, heldOf, recordOf, laneAt, recordLabel}
+use Rattle.lanes.specs.Waiting.{waitingInside}
+use Rattle.station_rules.specs.State.{labelOf, ackedOf, heldOf, recordOf, laneAt}
 
 -- a body that a lane may hold: inside its limits, and not Empty
 abbrev pub takeable : Body → Bool
-takeable b = leb 1 (kindOf b) && bodyInside b
+takeable b = not (isEmpty b) && bodyInside b
 
 -- a lane of at most `most` bodies, each of which it may hold
 unfoldable pub laneInside : ℕ → Lane → Bool
 laneInside most l =
     leb (l .len) most && (eqb (l .len) 0 || takeable (l .first)) && (leb (l .len) 1 || takeable (l .second))
 
--- at most 32 wait, and each is an edit
-unfoldable pub queueInside : Queue → Bool
-queueInside q = leb (q .len) 32 && allBelow (q .len) (λ i. isEdit ((getD (q .slots) i noSlot) .body))
-
--- a record of station k in the table of station `own` among n; the own record's count has no limit but its byte
+-- a record of station k in the table of station `own` among n: inside the record limits, but the own record's count is free, and may reach what a byte holds
 unfoldable pub recordInside : ℕ → ℕ → ℕ → Record → Bool
-recordInside n own k r =
-    eqb (r .station) k
-    && (eqb k own || countInside n (r .count))
-    && bodyInside (r .body)
-    && allBelow n (λ j. isLabel (recordLabel r j))
+recordInside n own k r = eqb (r .station) k && recordLimits n (eqb k own) r
 
 -- what station `own` among n has of station k: its label, its record where one is held, and its lane
 abbrev pub entryInside : ℕ → ℕ → ℕ → ℕ → Bool → Record → Lane → Bool
@@ -55,5 +45,5 @@ stationInside s =
     && ackedOf s (s .own)
     && heldOf s (s .own)
     && bodyInside (s .body)
-    && queueInside (s .waiting)
+    && waitingInside (s .waiting)
     && allBelow (s .n) (placeInside s)

@@ -1,11 +1,12 @@
 -- Document 01, "A station and its calls", Turn: airing, the end of the broadcast and the next start, the own record rewritten.
+use Prim.Native.Nat.{ℕ}
 use mathlib.Core.Bool.{Bool, cond, _&&_}
 use mathlib.Core.List.{List}
-use lib.ListN.{getD, set, replicate}
+use lib.ListN.{replicate}
 use lib.Dec.{ltb, eqb}
 use Rattle.kinds.specs.declared.Body.{Body}
 use Rattle.kinds.specs.declared.Body.the-variants.{Empty, Neutral}
-use Rattle.kinds.specs.Body.{kindOf}
+use Rattle.kinds.specs.Body.{isEmpty}
 use Rattle.labels.specs.Label.{successor}
 use Rattle.frame_rules.specs.declared.Record.{Record}
 use Rattle.places.specs.Places.{allBelow, fill}
@@ -13,21 +14,30 @@ use Rattle.lanes.specs.declared.Lane.{Lane}
 use Rattle.lanes.specs.declared.Slot.{Slot}
 use Rattle.station_rules.specs.declared.Station.{Station}
 use Rattle.station_rules.specs.declared.TurnReport.{TurnReport}
-use Rattle.lanes.specs.Lane.{noLane, pushed, popped}
-use Rattle.lanes.specs.Queue.{noSlot, oldest, unqueued}
-use Rattle.station_rules.specs.State.{labelOf, ackedOf, recordOf, laneAt}
+use Rattle.lanes.specs.Lane.{pushed, popped}
+use Rattle.lanes.specs.Queue.{noSlot}
+use Rattle.lanes.specs.Waiting.{waitingCount, nextEdit, withoutNext}
+use Rattle.station_rules.specs.State.{cellOf, labelOf, ackedOf, recordOf, laneAt, withLabel, withEntry, withLane, withWaiting, withBroadcast, withCell, withAcked, withLanes}
+
+-- each of the first n lanes has a body
+abbrev pub eachHasBody : ℕ → (ℕ → Lane) → Bool
+eachHasBody n lane = allBelow n (λ k. ltb 0 ((lane k) .len))
+
+-- the oldest body of each of the first n lanes
+abbrev pub oldestOfEach : ℕ → (ℕ → Lane) → List Slot
+oldestOfEach n lane = fill n (λ k. record { body = (lane k) .first }) (replicate 16 noSlot)
 
 -- every lane has a body, so a row is aired (source document 001, Algorithm 3, lines 5 to 9; H2: there at each delivery, here at the turn, one row)
 unfoldable pub airs : Station → Bool
-airs s = allBelow (s .n) (λ k. ltb 0 ((laneAt s k) .len))
+airs s = eachHasBody (s .n) (laneAt s)
 
--- the oldest body of each lane
+-- the row
 unfoldable pub rowOf : Station → List Slot
-rowOf s = fill (s .n) (λ k. record { body = (laneAt s k) .first }) (replicate 16 noSlot)
+rowOf s = oldestOfEach (s .n) (laneAt s)
 
--- the lanes after the airing step
-unfoldable pub lanesAfter : Station → List Lane
-lanesAfter s = cond (airs s) (fill (s .n) (λ k. popped (laneAt s k)) (s .lanes)) (s .lanes)
+-- the station after the airing step
+unfoldable pub afterAiring : Station → Station
+afterAiring s = cond (airs s) (withLanes s (λ k. popped (laneAt s k))) s
 
 -- all N are acknowledged, so the broadcast ends (Algorithm 2, line 18)
 unfoldable pub ends : Station → Bool
@@ -35,36 +45,37 @@ ends s = allBelow (s .n) (ackedOf s)
 
 -- the own lane is empty after the airing step, so a body may start (H3: the paper starts what is queued whenever a broadcast ends, line 21)
 abbrev pub mayStart : Station → Bool
-mayStart s = eqb ((getD (lanesAfter s) (s .own) noLane) .len) 0
+mayStart s = eqb ((laneAt (afterAiring s) (s .own)) .len) 0
 
 -- an edit waits, and may start
 abbrev pub startsEdit : Station → Bool
-startsEdit s = ends s && (mayStart s && ltb 0 ((s .waiting) .len))
+startsEdit s = ends s && (mayStart s && ltb 0 (waitingCount (s .waiting)))
 
 -- what starts where the broadcast ends: the oldest waiting edit, Neutral where none waits (Algorithm 3, line 11), Empty where the own lane is not
 -- empty (Algorithm 2, lines 21 to 24)
 unfoldable pub startedBody : Station → Body
 startedBody s =
-    cond (ends s) (cond (mayStart s) (cond (ltb 0 ((s .waiting) .len)) (oldest (s .waiting)) Neutral) Empty) Empty
+    cond (ends s) (cond (mayStart s) (cond (ltb 0 (waitingCount (s .waiting))) (nextEdit (s .waiting)) Neutral) Empty) Empty
 
--- the station after the airing, the end and the start, before its own record is rewritten (lines 19 and 20 for acknowledged, count and label)
+-- the station with its broadcast ended and one of another body begun: nothing counted, nobody but itself acknowledged, its own label the next (lines 19 and 20)
+unfoldable pub begins : Station → Body → Station
+begins s b =
+    let t = withAcked (withBroadcast s b 0) (λ k. eqb k (s .own)) in
+    withCell t (s .own) (withLabel (cellOf t (s .own)) (successor (labelOf s (s .own))))
+
+-- a body that starts is taken into the own lane, unless it is Empty
+unfoldable pub takesOwn : Station → Body → Station
+takesOwn s b =
+    cond (isEmpty b) s
+    (withCell s (s .own) (withLane (cellOf s (s .own)) (pushed (laneAt s (s .own)) b)))
+
+-- the station after the airing, the end and the start, before its own record is rewritten
 unfoldable pub passed : Station → Station
 passed s =
-    record {
-      n = s .n;
-      own = s .own;
-      waiting = cond (startsEdit s) (unqueued (s .waiting)) (s .waiting);
-      acked = cond (ends s) (fill (s .n) (λ k. eqb k (s .own)) (s .acked)) (s .acked);
-      body = cond (ends s) (startedBody s) (s .body);
-      count = cond (ends s) 0 (s .count);
-      labels = cond (ends s) (set (s .labels) (s .own) (successor (labelOf s (s .own)))) (s .labels);
-      held = s .held;
-      table = s .table;
-      lanes =
-          cond (eqb (kindOf (startedBody s)) 0)
-          (lanesAfter s)
-          (set (lanesAfter s) (s .own) (pushed (getD (lanesAfter s) (s .own) noLane) (startedBody s)));
-    }
+    cond (ends s)
+    (withWaiting (takesOwn (begins (afterAiring s) (startedBody s)) (startedBody s))
+    (cond (startsEdit s) (withoutNext (s .waiting)) (s .waiting)))
+    (afterAiring s)
 
 -- the own record with the station's present values; its labels from n up stay (lines 25 and 26)
 unfoldable pub ownRecord : Station → Record
@@ -77,19 +88,7 @@ ownRecord s =
     }
 
 unfoldable pub rewritten : Station → Station
-rewritten s =
-    record {
-      n = s .n;
-      own = s .own;
-      waiting = s .waiting;
-      acked = s .acked;
-      body = s .body;
-      count = s .count;
-      labels = s .labels;
-      held = s .held;
-      table = set (s .table) (s .own) (ownRecord s);
-      lanes = s .lanes;
-    }
+rewritten s = withCell s (s .own) (withEntry (cellOf s (s .own)) (ownRecord s))
 
 -- the station after its turn
 unfoldable pub afterTurn : Station → Station

@@ -3,14 +3,19 @@
 use frame_rules::Record;
 use kinds::Body;
 use lanes::Lane;
-use lanes::Queue;
 use lanes::Slot;
+use lanes::Waiting;
+
+// What a fresh station or group is given: N.
+pub struct Setup {
+    pub n: usize,
+}
 
 // A station, place by place: what it has of station k stands at place k of each array.
 pub struct Station {
     pub n: usize,
     pub own: usize,
-    pub waiting: Queue,
+    pub waiting: Waiting,
     pub acked: [bool; 16],
     pub body: Body,
     pub count: u8,

@@ -3,6 +3,7 @@
 use frame_rules::Record;
 use kinds::Body;
 use lanes::Lane;
+use lanes::QUEUE_CAPACITY;
 use lanes::Queue;
 use lanes::Slot;
 use station_rules::Station;
@@ -45,7 +46,7 @@ fn mix_row(sum: u64, row: [Slot; 16]) -> u64 {
 fn mix_queue(sum: u64, queue: Queue) -> u64 {
     let mut mixed = mix(sum, low(queue.len as u64));
     let mut k: usize = 0;
-    while k < 32 {
+    while k < QUEUE_CAPACITY {
         let slot = queue.slots[k];
         let body = slot.body;
         mixed = mix_body(mixed, body);
@@ -86,9 +87,10 @@ fn mix_place(sum: u64, acked: bool, label: u8, held: bool, record: Record, lane:
 
 pub fn mix_station(sum: u64, s: Station) -> u64 {
     let waiting = s.waiting;
+    let queue = waiting.queue;
     let body = s.body;
     let numbers = mix(mix(sum, low(s.n as u64)), low(s.own as u64));
-    let mut mixed = mix(mix_body(mix_queue(numbers, waiting), body), s.count as u32);
+    let mut mixed = mix(mix_body(mix_queue(numbers, queue), body), s.count as u32);
     let mut k: usize = 0;
     while k < 16 {
         mixed = mix_place(

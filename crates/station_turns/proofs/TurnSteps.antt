@@ -1,7 +1,7 @@
 -- What a turn makes of a station: the answer built from the parts of the turn is the definition's.
-use Prim.Native.Nat.{ℕ, _≤_, _<_, _+_}
+use Prim.Native.Nat.{ℕ, _≤_, _<_}
 use native.Mathlib.Omega.{arith}
-use mathlib.Core.Path.{_≡_, refl, ap, sym, _∙_}
+use mathlib.Core.Path.{_≡_, refl, sym, ap, _∙_}
 use mathlib.Core.Bool.{Bool, true, false, cond, _&&_}
 use mathlib.Core.List.{List}
 use lib.ListN.{getD, set, replicate}
@@ -10,22 +10,24 @@ use lib.Dec.{ltb, eqb}
 use borrow.Author.Tests.{ltb-true}
 use Rattle.kinds.specs.declared.Body.{Body}
 use Rattle.kinds.specs.declared.Body.the-variants.{Empty, Neutral}
-use Rattle.kinds.specs.Body.{kindOf}
+use Rattle.kinds.specs.Body.{isEmpty}
 use Rattle.labels.specs.Label.{successor}
 use Rattle.places.specs.Places.{fill}
 use Rattle.places.proofs.Laws.{and-right}
 use Rattle.lanes.specs.declared.Lane.{Lane}
-use Rattle.lanes.specs.declared.Queue.{Queue}
+use Rattle.lanes.specs.declared.Waiting.{Waiting}
 use Rattle.lanes.specs.declared.Slot.{Slot}
 use Rattle.airing.specs.declared.Aired.{Aired}
-use Rattle.airing.specs.Airing.{airing}
 use Rattle.station_rules.specs.declared.Station.{Station}
 use Rattle.station_rules.specs.declared.Turned.{Turned}
-use Rattle.lanes.specs.Lane.{noLane, pushed}
-use Rattle.lanes.specs.Queue.{noSlot, oldest, unqueued}
-use Rattle.station_rules.specs.State.{labelOf, recordOf, laneAt}
-use Rattle.station_rules.specs.Turn.{airs, rowOf, lanesAfter, ends, startedBody, passed, ownRecord, rewritten, afterTurn, turnReport}
+use Rattle.lanes.specs.Lane.{noLane, pushed, popped}
+use Rattle.lanes.specs.Queue.{noSlot}
+use Rattle.lanes.specs.Waiting.{waitingCount, nextEdit, withoutNext}
+use Rattle.station_rules.specs.State.{cellOf, labelOf, recordOf, laneAt, withEntry, withLane, withWaiting, withBroadcast, withArrays, withCell, withAcked, withLanes}
+use Rattle.station_rules.specs.Turn.{eachHasBody, oldestOfEach, airs, rowOf, afterAiring, ends, mayStart, startsEdit, startedBody, begins, takesOwn, passed, ownRecord, rewritten, afterTurn, turnReport}
 use Rattle.station_rules.specs.Calls.{turnDone}
+use Rattle.station_rules.proofs.Setters.{cell-label, cell-entry, cell-lane}
+use Rattle.station_rules.proofs.TurnCells.{started-stays}
 
 -- a number or none
 pub most-if : (t : Bool) (n m : ℕ) → n ≤ m → cond t n 0 ≤ m
@@ -39,33 +41,35 @@ module _ {A : Type 0} where
   fill-if true n f l = refl
   fill-if false n f l = refl
 
-  -- one place changed, or set to what it held
-  set-if : (t : Bool) (l : List A) (k : ℕ) (x d : A) → set l k (cond t x (getD l k d)) ≡ cond t (set l k x) l
-  set-if true l k x d = refl
-  set-if false l k x d = set-getD l k d
-
-  set-unless : (t : Bool) (l : List A) (k : ℕ) (x d : A) → set l k (cond t (getD l k d) x) ≡ cond t l (set l k x)
-  set-unless true l k x d = set-getD l k d
-  set-unless false l k x d = refl
-
 -- what the airing step makes of the station's lanes is what the definition says of the station
-module _ (s : Station) (step : Aired) (e : step ≡ airing (s .n) (s .lanes)) where
+module _ (s : Station) (step : Aired)
+    (e : (step .aired ≡ eachHasBody (s .n) (λ k. getD (s .lanes) k noLane))
+    × (step .row ≡ cond (step .aired) (oldestOfEach (s .n) (λ k. getD (s .lanes) k noLane)) (replicate 16 noSlot))
+    × (step .left ≡ cond (step .aired) (fill (s .n) (λ k. popped (getD (s .lanes) k noLane)) (s .lanes)) (s .lanes))) where
   pub step-aired : step .aired ≡ airs s
-  unfolding airs airing
-  step-aired = ap (λ (x : Aired). x .aired) e
+  unfolding cellOf airs
+  step-aired = e .0
 
   pub step-row : step .row ≡ cond (airs s) (rowOf s) (replicate 16 noSlot)
-  unfolding airs rowOf airing
-  step-row = ap (λ (x : Aired). x .row) e
+  unfolding cellOf rowOf
+  step-row = e .1 ∙ ap (λ (t : Bool). cond t (rowOf s) (replicate 16 noSlot)) step-aired
 
-  pub step-left : step .left ≡ lanesAfter s
-  unfolding airs lanesAfter airing
-  step-left = ap (λ (x : Aired). x .left) e
+  pub step-left : withArrays s (s .acked) (s .labels) (s .held) (s .table) (step .left) ≡ afterAiring s
+  unfolding cellOf afterAiring withLanes
+  step-left =
+      ap (withArrays s (s .acked) (s .labels) (s .held) (s .table)) (e .2)
+      ∙ go (step .aired)
+      ∙ ap (λ (t : Bool). cond t (withLanes s (λ k. popped (laneAt s k))) s) step-aired
+    where
+      go :
+          (t : Bool) →
+          withArrays s (s .acked) (s .labels) (s .held) (s .table) (cond t (fill (s .n) (λ k. popped (laneAt s k)) (s .lanes)) (s .lanes))
+          ≡ cond t (withLanes s (λ k. popped (laneAt s k))) s
+      go true = refl
+      go false = refl
 
 starts-of :
-    (s : Station) →
-    startedBody s
-    ≡ cond (ends s) (cond (eqb ((getD (lanesAfter s) (s .own) noLane) .len) 0) (cond (ltb 0 (s .waiting .len)) (oldest (s .waiting)) Neutral) Empty) Empty
+    (s : Station) → startedBody s ≡ cond (ends s) (cond (mayStart s) (cond (ltb 0 (waitingCount (s .waiting))) (nextEdit (s .waiting)) Neutral) Empty) Empty
 unfolding startedBody
 starts-of s = refl
 
@@ -73,27 +77,83 @@ starts-of s = refl
 pub waits : (ended may starts : Bool) (n : ℕ) → starts ≡ (ended && (may && ltb 0 n)) → starts ≡ true → 0 < n
 waits ended may starts n e h = ltb-true 0 n (and-right may (ltb 0 n) (and-right ended (may && ltb 0 n) (sym e ∙ h)))
 
+-- what each step of a turn makes of the arrays
+module _ (s : Station) (b : Body) where
+  begins-arrays :
+      begins s b
+      ≡ withArrays (withBroadcast s b 0) (fill (s .n) (λ k. eqb k (s .own)) (s .acked))
+      (set (s .labels) (s .own) (successor (labelOf s (s .own)))) (s .held) (s .table) (s .lanes)
+  unfolding begins withAcked
+  begins-arrays = cell-label (withAcked (withBroadcast s b 0) (λ k. eqb k (s .own))) (s .own) _ (successor (labelOf s (s .own))) refl
+
+  takes-arrays :
+      takesOwn s b
+      ≡ withArrays s (s .acked) (s .labels) (s .held) (s .table)
+      (set (s .lanes) (s .own) (cond (isEmpty b) (laneAt s (s .own)) (pushed (laneAt s (s .own)) b)))
+  unfolding takesOwn cellOf
+  takes-arrays = go (isEmpty b)
+    where
+      own : Lane
+      own = pushed (laneAt s (s .own)) b
+
+      go :
+          (t : Bool) →
+          cond t s (withCell s (s .own) (withLane (cellOf s (s .own)) own))
+          ≡ withArrays s (s .acked) (s .labels) (s .held) (s .table) (set (s .lanes) (s .own) (cond t (laneAt s (s .own)) own))
+      go true = rw (set-getD (s .lanes) (s .own) noLane)
+      go false = cell-lane s (s .own) (withLane (cellOf s (s .own)) own) own refl
+
+module _ (s : Station) (left : List Lane) (l : withArrays s (s .acked) (s .labels) (s .held) (s .table) left ≡ afterAiring s) where
+  abbrev b : Body
+  b = startedBody s
+
+  abbrev next : ℕ
+  next = successor (labelOf s (s .own))
+
+  passed-arrays :
+      passed s
+      ≡ withArrays
+      (withBroadcast (withWaiting s (cond (startsEdit s) (withoutNext (s .waiting)) (s .waiting))) (cond (ends s) b (s .body)) (cond (ends s) 0 (s .count)))
+      (cond (ends s) (fill (s .n) (λ k. eqb k (s .own)) (s .acked)) (s .acked))
+      (set (s .labels) (s .own) (cond (ends s) next (labelOf s (s .own)))) (s .held) (s .table)
+      (set left (s .own) (cond (isEmpty b) (getD left (s .own) noLane) (pushed (getD left (s .own) noLane) b)))
+  unfolding passed cellOf
+  passed-arrays = go (ends s) refl
+    where
+      w : Waiting
+      w = cond (startsEdit s) (withoutNext (s .waiting)) (s .waiting)
+
+      go :
+          (t : Bool) → ends s ≡ t →
+          cond t (withWaiting (takesOwn (begins (afterAiring s) b) b) w) (afterAiring s)
+          ≡ withArrays (withBroadcast (withWaiting s w) (cond t b (s .body)) (cond t 0 (s .count)))
+          (cond t (fill (s .n) (λ k. eqb k (s .own)) (s .acked)) (s .acked))
+          (set (s .labels) (s .own) (cond t next (labelOf s (s .own)))) (s .held) (s .table)
+          (set left (s .own) (cond (isEmpty b) (getD left (s .own) noLane) (pushed (getD left (s .own) noLane) b)))
+      go true e =
+          ap (λ (x : Station). withWaiting (takesOwn (begins x b) b) w) (sym l)
+          ∙ ap (λ (x : Station). withWaiting (takesOwn x b) w) (begins-arrays (withArrays s (s .acked) (s .labels) (s .held) (s .table) left) b)
+          ∙ ap (λ (x : Station). withWaiting x w) (takes-arrays _ b)
+      go false e =
+          sym l
+          ∙ rw (started-stays s e, e, set-getD left (s .own) noLane, set-getD (s .labels) (s .own) 0)
+
 -- the answer of a turn, by its parts
 module _
-    (s : Station) (aired ended starts : Bool) (row : List Slot) (left : List Lane) (old started body gone : Body) (waiting : Queue) (acked : List Bool)
-    (count next : ℕ) (over : List ℕ) (lane : Lane) where
+    (s : Station) (aired ended starts : Bool) (row : List Slot) (left : List Lane) (old : Body) (many : ℕ) (started body gone : Body)
+    (waiting : Waiting) (acked : List Bool) (count next : ℕ) (over : List ℕ) (lane : Lane) where
+  -- before the own record is rewritten
+  abbrev before : Station
+  before =
+      withArrays (withBroadcast (withWaiting s waiting) body count) acked (set (s .labels) (s .own) next) (s .held) (s .table) (set left (s .own) lane)
+
   abbrev answer : Turned
   answer =
       record {
         refusal = 0;
         station =
-            record {
-              n = s .n;
-              own = s .own;
-              waiting = waiting;
-              acked = acked;
-              body = body;
-              count = count;
-              labels = set (s .labels) (s .own) next;
-              held = s .held;
-              table = set (s .table) (s .own) (record { station = s .own; count = count; body = body; labels = over });
-              lanes = set left (s .own) lane;
-            };
+            withArrays before acked (set (s .labels) (s .own) next) (s .held)
+            (set (s .table) (s .own) (record { station = s .own; count = count; body = body; labels = over })) (set left (s .own) lane);
         report = record { aired = aired; row = row; ended = ended; «ended_body» = gone; «started_body» = started };
       }
 
@@ -101,37 +161,27 @@ module _
   may = eqb ((getD left (s .own) noLane) .len) 0
 
   pub turn-made :
-      aired ≡ airs s → ended ≡ ends s → row ≡ cond (airs s) (rowOf s) (replicate 16 noSlot) → left ≡ lanesAfter s →
-      old ≡ oldest (s .waiting) →
-      started ≡ cond ended (cond may (cond (ltb 0 (s .waiting .len)) old Neutral) Empty) Empty →
-      starts ≡ (ended && (may && ltb 0 (s .waiting .len))) →
-      waiting ≡ cond starts (unqueued (s .waiting)) (s .waiting) →
+      aired ≡ airs s → ended ≡ ends s → row ≡ cond (airs s) (rowOf s) (replicate 16 noSlot) →
+      withArrays s (s .acked) (s .labels) (s .held) (s .table) left ≡ afterAiring s →
+      old ≡ nextEdit (s .waiting) →
+      many ≡ waitingCount (s .waiting) →
+      started ≡ cond ended (cond may (cond (ltb 0 many) old Neutral) Empty) Empty →
+      starts ≡ (ended && (may && ltb 0 many)) →
+      waiting ≡ cond starts (withoutNext (s .waiting)) (s .waiting) →
       acked ≡ cond ended (fill (s .n) (λ k. eqb k (s .own)) (s .acked)) (s .acked) →
       body ≡ cond ended started (s .body) →
       gone ≡ cond ended (s .body) Empty →
       count ≡ cond ended 0 (s .count) →
       next ≡ cond ended (successor (labelOf s (s .own))) (labelOf s (s .own)) →
       over ≡ fill (s .n) (λ k. getD (set (s .labels) (s .own) next) k 0) ((recordOf s (s .own)) .labels) →
-      lane ≡ cond (eqb (kindOf started) 0) (getD left (s .own) noLane) (pushed (getD left (s .own) noLane) started) →
+      lane ≡ cond (isEmpty started) (getD left (s .own) noLane) (pushed (getD left (s .own) noLane) started) →
       answer ≡ turnDone s
-  unfolding afterTurn rewritten passed ownRecord turnReport
-  turn-made a e r l o b t w k y g m x v p =
-      let f : started ≡ startedBody s = b ∙ rw (e, l, o) (sym (starts-of s)) in
-      rw (
-        p,
-        v,
-        w,
-        t,
-        k,
-        y,
-        g,
-        m,
-        x,
-        f,
-        e,
-        a,
-        r,
-        l,
-        set-if (ends s) (s .labels) (s .own) (successor (labelOf s (s .own))) 0,
-        set-unless (eqb (kindOf (startedBody s)) 0) (lanesAfter s) (s .own) (pushed (getD (lanesAfter s) (s .own) noLane) (startedBody s)) noLane,
-      )
+  unfolding cellOf afterTurn rewritten ownRecord turnReport
+  turn-made a e r l o z b t w k y g m x v p =
+      let room : may ≡ mayStart s = ap (λ (z : Station). eqb ((laneAt z (s .own)) .len) 0) l in
+      let f : started ≡ startedBody s = b ∙ rw (e, room, o, z) (sym (starts-of s)) in
+      let u : before ≡ passed s = rw (p, w, t, k, y, m, x, f, e, room, z) (sym (passed-arrays s left l)) in
+      let h : answer .station ≡ afterTurn s =
+      rw v (sym (cell-entry before (s .own) (withEntry (cellOf before (s .own)) (ownRecord before)) (ownRecord before) refl)) ∙ ap rewritten u in
+      let j : answer .report ≡ turnReport s = rw (a, r, g, f, e) in
+      λ i. record { refusal = 0; station = h i; report = j i }

@@ -17,7 +17,7 @@ pub fn take_turn(s: Station) -> Turned
 {
     let n = s.n;
     let own = s.own;
-    let queue = s.waiting;
+    let waiting = s.waiting;
     let had = s.acked;
     let sent = s.body;
     let held = s.held;
@@ -28,10 +28,11 @@ pub fn take_turn(s: Station) -> Turned
     let ended = turn_parts::all_acked(n, had);
     let own_lane = left[own];
     let own_len = own_lane.len;
-    let oldest = lanes::oldest(queue);
-    let started = turn_parts::started_body(ended, own_len, queue.len, oldest);
-    let starts = turn_parts::starts_edit(ended, own_len, queue.len);
-    let waiting = turn_parts::waiting_after(starts, queue);
+    let next_edit = lanes::next_edit(waiting);
+    let waiting_count = lanes::waiting_count(waiting);
+    let started = turn_parts::started_body(ended, own_len, waiting_count, next_edit);
+    let starts = turn_parts::starts_edit(ended, own_len, waiting_count);
+    let still_waiting = turn_parts::waiting_after(starts, waiting);
     let acked = turn_parts::only_own(turn_parts::count_if(ended, n), own, had);
     let body = turn_parts::body_of(ended, started, sent);
     let ended_body = turn_parts::body_of(ended, sent, Body::Empty);
@@ -52,7 +53,7 @@ pub fn take_turn(s: Station) -> Turned
     let station = Station {
         n: n,
         own: own,
-        waiting: waiting,
+        waiting: still_waiting,
         acked: acked,
         body: body,
         count: count,

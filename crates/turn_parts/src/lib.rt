@@ -5,15 +5,15 @@ ghost use mathlib.Core.Bool.{true, false, cond, _&&_};
 ghost use Prim.Native.Nat.{_≤_, _<_};
 ghost use lib.ListN.{getD};
 ghost use lib.Dec.{ltb, eqb};
-ghost use Rattle.kinds.specs.Body.{kindOf};
+ghost use Rattle.kinds.specs.Body.{isEmpty};
 ghost use Rattle.kinds.specs.declared.Body.the-variants.{Empty, Neutral};
 ghost use Rattle.labels.specs.Label.{successor};
 ghost use Rattle.places.specs.Places.{allBelow, fill};
 ghost use Rattle.lanes.specs.Lane.{noLane, pushed};
-ghost use Rattle.lanes.specs.Queue.{unqueued};
+ghost use Rattle.lanes.specs.Waiting.{waitingCount, withoutNext, waitingInside};
 use kinds::Body;
 use lanes::Lane;
-use lanes::Queue;
+use lanes::Waiting;
 
 // Are all n acknowledged?
 pub fn all_acked(n: usize, acked: [bool; 16]) -> bool
@@ -46,7 +46,7 @@ pub fn only_own(n: usize, own: usize, acked: [bool; 16]) -> [bool; 16]
 
 // The lane with a body put last, unless the body is Empty.
 pub fn lane_with(lane: Lane, body: Body) -> Lane
-    ensures { λ r. ⌜ r ≡ cond (eqb (kindOf body) 0) lane (pushed lane body) ⌝ }
+    ensures { λ r. ⌜ r ≡ cond (isEmpty body) lane (pushed lane body) ⌝ }
 {
     if kinds::is_empty(body) {
         return lane;
@@ -64,9 +64,9 @@ pub fn count_if(changes: bool, n: usize) -> usize
     0
 }
 
-// What starts, by the bodies in the own lane, the number of waiting edits and the oldest of them.
-pub fn started_body(ended: bool, own_len: u8, waiting_len: usize, oldest: Body) -> Body
-    ensures { λ r. ⌜ r ≡ cond ended (cond (eqb «own_len» 0) (cond (ltb 0 «waiting_len») oldest Neutral) Empty) Empty ⌝ }
+// What starts, by the bodies in the own lane, the number of waiting edits and the next of them.
+pub fn started_body(ended: bool, own_len: u8, waiting_count: usize, next_edit: Body) -> Body
+    ensures { λ r. ⌜ r ≡ cond ended (cond (eqb «own_len» 0) (cond (ltb 0 «waiting_count») «next_edit» Neutral) Empty) Empty ⌝ }
 {
     if !ended {
         return Body::Empty;
@@ -74,15 +74,15 @@ pub fn started_body(ended: bool, own_len: u8, waiting_len: usize, oldest: Body) 
     if own_len != 0 {
         return Body::Empty;
     }
-    if waiting_len == 0 {
+    if waiting_count == 0 {
         return Body::Neutral;
     }
-    oldest
+    next_edit
 }
 
-// Does the oldest waiting edit start?
-pub fn starts_edit(ended: bool, own_len: u8, waiting_len: usize) -> bool
-    ensures { λ r. ⌜ r ≡ (ended && (eqb «own_len» 0 && ltb 0 «waiting_len»)) ⌝ }
+// Does a waiting edit start?
+pub fn starts_edit(ended: bool, own_len: u8, waiting_count: usize) -> bool
+    ensures { λ r. ⌜ r ≡ (ended && (eqb «own_len» 0 && ltb 0 «waiting_count»)) ⌝ }
 {
     if !ended {
         return false;
@@ -90,18 +90,18 @@ pub fn starts_edit(ended: bool, own_len: u8, waiting_len: usize) -> bool
     if own_len != 0 {
         return false;
     }
-    0 < waiting_len
+    0 < waiting_count
 }
 
 // The edits that wait after the start.
-pub fn waiting_after(starts: bool, waiting: Queue) -> Queue
-    requires { ⌜ (starts ≡ true → 0 < waiting .len) × (waiting .len ≤ 32) ⌝ }
-    ensures { λ r. ⌜ r ≡ cond starts (unqueued waiting) waiting ⌝ }
+pub fn waiting_after(starts: bool, waiting: Waiting) -> Waiting
+    requires { ⌜ (starts ≡ true → 0 < waitingCount waiting) × (waitingInside waiting ≡ true) ⌝ }
+    ensures { λ r. ⌜ r ≡ cond starts (withoutNext waiting) waiting ⌝ }
 {
     if !starts {
         return waiting;
     }
-    lanes::unqueued(waiting)
+    lanes::without_next(waiting)
 }
 
 // The first body where the test holds, else the second.

@@ -8,13 +8,12 @@ use borrow.Author.Tests.{not-true, not-false}
 use Rattle.places.specs.Places.{fill}
 use Rattle.lanes.specs.Lane.{noLane}
 use Rattle.lanes.proofs.LaneSteps.{pop-one, pop-two}
-use Rattle.airing.specs.Airing.{firsts, rests}
-use Rattle.airing.proofs.AirSteps.{row-more, left-more, nothing-aired, row-aired}
+use Rattle.airing.proofs.AirSteps.{rowFrom, leftOf, row-more, left-more, nothing-aired, row-aired}
 use Rattle.airing.proofs.air.Statement.{statement}
 use Rattle.airing.proofs.air.Tie as tie
 
 abbrev Inv-loop : tie.InvT-loop
-Inv-loop n row₀ left₀ aired k₀ row left k = (k ≤ n) × (row ≡ firsts k left₀) × (left ≡ rests k left₀)
+Inv-loop n row₀ left₀ aired k₀ row left k = (k ≤ n) × (row ≡ rowFrom k left₀) × (left ≡ leftOf k left₀)
 
 abbrev μ-loop : tie.MeasureT-loop
 μ-loop n row₀ left₀ aired k₀ row left k = n - k
@@ -86,7 +85,7 @@ returns-2 c =
     let l = a .before .args .lanes in
     let all : c .before .loop .k ≡ a .before .args .n = omega arith in
     row-aired (a .before .args .n) l (a .all-full .result) (a .all-full .ensures) (not-false _ (c .before .before .if1 .left)) (c .before .loop .row) (c .before .loop .left)
-    (c .before .loop .inv .1 ∙ ap (λ (k : ℕ). firsts k l) all) (c .before .loop .inv .2 ∙ ap (λ (k : ℕ). rests k l) all)
+    (c .before .loop .inv .1 ∙ ap (λ (k : ℕ). rowFrom k l) all) (c .before .loop .inv .2 ∙ ap (λ (k : ℕ). leftOf k l) all)
 
 pub air-spec : {M : Type 1} → statement M
 air-spec =

@@ -18,7 +18,9 @@ same-length c = search needs
 returns : tie.Need-returns
 unfolding postedBy
 returns c =
-    post-made _ _ _ _ _ _ _ (c .before .before .before .before .before .post .ensures) (record { session = refl; put = c .before .before .before .put-post .ensures })
+    let made = c .before .before .before .before .before in
+    post-made (made .before .before .before .args .s) _ _ _ _ _ _ (made .post .ensures)
+    (record { session = refl; put = c .before .before .before .put-post .ensures })
 
 pub apply-post-spec : {M : Type 1} → statement M
 apply-post-spec = tie.close (tie.spec post-requires put-post-requires same-length returns)

@@ -1,16 +1,17 @@
--- `frame_marks::put_marks` meets its contract: the marks and counts of the records passed are put.
+-- `frame_marks::put_marks` meets its contract: the marks and counts of the records passed are put. Each mark is made of the record that the reader gives.
 use Prim.Native.Nat.{ℕ, _+_, _-_, _*_, _^_, _≤_, _<_}
 use native.Mathlib.Omega.{arith}
 use mathlib.Core.Path.{_≡_, sym, ap, subst, _∙_}
 use mathlib.Core.List.{List}
-use lib.ListN.{getD, length, length-set}
+use lib.ListN.{getD, length, length-set, length-take, length-drop}
 use lib.Seq.{getD-drop}
 use borrow.Author.Tests.{leb-true}
 use Rattle.frame_rules.specs.declared.Record.{Record}
-use Rattle.station_rules.specs.State.{recordLabel, ownLabel}
+use Rattle.frame_rules.specs.Record.{recordOf}
+use Rattle.station_rules.specs.State.{ownLabel}
 use Rattle.station_rules.proofs.LimitsHear.{Carried}
 use Rattle.frame_marks.specs.Marks.{recordAt, sizeAt, markOf, Marked}
-use Rattle.frame_marks.proofs.FrameBytes.{station-at, count-at, label-at, carried-at}
+use Rattle.frame_marks.proofs.FrameBytes.{part-in, record-at, carried-at}
 use Rattle.frame_marks.proofs.MarkLaws.{marked-none, marked-more}
 use Rattle.frame_marks.proofs.put_marks.Statement.{statement}
 use Rattle.frame_marks.proofs.put_marks.Tie as tie
@@ -52,123 +53,49 @@ module _ (c : tie.In-loop Inv-loop μ-loop) where
   below : r < sizeAt (bytes frame) (start frame)
   below = rw (size-is frame) at (c .loop-test .taken)
 
-  abbrev k : ℕ
-  k = getD (bytes frame) at 0
-
-  station-is : k ≡ seen .station
-  station-is = station-at (bytes frame) (start frame) r
-
   carry : Carried (c .before .before .before .before .before .pre .n) seen
   carry = carried-at (c .before .before .before .before .before .pre .n) (bytes frame) (start frame) (c .before .before .before .before .before .pre .frame) r below
 
   own-label : ownLabel seen ≤ 2
   own-label = leb-true (ownLabel seen) 2 (carry .labels (seen .station) (carry .station))
 
-  room : (at + 16 ≤ length (bytes frame)) × (length (bytes frame) < 2 ^ 64) × (start frame + 2 * r + 1 < length (c .before .before .before .before .before .args .marks .now)) × (k < 16)
+  room : (at + 16 ≤ length (bytes frame)) × (length (bytes frame) < 2 ^ 64) × (start frame + 2 * r + 1 < length (c .before .before .before .before .before .args .marks .now)) × (seen .station < 16)
   room =
       let f = fits frame in
       let l = below in
       let m = c .before .before .before .before .before .pre .room in
-      (omega arith, f .1, omega arith, omega (arith, station-is, carry .station, c .before .before .before .before .before .pre .high))
+      (omega arith, f .1, omega arith, omega (arith, carry .station, c .before .before .before .before .before .pre .high))
 
--- its own label
-module _ (c : tie.After-label-at Inv-loop μ-loop) where
-  abbrev label : ℕ
-  label = c .label-at .result
+-- the record read
+module _ (c : tie.After-labels Inv-loop μ-loop) where
+  abbrev place : tie.In-loop Inv-loop μ-loop
+  place = c .before .before .before
 
-  label-is : label ≡ ownLabel (seen (c .before .before))
-  label-is =
-      let v = c .before .before in
-      c .label-at .ensures ∙ label-at (bytes (frame v)) (start (frame v)) (r v) (k v) ∙ ap (recordLabel (seen v)) (station-is v)
+  abbrev read : Record
+  read = c .before .read-record .result
 
-  low : (k (c .before .before) < 16) × (label ≤ 2)
-  low = (room (c .before .before) .3, omega (arith, label-is, own-label (c .before .before)))
+  read-is : read ≡ seen place
+  read-is =
+      c .before .read-record .ensures
+      ∙ ap recordOf (part-in (bytes (frame place)) (at place))
+      ∙ record-at (bytes (frame place)) (start (frame place)) (r place)
 
-  mark-is : 4 * k (c .before .before) + label ≡ markOf (seen (c .before .before))
-  mark-is = let q = station-is (c .before .before) in let l = label-is in λ i. 4 * q i + l i
+  low : (read .station < 16) × (ownLabel read ≤ 2)
+  low = (
+    omega (arith, room place .3, ap (λ (x : Record). x .station) read-is),
+    omega (arith, own-label place, ap (λ (x : Record). ownLabel x) read-is),
+  )
 
-add-records : tie.Need-add-records Inv-loop μ-loop
-add-records c = record { fits = omega (arith, fits c) }
-
-shared-slice-read-records : tie.Need-shared-slice-read-records Inv-loop μ-loop
-shared-slice-read-records c = omega (arith, fits (c .before))
-
-cast-records : tie.Need-cast-records Inv-loop μ-loop
-cast-records c = record { fits = omega (arith, fits (c .before), size-is (c .before)) }
-
-loop-holds : tie.Need-loop-holds Inv-loop μ-loop
-loop-holds c = (omega arith, marked-none _ _ _)
-
-add-at : tie.Need-add-at Inv-loop μ-loop
-add-at c = record { fits = omega (arith, room c) }
-
-mul-at : tie.Need-mul-at Inv-loop μ-loop
-mul-at c = record { fits = omega (arith, room c) }
-
-add-at-2 : tie.Need-add-at-2 Inv-loop μ-loop
-add-at-2 c = record { fits = omega (arith, room c) }
-
-shared-slice-read-k : tie.Need-shared-slice-read-k Inv-loop μ-loop
-shared-slice-read-k c = omega (arith, room (c .before))
-
-add-label-at : tie.Need-add-label-at Inv-loop μ-loop
-add-label-at c = record { fits = omega (arith, room (c .before)) }
-
-cast-label-at : tie.Need-cast-label-at Inv-loop μ-loop
-cast-label-at c = record { fits = omega (arith, room (c .before)) }
-
-label-at-requires : tie.Need-label-at-requires Inv-loop μ-loop
-label-at-requires c κs = (omega (arith, room (c .before)), room (c .before) .3)
-
-mul-marks : tie.Need-mul-marks Inv-loop μ-loop
-mul-marks c = record { fits = omega (arith, low c) }
-
-add-marks : tie.Need-add-marks Inv-loop μ-loop
-add-marks c = record { fits = omega (arith, low c) }
-
-mul-marks-2 : tie.Need-mul-marks-2 Inv-loop μ-loop
-mul-marks-2 c = record { fits = omega (arith, room (c .before .before)) }
-
-add-marks-2 : tie.Need-add-marks-2 Inv-loop μ-loop
-add-marks-2 c = record { fits = omega (arith, room (c .before .before)) }
-
-slice-write-marks : tie.Need-slice-write-marks Inv-loop μ-loop
-slice-write-marks c = omega (arith, room (c .before .before), (c .before .before .before) .loop .inv .1 .size)
-
-add-marks-3 : tie.Need-add-marks-3 Inv-loop μ-loop
-add-marks-3 c = record { fits = omega (arith, room (c .before .before)) }
-
-shared-slice-read-marks : tie.Need-shared-slice-read-marks Inv-loop μ-loop
-shared-slice-read-marks c = omega (arith, room (c .before .before .before))
-
-mul-marks-3 : tie.Need-mul-marks-3 Inv-loop μ-loop
-mul-marks-3 c = record { fits = omega (arith, room (c .before .before .before)) }
-
-add-marks-4 : tie.Need-add-marks-4 Inv-loop μ-loop
-add-marks-4 c = record { fits = omega (arith, room (c .before .before .before)) }
-
-add-marks-5 : tie.Need-add-marks-5 Inv-loop μ-loop
-add-marks-5 c = record { fits = omega (arith, room (c .before .before .before)) }
-
-slice-write-marks-2 : tie.Need-slice-write-marks-2 Inv-loop μ-loop
-slice-write-marks-2 c = simp length-set (omega (arith, room (c .before .before .before), (c .before .before .before .before) .loop .inv .1 .size))
-
-add-r : tie.Need-add-r Inv-loop μ-loop
-add-r c = record { fits = omega (arith, room (c .before .before .before)) }
-
-loop-less : tie.Need-loop-less Inv-loop μ-loop
-loop-less c = omega (arith, (c .before .before .before) .loop-test .taken)
+  mark-is : 4 * read .station + ownLabel read ≡ markOf (seen place)
+  mark-is = ap (λ (x : Record). markOf x) read-is
 
 loop-again : tie.Need-loop-again Inv-loop μ-loop
 loop-again c =
-    let v = c .before .before .before in (
+    let v = place c in (
       omega (arith, v .loop-test .taken),
-      marked-more (bytes (frame v)) (c .before .before .before .before .before .before .before .before .args .marks .now) (v .before .loop .marks) (start (frame v)) (r v) _ _ (v .before .loop .inv .1) (room v .2) (mark-is (c .before))
-          (count-at (bytes (frame v)) (start (frame v)) (r v)),
+      marked-more (bytes (frame v)) (v .before .before .before .before .before .args .marks .now) (v .before .loop .marks) (start (frame v)) (r v) _ _ (v .before .loop .inv .1) (room v .2) (mark-is c)
+          (ap (λ (x : Record). x .count) (read-is c)),
     )
-
-same-length : tie.Need-same-length Inv-loop μ-loop
-same-length c = c .before .loop .inv .1 .size
 
 returns : tie.Need-returns Inv-loop μ-loop
 returns c =
@@ -182,30 +109,31 @@ put-marks-spec =
     (tie.spec
     Inv-loop
     μ-loop
-    add-records
-    shared-slice-read-records
-    cast-records
-    loop-holds
-    add-at
-    mul-at
-    add-at-2
-    shared-slice-read-k
-    add-label-at
-    cast-label-at
-    label-at-requires
-    mul-marks
-    add-marks
-    mul-marks-2
-    add-marks-2
-    slice-write-marks
-    add-marks-3
-    shared-slice-read-marks
-    mul-marks-3
-    add-marks-4
-    add-marks-5
-    slice-write-marks-2
-    add-r
-    loop-less
+    (λ c. record { fits = omega (arith, fits c) })
+    (λ c. omega (arith, fits (c .before)))
+    (λ c. record { fits = omega (arith, fits (c .before), size-is (c .before)) })
+    (λ c. (omega arith, marked-none _ _ _))
+    (λ c. record { fits = omega (arith, room c) })
+    (λ c. record { fits = omega (arith, room c) })
+    (λ c. record { fits = omega (arith, room c) })
+    (λ c. record { fits = omega (arith, room c) })
+    (λ c. omega (arith, room c))
+    (λ c. omega (arith, room c))
+    (λ c. omega (arith, room c))
+    (λ c κs. simp (length-take, length-drop) (omega (arith, room (c .before))))
+    (λ c. record { fits = omega (arith, low c) })
+    (λ c. record { fits = omega (arith, low c) })
+    (λ c. omega (arith, low c))
+    (λ c. record { fits = omega (arith, low c) })
+    (λ c. record { fits = omega (arith, room (place c)) })
+    (λ c. record { fits = omega (arith, room (place c)) })
+    (λ c. omega (arith, room (place c), place c .before .loop .inv .1 .size))
+    (λ c. record { fits = omega (arith, room (place c)) })
+    (λ c. record { fits = omega (arith, room (place c)) })
+    (λ c. record { fits = omega (arith, room (place c)) })
+    (λ c. simp length-set (omega (arith, room (place c), place c .before .loop .inv .1 .size)))
+    (λ c. record { fits = omega (arith, room (place c)) })
+    (λ c. omega (arith, place c .loop-test .taken))
     loop-again
-    same-length
+    (λ c. c .before .loop .inv .1 .size)
     returns)

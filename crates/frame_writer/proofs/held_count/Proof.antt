@@ -5,7 +5,7 @@ use native.Mathlib.Omega.{arith}
 use borrow.Author.Needs.{needs}
 use mathlib.Core.Bool.{false}
 use lib.ListN.{getD}
-use Rattle.frame_rules.specs.Calls.{heldCount}
+use Rattle.frame_rules.specs.Inner.Writing.{heldCount}
 use Rattle.frame_writer.proofs.Table.{at-most-one, counted-more}
 use Rattle.frame_writer.proofs.held_count.Statement.{statement}
 use Rattle.frame_writer.proofs.held_count.Tie as tie

@@ -5,7 +5,7 @@ use native.Mathlib.Omega.{arith}
 use borrow.Author.Tests.{not-true, not-false}
 use borrow.Rule.Slice.PartMut.{same-len-mid}
 use lib.ListN.{length, length-set, length-take, length-drop}
-use Rattle.frame_rules.specs.Calls.{heldCount}
+use Rattle.frame_rules.specs.Inner.Writing.{heldCount}
 use Rattle.frame_writer.proofs.Table.{start, Filled, filled-none, at-same, filled-same, at-more, filled-more, count-le, count-room, short-answer, short-buffer, done-answer, done-buffer}
 use Rattle.frame_writer.proofs.write_table.Statement.{statement}
 use Rattle.frame_writer.proofs.write_table.Tie as tie

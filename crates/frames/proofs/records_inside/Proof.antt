@@ -1,110 +1,82 @@
--- `frames::records_inside` meets its contract. The loop's invariant is `Checked`: what the records passed so far say.
-use mathlib.Core.Path.{sym, ap, _∙_}
-use Prim.Native.Nat.{_≤_, _-_, _+_, _*_}
+-- `frames::records_inside` meets its contract. The loop's invariant is `Checked`: what the records passed so far say. Each record's part is handed on
+-- whole, and its station is the part's first byte.
+use mathlib.Core.Bool.{true, false}
+use mathlib.Core.List.{List}
+use mathlib.Core.Path.{_≡_, sym, ap, _∙_}
+use Prim.Native.Nat.{ℕ, _≤_, _-_, _+_, _*_}
 use native.Mathlib.Omega.{arith}
 use borrow.Author.Needs.{needs}
 use borrow.Author.Tests.{not-true, not-false}
-use lib.ListN.{length-take, length-drop}
+use lib.ListN.{getD, length-take, length-drop}
 use Rattle.frame_rules.specs.Record.{bytesInside}
-use Rattle.frames.proofs.Records.{Checked, checked-none, checked-more, checked-order, checked-bytes, checked-all, part-is, station-is}
+use Rattle.frame_rules.specs.Frame.{part, stationAt}
+use Rattle.frames.proofs.Records.{Checked, checked-none, checked-more, checked-order, checked-bytes, checked-all, part-is}
 use Rattle.frames.proofs.records_inside.Statement.{statement}
 use Rattle.frames.proofs.records_inside.Tie as tie
 
 abbrev Inv-loop : tie.InvT-loop
-Inv-loop bytes n count sender table found₀ least₀ k₀ found least k = (k ≤ count) × Checked bytes n k found least
+Inv-loop bytes n count sender found₀ least₀ k₀ found least k = (k ≤ count) × Checked bytes n k found least
 
 abbrev μ-loop : tie.MeasureT-loop
-μ-loop bytes n count sender table found₀ least₀ k₀ found least k = count - k
+μ-loop bytes n count sender found₀ least₀ k₀ found least k = count - k
 
-shared-slice-read-wide : tie.Need-shared-slice-read-wide Inv-loop μ-loop
-shared-slice-read-wide c = omega arith
+-- a record judged
+module _ (c : tie.After-record-inside Inv-loop μ-loop) where
+  abbrev bytes : List ℕ
+  bytes = c .before .before .before .before .before .before .before .before .before .args .bytes .now
 
-wide-requires : tie.Need-wide-requires Inv-loop μ-loop
-wide-requires c κs = search needs
+  abbrev n : ℕ
+  n = c .before .before .before .before .before .before .before .before .before .args .n
 
-shared-slice-read-wide-2 : tie.Need-shared-slice-read-wide-2 Inv-loop μ-loop
-shared-slice-read-wide-2 c = omega arith
+  abbrev k : ℕ
+  k = c .before .before .before .loop .k
 
-wide-requires-2 : tie.Need-wide-requires-2 Inv-loop μ-loop
-wide-requires-2 c κs = search needs
+  inside-is : bytesInside n (part bytes k) ≡ c .record-inside .result
+  inside-is = ap (bytesInside n) (sym (part-is bytes k)) ∙ sym (c .record-inside .ensures)
 
-spans-requires : tie.Need-spans-requires Inv-loop μ-loop
-spans-requires c κs = search needs
+-- its station read
+module _ (c : tie.After-wide3 Inv-loop μ-loop) where
+  abbrev judged : tie.After-record-inside Inv-loop μ-loop
+  judged = c .before .before .before
 
-loop-holds : tie.Need-loop-holds Inv-loop μ-loop
-loop-holds c = (omega arith, checked-none _ _)
+  station : c .wide3 .result ≡ stationAt (bytes judged) (k judged)
+  station = c .wide3 .ensures ∙ ap (λ (l : List ℕ). getD l 0 0) (part-is (bytes judged) (k judged))
 
-mul-at : tie.Need-mul-at Inv-loop μ-loop
-mul-at c = omega arith
-
-add-at : tie.Need-add-at Inv-loop μ-loop
-add-at c = omega arith
-
-slice-aggregate-record-inside : tie.Need-slice-aggregate-record-inside Inv-loop μ-loop
-slice-aggregate-record-inside c = search needs
-
-add-record-inside : tie.Need-add-record-inside Inv-loop μ-loop
-add-record-inside c = omega arith
-
-sub-record-inside : tie.Need-sub-record-inside Inv-loop μ-loop
-sub-record-inside c = omega arith
-
-part-record-inside-start : tie.Need-part-record-inside-start Inv-loop μ-loop
-part-record-inside-start c = omega arith
-
-part-record-inside-end : tie.Need-part-record-inside-end Inv-loop μ-loop
-part-record-inside-end c = omega arith
+  fine : bytesInside (n judged) (part (bytes judged) (k judged)) ≡ true
+  fine = inside-is judged ∙ not-false _ (c .before .before .if1 .left)
 
 record-inside-requires : tie.Need-record-inside-requires Inv-loop μ-loop
-record-inside-requires c κs = (c .before .before .before .before .spans .ensures, simp (length-take, length-drop) (omega arith), omega arith)
+record-inside-requires c κs = (simp (length-take, length-drop) (omega arith), omega arith)
 
 returns : tie.Need-returns Inv-loop μ-loop
 returns c =
-    let l = c .before .before .before .before .before .loop in
-    let s = c .before .before .before .before .before .before .before .before .before .before .before .before .args in
-    checked-bytes (s .bytes .now) (s .n) (l .k) (omega arith) (ap (bytesInside (s .n)) (sym (part-is (s .bytes .now) (l .k))) ∙ sym (c .before .record-inside .ensures) ∙ not-true _ (c .if1 .taken))
+    let j = c .before in
+    checked-bytes (bytes j) (n j) (k j) (omega arith) (inside-is j ∙ not-true _ (c .if1 .taken))
 
 shared-slice-read-wide-3 : tie.Need-shared-slice-read-wide-3 Inv-loop μ-loop
-shared-slice-read-wide-3 c = omega arith
-
-wide-requires-3 : tie.Need-wide-requires-3 Inv-loop μ-loop
-wide-requires-3 c κs = search needs
+shared-slice-read-wide-3 c = simp (length-take, length-drop) (omega arith)
 
 returns-2 : tie.Need-returns-2 Inv-loop μ-loop
 returns-2 c =
-    let l = c .before .before .before .before .before .before .before .before .loop in
-    let s = c .before .before .before .before .before .before .before .before .before .before .before .before .before .before .before .args in
-    checked-order (s .bytes .now) (s .n) (l .k) (l .found) (l .least) (l .inv .1)
-    (ap (bytesInside (s .n)) (sym (part-is (s .bytes .now) (l .k))) ∙ sym (c .before .before .before .before .record-inside .ensures) ∙ not-false _ (c .before .before .before .if1 .left))
-    (omega arith)
-    (omega (arith, station-is (s .bytes .now) (l .k)))
-
-add-least : tie.Need-add-least Inv-loop μ-loop
-add-least c = omega (arith, c .before .before .shared-slice-known4 .given (4 + 16 * c .before .before .before .before .before .before .before .before .loop .k))
-
-add-k : tie.Need-add-k Inv-loop μ-loop
-add-k c = omega arith
-
-loop-less : tie.Need-loop-less Inv-loop μ-loop
-loop-less c = omega arith
+    let w = c .before in
+    let j = judged w in
+    let l = j .before .before .before .loop in
+    checked-order (bytes j) (n j) (k j) (l .found) (l .least) (l .inv .1) (fine w) (omega arith) (omega (arith, station w))
 
 loop-again : tie.Need-loop-again Inv-loop μ-loop
 loop-again c =
-    let l = c .before .before .before .before .before .before .before .before .loop in
-    let s = c .before .before .before .before .before .before .before .before .before .before .before .before .before .before .before .args in (
+    let w = c .before in
+    let j = judged w in
+    let l = j .before .before .before .loop in
+    let sender = j .before .before .before .before .wide2 in (
       omega arith,
-      checked-more (s .bytes .now) (s .n) (l .k) (l .found) (l .least) (l .inv .1)
-          (ap (bytesInside (s .n)) (sym (part-is (s .bytes .now) (l .k))) ∙ sym (c .before .before .before .before .record-inside .ensures) ∙ not-false _ (c .before .before .before .if1 .left))
-          (c .before .wide3 .result) (c .before .before .before .before .before .before .before .before .before .before .wide2 .result)
-          (c .before .wide3 .ensures ∙ sym (station-is (s .bytes .now) (l .k)))
-          (c .before .before .before .before .before .before .before .before .before .before .wide2 .ensures)
-          (omega arith),
+      checked-more (bytes j) (n j) (k j) (l .found) (l .least) (l .inv .1) (fine w) (w .wide3 .result) (sender .result) (station w) (sender .ensures) (omega arith),
     )
 
 returns-3 : tie.Need-returns-3 Inv-loop μ-loop
 returns-3 c =
     let l = c .before .loop in
-    let s = c .before .before .before .before .before .before .before .before .args in
+    let s = c .before .before .before .before .before .before .before .args in
     checked-all (s .bytes .now) (s .n) (l .k) (l .found) (l .least) (l .inv .1) (omega arith)
 
 pub records-inside-spec : {M : Type 1} → statement M
@@ -113,26 +85,24 @@ records-inside-spec =
     (tie.spec
     Inv-loop
     μ-loop
-    shared-slice-read-wide
-    wide-requires
-    shared-slice-read-wide-2
-    wide-requires-2
-    spans-requires
-    loop-holds
-    mul-at
-    add-at
-    slice-aggregate-record-inside
-    add-record-inside
-    sub-record-inside
-    part-record-inside-start
-    part-record-inside-end
+    (λ c. omega arith)
+    (λ c κs. search needs)
+    (λ c. omega arith)
+    (λ c κs. search needs)
+    (λ c. (omega arith, checked-none _ _))
+    (λ c. omega arith)
+    (λ c. omega arith)
+    (λ c. omega arith)
+    (λ c. omega arith)
+    (λ c. omega arith)
+    (λ c. omega arith)
     record-inside-requires
     returns
     shared-slice-read-wide-3
-    wide-requires-3
+    (λ c κs. search needs)
     returns-2
-    add-least
-    add-k
-    loop-less
+    (λ c. omega (arith, c .before .before .shared-slice-known4 .given 0))
+    (λ c. omega arith)
+    (λ c. omega arith)
     loop-again
     returns-3)

@@ -2,7 +2,7 @@
 use mathlib.Core.Path.{sym, _∙_}
 use borrow.Author.Needs.{needs}
 use Rattle.station_rules.proofs.CallSteps.{valid-parts}
-use Rattle.group.proofs.CallSteps.{fresh-done, fresh-refused}
+use Rattle.group_rules.proofs.CallSteps.{fresh-done, fresh-refused}
 use Rattle.group.proofs.fresh.Statement.{statement}
 use Rattle.group.proofs.fresh.Tie as tie
 
@@ -10,7 +10,7 @@ valid-number-requires : tie.Need-valid-number-requires
 valid-number-requires c κs = search needs
 
 fresh-group-requires : tie.Need-fresh-group-requires
-fresh-group-requires c κs = valid-parts (c .before .before .args .n) 0 (sym (c .before .valid-number .ensures) ∙ c .if1 .taken) .1
+fresh-group-requires c κs = valid-parts (c .before .before .args .setup .n) 0 (sym (c .before .valid-number .ensures) ∙ c .if1 .taken) .1
 
 returns : tie.Need-returns
 returns c = fresh-done _ _ (sym (c .before .before .valid-number .ensures) ∙ c .before .if1 .taken) (c .fresh-group .ensures)

@@ -6,16 +6,16 @@ use lib.ListN.{replicate}
 use borrow.Author.Needs.{needs}
 use Rattle.places.specs.Places.{fill}
 use Rattle.places.proofs.Laws.{fill-more}
-use Rattle.station_rules.specs.State.{freshStation}
+use Rattle.station_rules.specs.State.{aloneSetup, freshStation}
 use Rattle.group_rules.specs.State.{freshGroup}
 use Rattle.group.proofs.fresh_group.Statement.{statement}
 use Rattle.group.proofs.fresh_group.Tie as tie
 
 abbrev Inv-loop : tie.InvT-loop
-Inv-loop n group₀ k₀ group k = (k ≤ n) × (group ≡ fill k (freshStation n) (replicate 16 (freshStation 1 0)))
+Inv-loop setup group₀ k₀ group k = (k ≤ setup .n) × (group ≡ fill k (freshStation setup) (replicate 16 (freshStation aloneSetup 0)))
 
 abbrev μ-loop : tie.MeasureT-loop
-μ-loop n group₀ k₀ group k = n - k
+μ-loop setup group₀ k₀ group k = setup .n - k
 
 fresh-station-requires : tie.Need-fresh-station-requires Inv-loop μ-loop
 fresh-station-requires c κs = search needs
@@ -41,13 +41,13 @@ loop-less c = search needs
 
 loop-again : tie.Need-loop-again Inv-loop μ-loop
 loop-again c =
-    (omega arith, rw (c .before .before .loop .inv .1, c .fresh-station2 .ensures) (fill-more (c .before .before .loop .k) _ _))
+    (omega arith, rw (c .before .before .before .loop .inv .1, c .fresh-station2 .ensures) (fill-more (c .before .before .before .loop .k) _ _))
 
 returns : tie.Need-returns Inv-loop μ-loop
 unfolding freshGroup
 returns c =
-    let e : c .before .loop .k ≡ c .before .before .before .args .n = omega arith in
-    c .before .loop .inv .1 ∙ rw e
+    let e : c .before .before .loop .k ≡ c .before .before .before .before .args .setup .n = omega arith in
+    c .before .before .loop .inv .1 ∙ rw e
 
 pub fresh-group-spec : {M : Type 1} → statement M
 fresh-group-spec =

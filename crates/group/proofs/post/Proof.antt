@@ -7,7 +7,7 @@ use borrow.Author.Needs.{needs}
 use borrow.Author.Tests.{not-true, not-false}
 use Rattle.group_rules.specs.State.{groupInside}
 use Rattle.group_rules.proofs.Members.{group-high}
-use Rattle.group.proofs.CallSteps.{post-outside, post-nobody, post-there}
+use Rattle.group_rules.proofs.CallSteps.{post-outside, post-nobody, post-there}
 use Rattle.group.proofs.post.Statement.{statement}
 use Rattle.group.proofs.post.Tie as tie
 
@@ -15,7 +15,7 @@ use Rattle.group.proofs.post.Tie as tie
 inside : (c : tie.Else1) → groupInside (c .before .before .args .g) ≡ true
 inside c = sym (c .before .group-inside .ensures) ∙ not-false _ (c .if1 .left)
 
-below : (c : tie.Else2) → c .before .before .before .before .before .args .k < 16
+below : (c : tie.Else2) → c .before .before .before .before .before .args .post .station < 16
 below c =
     let d = c .before .before .before in
     omega (arith, group-high (d .before .before .args .g) (inside d), c .if2 .left)
@@ -26,7 +26,7 @@ group-inside-requires c κs = search needs
 returns : tie.Need-returns
 returns c =
     let a = c .before .before .args in
-    post-outside (a .g) (a .k) (a .body) (sym (c .before .group-inside .ensures) ∙ not-true _ (c .if1 .taken))
+    post-outside (a .g) (a .post) (sym (c .before .group-inside .ensures) ∙ not-true _ (c .if1 .taken))
 
 element-copy-out-first : tie.Need-element-copy-out-first
 element-copy-out-first c = search needs
@@ -35,7 +35,7 @@ returns-2 : tie.Need-returns-2
 returns-2 c =
     let d = c .before .before .before in
     let a = d .before .before .args in
-    post-nobody (a .g) (a .k) (a .body) (inside d) (c .if2 .taken)
+    post-nobody (a .g) (a .post) (inside d) (c .if2 .taken)
 
 mul-post : tie.Need-mul-post
 mul-post c = omega (arith, below c)
@@ -57,7 +57,7 @@ returns-3 c =
     let e = c .before .before .before in
     let d = e .before .before .before in
     let a = d .before .before .args in
-    post-there (a .g) (a .k) (a .body) (inside d) (e .if2 .left) (c .before .post .result) (c .before .post .ensures)
+    post-there (a .g) (a .post) (inside d) (e .if2 .left) (c .before .post .result) (c .before .post .ensures)
 
 pub post-spec : {M : Type 1} → statement M
 post-spec =

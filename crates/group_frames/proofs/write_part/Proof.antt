@@ -5,6 +5,7 @@ use mathlib.Core.Bool.{true}
 use native.Mathlib.Omega.{arith}
 use borrow.Author.Needs.{needs}
 use borrow.Author.Tests.{not-true, not-false}
+use Rattle.station_rules.specs.State.{cellOf}
 use Rattle.group_frames.proofs.SendSteps.{member, low, high, below, may-write, send-outside, send-count, send-frame}
 use Rattle.group_frames.proofs.write_part.Statement.{statement}
 use Rattle.group_frames.proofs.write_part.Tie as tie
@@ -38,6 +39,7 @@ count-fits-requires c κs =
     (low (a .n) (a .k) (a .t2) w, high (a .n) (a .k) (a .t2) w)
 
 returns-2 : tie.Need-returns-2
+unfolding cellOf
 returns-2 c =
     let d = c .before .before .before in
     let a = d .before .before .before .args in
@@ -77,6 +79,7 @@ same-length : tie.Need-same-length
 same-length c = search needs
 
 returns-3 : tie.Need-returns-3
+unfolding cellOf
 returns-3 c =
     let f = c .before .before .before .before .before .before in
     let d = f .before .before .before in

@@ -5,7 +5,7 @@ use mathlib.Core.Bool.{Bool, true}
 use mathlib.Core.List.{List}
 use native.Mathlib.Omega.{arith}
 use lib.ListN.{take, drop, length, set, getD}
-use Rattle.station_rules.specs.Frames.{noTaking}
+use Rattle.station_rules.specs.Hearing.{noTaking}
 use Rattle.station_rules.specs.Calls.{sourcesOf}
 use Rattle.heard_sources.proofs.SourceSteps.{sources-none, sources-more}
 use borrow.Author.Needs.{needs}

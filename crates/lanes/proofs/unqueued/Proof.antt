@@ -5,14 +5,14 @@ use native.Mathlib.Omega.{arith}
 use borrow.Author.Needs.{needs}
 use lib.ListN.{length, length-map}
 use Rattle.lanes.proofs.QueueSteps.{moved, moved-step, moved-all}
-use Rattle.lanes.specs.Queue.{noSlot, unqueued}
+use Rattle.lanes.specs.Queue.{queueCapacity, noSlot, unqueued}
 use Rattle.lanes.proofs.unqueued.Statement.{statement}
 use Rattle.lanes.proofs.unqueued.Tie as tie
 use Rattle.lanes.proofs.unqueued.Reads as reads
 use Rattle.lanes.proofs.unqueued.Lts as lts
 
 abbrev Inv-loop : tie.InvT-loop
-Inv-loop queue slots₀ last i₀ slots i = (i ≤ last) × (last < 32) × (length slots₀ ≡ 32) × (slots ≡ moved slots₀ i)
+Inv-loop queue slots₀ last i₀ slots i = (i ≤ last) × (last < queueCapacity) × (length slots₀ ≡ queueCapacity) × (slots ≡ moved slots₀ i)
 
 abbrev μ-loop : tie.MeasureT-loop
 μ-loop queue slots₀ last i₀ slots i = last - i

@@ -22,8 +22,8 @@ enum-known-command-2 c = search needs
 posted-body-requires : tie.Need-posted-body-requires
 posted-body-requires c κs = search needs
 
-cast-apply-post : tie.Need-cast-apply-post
-cast-apply-post c = search needs
+cast-place : tie.Need-cast-place
+cast-place c = search needs
 
 apply-post-requires : tie.Need-apply-post-requires
 apply-post-requires c κs = search needs
@@ -77,7 +77,7 @@ obey-spec =
     apply-size-requires
     enum-known-command-2
     posted-body-requires
-    cast-apply-post
+    cast-place
     apply-post-requires
     enum-told
     apply-round-requires

@@ -2,7 +2,7 @@
 use mathlib.Core.Path.{ap}
 use mathlib.Core.Bool.{false}
 use Rattle.group_rules.specs.declared.KeptGroup.{KeptGroup}
-use Rattle.group_rules.specs.Calls.{freshCall}
+use Rattle.group_rules.specs.Calls.{groupFreshRefusal, freshCall}
 use Rattle.listing_rules.specs.declared.Session.{Session}
 use Rattle.listing_rules.specs.Listing.{begun}
 use borrow.Author.Needs.{needs}
@@ -16,7 +16,7 @@ fresh-requires : tie.Need-fresh-requires
 fresh-requires c κs = search needs
 
 returns : tie.Need-returns
-unfolding begun freshCall kept
+unfolding begun groupFreshRefusal freshCall kept
 returns c = ap kept (c .before .fresh .ensures)
 
 pub begin-spec : {M : Type 1} → statement M

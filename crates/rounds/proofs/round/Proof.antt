@@ -10,7 +10,8 @@ use Rattle.group_rules.specs.State.{sizeOf}
 use Rattle.group_frames.proofs.WrittenFrames.{SentBelow, AllSent, sent-none, sent-more, all-sent}
 use Rattle.group_frames.proofs.GroupFrames.{frames-at}
 use Rattle.rounds.proofs.GroupLengths.{group-lengths}
-use Rattle.rounds.proofs.RoundSteps.{size-outside, round-outside, round-judged}
+use Rattle.group_rules.proofs.CallSteps.{round-outside}
+use Rattle.rounds.proofs.RoundSteps.{size-outside, round-judged}
 use Rattle.rounds.proofs.RoundLoop.{unreported, Turning, turning-none, turning-done, turning-hears, turning-full, turning-turns, turning-more}
 use Rattle.rounds.proofs.round.Statement.{statement}
 use Rattle.rounds.proofs.round.Tie as tie

@@ -10,7 +10,7 @@ valid-number-requires : tie.Need-valid-number-requires
 valid-number-requires c κs = search needs
 
 fresh-station-requires : tie.Need-fresh-station-requires
-fresh-station-requires c κs = omega (arith, valid-parts (c .before .before .args .n) (c .before .before .args .own) (sym (c .before .valid-number .ensures) ∙ c .if1 .taken))
+fresh-station-requires c κs = omega (arith, valid-parts (c .before .before .args .setup .n) (c .before .before .args .own) (sym (c .before .valid-number .ensures) ∙ c .if1 .taken))
 
 returns : tie.Need-returns
 returns c = fresh-done _ _ _ (sym (c .before .before .valid-number .ensures) ∙ c .before .if1 .taken) (c .fresh-station .ensures)

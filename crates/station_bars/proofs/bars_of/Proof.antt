@@ -7,7 +7,7 @@ use mathlib.Core.List.{List}
 use borrow.Author.Needs.{needs}
 use borrow.Author.Tests.{leb-true, not-true, not-false}
 use Rattle.station_rules.specs.declared.Station.{Station}
-use Rattle.station_rules.specs.State.{heldOf, recordOf, recordLabel}
+use Rattle.station_rules.specs.State.{cellOf, heldOf, recordOf, recordLabel}
 use Rattle.station_rules.proofs.StationLimits.{Inside, inside-open}
 use Rattle.station_bars.proofs.BarsBelow.{BarsBelow, below-none, below-skip, below-held, bars-made}
 use Rattle.station_bars.proofs.bars_of.Statement.{statement}
@@ -69,6 +69,7 @@ element-copy-out-raise : tie.Need-element-copy-out-raise Inv-loop μ-loop
 element-copy-out-raise c = low (c .before .before .before .before)
 
 raise-requires : tie.Need-raise-requires Inv-loop μ-loop
+unfolding cellOf
 raise-requires c κs =
     let v = c .before .before .before .before .before in
     (v .before .loop .inv .1 .size, low v, label-low v (not-false _ (c .before .before .before .if1 .left)))
@@ -77,6 +78,7 @@ loop-less-2 : tie.Need-loop-less-2 Inv-loop μ-loop
 loop-less-2 c = search needs
 
 loop-again-2 : tie.Need-loop-again-2 Inv-loop μ-loop
+unfolding cellOf
 loop-again-2 c =
     let v = c .before .before .before .before .before .before .before in
     let held : heldOf (s v) (k v) ≡ true = not-false _ (c .before .before .before .before .before .if1 .left) in (

@@ -8,7 +8,7 @@ use native.Mathlib.Omega.{arith}
 use borrow.Author.Tests.{not-true, not-false}
 use Rattle.station_rules.specs.Limits.{stationInside}
 use Rattle.station_rules.specs.Hearing.{Hearing, hearRecords}
-use Rattle.station_rules.specs.Frames.{hearFrames, FrameAt}
+use Rattle.station_rules.specs.Inner.Frames.{hearFrames, FrameAt}
 use Rattle.station_rules.specs.Calls.{sourcesOf}
 use Rattle.frame_rules.specs.Frame.{frameRefusal}
 use Rattle.frame_rules.proofs.Check.{accepted-frame, shape}

@@ -7,6 +7,7 @@ use native.Mathlib.Omega.{arith}
 use lib.ListN.{length}
 use borrow.Author.Tests.{not-true, not-false}
 use Rattle.frame_rules.specs.Calls.{written, bufferWith}
+use Rattle.station_rules.specs.State.{cellOf}
 use Rattle.station_rules.specs.Limits.{stationInside}
 use Rattle.station_rules.proofs.StationLimits.{Inside, inside-open}
 use Rattle.station_rules.proofs.WriteSteps.{writable, frame-is, write-outside, kept-outside, write-count, kept-count, write-frame, buffer-frame}
@@ -40,6 +41,7 @@ count-fits-requires : tie.Need-count-fits-requires
 count-fits-requires c κs = (inside (c .before) .low, inside (c .before) .high)
 
 returns-2 : tie.Need-returns-2
+unfolding cellOf
 returns-2 c =
     let d = c .before .before .before in
     let a = d .before .before .before .args in
@@ -53,6 +55,7 @@ same-length : tie.Need-same-length
 same-length c = search needs
 
 returns-3 : tie.Need-returns-3
+unfolding cellOf
 returns-3 c =
     let f = c .before .before .before .before .before .before in
     let d = f .before .before .before in

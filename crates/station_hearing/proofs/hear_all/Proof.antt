@@ -5,18 +5,20 @@ use native.Mathlib.Omega.{arith}
 use mathlib.Core.Path.{_≡_, sym, ap, subst, _∙_}
 use mathlib.Core.Bool.{true, true≢false}
 use mathlib.Core.List.{List}
-use lib.ListN.{getD, length}
+use lib.ListN.{getD, length, length-take, length-drop}
 use borrow.Author.Tests.{not-true, not-false}
 use Rattle.frame_rules.specs.declared.Record.{Record}
+use Rattle.frame_rules.specs.Record.{recordOf}
 use Rattle.station_rules.specs.declared.Station.{Station}
+use Rattle.station_rules.specs.State.{cellOf}
 use Rattle.station_rules.specs.Hearing.{Hearing, silent, heeds, hearRecord}
-use Rattle.station_rules.specs.Frames.{FrameAt}
+use Rattle.station_rules.specs.Inner.Frames.{FrameAt}
 use Rattle.station_rules.proofs.StationLimits.{Inside, inside-open}
 use Rattle.station_rules.proofs.Lengths.{lengths}
 use Rattle.station_rules.proofs.LimitsHear.{Carried}
 use Rattle.station_rules.proofs.LimitsHearing.{Hears, hears-none, hears-record, takings-bounded}
 use Rattle.frame_marks.specs.Marks.{sizeAt}
-use Rattle.frame_marks.proofs.FrameBytes.{station-at, record-at, inside-at, carried-at}
+use Rattle.frame_marks.proofs.FrameBytes.{part-in, record-at, carried-at}
 use Rattle.newer_records.specs.Newer.{placeRecord, heardAt, NewerAt}
 use Rattle.newer_records.proofs.FramesSifted.{frames-siftable, newer-found}
 use Rattle.newer_records.proofs.SieveSteps.{heardAt-none, heardAt-more}
@@ -73,9 +75,6 @@ module _ (c : tie.In-loop Inv-loop μ-loop) where
   abbrev at : ℕ
   at = start + 4 + 16 * (place % 16)
 
-  abbrev k : ℕ
-  k = getD bytes at 0
-
   abbrev seen : Record
   seen = placeRecord bytes starts place
 
@@ -99,9 +98,6 @@ module _ (c : tie.In-loop Inv-loop μ-loop) where
 
   carry : Carried (s .n) seen
   carry = carried-at (s .n) bytes start frame (place % 16) below
-
-  k-is : k ≡ seen .station
-  k-is = station-at bytes start (place % 16)
 
   is-at : At so-far old (c .before .loop .takings) (c .before .loop .len)
   is-at = c .before .loop .inv .1
@@ -127,7 +123,7 @@ module _ (c : tie.In-loop Inv-loop μ-loop) where
       × (place / 16 < length starts)
       × (at + 16 ≤ length bytes)
       × (length bytes < 2 ^ 64)
-      × (k < 16)
+      × (seen .station < 16)
       × (s .own < 16)
       × (s .n ≤ 16)
       × (c .before .loop .len ≤ 30)
@@ -139,21 +135,41 @@ module _ (c : tie.In-loop Inv-loop μ-loop) where
         omega (arith, newer .frame i l, z .pre .0 .0, z .pre .0 .1),
         omega (arith, frame .room, below),
         z .good .1 .1 .0 .0,
-        omega (arith, k-is, carry .station, j .high),
+        omega (arith, carry .station, j .high),
         omega (arith, j .own, j .high),
         j .high,
         omega (arith, is-at .len, takings-bounded s so-far hears (is-at .free)),
       )
 
+-- the record read
+module _ (c : tie.After-read-record Inv-loop μ-loop) where
+  abbrev turn : tie.In-loop Inv-loop μ-loop
+  turn = c .before .before .before .before
+
+  read-is : c .read-record .result ≡ seen turn
+  read-is =
+      c .read-record .ensures
+      ∙ ap recordOf (part-in (bytes turn) (at turn))
+      ∙ record-at (bytes turn) (start turn) (place turn % 16)
+
+  abbrev k : ℕ
+  k = c .read-record .result .station
+
+  k-is : k ≡ seen turn .station
+  k-is = ap (λ (x : Record). x .station) read-is
+
+  k-low : k < 16
+  k-low = omega (arith, k-is, low turn .5)
+
 -- what it does
 module _ (c : tie.After-heard Inv-loop μ-loop) where
-  abbrev turn : tie.In-loop Inv-loop μ-loop
-  turn = c .before .before .before .before .before .before .before .before .before
+  abbrev read : tie.After-read-record Inv-loop μ-loop
+  read = c .before .before .before .before .before .before
 
-  does : Does (old turn) (s turn .n) (s turn .own) (k turn) (seen turn) (c .heard .result)
+  does : Does (old (turn read)) (s (turn read) .n) (s (turn read) .own) (k read) (seen (turn read)) (c .heard .result)
+  unfolding cellOf
   does =
-      subst (λ (x : Record). Does (old turn) (s turn .n) (s turn .own) (k turn) x (c .heard .result)) (record-at (bytes turn) (start turn) (place turn % 16))
-      (c .heard .ensures)
+      subst (λ (x : Record). Does (old (turn read)) (s (turn read) .n) (s (turn read) .own) (k read) x (c .heard .result)) (read-is read) (c .heard .ensures)
 
 find-newer-requires : tie.Need-find-newer-requires Inv-loop μ-loop
 find-newer-requires c κs =
@@ -170,148 +186,50 @@ loop-holds c =
     let e = heardAt-none (z .args .s) (z .args .bytes .now) (z .args .starts .now) (c .find-newer .result .places) in
     (omega arith, rw e (at-start (z .args .s)), rw e (hears-none (silent (z .args .s)) (inside-open (z .args .s) (z .pre .0 .2)) (lengths (z .args .s) (z .good .0))))
 
-element-copy-out-place : tie.Need-element-copy-out-place Inv-loop μ-loop
-element-copy-out-place c = omega (arith, low c)
-
-cast-place : tie.Need-cast-place Inv-loop μ-loop
-cast-place c = record { fits = omega (arith, low (c .before)) }
-
-add-i : tie.Need-add-i Inv-loop μ-loop
-add-i c = record { fits = omega (arith, low (c .before)) }
-
-mul-at : tie.Need-mul-at Inv-loop μ-loop
-mul-at c = record { fits = omega (arith, low (c .before)) }
-
-shared-slice-read-at : tie.Need-shared-slice-read-at Inv-loop μ-loop
-shared-slice-read-at c = low (c .before .before) .2
-
-add-at : tie.Need-add-at Inv-loop μ-loop
-add-at c = record { fits = omega (arith, low (c .before .before)) }
-
-mul-at-2 : tie.Need-mul-at-2 Inv-loop μ-loop
-mul-at-2 c = record { fits = omega (arith, low (c .before .before)) }
-
-add-at-2 : tie.Need-add-at-2 Inv-loop μ-loop
-add-at-2 c = record { fits = omega (arith, low (c .before .before)) }
-
-shared-slice-read-k : tie.Need-shared-slice-read-k Inv-loop μ-loop
-shared-slice-read-k c = omega (arith, low (c .before .before .before))
-
-cast-k : tie.Need-cast-k Inv-loop μ-loop
-cast-k c = record { fits = omega (arith, low (c .before .before .before)) }
-
-mul-old : tie.Need-mul-old Inv-loop μ-loop
-mul-old c = record { fits = omega (arith, low (c .before .before .before)) }
-
-element-copy-out-old : tie.Need-element-copy-out-old Inv-loop μ-loop
-element-copy-out-old c = low (c .before .before .before) .5
-
-element-copy-out-heard : tie.Need-element-copy-out-heard Inv-loop μ-loop
-element-copy-out-heard c = low (c .before .before .before .before .before) .6
-
-element-copy-out-heard-2 : tie.Need-element-copy-out-heard-2 Inv-loop μ-loop
-element-copy-out-heard-2 c = low (c .before .before .before .before .before .before) .5
-
-element-copy-out-heard-3 : tie.Need-element-copy-out-heard-3 Inv-loop μ-loop
-element-copy-out-heard-3 c = low (c .before .before .before .before .before .before .before) .5
-
-mul-heard : tie.Need-mul-heard Inv-loop μ-loop
-mul-heard c = record { fits = omega (arith, low (c .before .before .before .before .before .before .before .before)) }
-
-element-copy-out-heard-4 : tie.Need-element-copy-out-heard-4 Inv-loop μ-loop
-element-copy-out-heard-4 c = low (c .before .before .before .before .before .before .before .before) .5
-
 heard-requires : tie.Need-heard-requires Inv-loop μ-loop
 heard-requires c κs =
-    let v = c .before .before .before .before .before .before .before .before in
-    let l = low v in
-    (l .3, l .7, l .6, inside-at (s v .n) (bytes v) (start v) (frame v) (place v % 16) (below v))
+    let r = c .before .before .before .before .before in
+    let l = low (turn r) in
+    (l .7, l .6, k-low r)
 
 returns : tie.Need-returns Inv-loop μ-loop
 returns c =
     let w = c .before in
-    let v = turn w in
-    let full = newer-full (so-far v) (old v) _ _ (seen v) (k v) (s v .n) (s v .own) (w .heard .result) (is-at v) (heeded v) (k-is v) (n-is v) (own-is v) (does w) (c .if1 .taken) in
+    let v = turn (read w) in
+    let full = newer-full (so-far v) (old v) _ _ (seen v) (k (read w)) (s v .n) (s v .own) (w .heard .result) (is-at v) (heeded v) (k-is (read w)) (n-is v) (own-is v) (does w) (c .if1 .taken) in
     let at-next : (heardAt (s v) (bytes v) (starts v) (places v) (i v + 1)) .overfull ≡ true =
     ap (λ (x : Hearing). x .overfull) (heardAt-more (s v) (bytes v) (starts v) (places v) (i v)) ∙ full in
     let l = v .loop-test .taken in
     let e = sym (ap (λ (x : Hearing). x .overfull) (newer v .all)) ∙ overfull-later (s v) (bytes v) (starts v) (places v) (i v + 1) at-next _ (omega arith) in
     record { overfull = sym e; station = λ z. absurd (true≢false z); len = λ z. absurd (true≢false z); takings = λ z. absurd (true≢false z); few = λ z. absurd (true≢false z) }
 
-element-write-station : tie.Need-element-write-station Inv-loop μ-loop
-element-write-station c = low (turn (c .before .before)) .5
-
-element-write-station-2 : tie.Need-element-write-station-2 Inv-loop μ-loop
-element-write-station-2 c = low (turn (c .before .before)) .5
-
-element-write-station-3 : tie.Need-element-write-station-3 Inv-loop μ-loop
-element-write-station-3 c = low (turn (c .before .before)) .5
-
-mul-entry : tie.Need-mul-entry Inv-loop μ-loop
-mul-entry c = record { fits = omega (arith, low (turn (c .before .before))) }
-
-element-set-from-entry : tie.Need-element-set-from-entry Inv-loop μ-loop
-element-set-from-entry c = low (turn (c .before .before)) .5
-
-loop-less : tie.Need-loop-less Inv-loop μ-loop
-loop-less c = omega (arith, (turn (c .before .before .before .before)) .loop-test .taken)
-
 loop-again : tie.Need-loop-again Inv-loop μ-loop
 loop-again c =
     let w = c .before .before .before .before in
-    let v = turn w in
+    let v = turn (read w) in
     let e = heardAt-more (s v) (bytes v) (starts v) (places v) (i v) in (
       omega (arith, v .loop-test .taken),
-      rw e (newer-kept (so-far v) (old v) _ _ (seen v) (k v) (s v .n) (s v .own) (w .heard .result) (is-at v) (heeded v) (k-is v) (n-is v) (own-is v) (does w) (not-true _ (c .if2 .taken))),
+      rw e (newer-kept (so-far v) (old v) _ _ (seen v) (k (read w)) (s v .n) (s v .own) (w .heard .result) (is-at v) (heeded v) (k-is (read w)) (n-is v) (own-is v) (does w) (not-true _ (c .if2 .taken))),
       rw e (hears-more v),
     )
 
 -- the body is taken
-room : (c : tie.Else2 Inv-loop μ-loop) → (turn (c .before .before .before .before)) .before .loop .len < 30
+room : (c : tie.Else2 Inv-loop μ-loop) → (turn (read (c .before .before .before .before))) .before .loop .len < 30
 room c =
     let w = c .before .before .before .before in
-    let v = turn w in
-    newer-room (so-far v) (old v) _ _ (seen v) (k v) (s v .n) (s v .own) (w .heard .result) (is-at v) (heeded v) (k-is v) (n-is v) (own-is v) (does w) (s v) (hears-more v)
+    let v = turn (read w) in
+    newer-room (so-far v) (old v) _ _ (seen v) (k (read w)) (s v .n) (s v .own) (w .heard .result) (is-at v) (heeded v) (k-is (read w)) (n-is v) (own-is v) (does w) (s v) (hears-more v)
     (not-false _ (c .if2 .left)) (c .before .before .before .if1 .left)
 
-mul-lane : tie.Need-mul-lane Inv-loop μ-loop
-mul-lane c = record { fits = omega (arith, low (turn (c .before .before .before .before))) }
-
-element-copy-out-lane : tie.Need-element-copy-out-lane Inv-loop μ-loop
-element-copy-out-lane c = low (turn (c .before .before .before .before)) .5
-
-pushed-requires : tie.Need-pushed-requires Inv-loop μ-loop
-pushed-requires c κs = tt
-
-mul-t31 : tie.Need-mul-t31 Inv-loop μ-loop
-mul-t31 c = record { fits = omega (arith, low (turn (c .before .before .before .before .before .before))) }
-
-element-set-from-station : tie.Need-element-set-from-station Inv-loop μ-loop
-element-set-from-station c = low (turn (c .before .before .before .before .before .before)) .5
-
-cast-t30 : tie.Need-cast-t30 Inv-loop μ-loop
-cast-t30 c = record { fits = omega (arith, low (turn (c .before .before .before .before .before .before))) }
-
-mul-takings : tie.Need-mul-takings Inv-loop μ-loop
-mul-takings c = record { fits = omega (arith, room (c .before .before)) }
-
-array-set-from-takings : tie.Need-array-set-from-takings Inv-loop μ-loop
-array-set-from-takings c = room (c .before .before)
-
-add-len : tie.Need-add-len Inv-loop μ-loop
-add-len c = record { fits = omega (arith, room (c .before .before)) }
-
-loop-less-2 : tie.Need-loop-less-2 Inv-loop μ-loop
-loop-less-2 c = omega (arith, (turn (c .before .before .before .before .before .before)) .loop-test .taken)
-
 loop-again-2 : tie.Need-loop-again-2 Inv-loop μ-loop
+unfolding cellOf
 loop-again-2 c =
     let w = c .before .before .before .before .before .before in
-    let v = turn w in
+    let v = turn (read w) in
     let e = heardAt-more (s v) (bytes v) (starts v) (places v) (i v) in (
       omega (arith, v .loop-test .taken),
       rw (e, c .pushed .ensures)
-          (newer-taken (so-far v) (old v) _ _ (seen v) (k v) (s v .n) (s v .own) (w .heard .result) (is-at v) (heeded v) (k-is v) (n-is v) (own-is v) (does w) (s v) (hears-more v)
+          (newer-taken (so-far v) (old v) _ _ (seen v) (k (read w)) (s v .n) (s v .own) (w .heard .result) (is-at v) (heeded v) (k-is (read w)) (n-is v) (own-is v) (does w) (s v) (hears-more v)
           (not-false _ (c .before .before .if2 .left)) (c .before .before .before .before .before .if1 .left)),
       rw e (hears-more v),
     )
@@ -334,41 +252,45 @@ hear-all-spec =
     μ-loop
     find-newer-requires
     loop-holds
-    element-copy-out-place
-    cast-place
-    add-i
-    mul-at
-    shared-slice-read-at
-    add-at
-    mul-at-2
-    add-at-2
-    shared-slice-read-k
-    cast-k
-    mul-old
-    element-copy-out-old
-    element-copy-out-heard
-    element-copy-out-heard-2
-    element-copy-out-heard-3
-    mul-heard
-    element-copy-out-heard-4
+    (λ c. omega (arith, low c))
+    (λ c. record { fits = omega (arith, low (c .before)) })
+    (λ c. record { fits = omega (arith, low (c .before)) })
+    (λ c. record { fits = omega (arith, low (c .before)) })
+    (λ c. low (c .before .before) .2)
+    (λ c. record { fits = omega (arith, low (c .before .before)) })
+    (λ c. record { fits = omega (arith, low (c .before .before)) })
+    (λ c. record { fits = omega (arith, low (c .before .before)) })
+    (λ c. record { fits = omega (arith, low (c .before .before)) })
+    (λ c. omega (arith, low (c .before .before)))
+    (λ c. omega (arith, low (c .before .before)))
+    (λ c. omega (arith, low (c .before .before)))
+    (λ c κs. simp (length-take, length-drop) (omega (arith, low (c .before .before .before))))
+    (λ c. record { fits = omega (arith, k-low (c .before)) })
+    (λ c. record { fits = omega (arith, k-low (c .before)) })
+    (λ c. k-low (c .before))
+    (λ c. low (turn (c .before .before)) .6)
+    (λ c. k-low (c .before .before .before))
+    (λ c. k-low (c .before .before .before .before))
+    (λ c. record { fits = omega (arith, k-low (c .before .before .before .before .before)) })
+    (λ c. k-low (c .before .before .before .before .before))
     heard-requires
     returns
-    element-write-station
-    element-write-station-2
-    element-write-station-3
-    mul-entry
-    element-set-from-entry
-    loop-less
+    (λ c. k-low (read (c .before .before)))
+    (λ c. k-low (read (c .before .before)))
+    (λ c. k-low (read (c .before .before)))
+    (λ c. record { fits = omega (arith, k-low (read (c .before .before))) })
+    (λ c. k-low (read (c .before .before)))
+    (λ c. omega (arith, (turn (read (c .before .before .before .before))) .loop-test .taken))
     loop-again
-    mul-lane
-    element-copy-out-lane
-    pushed-requires
-    mul-t31
-    element-set-from-station
-    cast-t30
-    mul-takings
-    array-set-from-takings
-    add-len
-    loop-less-2
+    (λ c. record { fits = omega (arith, k-low (read (c .before .before .before .before))) })
+    (λ c. k-low (read (c .before .before .before .before)))
+    (λ c κs. tt)
+    (λ c. record { fits = omega (arith, k-low (read (c .before .before .before .before .before .before))) })
+    (λ c. k-low (read (c .before .before .before .before .before .before)))
+    (λ c. record { fits = omega (arith, k-low (read (c .before .before .before .before .before .before))) })
+    (λ c. record { fits = omega (arith, room (c .before .before)) })
+    (λ c. room (c .before .before))
+    (λ c. record { fits = omega (arith, room (c .before .before)) })
+    (λ c. omega (arith, (turn (read (c .before .before .before .before .before .before))) .loop-test .taken))
     loop-again-2
     returns-2)

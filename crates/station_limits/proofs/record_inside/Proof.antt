@@ -1,8 +1,10 @@
--- `station_limits::record_inside` meets its contract, test by test.
+-- `station_limits::record_inside` meets its contract, test by test. The record's station is k, and so below n.
+use Prim.Native.Nat.{ℕ, _<_}
+use native.Mathlib.Omega.{arith}
 use mathlib.Core.Path.{_≡_, sym, _∙_}
 use mathlib.Core.Bool.{true, false, _||_}
-use lib.Dec.{eqb}
-use borrow.Author.Tests.{eq-eqb, ne-eqb, not-true, not-false}
+use lib.Dec.{ltb, eqb}
+use borrow.Author.Tests.{lt-ltb, eq-eqb, ne-eqb, not-true, not-false}
 use Rattle.kind_limits.specs.Limits.{bodyInside}
 use Rattle.frame_rules.specs.Record.{countInside}
 use Rattle.station_rules.specs.Limits.{recordInside}
@@ -10,6 +12,10 @@ use borrow.Author.Needs.{needs}
 use Rattle.labels.proofs.Laws.{all-below}
 use Rattle.station_limits.proofs.record_inside.Statement.{statement}
 use Rattle.station_limits.proofs.record_inside.Tie as tie
+
+-- the station's limit
+below : (n k station : ℕ) → station ≡ k → k < n → ltb station n ≡ true
+below n k station e b = lt-ltb station n (omega arith)
 
 cast-if1 : tie.Need-cast-if1
 cast-if1 c = search needs
@@ -26,31 +32,34 @@ unfolding recordInside
 returns-2 c =
     let a = c .before .before .before .before .args in
     let e : (eqb (a .k) (a .own) || countInside (a .n) (a .«record» .count)) ≡ false = sym (c .before .count-inside .ensures) ∙ not-true _ (c .if2 .taken) in
-    rw (eq-eqb _ _ (c .before .before .if1 .left), e)
+    let s = c .before .before .if1 .left in
+    rw (eq-eqb _ _ s, below (a .n) (a .k) (a .«record» .station) s (omega arith), e)
 
 body-inside-requires : tie.Need-body-inside-requires
 body-inside-requires c κs = search needs
 
 returns-3 : tie.Need-returns-3
-unfolding recordInside
+unfolding recordInside bodyInside
 returns-3 c =
     let b = c .before .before .before in
     let a = b .before .before .before .args in
     let e : (eqb (a .k) (a .own) || countInside (a .n) (a .«record» .count)) ≡ true = sym (b .count-inside .ensures) ∙ not-false _ (c .before .before .if2 .left) in
     let f : bodyInside (a .«record» .body) ≡ false = sym (c .before .body-inside .ensures) ∙ not-true _ (c .if3 .taken) in
-    rw (eq-eqb _ _ (b .before .if1 .left), e, f)
+    let s = b .before .if1 .left in
+    rw (eq-eqb _ _ s, below (a .n) (a .k) (a .«record» .station) s (omega arith), e, f)
 
 all-labels-requires : tie.Need-all-labels-requires
 all-labels-requires c κs = search needs
 
 returns-4 : tie.Need-returns-4
-unfolding recordInside
+unfolding recordInside bodyInside
 returns-4 c =
     let b = c .before .before .before .before .before in
     let a = b .before .before .before .args in
     let e : (eqb (a .k) (a .own) || countInside (a .n) (a .«record» .count)) ≡ true = sym (b .count-inside .ensures) ∙ not-false _ (c .before .before .before .before .if2 .left) in
     let f : bodyInside (a .«record» .body) ≡ true = sym (c .before .before .before .body-inside .ensures) ∙ not-false _ (c .before .before .if3 .left) in
-    rw (eq-eqb _ _ (b .before .if1 .left), e, f) (c .all-labels .ensures ∙ all-below (a .n) (a .«record» .labels))
+    let s = b .before .if1 .left in
+    rw (eq-eqb _ _ s, below (a .n) (a .k) (a .«record» .station) s (omega arith), e, f) (c .all-labels .ensures ∙ all-below (a .n) (a .«record» .labels))
 
 pub record-inside-spec : {M : Type 1} → statement M
 record-inside-spec =

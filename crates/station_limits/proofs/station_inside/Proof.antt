@@ -10,15 +10,16 @@ use Rattle.frame_rules.specs.Frame.{validNumber}
 use Rattle.places.specs.Places.{allBelow}
 use Rattle.places.proofs.Laws.{allBelow-more, allBelow-fails}
 use Rattle.station_rules.specs.declared.Station.{Station}
-use Rattle.station_rules.specs.State.{ackedOf, heldOf}
-use Rattle.station_rules.specs.Limits.{queueInside, placeInside, stationInside}
+use Rattle.station_rules.specs.State.{cellOf, ackedOf, heldOf}
+use Rattle.lanes.specs.Waiting.{waitingInside}
+use Rattle.station_rules.specs.Limits.{placeInside, stationInside}
 use Rattle.station_rules.proofs.CallSteps.{valid-parts}
 use Rattle.station_limits.proofs.station_inside.Statement.{statement}
 use Rattle.station_limits.proofs.station_inside.Tie as tie
 
 -- all but the places
 abbrev whole : Station → Bool
-whole s = validNumber (s .n) (s .own) && ackedOf s (s .own) && heldOf s (s .own) && bodyInside (s .body) && queueInside (s .waiting)
+whole s = validNumber (s .n) (s .own) && ackedOf s (s .own) && heldOf s (s .own) && bodyInside (s .body) && waitingInside (s .waiting)
 
 abbrev Inv-loop : tie.InvT-loop
 Inv-loop s n own k₀ k =
@@ -35,9 +36,11 @@ sixteen : (c : tie.Else1 Inv-loop μ-loop) → (1 ≤ c .before .before .args .t
 sixteen c = valid-parts _ _ (valid c)
 
 acked : (c : tie.Else2 Inv-loop μ-loop) → ackedOf (c .before .before .before .before .args .t1) (c .before .before .before .before .args .t1 .own) ≡ true
+unfolding cellOf
 acked c = not-false _ (c .if2 .left)
 
 held : (c : tie.Else3 Inv-loop μ-loop) → heldOf (c .before .before .before .before .before .before .args .t1) (c .before .before .before .before .before .before .args .t1 .own) ≡ true
+unfolding cellOf
 held c = not-false _ (c .if3 .left)
 
 body : (c : tie.Else4 Inv-loop μ-loop) → bodyInside (c .before .before .before .before .before .before .before .before .args .t1 .body) ≡ true
@@ -56,14 +59,14 @@ element-copy-out-if2 : tie.Need-element-copy-out-if2 Inv-loop μ-loop
 element-copy-out-if2 c = omega (arith, sixteen c)
 
 returns-2 : tie.Need-returns-2 Inv-loop μ-loop
-unfolding stationInside
+unfolding cellOf stationInside
 returns-2 c = rw (valid (c .before .before), not-true (ackedOf (c .before .before .before .before .args .t1) (c .before .before .before .before .args .t1 .own)) (c .if2 .taken))
 
 element-copy-out-if3 : tie.Need-element-copy-out-if3 Inv-loop μ-loop
 element-copy-out-if3 c = omega (arith, sixteen (c .before .before))
 
 returns-3 : tie.Need-returns-3 Inv-loop μ-loop
-unfolding stationInside
+unfolding cellOf stationInside
 returns-3 c =
     let s = c .before .before .before .before .before .before .args .t1 in
     rw (valid (c .before .before .before .before), acked (c .before .before), not-true (heldOf s (s .own)) (c .if3 .taken))
@@ -78,15 +81,15 @@ returns-4 c =
     let e : bodyInside (s .body) ≡ false = sym (c .before .body-inside .ensures) ∙ not-true _ (c .if4 .taken) in
     rw (valid (c .before .before .before .before .before .before), acked (c .before .before .before .before), held (c .before .before), e)
 
-queue-inside-requires : tie.Need-queue-inside-requires Inv-loop μ-loop
-queue-inside-requires c κs = search needs
+waiting-inside-requires : tie.Need-waiting-inside-requires Inv-loop μ-loop
+waiting-inside-requires c κs = search needs
 
 returns-5 : tie.Need-returns-5 Inv-loop μ-loop
 unfolding stationInside
 returns-5 c =
     let d = c .before .before .before in
     let s = d .before .before .before .before .before .before .before .before .args .t1 in
-    let e : queueInside (s .waiting) ≡ false = sym (c .before .queue-inside .ensures) ∙ not-true _ (c .if5 .taken) in
+    let e : waitingInside (s .waiting) ≡ false = sym (c .before .waiting-inside .ensures) ∙ not-true _ (c .if5 .taken) in
     rw (valid (d .before .before .before .before .before .before), acked (d .before .before .before .before), held (d .before .before), body d, e)
 
 loop-holds : tie.Need-loop-holds Inv-loop μ-loop
@@ -94,7 +97,7 @@ unfolding allBelow
 loop-holds c =
     let d = c .before .before .before in
     let s = d .before .before .before .before .before .before .before .before .args .t1 in
-    let e : queueInside (s .waiting) ≡ true = sym (c .before .queue-inside .ensures) ∙ not-false _ (c .if5 .left) in
+    let e : waitingInside (s .waiting) ≡ true = sym (c .before .waiting-inside .ensures) ∙ not-false _ (c .if5 .left) in
     let w = sixteen (d .before .before .before .before .before .before) in
     (refl, refl, omega arith, w .0, w .1, rw (valid (d .before .before .before .before .before .before), acked (d .before .before .before .before), held (d .before .before), body d, e), refl)
 
@@ -124,7 +127,7 @@ unfolding stationInside
 returns-6 c =
     let h = c .before .before .before .before .before .before .before in
     let s = h .before .before .before .before .before .before .before .before .before .before .before .before .args .t1 in
-    let e : placeInside s (h .loop .k) ≡ false = unfold placeInside in (sym (c .before .place-inside .ensures) ∙ not-true _ (c .if6 .taken)) in
+    let e : placeInside s (h .loop .k) ≡ false = unfold cellOf placeInside in (sym (c .before .place-inside .ensures) ∙ not-true _ (c .if6 .taken)) in
     rw (h .loop .inv .5) (sym (allBelow-fails (s .n) (placeInside s) (h .loop .k) (omega arith) e))
 
 add-k : tie.Need-add-k Inv-loop μ-loop
@@ -137,7 +140,7 @@ loop-again : tie.Need-loop-again Inv-loop μ-loop
 loop-again c =
     let h = c .before .before .before .before .before .before .before in
     let s = h .before .before .before .before .before .before .before .before .before .before .before .before .args .t1 in
-    let e : placeInside s (h .loop .k) ≡ true = unfold placeInside in (sym (c .before .place-inside .ensures) ∙ not-false _ (c .if6 .left)) in
+    let e : placeInside s (h .loop .k) ≡ true = unfold cellOf placeInside in (sym (c .before .place-inside .ensures) ∙ not-false _ (c .if6 .left)) in
     let w = h .loop .inv in
     (refl, refl, omega arith, w .3, w .4, w .5, allBelow-more (h .loop .k) (placeInside s) (w .6) e)
 
@@ -162,7 +165,7 @@ station-inside-spec =
     returns-3
     body-inside-requires
     returns-4
-    queue-inside-requires
+    waiting-inside-requires
     returns-5
     loop-holds
     element-copy-out-place-inside

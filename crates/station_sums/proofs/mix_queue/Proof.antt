@@ -1,14 +1,15 @@
 -- `station_sums::mix_queue` is safe: the loop ends.
 use Prim.Native.Nat.{_≤_, _-_}
 use borrow.Author.Needs.{needs}
+use Rattle.lanes.specs.Queue.{queueCapacity}
 use Rattle.station_sums.proofs.mix_queue.Statement.{statement}
 use Rattle.station_sums.proofs.mix_queue.Tie as tie
 
 abbrev Inv-loop : tie.InvT-loop
-Inv-loop sum queue mixed₀ k₀ mixed k = k ≤ 32
+Inv-loop sum queue mixed₀ k₀ mixed k = k ≤ queueCapacity
 
 abbrev μ-loop : tie.MeasureT-loop
-μ-loop sum queue mixed₀ k₀ mixed k = 32 - k
+μ-loop sum queue mixed₀ k₀ mixed k = queueCapacity - k
 
 low-requires : tie.Need-low-requires Inv-loop μ-loop
 low-requires c κs = search needs

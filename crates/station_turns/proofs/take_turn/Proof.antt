@@ -2,15 +2,16 @@
 use Prim.Native.Nat.{ℕ, _≤_, _<_}
 use native.Mathlib.Omega.{arith}
 use mathlib.Core.Path.{_≡_, ap, _∙_}
-use mathlib.Core.Bool.{cond}
+use mathlib.Core.Bool.{cond, _&&_}
 use lib.ListN.{getD}
-use lib.Dec.{eqb}
+use lib.Dec.{eqb, ltb}
 use borrow.Author.Needs.{needs}
 use Rattle.places.specs.Places.{fill}
 use Rattle.lanes.specs.Lane.{noLane}
 use Rattle.station_rules.specs.declared.Station.{Station}
+use Rattle.station_rules.specs.State.{cellOf}
 use Rattle.station_rules.specs.Turn.{ends}
-use Rattle.station_rules.proofs.LimitsQueue.{queue-most}
+use Rattle.lanes.specs.Waiting.{waitingCount}
 use Rattle.station_rules.proofs.StationLimits.{Inside, inside-open}
 use Rattle.station_turns.proofs.TurnSteps.{most-if, fill-if, step-aired, step-row, step-left, waits, turn-made}
 use Rattle.station_turns.proofs.take_turn.Statement.{statement}
@@ -34,7 +35,7 @@ module _ (e : tie.After-all-acked) where
   own-in = omega (arith, inside .high, inside .own)
 
   ended : e .all-acked .result ≡ ends station
-  unfolding ends
+  unfolding cellOf ends
   ended = e .all-acked .ensures
 
 mul-own-lane : tie.Need-mul-own-lane
@@ -47,8 +48,11 @@ array-copy-out-own-lane c =
     let h = own-in c in
     search needs
 
-oldest-requires : tie.Need-oldest-requires
-oldest-requires c κs = search needs
+next-edit-requires : tie.Need-next-edit-requires
+next-edit-requires c κs = search needs
+
+waiting-count-requires : tie.Need-waiting-count-requires
+waiting-count-requires c κs = search needs
 
 started-body-requires : tie.Need-started-body-requires
 started-body-requires c κs = search needs
@@ -58,17 +62,19 @@ starts-edit-requires c κs = search needs
 
 waiting-after-requires : tie.Need-waiting-after-requires
 waiting-after-requires c κs =
-    let e = c .before .before .before .before in
+    let m = c .before .before in
+    let e = m .before .before .before in
     let s = station e in
     let may = eqb ((getD (e .before .before .before .air .result .left) (s .own) noLane) .len) 0 in
-    (waits (e .all-acked .result) may (c .starts-edit .result) (s .waiting .len) (c .starts-edit .ensures), queue-most (s .waiting) (inside e .waiting))
+    let told = c .starts-edit .ensures ∙ ap (λ (k : ℕ). e .all-acked .result && (may && ltb 0 k)) (m .waiting-count .ensures) in
+    (waits (e .all-acked .result) may (c .starts-edit .result) (waitingCount (s .waiting)) told, inside e .waiting)
 
 count-if-requires : tie.Need-count-if-requires
 count-if-requires c κs = search needs
 
 only-own-requires : tie.Need-only-own-requires
 only-own-requires c κs =
-    let e = c .before .before .before .before .before .before in
+    let e = c .before .before .before .before .before .before .before in
     rw (c .count-if .ensures) (most-if (e .all-acked .result) (station e .n) 16 (inside e .high))
 
 body-of-requires : tie.Need-body-of-requires
@@ -82,7 +88,7 @@ count-after-requires c κs = search needs
 
 array-read-label-after : tie.Need-array-read-label-after
 array-read-label-after c =
-    let h = own-in (c .before .before .before .before .before .before .before .before .before .before .before) in
+    let h = own-in (c .before .before .before .before .before .before .before .before .before .before .before .before) in
     search needs
 
 label-after-requires : tie.Need-label-after-requires
@@ -90,35 +96,35 @@ label-after-requires c κs = search needs
 
 array-write-marks : tie.Need-array-write-marks
 array-write-marks c =
-    let h = own-in (c .before .before .before .before .before .before .before .before .before .before .before .before) in
+    let h = own-in (c .before .before .before .before .before .before .before .before .before .before .before .before .before) in
     search needs
 
 mul-last : tie.Need-mul-last
 mul-last c =
-    let h = own-in (c .before .before .before .before .before .before .before .before .before .before .before .before .before) in
+    let h = own-in (c .before .before .before .before .before .before .before .before .before .before .before .before .before .before) in
     search needs
 
 array-copy-out-last : tie.Need-array-copy-out-last
 array-copy-out-last c =
-    let h = own-in (c .before .before .before .before .before .before .before .before .before .before .before .before .before) in
+    let h = own-in (c .before .before .before .before .before .before .before .before .before .before .before .before .before .before) in
     search needs
 
 over-requires : tie.Need-over-requires
-over-requires c κs = inside (c .before .before .before .before .before .before .before .before .before .before .before .before .before .before .before) .high
+over-requires c κs = inside (c .before .before .before .before .before .before .before .before .before .before .before .before .before .before .before .before) .high
 
-cast-t38 : tie.Need-cast-t38
-cast-t38 c =
-    let h = own-in (c .before .before .before .before .before .before .before .before .before .before .before .before .before .before .before .before) in
+cast-t39 : tie.Need-cast-t39
+cast-t39 c =
+    let h = own-in (c .before .before .before .before .before .before .before .before .before .before .before .before .before .before .before .before .before) in
     search needs
 
 mul-table : tie.Need-mul-table
 mul-table c =
-    let h = own-in (c .before .before .before .before .before .before .before .before .before .before .before .before .before .before .before .before) in
+    let h = own-in (c .before .before .before .before .before .before .before .before .before .before .before .before .before .before .before .before .before) in
     search needs
 
 array-set-from-table : tie.Need-array-set-from-table
 array-set-from-table c =
-    let h = own-in (c .before .before .before .before .before .before .before .before .before .before .before .before .before .before .before .before) in
+    let h = own-in (c .before .before .before .before .before .before .before .before .before .before .before .before .before .before .before .before .before) in
     search needs
 
 lane-with-requires : tie.Need-lane-with-requires
@@ -126,15 +132,16 @@ lane-with-requires c κs = search needs
 
 mul-left : tie.Need-mul-left
 mul-left c =
-    let h = own-in (c .before .before .before .before .before .before .before .before .before .before .before .before .before .before .before .before .before) in
+    let h = own-in (c .before .before .before .before .before .before .before .before .before .before .before .before .before .before .before .before .before .before) in
     search needs
 
 array-set-from-left : tie.Need-array-set-from-left
 array-set-from-left c =
-    let h = own-in (c .before .before .before .before .before .before .before .before .before .before .before .before .before .before .before .before .before) in
+    let h = own-in (c .before .before .before .before .before .before .before .before .before .before .before .before .before .before .before .before .before .before) in
     search needs
 
 returns : tie.Need-returns
+unfolding cellOf
 returns c =
     let o = c .before in
     let m = o .before .before .before .before in
@@ -146,7 +153,8 @@ returns c =
     let w = i .before in
     let t = w .before in
     let b = t .before in
-    let q = b .before in
+    let z = b .before in
+    let q = z .before in
     let e = q .before .before in
     let d = e .before .before .before in
     let s = station e in
@@ -154,10 +162,10 @@ returns c =
     k .only-own .ensures ∙ ap (λ (n : ℕ). fill n (λ j. eqb j (s .own)) (s .acked)) (i .count-if .ensures)
     ∙ fill-if (e .all-acked .result) (s .n) (λ j. eqb j (s .own)) (s .acked) in
     turn-made s (d .air .result .aired) (e .all-acked .result) (t .starts-edit .result) (d .air .result .row) (d .air .result .left)
-    (q .oldest .result) (b .started-body .result) (y .body-of .result) (g .body-of2 .result) (w .waiting-after .result) (k .only-own .result)
+    (q .next-edit .result) (z .waiting-count .result) (b .started-body .result) (y .body-of .result) (g .body-of2 .result) (w .waiting-after .result) (k .only-own .result)
     (u .count-after .result) (m .label-after .result) (o .over .result) (c .lane-with .result)
     (step-aired s (d .air .result) (d .air .ensures)) (ended e) (step-row s (d .air .result) (d .air .ensures)) (step-left s (d .air .result) (d .air .ensures))
-    (q .oldest .ensures) (b .started-body .ensures) (t .starts-edit .ensures) (w .waiting-after .ensures)
+    (q .next-edit .ensures) (z .waiting-count .ensures) (b .started-body .ensures) (t .starts-edit .ensures) (w .waiting-after .ensures)
     kept (y .body-of .ensures) (g .body-of2 .ensures) (u .count-after .ensures) (m .label-after .ensures) (o .over .ensures) (c .lane-with .ensures)
 
 pub take-turn-spec : {M : Type 1} → statement M
@@ -168,7 +176,8 @@ take-turn-spec =
     all-acked-requires
     mul-own-lane
     array-copy-out-own-lane
-    oldest-requires
+    next-edit-requires
+    waiting-count-requires
     started-body-requires
     starts-edit-requires
     waiting-after-requires
@@ -183,7 +192,7 @@ take-turn-spec =
     mul-last
     array-copy-out-last
     over-requires
-    cast-t38
+    cast-t39
     mul-table
     array-set-from-table
     lane-with-requires

@@ -13,12 +13,12 @@ returns-2 c = rw (not-false (c .before .before .args .ended) (c .before .if1 .le
 returns-3 : tie.Need-returns-3
 returns-3 c =
     let z = c .before .before .before in
-    rw (not-false (z .args .ended) (c .before .before .if1 .left), eq-eqb _ _ (c .before .if2 .left), le-ltb 0 (z .args .waiting-len) (omega arith))
+    rw (not-false (z .args .ended) (c .before .before .if1 .left), eq-eqb _ _ (c .before .if2 .left), le-ltb 0 (z .args .waiting-count) (omega arith))
 
 returns-4 : tie.Need-returns-4
 returns-4 c =
     let z = c .before .before .before in
-    rw (not-false (z .args .ended) (c .before .before .if1 .left), eq-eqb _ _ (c .before .if2 .left), lt-ltb 0 (z .args .waiting-len) (omega arith))
+    rw (not-false (z .args .ended) (c .before .before .if1 .left), eq-eqb _ _ (c .before .if2 .left), lt-ltb 0 (z .args .waiting-count) (omega arith))
 
 pub started-body-spec : {M : Type 1} → statement M
 started-body-spec = tie.close (tie.spec returns returns-2 returns-3 returns-4)

@@ -6,11 +6,11 @@ use Rattle.turn_parts.proofs.waiting_after.Tie as tie
 returns : tie.Need-returns
 returns c = rw (not-true (c .before .args .starts) (c .if1 .taken))
 
-unqueued-requires : tie.Need-unqueued-requires
-unqueued-requires c κs = (c .before .pre .0 (not-false (c .before .args .starts) (c .if1 .left)), c .before .pre .1)
+without-next-requires : tie.Need-without-next-requires
+without-next-requires c κs = (c .before .pre .0 (not-false (c .before .args .starts) (c .if1 .left)), c .before .pre .1)
 
 returns-2 : tie.Need-returns-2
-returns-2 c = rw (not-false (c .before .before .args .starts) (c .before .if1 .left)) (c .unqueued .ensures)
+returns-2 c = rw (not-false (c .before .before .args .starts) (c .before .if1 .left)) (c .without-next .ensures)
 
 pub waiting-after-spec : {M : Type 1} → statement M
-waiting-after-spec = tie.close (tie.spec returns unqueued-requires returns-2)
+waiting-after-spec = tie.close (tie.spec returns without-next-requires returns-2)

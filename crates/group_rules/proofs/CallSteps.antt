@@ -1,0 +1,120 @@
+-- The answers of group fresh, group post and round, each with the tests on its way decided: of several refusals that apply the first in its order is answered.
+use Prim.Native.Nat.{ℕ, _≤_, _<_}
+use mathlib.Core.Path.{_≡_, refl, ap}
+use mathlib.Core.Bool.{Bool, true, false, cond, not, _&&_}
+use mathlib.Core.List.{List}
+use lib.Dec.{leb, ltb, eqb}
+use lib.ListN.{set, replicate}
+use lib.Seq.{set-getD}
+use borrow.Author.Tests.{leb-true, lt-ltb, le-ltb}
+use Rattle.places.specs.Places.{allBelow, anyBelow, fill}
+use Rattle.places.proofs.Laws.{and-left, allBelow-not, anyBelow-none, anyBelow-hit}
+use Rattle.kinds.specs.declared.Body.{Body}
+use Rattle.frame_rules.specs.Frame.{validNumber}
+use Rattle.station_rules.specs.declared.Setup.{Setup}
+use Rattle.station_rules.specs.declared.Station.{Station}
+use Rattle.station_rules.specs.declared.Kept.{Kept}
+use Rattle.station_rules.specs.State.{aloneSetup}
+use Rattle.station_rules.specs.Limits.{stationInside}
+use Rattle.station_rules.specs.Calls as station
+use Rattle.station_rules.specs.Calls.{posted, postRefusal, ownCountInside}
+use Rattle.station_rules.proofs.StationLimits.{inside-make}
+use Rattle.group_rules.specs.declared.Post.{Post}
+use Rattle.group_rules.specs.declared.RoundDone.{RoundDone}
+use Rattle.group_rules.specs.State.{noStation, stationAt, sizeOf, groupInside, freshGroup}
+use Rattle.group_rules.specs.Calls.{groupFreshRefusal, freshCall, groupPostRefusal, postCall, heard, noReport, reportOf, roundRefusal, afterRound, roundCall}
+use Rattle.group_rules.proofs.Members.{member-at}
+
+-- fresh: 1
+module _ (setup : Setup) (g : List Station) where
+  abbrev n : ℕ
+  n = setup .n
+
+  pub fresh-done : validNumber n 0 ≡ true → g ≡ freshGroup setup → record { refusal = 0; group = g } ≡ freshCall setup
+  unfolding freshCall groupFreshRefusal
+  fresh-done v e = rw (and-left (leb 1 n && leb n 16) (ltb 0 n) v, e)
+
+  pub fresh-refused : validNumber n 0 ≡ false → g ≡ freshGroup aloneSetup → record { refusal = 1; group = g } ≡ freshCall setup
+  unfolding freshCall groupFreshRefusal
+  fresh-refused v e = rw (go (leb 1 n) refl v, e)
+    where
+      left : (t : Bool) → (t && true) ≡ false → t ≡ false
+      left true h = h
+      left false h = refl
+
+      go : (t : Bool) → leb 1 n ≡ t → (t && leb n 16) && ltb 0 n ≡ false → leb 1 n && leb n 16 ≡ false
+      go true p v = rw p (left (leb n 16) (rw (lt-ltb 0 n (leb-true 1 n p)) at v))
+      go false p v = rw p
+
+-- post: 2, 1, and then what the station answers
+module _ (g : List Station) (x : Post) where
+  abbrev k : ℕ
+  k = x .station
+
+  abbrev b : Body
+  b = x .body
+
+  pub post-outside : groupInside g ≡ false → record { refusal = 2; group = g } ≡ postCall g x
+  unfolding postCall groupPostRefusal
+  post-outside i = rw i
+
+  module _ (i : groupInside g ≡ true) where
+    pub post-nobody : sizeOf g ≤ k → record { refusal = 1; group = g } ≡ postCall g x
+    unfolding postCall groupPostRefusal
+    post-nobody l = rw (i, le-ltb k (sizeOf g) l)
+
+    module _ (l : k < sizeOf g) where
+      abbrev s : Station
+      s = stationAt g k
+
+      inside : stationInside s ≡ true
+      inside = inside-make s (member-at g i k l .inside)
+
+      -- a station that is put back as it was leaves the group
+      put : (t : Bool) → set g k (cond t (posted s b) s) ≡ cond t (set g k (posted s b)) g
+      put true = refl
+      put false = set-getD g k noStation
+
+      pub post-there :
+          (kept : Kept) → kept ≡ station.postCall s b → record { refusal = kept .refusal; group = set g k (kept .station) } ≡ postCall g x
+      unfolding postCall groupPostRefusal station.postCall
+      post-there kept e =
+          rw (e, inside, i, lt-ltb k (sizeOf g) l)
+          (λ j. record { refusal = postRefusal s b; group = put (eqb (postRefusal s b) 0) j })
+
+-- round: 2, 10, 8
+module _ (g : List Station) (masks : List ℕ) where
+  abbrev pub refused : ℕ → RoundDone
+  refused number = record { refusal = number; group = g; reports = replicate 16 noReport }
+
+  pub round-outside : groupInside g ≡ false → refused 2 ≡ roundCall g masks
+  unfolding roundCall roundRefusal
+  round-outside i = rw i
+
+  module _ (i : groupInside g ≡ true) where
+    abbrev tooHigh : ℕ → Bool
+    tooHigh k = not (ownCountInside (stationAt g k))
+
+    abbrev full : ℕ → Bool
+    full k = (heard g masks k) .overfull
+
+    pub round-count : allBelow (sizeOf g) (λ k. ownCountInside (stationAt g k)) ≡ false → refused 10 ≡ roundCall g masks
+    unfolding roundCall roundRefusal
+    round-count a =
+        let r = allBelow-not (sizeOf g) (λ k. ownCountInside (stationAt g k)) a in
+        rw (i, anyBelow-hit (sizeOf g) tooHigh (r .0) (r .1) (ap not (r .2)))
+
+    module _ (counts : (k : ℕ) → k < sizeOf g → ownCountInside (stationAt g k) ≡ true) where
+      none-high : anyBelow (sizeOf g) tooHigh ≡ false
+      none-high = anyBelow-none (sizeOf g) tooHigh (λ k l. ap not (counts k l))
+
+      pub round-full : (k : ℕ) → k < sizeOf g → full k ≡ true → refused 8 ≡ roundCall g masks
+      unfolding roundCall roundRefusal
+      round-full k l e = rw (i, none-high, anyBelow-hit (sizeOf g) full k l e)
+
+      pub round-done :
+          anyBelow (sizeOf g) full ≡ false →
+          record { refusal = 0; group = afterRound g masks; reports = fill (sizeOf g) (reportOf g masks) (replicate 16 noReport) }
+          ≡ roundCall g masks
+      unfolding roundCall roundRefusal
+      round-done e = rw (i, none-high, e)

@@ -1,0 +1,84 @@
+-- `lanes::queue_inside` meets its contract: what was passed may be posted.
+use Prim.Native.Nat.{_≤_, _-_}
+use native.Mathlib.Omega.{arith}
+use mathlib.Core.Path.{_≡_, refl, sym, _∙_}
+use mathlib.Core.Bool.{true, false}
+use borrow.Author.Needs.{needs}
+use lib.ListN.{getD}
+use Rattle.kind_limits.specs.Limits.{postable}
+use borrow.Author.Tests.{le-leb, lt-leb, not-true, not-false}
+use Rattle.places.specs.Places.{allBelow}
+use Rattle.places.proofs.Laws.{allBelow-more, allBelow-fails}
+use Rattle.lanes.specs.Queue.{queueCapacity, noSlot, queueInside}
+use Rattle.lanes.proofs.queue_inside.Statement.{statement}
+use Rattle.lanes.proofs.queue_inside.Tie as tie
+use Rattle.lanes.proofs.queue_inside.Reads as reads
+use Rattle.lanes.proofs.queue_inside.Lts as lts
+use Rattle.kind_limits.proofs.postable.Reads as postable-reads
+
+abbrev Inv-loop : tie.InvT-loop
+Inv-loop queue len i₀ i = (i ≤ len) × (len ≡ queue .len) × (len ≤ queueCapacity) × (allBelow i (λ k. postable ((getD (queue .slots) k noSlot) .body)) ≡ true)
+
+abbrev μ-loop : tie.MeasureT-loop
+μ-loop queue len i₀ i = len - i
+
+returns : tie.Need-returns Inv-loop μ-loop
+unfolding queueInside
+returns c = rw (lt-leb _ _ (c .if1 .taken))
+
+loop-holds : tie.Need-loop-holds Inv-loop μ-loop
+unfolding allBelow
+loop-holds c = search needs
+
+mul-slot : tie.Need-mul-slot Inv-loop μ-loop
+mul-slot c = search needs
+
+element-copy-out-slot : tie.Need-element-copy-out-slot Inv-loop μ-loop
+element-copy-out-slot c = search needs
+
+postable-requires : tie.Need-postable-requires Inv-loop μ-loop
+postable-requires c κs = search needs
+
+returns-2 : tie.Need-returns-2 Inv-loop μ-loop
+unfolding queueInside
+returns-2 c =
+    let a = c .before .before .before in
+    let q = a .before .before .before .args .t1 in
+    let e : postable ((getD (q .slots) (a .before .loop .i) noSlot) .body) ≡ false = sym (c .before .postable .ensures) ∙ not-true _ (c .if2 .taken) in
+    rw (le-leb _ _ (a .before .loop .inv .2)) (sym (allBelow-fails (q .len) _ (a .before .loop .i) (omega arith) e))
+
+add-i : tie.Need-add-i Inv-loop μ-loop
+add-i c = search needs
+
+loop-less : tie.Need-loop-less Inv-loop μ-loop
+loop-less c = search needs
+
+loop-again : tie.Need-loop-again Inv-loop μ-loop
+loop-again c =
+    let a = c .before .before .before in
+    let q = a .before .before .before .args .t1 in
+    let e : postable ((getD (q .slots) (a .before .loop .i) noSlot) .body) ≡ true = sym (c .before .postable .ensures) ∙ not-false _ (c .if2 .left) in
+    (omega arith, refl, a .before .loop .inv .2, allBelow-more (a .before .loop .i) _ (a .before .loop .inv .3) e)
+
+returns-3 : tie.Need-returns-3 Inv-loop μ-loop
+unfolding queueInside
+returns-3 c =
+    let e : c .before .loop .i ≡ c .before .before .before .args .t1 .len = omega arith in
+    rw (le-leb _ _ (c .before .loop .inv .2)) (sym (rw e at (c .before .loop .inv .3)))
+
+pub queue-inside-spec : {M : Type 1} → statement M
+queue-inside-spec =
+    tie.close
+    (tie.spec
+    Inv-loop
+    μ-loop
+    returns
+    loop-holds
+    mul-slot
+    element-copy-out-slot
+    postable-requires
+    returns-2
+    add-i
+    loop-less
+    loop-again
+    returns-3)

@@ -1,0 +1,16 @@
+-- `lanes::without_next` removes the oldest body of the queue, which is inside its limits.
+use Rattle.lanes.specs.Waiting.{waitingCount, withoutNext, waitingInside}
+use Rattle.lanes.proofs.QueueLimits.{queue-most}
+use Rattle.lanes.proofs.without_next.Statement.{statement}
+use Rattle.lanes.proofs.without_next.Tie as tie
+
+unqueued-requires : tie.Need-unqueued-requires
+unfolding waitingCount waitingInside
+unqueued-requires c κs = (c .before .pre .0, queue-most (c .before .args .waiting .queue) (c .before .pre .1))
+
+returns : tie.Need-returns
+unfolding withoutNext
+returns c = rw (c .unqueued .ensures)
+
+pub without-next-spec : {M : Type 1} → statement M
+without-next-spec = tie.close (tie.spec unqueued-requires returns)

@@ -1,0 +1,296 @@
+-- What each setter of a station sets and what it leaves: a cell that is set reads back, every other cell is as before, and so is all that the setter does not
+-- name. A station has sixteen places by its type, and setters keep them. Only these laws open the arrays of a station; all others cite them.
+use Prim.Native.Nat.{ℕ, _≤_, _<_}
+use mathlib.Core.Bool.{Bool, true, false}
+use mathlib.Core.Path.{_≡_, refl, sym, _∙_}
+use native.Mathlib.Omega.{arith}
+use lib.ListN.{set, length, replicate, length-set, getD-replicate}
+use lib.Seq.{getD-set-same, getD-set-other, set-getD}
+use Rattle.kinds.specs.declared.Body.{Body}
+use Rattle.kinds.specs.declared.Body.the-variants.{Empty}
+use Rattle.frame_rules.specs.declared.Record.{Record}
+use Rattle.frame_rules.specs.Record.{noRecord, zeroRecord}
+use Rattle.frame_rules.specs.Calls.{tableRecords}
+use Rattle.places.proofs.Laws.{length-fill, fill-below, fill-above}
+use Rattle.places.proofs.Keeps.{set-keeps}
+use Rattle.lanes.specs.declared.Lane.{Lane}
+use Rattle.lanes.specs.declared.Waiting.{Waiting}
+use Rattle.lanes.specs.Lane.{noLane}
+use Rattle.lanes.specs.Waiting.{noneWaiting}
+use Rattle.lanes.proofs.WaitingLaws.{WaitingSized, none-sized}
+use Rattle.station_rules.specs.declared.Setup.{Setup}
+use Rattle.station_rules.specs.declared.Station.{Station}
+use Rattle.station_rules.specs.State.{Cell, cellOf, recordOf, recordLabel, withLabel, withEntry, withLane, withWaiting, withBroadcast, withArrays, withCell, withAcked, withLanes, sentRecords, freshRecord, freshStation}
+
+-- the labels of a record have sixteen places
+abbrev pub LabelsShaped : Record → Type 0
+LabelsShaped r = length (r .labels) ≡ 16
+
+-- the lengths that a station's arrays have by their types: sixteen places, the slots of the waiting edits, sixteen labels in each record of the table
+pub record Shaped (s : Station) : Type 0 where
+  pub acked : length (s .acked) ≡ 16
+  pub labels : length (s .labels) ≡ 16
+  pub held : length (s .held) ≡ 16
+  pub table : length (s .table) ≡ 16
+  pub lanes : length (s .lanes) ≡ 16
+  pub waiting : WaitingSized (s .waiting)
+  pub record-labels : (k : ℕ) → k < 16 → LabelsShaped (recordOf s k)
+
+-- what a station has besides its cells
+pub record Self (s : Station) (size number : ℕ) (edits : Waiting) (shown : Body) (counted : ℕ) : Type 0 where
+  pub n : s .n ≡ size
+  pub own : s .own ≡ number
+  pub waiting : s .waiting ≡ edits
+  pub body : s .body ≡ shown
+  pub count : s .count ≡ counted
+
+-- another station has the same
+abbrev pub SameSelf : Station → Station → Type 0
+SameSelf s t = Self s (t .n) (t .own) (t .waiting) (t .body) (t .count)
+
+pub self-refl : (s : Station) → SameSelf s s
+self-refl s = record { n = refl; own = refl; waiting = refl; body = refl; count = refl }
+
+-- a cell with another acknowledgement
+abbrev pub withAck : Cell → Bool → Cell
+withAck c b = record { label = c .label; acked = b; held = c .held; entry = c .entry; lane = c .lane }
+
+module _ (s : Station) where
+  -- other waiting edits
+  module _ (w : Waiting) where
+    pub waiting-cell : (k : ℕ) → cellOf (withWaiting s w) k ≡ cellOf s k
+    unfolding cellOf
+    waiting-cell k = refl
+
+    pub waiting-shaped : WaitingSized w → Shaped s → Shaped (withWaiting s w)
+    unfolding cellOf
+    waiting-shaped l c =
+        record {
+          acked = c .acked;
+          labels = c .labels;
+          held = c .held;
+          table = c .table;
+          lanes = c .lanes;
+          waiting = l;
+          record-labels = c .record-labels;
+        }
+
+  -- another body and count
+  module _ (b : Body) (count : ℕ) where
+    pub broadcast-cell : (k : ℕ) → cellOf (withBroadcast s b count) k ≡ cellOf s k
+    unfolding cellOf
+    broadcast-cell k = refl
+
+    pub broadcast-shaped : Shaped s → Shaped (withBroadcast s b count)
+    unfolding cellOf
+    broadcast-shaped c =
+        record {
+          acked = c .acked;
+          labels = c .labels;
+          held = c .held;
+          table = c .table;
+          lanes = c .lanes;
+          waiting = c .waiting;
+          record-labels = c .record-labels;
+        }
+
+  -- another cell
+  module _ (k : ℕ) (c : Cell) where
+    pub cell-self : SameSelf (withCell s k c) s
+    unfolding withCell
+    cell-self = record { n = refl; own = refl; waiting = refl; body = refl; count = refl }
+
+    pub cell-here : Shaped s → k < 16 → cellOf (withCell s k c) k ≡ c
+    unfolding cellOf withCell
+    cell-here shape l =
+        rw (
+          getD-set-same (s .labels) k (c .label) 0 (omega (arith, shape .labels)),
+          getD-set-same (s .acked) k (c .acked) false (omega (arith, shape .acked)),
+          getD-set-same (s .held) k (c .held) false (omega (arith, shape .held)),
+          getD-set-same (s .table) k (c .entry) noRecord (omega (arith, shape .table)),
+          getD-set-same (s .lanes) k (c .lane) noLane (omega (arith, shape .lanes)),
+        )
+
+    pub cell-other : (j : ℕ) → (j ≡ k → ⊥) → cellOf (withCell s k c) j ≡ cellOf s j
+    unfolding cellOf withCell
+    cell-other j d =
+        rw (
+          getD-set-other (s .labels) k j (c .label) 0 d,
+          getD-set-other (s .acked) k j (c .acked) false d,
+          getD-set-other (s .held) k j (c .held) false d,
+          getD-set-other (s .table) k j (c .entry) noRecord d,
+          getD-set-other (s .lanes) k j (c .lane) noLane d,
+        )
+
+    -- where only one part of the cell is another, the other arrays stay
+    pub cell-label : (x : ℕ) → c ≡ withLabel (cellOf s k) x → withCell s k c ≡ withArrays s (s .acked) (set (s .labels) k x) (s .held) (s .table) (s .lanes)
+    unfolding cellOf withCell
+    cell-label x e = rw (e, set-getD (s .acked) k false, set-getD (s .held) k false, set-getD (s .table) k noRecord, set-getD (s .lanes) k noLane)
+
+    pub cell-entry : (r : Record) → c ≡ withEntry (cellOf s k) r → withCell s k c ≡ withArrays s (s .acked) (s .labels) (s .held) (set (s .table) k r) (s .lanes)
+    unfolding cellOf withCell
+    cell-entry r e = rw (e, set-getD (s .acked) k false, set-getD (s .labels) k 0, set-getD (s .held) k false, set-getD (s .lanes) k noLane)
+
+    pub cell-lane : (l : Lane) → c ≡ withLane (cellOf s k) l → withCell s k c ≡ withArrays s (s .acked) (s .labels) (s .held) (s .table) (set (s .lanes) k l)
+    unfolding cellOf withCell
+    cell-lane l e = rw (e, set-getD (s .acked) k false, set-getD (s .labels) k 0, set-getD (s .held) k false, set-getD (s .table) k noRecord)
+
+    pub cell-shaped : LabelsShaped (c .entry) → Shaped s → Shaped (withCell s k c)
+    unfolding cellOf withCell
+    cell-shaped e shape =
+        record {
+          acked = length-set (s .acked) k (c .acked) ∙ shape .acked;
+          labels = length-set (s .labels) k (c .label) ∙ shape .labels;
+          held = length-set (s .held) k (c .held) ∙ shape .held;
+          table = length-set (s .table) k (c .entry) ∙ shape .table;
+          lanes = length-set (s .lanes) k (c .lane) ∙ shape .lanes;
+          waiting = shape .waiting;
+          record-labels =
+              λ j l. set-keeps LabelsShaped (s .table) k (c .entry) noRecord j (omega (arith, shape .table)) (shape .record-labels j l) e;
+        }
+
+  -- other acknowledgements below n
+  module _ (acked : ℕ → Bool) where
+    pub acked-self : SameSelf (withAcked s acked) s
+    unfolding withAcked
+    acked-self = record { n = refl; own = refl; waiting = refl; body = refl; count = refl }
+
+    pub acked-below : Shaped s → s .n ≤ 16 → (k : ℕ) → k < s .n → cellOf (withAcked s acked) k ≡ withAck (cellOf s k) (acked k)
+    unfolding cellOf withAcked
+    acked-below shape high k l = rw (fill-below (s .n) acked (s .acked) k false l (omega (arith, shape .acked)))
+
+    pub acked-above : (k : ℕ) → s .n ≤ k → cellOf (withAcked s acked) k ≡ cellOf s k
+    unfolding cellOf withAcked
+    acked-above k l = rw (fill-above (s .n) acked (s .acked) k false l)
+
+    pub acked-shaped : Shaped s → Shaped (withAcked s acked)
+    unfolding cellOf withAcked
+    acked-shaped c =
+        record {
+          acked = length-fill (s .n) acked (s .acked) ∙ c .acked;
+          labels = c .labels;
+          held = c .held;
+          table = c .table;
+          lanes = c .lanes;
+          waiting = c .waiting;
+          record-labels = c .record-labels;
+        }
+
+  -- other lanes below n
+  module _ (lane : ℕ → Lane) where
+    pub lanes-self : SameSelf (withLanes s lane) s
+    unfolding withLanes
+    lanes-self = record { n = refl; own = refl; waiting = refl; body = refl; count = refl }
+
+    pub lanes-below : Shaped s → s .n ≤ 16 → (k : ℕ) → k < s .n → cellOf (withLanes s lane) k ≡ withLane (cellOf s k) (lane k)
+    unfolding cellOf withLanes
+    lanes-below shape high k l = rw (fill-below (s .n) lane (s .lanes) k noLane l (omega (arith, shape .lanes)))
+
+    pub lanes-above : (k : ℕ) → s .n ≤ k → cellOf (withLanes s lane) k ≡ cellOf s k
+    unfolding cellOf withLanes
+    lanes-above k l = rw (fill-above (s .n) lane (s .lanes) k noLane l)
+
+    pub lanes-shaped : Shaped s → Shaped (withLanes s lane)
+    unfolding cellOf withLanes
+    lanes-shaped c =
+        record {
+          acked = c .acked;
+          labels = c .labels;
+          held = c .held;
+          table = c .table;
+          lanes = length-fill (s .n) lane (s .lanes) ∙ c .lanes;
+          waiting = c .waiting;
+          record-labels = c .record-labels;
+        }
+
+-- two stations that differ in their waiting edits at most
+pub record SameButWaiting (s t : Station) : Type 0 where
+  pub n : s .n ≡ t .n
+  pub own : s .own ≡ t .own
+  pub body : s .body ≡ t .body
+  pub count : s .count ≡ t .count
+  pub cells : (k : ℕ) → cellOf s k ≡ cellOf t k
+  pub shape : Shaped s → Shaped t
+
+pub same-refl : (s : Station) → SameButWaiting s s
+same-refl s = record { n = refl; own = refl; body = refl; count = refl; cells = λ k. refl; shape = λ c. c }
+
+pub same-trans : (s t r : Station) → SameButWaiting s t → SameButWaiting t r → SameButWaiting s r
+same-trans s t r a b =
+    record {
+      n = a .n ∙ b .n;
+      own = a .own ∙ b .own;
+      body = a .body ∙ b .body;
+      count = a .count ∙ b .count;
+      cells = λ k. a .cells k ∙ b .cells k;
+      shape = λ c. b .shape (a .shape c);
+    }
+
+pub waiting-same : (s : Station) (w : Waiting) → (WaitingSized (s .waiting) → WaitingSized w) → SameButWaiting s (withWaiting s w)
+waiting-same s w e =
+    record {
+      n = refl;
+      own = refl;
+      body = refl;
+      count = refl;
+      cells = λ k. sym (waiting-cell s w k);
+      shape = λ c. waiting-shaped s w (e (c .waiting)) c;
+    }
+
+-- the fresh station
+module _ (setup : Setup) (own : ℕ) where
+  pub fresh-self : Self (freshStation setup own) (setup .n) own noneWaiting Empty 0
+  unfolding freshStation
+  fresh-self = record { n = refl; own = refl; waiting = refl; body = refl; count = refl }
+
+  pub fresh-own :
+      own < 16 → cellOf (freshStation setup own) own ≡ record { label = 1; acked = true; held = true; entry = freshRecord own; lane = noLane }
+  unfolding cellOf freshStation
+  fresh-own l =
+      rw (
+        getD-set-same {A = ℕ} (replicate 16 0) own 1 0 l,
+        getD-set-same (replicate 16 false) own true false l,
+        getD-set-same (replicate 16 zeroRecord) own (freshRecord own) noRecord l,
+        getD-replicate 16 own noLane noLane l,
+      )
+
+  pub fresh-other :
+      (k : ℕ) → k < 16 → (k ≡ own → ⊥) →
+      cellOf (freshStation setup own) k ≡ record { label = 0; acked = false; held = false; entry = zeroRecord; lane = noLane }
+  unfolding cellOf freshStation
+  fresh-other k l d =
+      rw (
+        getD-set-other {A = ℕ} (replicate 16 0) own k 1 0 d,
+        getD-set-other (replicate 16 false) own k true false d,
+        getD-set-other (replicate 16 zeroRecord) own k (freshRecord own) noRecord d,
+        getD-replicate {A = ℕ} 16 k 0 0 l,
+        getD-replicate 16 k false false l,
+        getD-replicate 16 k zeroRecord noRecord l,
+        getD-replicate 16 k noLane noLane l,
+      )
+
+  pub fresh-label-own : own < 16 → recordLabel (freshRecord own) own ≡ 1
+  fresh-label-own l = getD-set-same {A = ℕ} (replicate 16 0) own 1 0 l
+
+  pub fresh-label-other : (k : ℕ) → k < 16 → (k ≡ own → ⊥) → recordLabel (freshRecord own) k ≡ 0
+  fresh-label-other k l d = getD-set-other {A = ℕ} (replicate 16 0) own k 1 0 d ∙ getD-replicate {A = ℕ} 16 k 0 0 l
+
+  pub fresh-shaped : Shaped (freshStation setup own)
+  unfolding cellOf freshStation
+  fresh-shaped =
+      record {
+        acked = simp length-set;
+        labels = simp length-set;
+        held = simp length-set;
+        table = simp length-set;
+        lanes = refl;
+        waiting = none-sized;
+        record-labels =
+            λ k h. set-keeps LabelsShaped (replicate 16 zeroRecord) own _ noRecord k h
+            (rw (getD-replicate 16 k zeroRecord noRecord h)) (simp length-set);
+      }
+
+-- the records that are sent are those of the table
+pub sent-table : (s : Station) → sentRecords s ≡ tableRecords (s .n) (s .held) (s .table)
+unfolding cellOf sentRecords tableRecords
+sent-table s = refl
