@@ -11,7 +11,7 @@ ghost use mathlib.Core.Bool.{cond};
 ghost use lib.Dec.{ltb};
 ghost use Prim.Native.Nat.{_≤_};
 ghost use lib.ListN.{length};
-ghost use Rattle.group_rules.specs.Calls.{freshCall, postCall};
+ghost use Rattle.group_rules.specs.Calls.{groupFreshCall, groupPostCall};
 ghost use Rattle.lines.specs.Lines.{Put};
 ghost use Rattle.listing_rules.specs.Listing.{AnswersPost, postedBody, setupOf, sizedBy, refusedText};
 
@@ -56,7 +56,7 @@ fn put_post(s: Session, station: usize, refusal: u32, out: &mut [u8]) -> usize
 
 // An `N` line: a new group, of which nothing is printed.
 pub fn apply_size(s: Session, n: usize) -> Applied
-    ensures { λ r. ⌜ (r .session ≡ sizedBy s n (freshCall (setupOf n))) × (r .len ≡ 0) ⌝ }
+    ensures { λ r. ⌜ (r .session ≡ sizedBy s n (groupFreshCall (setupOf n))) × (r .len ≡ 0) ⌝ }
 {
     let made = group::fresh(Setup { n });
     let group = made.group;
@@ -72,7 +72,7 @@ pub fn apply_size(s: Session, n: usize) -> Applied
 // A post, and its refusal where it is refused.
 pub fn apply_post(s: Session, post: Post, out: &mut [u8]) -> Applied
     requires { ⌜ 35 ≤ length (now out) ⌝ }
-    ensures { λ r. ⌜ AnswersPost s (post .station) (postCall (s .group) post) (now (out .entry)) (now (out .exit)) r ⌝ }
+    ensures { λ r. ⌜ AnswersPost s (post .station) (groupPostCall (s .group) post) (now (out .entry)) (now (out .exit)) r ⌝ }
 {
     let before = s.group;
     let made = group::post(before, post);

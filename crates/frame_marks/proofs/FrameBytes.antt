@@ -5,7 +5,7 @@ use mathlib.Core.Path.{_≡_, ap}
 use mathlib.Core.List.{List}
 use lib.ListN.{getD, take, drop}
 use lib.Seq.{drop-drop}
-use Rattle.frame_rules.specs.Record.{recordOf}
+use Rattle.frame_rules.specs.Record.{recordFrom}
 use Rattle.frame_rules.specs.Frame.{part}
 use Rattle.places.proofs.Laws.{allBelow-at}
 use Rattle.station_rules.specs.Inner.Frames.{FrameAt}
@@ -18,10 +18,10 @@ pub part-in : (bytes : List ℕ) (at : ℕ) → take (at + 16 - at) (drop at byt
 part-in bytes at = let e : at + 16 - at ≡ 16 = omega arith in rw e
 
 -- those of record r of the frame that begins at start
-pub record-at : (bytes : List ℕ) (start r : ℕ) → recordOf (take 16 (drop (start + 4 + 16 * r) bytes)) ≡ recordAt bytes start r
+pub record-at : (bytes : List ℕ) (start r : ℕ) → recordFrom (take 16 (drop (start + 4 + 16 * r) bytes)) ≡ recordAt bytes start r
 record-at bytes start r =
     let f : start + (4 + 16 * r) ≡ start + 4 + 16 * r = omega arith in
-    ap recordOf (rw (drop-drop (4 + 16 * r) start bytes, f))
+    ap recordFrom (rw (drop-drop (4 + 16 * r) start bytes, f))
 
 pub carried-at :
     (n : ℕ) (bytes : List ℕ) (start : ℕ) → FrameAt n bytes start →

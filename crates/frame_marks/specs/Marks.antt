@@ -4,14 +4,14 @@ use mathlib.Core.Path.{_≡_}
 use mathlib.Core.List.{List}
 use lib.ListN.{getD, drop, length}
 use Rattle.frame_rules.specs.declared.Record.{Record}
-use Rattle.frame_rules.specs.Record.{recordOf}
+use Rattle.frame_rules.specs.Record.{recordFrom}
 use Rattle.frame_rules.specs.Frame.{part}
 use Rattle.station_rules.specs.State.{ownLabel}
 use Rattle.station_rules.specs.Inner.Frames.{FrameAt}
 
 -- record r of the frame that begins at start, and how many records it has
 abbrev pub recordAt : List ℕ → ℕ → ℕ → Record
-recordAt bytes start r = recordOf (part (drop start bytes) r)
+recordAt bytes start r = recordFrom (part (drop start bytes) r)
 
 abbrev pub sizeAt : List ℕ → ℕ → ℕ
 sizeAt bytes start = getD (drop start bytes) 2 0

@@ -13,27 +13,27 @@ use Rattle.places.specs.Places.{fill}
 use Rattle.frame_rules.specs.declared.Record.{Record}
 use Rattle.frame_rules.specs.declared.Reading.{Reading}
 use Rattle.frame_rules.specs.Words.{wordAt, signed}
-use Rattle.frame_rules.specs.Record.{recordOf, zeroRecord}
+use Rattle.frame_rules.specs.Record.{recordFrom, zeroRecord}
 use Rattle.frame_rules.specs.Frame.{part, checkRefusal}
 use Rattle.frame_rules.specs.Calls.{entries, reading}
 
 pub record-is :
     (p : List ℕ) {b : Body} {l : List ℕ} → b ≡ bodyOf (getD p 2 0) (wordAt p 4) (signed (wordAt p 8)) → l ≡ unpacked 16 (wordAt p 12) →
-    _≡_ {A = Record} (record { station = getD p 0 0; count = getD p 1 0; body = b; labels = l }) (recordOf p)
-unfolding recordOf
+    _≡_ {A = Record} (record { station = getD p 0 0; count = getD p 1 0; body = b; labels = l }) (recordFrom p)
+unfolding recordFrom
 record-is p h e = rw (h, e)
 
 module _ (bytes : List ℕ) where
   -- the entries once k of the records are read
   abbrev pub entriesBelow : ℕ → List Record
-  entriesBelow k = fill k (λ j. recordOf (part bytes j)) (replicate 16 zeroRecord)
+  entriesBelow k = fill k (λ j. recordFrom (part bytes j)) (replicate 16 zeroRecord)
 
   pub entries-none : replicate 16 zeroRecord ≡ entriesBelow 0
   unfolding fill
   entries-none = refl
 
   pub entries-more :
-      (k : ℕ) (l : List Record) (r : Record) → l ≡ entriesBelow k → r ≡ recordOf (part bytes k) → set l k r ≡ entriesBelow (k + 1)
+      (k : ℕ) (l : List Record) (r : Record) → l ≡ entriesBelow k → r ≡ recordFrom (part bytes k) → set l k r ≡ entriesBelow (k + 1)
   unfolding fill
   entries-more k l r h e = rw (add-one k, h, e)
 

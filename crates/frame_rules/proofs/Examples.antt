@@ -9,7 +9,7 @@ use Rattle.kinds.specs.Body.{bodyOf}
 use Rattle.label_words.specs.Packing.{packed, unpacked}
 use Rattle.frame_rules.specs.declared.Record.{Record}
 use Rattle.frame_rules.specs.Words.{wordAt, wordBytes, signed, unsigned}
-use Rattle.frame_rules.specs.Record.{recordOf, recordBytes}
+use Rattle.frame_rules.specs.Record.{recordFrom, recordBytes}
 use Rattle.frame_rules.specs.Frame.{recordsBytes, frameBytes}
 
 -- station 1 among 2, count 2: event 258 is shifted by -3, and the labels are 1 and 2
@@ -23,6 +23,6 @@ pub frame-bytes : frameBytes 2 1 (shown (1 ∷ 2 ∷ []) ∷ []) ≡ bytes
 unfolding frameBytes recordsBytes recordBytes wordBytes unsigned packed
 frame-bytes = refl
 
-pub record-read : recordOf (drop 4 bytes) ≡ shown (1 ∷ 2 ∷ replicate 14 0)
-unfolding recordOf wordAt signed unpacked bodyOf
+pub record-read : recordFrom (drop 4 bytes) ≡ shown (1 ∷ 2 ∷ replicate 14 0)
+unfolding recordFrom wordAt signed unpacked bodyOf
 record-read = refl

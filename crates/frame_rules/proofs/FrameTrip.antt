@@ -14,8 +14,8 @@ use Rattle.kinds.specs.Refusals.{done}
 use Rattle.places.specs.Places.{allBelow, anyBelow, tabulate}
 use Rattle.places.proofs.Laws.{or-left, and-both, and-left, and-right, allBelow-at, allBelow-make, anyBelow-ext, anyBelow-none, length-tabulate, tabulate-ext, tabulate-map}
 use Rattle.frame_rules.specs.declared.Record.{Record}
-use Rattle.frame_rules.specs.Record.{recordOf, recordBytes, framed, noRecord, bytesInside, recordFits}
-use Rattle.frame_rules.specs.Frame.{part, stationAt, shapeWrong, addressWrong, recordsInside, frameRefusal, recordsOf, recordsBytes, frameBytes, recordsFit}
+use Rattle.frame_rules.specs.Record.{recordFrom, recordBytes, framed, noRecord, bytesInside, recordFits}
+use Rattle.frame_rules.specs.Frame.{part, recordStation, shapeWrong, addressWrong, recordsInside, frameRefusal, recordsOf, recordsBytes, frameBytes, recordsFit}
 use Rattle.frame_rules.proofs.Bytes.{length-record, length-frame, records-append}
 use Rattle.frame_rules.proofs.Check.{by-length, by-sender, accepted, Accepted, accepted-frame, Shape, shape}
 use Rattle.frame_rules.proofs.RecordTrip.{fits-station, record-read, record-accepted, held-fits, held-zeros, bytes-written}
@@ -48,7 +48,7 @@ module _ (n sender : ℕ) (rs : List Record) where
   part-of-frame k h =
       ap (take 16) (sym (drop-drop (16 * k) 4 (n ∷ sender ∷ length rs ∷ 0 ∷ recordsBytes n rs))) ∙ record-part n rs k h
 
-  station-of-frame : (k : ℕ) → k < length rs → stationAt (frameBytes n sender rs) k ≡ station k
+  station-of-frame : (k : ℕ) → k < length rs → recordStation (frameBytes n sender rs) k ≡ station k
   unfolding recordBytes
   station-of-frame k h = ap (λ (p : List ℕ). getD p 0 0) (part-of-frame k h)
 
@@ -73,8 +73,8 @@ module _ (n sender : ℕ) (rs : List Record) where
     pub read-written : recordsOf (frameBytes n sender rs) ≡ map (framed n) rs
     unfolding recordsOf frameBytes
     read-written =
-        tabulate-ext (length rs) (λ k. recordOf (part (frameBytes n sender rs) k)) (λ k. framed n (getD rs k noRecord))
-        (λ k l. ap recordOf (part-of-frame k l) ∙ record-read n (getD rs k noRecord) few (record-fits k l))
+        tabulate-ext (length rs) (λ k. recordFrom (part (frameBytes n sender rs) k)) (λ k. framed n (getD rs k noRecord))
+        (λ k l. ap recordFrom (part-of-frame k l) ∙ record-read n (getD rs k noRecord) few (record-fits k l))
         ∙ tabulate-map (framed n) rs noRecord
 
     -- strictly ascending stations below n are at most n
@@ -118,12 +118,12 @@ module _ (n sender : ℕ) (rs : List Record) where
       unfolding recordsInside frameBytes
       records-are =
           and-both
-          (allBelow-make (length rs) (λ k. bytesInside n (part bytes k) && (eqb k 0 || ltb (stationAt bytes (pred k)) (stationAt bytes k)))
+          (allBelow-make (length rs) (λ k. bytesInside n (part bytes k) && (eqb k 0 || ltb (recordStation bytes (pred k)) (recordStation bytes k)))
           (λ k l.
           and-both
           (ap (bytesInside n) (part-of-frame k l) ∙ record-accepted n (getD rs k noRecord) few (record-fits k l))
           ((λ i. eqb k 0 || ltb (station-of-frame (pred k) (omega arith) i) (station-of-frame k l i)) ∙ ordered k l)))
-          (anyBelow-ext (length rs) (λ k. eqb (stationAt bytes k) sender) (λ k. eqb (station k) sender)
+          (anyBelow-ext (length rs) (λ k. eqb (recordStation bytes k) sender) (λ k. eqb (station k) sender)
           (λ k l. ap (λ (s : ℕ). eqb s sender) (station-of-frame k l))
           ∙ one-sent)
 
@@ -153,18 +153,18 @@ module _ (bytes : List ℕ) (n own : ℕ) (h : frameRefusal bytes n own ≡ done
   pub part-inside : (k : ℕ) → k < count → bytesInside n (part bytes k) ≡ true
   unfolding recordsInside
   part-inside k l =
-      let fits : ℕ → Bool = λ j. bytesInside n (part bytes j) && (eqb j 0 || ltb (stationAt bytes (pred j)) (stationAt bytes j)) in
-      and-left (bytesInside n (part bytes k)) (eqb k 0 || ltb (stationAt bytes (pred k)) (stationAt bytes k))
-      (allBelow-at count fits (and-left (allBelow count fits) (anyBelow count (λ j. eqb (stationAt bytes j) (getD bytes 1 0))) (yes-frame .records-right)) k l)
+      let fits : ℕ → Bool = λ j. bytesInside n (part bytes j) && (eqb j 0 || ltb (recordStation bytes (pred j)) (recordStation bytes j)) in
+      and-left (bytesInside n (part bytes k)) (eqb k 0 || ltb (recordStation bytes (pred k)) (recordStation bytes k))
+      (allBelow-at count fits (and-left (allBelow count fits) (anyBelow count (λ j. eqb (recordStation bytes j) (getD bytes 1 0))) (yes-frame .records-right)) k l)
 
   part-length : (k : ℕ) → k < count → length (part bytes k) ≡ 16
   part-length k l = length-take-le 16 (drop (4 + 16 * k) bytes) (rw length-drop (omega (arith, form .long)))
 
   -- the records of an accepted frame are inside their limits, and their labels from n up are 0
-  pub accepted-fits : (k : ℕ) → k < count → recordFits n (recordOf (part bytes k)) ≡ true
+  pub accepted-fits : (k : ℕ) → k < count → recordFits n (recordFrom (part bytes k)) ≡ true
   accepted-fits k l = held-fits n (part bytes k) (part-inside k l)
 
-  pub accepted-zeros : (k : ℕ) → k < count → (j : ℕ) → n ≤ j → getD ((recordOf (part bytes k)) .labels) j 0 ≡ 0
+  pub accepted-zeros : (k : ℕ) → k < count → (j : ℕ) → n ≤ j → getD ((recordFrom (part bytes k)) .labels) j 0 ≡ 0
   accepted-zeros k l = held-zeros n (part bytes k) (part-inside k l)
 
   bytes-are : bytes ≡ getD bytes 0 0 ∷ getD bytes 1 0 ∷ getD bytes 2 0 ∷ getD bytes 3 0 ∷ drop 4 bytes
@@ -185,11 +185,11 @@ module _ (bytes : List ℕ) (n own : ℕ) (h : frameRefusal bytes n own ≡ done
         ]
 
     -- the first c records are written as the first c parts
-    parts-written : (c : ℕ) → c ≤ count → recordsBytes n (tabulate c (λ k. recordOf (part bytes k))) ≡ take (16 * c) (drop 4 bytes)
+    parts-written : (c : ℕ) → c ≤ count → recordsBytes n (tabulate c (λ k. recordFrom (part bytes k))) ≡ take (16 * c) (drop 4 bytes)
     unfolding tabulate recordsBytes
     parts-written zero l = refl
     parts-written (suc c) l =
-        let f : ℕ → Record = λ k. recordOf (part bytes k) in
+        let f : ℕ → Record = λ k. recordFrom (part bytes k) in
         let one : recordBytes n (f c) ≡ take 16 (drop (16 * c) (drop 4 bytes)) =
         bytes-written (part bytes c) (part-small c (omega arith)) n (part-length c (omega arith)) (part-inside c (omega arith))
         ∙ ap (take 16) (sym (drop-drop (16 * c) 4 bytes)) in
@@ -203,7 +203,7 @@ module _ (bytes : List ℕ) (n own : ℕ) (h : frameRefusal bytes n own ≡ done
     pub write-read : frameBytes n (getD bytes 1 0) (recordsOf bytes) ≡ bytes
     unfolding frameBytes recordsOf
     write-read =
-        let f : ℕ → Record = λ k. recordOf (part bytes k) in
+        let f : ℕ → Record = λ k. recordFrom (part bytes k) in
         let all : take (16 * count) (drop 4 bytes) ≡ drop 4 bytes =
         take-all (16 * count) (drop 4 bytes) (rw length-drop (omega (arith, form .long))) in
         (λ i. number-is i ∷ getD bytes 1 0 ∷ length-tabulate count f i ∷ sym (form .mark) i ∷ (parts-written count (omega arith) ∙ all) i)

@@ -22,7 +22,7 @@ use Rattle.places.specs.Places.{fill}
 use Rattle.places.proofs.Laws.{and-left, and-right, allBelow-at, length-fill, fill-below, fill-above}
 use Rattle.frame_rules.specs.declared.Record.{Record}
 use Rattle.frame_rules.specs.Words.{wordAt, wordBytes, signed, unsigned}
-use Rattle.frame_rules.specs.Record.{recordOf, recordBytes, framed, bytesInside, recordFits}
+use Rattle.frame_rules.specs.Record.{recordFrom, recordBytes, framed, bytesInside, recordFits}
 use Rattle.frame_rules.proofs.Bytes.{packed-carried}
 use Rattle.frame_rules.proofs.Limits.{fits-open, fits-make, fits-labels, bytes-open, bytes-make}
 use Rattle.frame_rules.proofs.Spelled.{spelled, spelled-is, word-back, bytes-back, signed-back, unsigned-small, unsigned-back}
@@ -113,8 +113,8 @@ module _ (n : ℕ) (r : Record) (few : n ≤ 16) (h : recordFits n r ≡ true) w
   carried-right = carried-labels n (r .labels) few (fits-labels n r h)
 
   -- it is read back as the frame carries it
-  pub record-read : recordOf (recordBytes n r) ≡ framed n r
-  unfolding recordOf recordBytes framed
+  pub record-read : recordFrom (recordBytes n r) ≡ framed n r
+  unfolding recordFrom recordBytes framed
   record-read =
       let b = r .body in
       let body : bodyOf (kindOf b) (wordAt (recordBytes n r) 4) (signed (wordAt (recordBytes n r) 8)) ≡ b =
@@ -152,12 +152,12 @@ zero-at (x ∷ l) h (suc i) = zero-at l (and-right (eqb x 0) (allZero l) h) i
 
 -- such bytes hold a record inside its limits, whose labels from n up are 0
 module _ (n : ℕ) (p : List ℕ) (h : bytesInside n p ≡ true) where
-  pub held-fits : recordFits n (recordOf p) ≡ true
-  unfolding recordOf
+  pub held-fits : recordFits n (recordFrom p) ≡ true
+  unfolding recordFrom
   held-fits =
       let b = bytes-open n p h in
       let labels = unpacked 16 (wordAt p 12) in
-      fits-make n (recordOf p)
+      fits-make n (recordFrom p)
       (record {
         station = b .station;
         count = b .count;
@@ -169,8 +169,8 @@ module _ (n : ℕ) (p : List ℕ) (h : bytesInside n p ≡ true) where
   pub held-numbers : numbersInside (getD p 2 0) (wordAt p 4) (signed (wordAt p 8)) ≡ true
   held-numbers = (bytes-open n p h) .numbers
 
-  pub held-zeros : (k : ℕ) → n ≤ k → getD ((recordOf p) .labels) k 0 ≡ 0
-  unfolding recordOf
+  pub held-zeros : (k : ℕ) → n ≤ k → getD ((recordFrom p) .labels) k 0 ≡ 0
+  unfolding recordFrom
   held-zeros k l =
       let labels = unpacked 16 (wordAt p 12) in
       let e : n + (k - n) ≡ k = omega arith in
@@ -188,8 +188,8 @@ module _ (p : List ℕ) (small : (i : ℕ) → getD p i 0 < 256) where
   word-spelled at =
       word-back (getD p at 0) (getD p (at + 1) 0) (getD p (at + 2) 0) (getD p (at + 3) 0) (small at) (small (at + 1)) (small (at + 2)) (small (at + 3))
 
-  pub bytes-written : (n : ℕ) → length p ≡ 16 → bytesInside n p ≡ true → recordBytes n (recordOf p) ≡ p
-  unfolding recordBytes recordOf spelled
+  pub bytes-written : (n : ℕ) → length p ≡ 16 → bytesInside n p ≡ true → recordBytes n (recordFrom p) ≡ p
+  unfolding recordBytes recordFrom spelled
   bytes-written n long h =
       let f = bytes-open n p h in
       let k = getD p 2 0 in

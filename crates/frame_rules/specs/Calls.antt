@@ -9,12 +9,12 @@ use Rattle.places.specs.Places.{allBelow, fill, gather}
 use Rattle.frame_rules.specs.declared.Record.{Record}
 use Rattle.frame_rules.specs.declared.Reading.{Reading}
 use Rattle.frame_rules.specs.declared.Written.{Written}
-use Rattle.frame_rules.specs.Record.{recordOf, framed, placeFits, noRecord, zeroRecord}
+use Rattle.frame_rules.specs.Record.{recordFrom, framed, placeFits, noRecord, zeroRecord}
 use Rattle.frame_rules.specs.Frame.{validNumber, part, checkRefusal, frameBytes}
 
 -- the records of a frame in sixteen entries; those that it does not use are zero
 unfoldable pub entries : List ℕ → List Record
-entries bytes = fill (getD bytes 2 0) (λ k. recordOf (part bytes k)) (replicate 16 zeroRecord)
+entries bytes = fill (getD bytes 2 0) (λ k. recordFrom (part bytes k)) (replicate 16 zeroRecord)
 
 -- the answer to reading a frame: its records, or the refusal of the frame check and no record
 unfoldable pub reading : List ℕ → ℕ → ℕ → Reading

@@ -7,7 +7,7 @@ use lib.Dec.{leb, ltb, eqb}
 use Rattle.kinds.specs.Refusals.{done, badNumber, badShape, badAddress, badRecord, refuse}
 use Rattle.places.specs.Places.{allBelow, anyBelow, tabulate}
 use Rattle.frame_rules.specs.declared.Record.{Record}
-use Rattle.frame_rules.specs.Record.{recordOf, recordBytes, noRecord, bytesInside, recordFits}
+use Rattle.frame_rules.specs.Record.{recordFrom, recordBytes, noRecord, bytesInside, recordFits}
 
 -- byte 3 of a frame
 abbrev pub frameMark : ℕ
@@ -35,14 +35,14 @@ unfoldable pub addressWrong : List ℕ → ℕ → ℕ → Bool
 addressWrong bytes n own = not (eqb (getD bytes 0 0) n) || eqb (getD bytes 1 0) own || not (ltb (getD bytes 1 0) n)
 
 -- the station that record k of a frame is of
-abbrev pub stationAt : List ℕ → ℕ → ℕ
-stationAt bytes k = getD (part bytes k) 0 0
+abbrev pub recordStation : List ℕ → ℕ → ℕ
+recordStation bytes k = getD (part bytes k) 0 0
 
 -- the record limits over a whole frame: each inside its own, stations strictly ascending, the sender's among them
 unfoldable pub recordsInside : List ℕ → ℕ → Bool
 recordsInside bytes n =
-    allBelow (getD bytes 2 0) (λ k. bytesInside n (part bytes k) && (eqb k 0 || ltb (stationAt bytes (pred k)) (stationAt bytes k)))
-    && anyBelow (getD bytes 2 0) (λ k. eqb (stationAt bytes k) (getD bytes 1 0))
+    allBelow (getD bytes 2 0) (λ k. bytesInside n (part bytes k) && (eqb k 0 || ltb (recordStation bytes (pred k)) (recordStation bytes k)))
+    && anyBelow (getD bytes 2 0) (λ k. eqb (recordStation bytes k) (getD bytes 1 0))
 
 -- what hearing judges of a frame, in the order 5, 6, 7
 unfoldable pub frameRefusal : List ℕ → ℕ → ℕ → ℕ
@@ -57,7 +57,7 @@ checkRefusal bytes n own = refuse (not (validNumber n own)) badNumber (frameRefu
 
 -- the records of a frame, in order
 unfoldable pub recordsOf : List ℕ → List Record
-recordsOf bytes = tabulate (getD bytes 2 0) (λ k. recordOf (part bytes k))
+recordsOf bytes = tabulate (getD bytes 2 0) (λ k. recordFrom (part bytes k))
 
 -- the bytes of records one after the other
 unfoldable pub recordsBytes : ℕ → List Record → List ℕ

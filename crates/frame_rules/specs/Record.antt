@@ -19,8 +19,8 @@ abbrev pub recordMark : ℕ
 recordMark = 0
 
 -- the record that sixteen bytes hold
-unfoldable pub recordOf : List ℕ → Record
-recordOf bytes =
+unfoldable pub recordFrom : List ℕ → Record
+recordFrom bytes =
     record {
       station = getD bytes 0 0;
       count = getD bytes 1 0;

@@ -12,7 +12,7 @@ use borrow.Author.Tests.{lt-ltb, le-ltb, ne-eqb}
 use Rattle.places.specs.Places.{allBelow, anyBelow}
 use Rattle.places.proofs.Laws.{and-both, allBelow-fails}
 use Rattle.frame_rules.specs.Record.{bytesInside}
-use Rattle.frame_rules.specs.Frame.{part, stationAt, recordsInside}
+use Rattle.frame_rules.specs.Frame.{part, recordStation, recordsInside}
 
 -- a record's part as the code takes it
 pub part-is : (bytes : List ℕ) (k : ℕ) → take (4 + 16 * k + 16 - (4 + 16 * k)) (drop (4 + 16 * k) bytes) ≡ part bytes k
@@ -23,28 +23,28 @@ part-is bytes k =
 module _ (bytes : List ℕ) (n : ℕ) where
   -- record k is inside its limits, and its station above the one before it
   abbrev inOrder : ℕ → Bool
-  inOrder k = eqb k 0 || ltb (stationAt bytes (pred k)) (stationAt bytes k)
+  inOrder k = eqb k 0 || ltb (recordStation bytes (pred k)) (recordStation bytes k)
 
   abbrev fine : ℕ → Bool
   fine k = bytesInside n (part bytes k) && inOrder k
 
   abbrev sender's : ℕ → Bool
-  sender's k = eqb (stationAt bytes k) (getD bytes 1 0)
+  sender's k = eqb (recordStation bytes k) (getD bytes 1 0)
 
   -- the least station that record k may be of
   abbrev leastAt : ℕ → ℕ
   leastAt zero = 0
-  leastAt (suc k) = stationAt bytes k + 1
+  leastAt (suc k) = recordStation bytes k + 1
 
-  in-order : (k : ℕ) → leastAt k ≤ stationAt bytes k → inOrder k ≡ true
+  in-order : (k : ℕ) → leastAt k ≤ recordStation bytes k → inOrder k ≡ true
   in-order zero h = refl
   in-order (suc k) h =
-      rw (ne-eqb (suc k) 0 (λ e. omega arith)) (lt-ltb (stationAt bytes k) (stationAt bytes (suc k)) (omega arith))
+      rw (ne-eqb (suc k) 0 (λ e. omega arith)) (lt-ltb (recordStation bytes k) (recordStation bytes (suc k)) (omega arith))
 
-  out-of-order : (k : ℕ) → stationAt bytes k < leastAt k → inOrder k ≡ false
+  out-of-order : (k : ℕ) → recordStation bytes k < leastAt k → inOrder k ≡ false
   out-of-order zero h = absurd (omega arith)
   out-of-order (suc k) h =
-      rw (ne-eqb (suc k) 0 (λ e. omega arith)) (le-ltb (stationAt bytes k) (stationAt bytes (suc k)) (omega arith))
+      rw (ne-eqb (suc k) 0 (λ e. omega arith)) (le-ltb (recordStation bytes k) (recordStation bytes (suc k)) (omega arith))
 
   pub record Checked (k : ℕ) (found : Bool) (least : ℕ) : Type 0 where
     pub all : allBelow k fine ≡ true
@@ -57,7 +57,7 @@ module _ (bytes : List ℕ) (n : ℕ) where
 
   module _ (k : ℕ) (found : Bool) (least : ℕ) (c : Checked k found least) (inside : bytesInside n (part bytes k) ≡ true) where
     pub checked-more :
-        (station sender : ℕ) → station ≡ stationAt bytes k → sender ≡ getD bytes 1 0 → least ≤ station →
+        (station sender : ℕ) → station ≡ recordStation bytes k → sender ≡ getD bytes 1 0 → least ≤ station →
         Checked (k + 1) (found || eqb station sender) (station + 1)
     unfolding allBelow anyBelow
     checked-more station sender p q h =
@@ -68,7 +68,7 @@ module _ (bytes : List ℕ) (n : ℕ) where
           next = refl;
         })
 
-    pub checked-order : k < getD bytes 2 0 → stationAt bytes k < least → false ≡ recordsInside bytes n
+    pub checked-order : k < getD bytes 2 0 → recordStation bytes k < least → false ≡ recordsInside bytes n
     unfolding recordsInside
     checked-order l h =
         let e : fine k ≡ false = ap₂ _&&_ inside (out-of-order k (rw (c .next) at h)) in

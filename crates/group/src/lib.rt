@@ -3,7 +3,7 @@
 ghost use mathlib.Core.Path.{_≡_};
 ghost use Prim.Native.Nat.{_≤_};
 ghost use Rattle.group_rules.specs.State.{freshGroup};
-ghost use Rattle.group_rules.specs.Calls.{freshCall, postCall};
+ghost use Rattle.group_rules.specs.Calls.{groupFreshCall, groupPostCall};
 use fresh_station::fresh_station;
 use group_rules::KeptGroup;
 use group_rules::Post;
@@ -30,7 +30,7 @@ fn fresh_group(setup: Setup) -> [Station; 16]
 
 // Group fresh: the group, as it begins.
 pub fn fresh(setup: Setup) -> KeptGroup
-    ensures { λ r. ⌜ r ≡ freshCall setup ⌝ }
+    ensures { λ r. ⌜ r ≡ groupFreshCall setup ⌝ }
 {
     if numbers::valid_number(setup.n, 0) {
         let group = fresh_group(setup);
@@ -48,7 +48,7 @@ pub fn fresh(setup: Setup) -> KeptGroup
 
 // Group post: one more waiting edit at the post's station, where the station does not refuse it.
 pub fn post(g: [Station; 16], post: Post) -> KeptGroup
-    ensures { λ r. ⌜ r ≡ postCall g post ⌝ }
+    ensures { λ r. ⌜ r ≡ groupPostCall g post ⌝ }
 {
     let mut z = KeptGroup {
         refusal: DONE,

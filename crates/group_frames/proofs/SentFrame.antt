@@ -11,8 +11,8 @@ use lib.Seq.{take-append-le, drop-append-le}
 use borrow.Author.Tests.{ltb-true, ne-eqb}
 use Rattle.places.proofs.Laws.{and-left, and-right, allBelow-at, allBelow-make, tabulate-ext}
 use Rattle.frame_rules.specs.declared.Record.{Record}
-use Rattle.frame_rules.specs.Record.{recordOf, bytesInside}
-use Rattle.frame_rules.specs.Frame.{part, stationAt, recordsInside, recordsOf, frameBytes}
+use Rattle.frame_rules.specs.Record.{recordFrom, bytesInside}
+use Rattle.frame_rules.specs.Frame.{part, recordStation, recordsInside, recordsOf, frameBytes}
 use Rattle.frame_rules.specs.Calls.{tableRecords}
 use Rattle.frame_rules.proofs.Bytes.{length-frame}
 use Rattle.frame_rules.proofs.Check.{accepted-frame}
@@ -61,7 +61,7 @@ module _ (s : Station) (c : Inside s) where
         .records-right in
         and-left (bytesInside (s .n) (part (frameOf s) k)) _ (allBelow-at (getD (frameOf s) 2 0) _ (and-left _ _ ok) k (rw amount l))
 
-    ascends-next : (k : ℕ) → suc k < length records → stationAt (frameOf s) k < stationAt (frameOf s) (suc k)
+    ascends-next : (k : ℕ) → suc k < length records → recordStation (frameOf s) k < recordStation (frameOf s) (suc k)
     unfolding recordsInside
     ascends-next k l =
         let ok =
@@ -70,13 +70,13 @@ module _ (s : Station) (c : Inside s) where
         .records-right in
         let next =
         and-right (bytesInside (s .n) (part (frameOf s) (suc k))) _ (allBelow-at (getD (frameOf s) 2 0) _ (and-left _ _ ok) (suc k) (rw amount l)) in
-        ltb-true (stationAt (frameOf s) k) (stationAt (frameOf s) (suc k)) (rw (ne-eqb (suc k) 0 (omega arith)) at next)
+        ltb-true (recordStation (frameOf s) k) (recordStation (frameOf s) (suc k)) (rw (ne-eqb (suc k) 0 (omega arith)) at next)
 
-    ascends-to : (r q : ℕ) → q < r → r < length records → stationAt (frameOf s) q < stationAt (frameOf s) r
+    ascends-to : (r q : ℕ) → q < r → r < length records → recordStation (frameOf s) q < recordStation (frameOf s) r
     ascends-to zero q l b = absurd (omega arith)
     ascends-to (suc r) q l b =
         elim (ℕ-discrete q r) [
-          | yes e ↦ subst (λ (i : ℕ). stationAt (frameOf s) i < stationAt (frameOf s) (suc r)) (sym e) (ascends-next r b)
+          | yes e ↦ subst (λ (i : ℕ). recordStation (frameOf s) i < recordStation (frameOf s) (suc r)) (sym e) (ascends-next r b)
           | no d ↦ omega (arith, ascends-next r b, ascends-to r q (omega arith) (omega arith))
         ]
 
@@ -105,8 +105,8 @@ module _ (s : Station) (c : Inside s) where
       unfolding recordsOf
       heard-records =
           rw counted
-          (tabulate-ext (length records) (λ k. recordOf (part (drop start bytes) k)) (λ k. recordOf (part (frameOf s) k))
-          (λ k l. ap recordOf (part-is k l))
+          (tabulate-ext (length records) (λ k. recordFrom (part (drop start bytes) k)) (λ k. recordFrom (part (frameOf s) k))
+          (λ k l. ap recordFrom (part-is k l))
           ∙ rw (← amount) (sent-read s c fits))
 
       pub frame-few : getD (drop start bytes) 2 0 ≤ 16
@@ -124,8 +124,8 @@ module _ (s : Station) (c : Inside s) where
                 (λ k l. ap (bytesInside (s .n)) (part-is k l) ∙ inside-parts k l));
           }
 
-      station-is : (k : ℕ) → k < length records → (recordAt bytes start k) .station ≡ stationAt (frameOf s) k
-      unfolding recordOf
+      station-is : (k : ℕ) → k < length records → (recordAt bytes start k) .station ≡ recordStation (frameOf s) k
+      unfolding recordFrom
       station-is k l = ap (λ (b : List ℕ). getD b 0 0) (part-is k l)
 
       pub frame-ascending : Ascending bytes start

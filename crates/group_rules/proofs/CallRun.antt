@@ -18,7 +18,7 @@ use Rattle.station_rules.proofs.Setters.{SameButWaiting, same-refl, same-trans}
 use Rattle.station_rules.proofs.Shape.{posted-same}
 use Rattle.group_rules.specs.declared.Post.{Post}
 use Rattle.group_rules.specs.State.{noStation, stationAt, freshGroup}
-use Rattle.group_rules.specs.Calls.{groupPostRefusal, afterPost, postCall, afterRound}
+use Rattle.group_rules.specs.Calls.{groupPostRefusal, afterPost, groupPostCall, afterRound}
 use Rattle.group_rules.specs.History.{Call, post, round}
 use Rattle.group_rules.proofs.Setups.{Accepts}
 use Rattle.group_rules.proofs.Run.{Run}
@@ -39,16 +39,16 @@ set-same g x i = elim (ℕ-discrete i (x .station)) [ yes e ↦ here e | no d �
     there : (i ≡ x .station → ⊥) → SameButWaiting (stationAt g i) (stationAt (set g (x .station) new) i)
     there d = rw (getD-set-other g (x .station) i new noStation d) (same-refl (stationAt g i))
 
-pub post-same : (g : List Station) (x : Post) (i : ℕ) → SameButWaiting (stationAt g i) (stationAt ((postCall g x) .group) i)
-unfolding postCall
+pub post-same : (g : List Station) (x : Post) (i : ℕ) → SameButWaiting (stationAt g i) (stationAt ((groupPostCall g x) .group) i)
+unfolding groupPostCall
 post-same g x i = go (eqb (groupPostRefusal g x) done)
   where
     go : (c : Bool) → SameButWaiting (stationAt g i) (stationAt (cond c (afterPost g x) g) i)
     go true = set-same g x i
     go false = same-refl (stationAt g i)
 
-pub length-post : (g : List Station) (x : Post) → length ((postCall g x) .group) ≡ length g
-unfolding postCall
+pub length-post : (g : List Station) (x : Post) → length ((groupPostCall g x) .group) ≡ length g
+unfolding groupPostCall
 length-post g x = go (eqb (groupPostRefusal g x) done)
   where
     go : (c : Bool) → length (cond c (afterPost g x) g) ≡ length g
@@ -58,7 +58,7 @@ length-post g x = go (eqb (groupPostRefusal g x) done)
 -- the group once the posts before the next round are done
 unfoldable pub afterPosts : List Station → List Call → List Station
 afterPosts g [] = g
-afterPosts g (post x ∷ calls) = afterPosts ((postCall g x) .group) calls
+afterPosts g (post x ∷ calls) = afterPosts ((groupPostCall g x) .group) calls
 afterPosts g (round masks ∷ calls) = g
 
 -- the masks of the next round
@@ -90,20 +90,20 @@ groupAfter setup calls (suc u) = afterRound (afterPosts (groupAfter setup calls 
 
 -- what a post keeps, the posts between two rounds keep
 pub posts-keep : (P : List Station → Type 0)
-    → ((g : List Station) (x : Post) → P g → P ((postCall g x) .group))
+    → ((g : List Station) (x : Post) → P g → P ((groupPostCall g x) .group))
     → (g : List Station) (calls : List Call)
     → P g
     → P (afterPosts g calls)
 unfolding afterPosts
 posts-keep P h g [] c = c
-posts-keep P h g (post x ∷ calls) c = posts-keep P h ((postCall g x) .group) calls (h g x c)
+posts-keep P h g (post x ∷ calls) c = posts-keep P h ((groupPostCall g x) .group) calls (h g x c)
 posts-keep P h g (round masks ∷ calls) c = c
 
 pub posts-same : (g : List Station) (calls : List Call) (i : ℕ) → SameButWaiting (stationAt g i) (stationAt (afterPosts g calls) i)
 posts-same g calls i =
     posts-keep
     (λ (x : List Station). SameButWaiting (stationAt g i) (stationAt x i))
-    (λ h x c. same-trans (stationAt g i) (stationAt h i) (stationAt ((postCall h x) .group) i) c (post-same h x i))
+    (λ h x c. same-trans (stationAt g i) (stationAt h i) (stationAt ((groupPostCall h x) .group) i) c (post-same h x i))
     g
     calls
     (same-refl (stationAt g i))

@@ -22,7 +22,7 @@ use Rattle.station_rules.proofs.StationLimits.{inside-make}
 use Rattle.group_rules.specs.declared.Post.{Post}
 use Rattle.group_rules.specs.declared.RoundDone.{RoundDone}
 use Rattle.group_rules.specs.State.{noStation, stationAt, sizeOf, groupInside, freshGroup}
-use Rattle.group_rules.specs.Calls.{groupFreshRefusal, freshCall, groupPostRefusal, postCall, heard, noReport, reportOf, roundRefusal, afterRound, roundCall}
+use Rattle.group_rules.specs.Calls.{groupFreshRefusal, groupFreshCall, groupPostRefusal, groupPostCall, heard, noReport, reportOf, roundRefusal, afterRound, roundCall}
 use Rattle.group_rules.proofs.Members.{member-at}
 
 -- fresh: 1
@@ -30,12 +30,12 @@ module _ (setup : Setup) (g : List Station) where
   abbrev n : ℕ
   n = setup .n
 
-  pub fresh-done : validNumber n 0 ≡ true → g ≡ freshGroup setup → record { refusal = 0; group = g } ≡ freshCall setup
-  unfolding freshCall groupFreshRefusal
+  pub fresh-done : validNumber n 0 ≡ true → g ≡ freshGroup setup → record { refusal = 0; group = g } ≡ groupFreshCall setup
+  unfolding groupFreshCall groupFreshRefusal
   fresh-done v e = rw (and-left (leb 1 n && leb n 16) (ltb 0 n) v, e)
 
-  pub fresh-refused : validNumber n 0 ≡ false → g ≡ freshGroup aloneSetup → record { refusal = 1; group = g } ≡ freshCall setup
-  unfolding freshCall groupFreshRefusal
+  pub fresh-refused : validNumber n 0 ≡ false → g ≡ freshGroup aloneSetup → record { refusal = 1; group = g } ≡ groupFreshCall setup
+  unfolding groupFreshCall groupFreshRefusal
   fresh-refused v e = rw (go (leb 1 n) refl v, e)
     where
       left : (t : Bool) → (t && true) ≡ false → t ≡ false
@@ -54,13 +54,13 @@ module _ (g : List Station) (x : Post) where
   abbrev b : Body
   b = x .body
 
-  pub post-outside : groupInside g ≡ false → record { refusal = 2; group = g } ≡ postCall g x
-  unfolding postCall groupPostRefusal
+  pub post-outside : groupInside g ≡ false → record { refusal = 2; group = g } ≡ groupPostCall g x
+  unfolding groupPostCall groupPostRefusal
   post-outside i = rw i
 
   module _ (i : groupInside g ≡ true) where
-    pub post-nobody : sizeOf g ≤ k → record { refusal = 1; group = g } ≡ postCall g x
-    unfolding postCall groupPostRefusal
+    pub post-nobody : sizeOf g ≤ k → record { refusal = 1; group = g } ≡ groupPostCall g x
+    unfolding groupPostCall groupPostRefusal
     post-nobody l = rw (i, le-ltb k (sizeOf g) l)
 
     module _ (l : k < sizeOf g) where
@@ -76,8 +76,8 @@ module _ (g : List Station) (x : Post) where
       put false = set-getD g k noStation
 
       pub post-there :
-          (kept : Kept) → kept ≡ station.postCall s b → record { refusal = kept .refusal; group = set g k (kept .station) } ≡ postCall g x
-      unfolding postCall groupPostRefusal station.postCall
+          (kept : Kept) → kept ≡ station.postCall s b → record { refusal = kept .refusal; group = set g k (kept .station) } ≡ groupPostCall g x
+      unfolding groupPostCall groupPostRefusal station.postCall
       post-there kept e =
           rw (e, inside, i, lt-ltb k (sizeOf g) l)
           (λ j. record { refusal = postRefusal s b; group = put (eqb (postRefusal s b) 0) j })

@@ -36,7 +36,7 @@ use Rattle.station_rules.specs.Limits.{stationInside}
 use Rattle.places.specs.Places.{allBelow, anyBelow, fill}
 use Rattle.links.specs.Log.{hearsIn}
 use Rattle.group_rules.specs.State.{stationAt, sizeOf, freshGroup}
-use Rattle.group_rules.specs.Calls.{roundRefusal, hearing, afterRound, reportOf, roundCall}
+use Rattle.group_rules.specs.Calls.{roundRefusal, heardBelow, afterRound, reportOf, roundCall}
 use Rattle.group_rules.specs.History.{History, reportIn, Call.post, Call.round, next, begun, continued}
 use Rattle.group_rules.proofs.MarkedStatement.{Marked, oneStation, turnIn, insertFrame}
 use Rattle.group_rules.proofs.Computing.{groupRuns}
@@ -44,15 +44,15 @@ use Rattle.group_rules.proofs.MembersRound.{round-done}
 
 -- a station alone hears nobody, so a round is its turn
 module _ (g : List Station) (masks : List ℕ) (one : sizeOf g ≡ 1) where
-  hears-none : hearing g masks 0 1 ≡ silent (stationAt g 0)
-  unfolding hearing hearsIn
+  hears-none : heardBelow g masks 0 1 ≡ silent (stationAt g 0)
+  unfolding heardBelow hearsIn
   hears-none = rw one
 
   alone-turn : roundRefusal g masks ≡ done → (reportIn (roundCall g masks) 0) .turn ≡ turnReport (stationAt g 0)
   unfolding roundCall reportOf fill
   alone-turn e =
       rw (e, one)
-      (ap (λ (k : ℕ). turnReport ((hearing g masks 0 k) .station)) one ∙ ap (λ (h : Hearing). turnReport (h .station)) hears-none)
+      (ap (λ (k : ℕ). turnReport ((heardBelow g masks 0 k) .station)) one ∙ ap (λ (h : Hearing). turnReport (h .station)) hears-none)
 
 -- a group of one in which one edit is posted
 module _ (b : Body) (e : postable b ≡ true) where

@@ -21,7 +21,7 @@ use Rattle.station_rules.proofs.Shape.{posted-same, posted-shaped}
 use Rattle.station_rules.proofs.LimitsFresh.{posted-holds}
 use Rattle.group_rules.specs.declared.Post.{Post}
 use Rattle.group_rules.specs.State.{noStation, stationAt, sizeOf, groupInside}
-use Rattle.group_rules.specs.Calls.{groupPostRefusal, afterPost, postCall}
+use Rattle.group_rules.specs.Calls.{groupPostRefusal, afterPost, groupPostCall}
 use Rattle.group_rules.proofs.Members.{Member, GroupShaped, Members, members-open, members-inside}
 
 -- what an accepted post shows
@@ -46,17 +46,17 @@ accepted g x h = go (groupInside g) (ltb (x .station) (sizeOf g)) (postable (x .
     go false c d e p q r s z = absurd (false≢true z)
 
 pub post-accepted :
-    (g : List Station) (x : Post) → eqb ((postCall g x) .refusal) done ≡ true →
-    (postCall g x) .group ≡ afterPost g x
-unfolding postCall
+    (g : List Station) (x : Post) → eqb ((groupPostCall g x) .refusal) done ≡ true →
+    (groupPostCall g x) .group ≡ afterPost g x
+unfolding groupPostCall
 post-accepted g x e = rw e
 
-pub post-refused : (g : List Station) (x : Post) → eqb ((postCall g x) .refusal) done ≡ false → (postCall g x) .group ≡ g
-unfolding postCall
+pub post-refused : (g : List Station) (x : Post) → eqb ((groupPostCall g x) .refusal) done ≡ false → (groupPostCall g x) .group ≡ g
+unfolding groupPostCall
 post-refused g x e = rw e
 
-pub post-refusal : (g : List Station) (x : Post) → (postCall g x) .refusal ≡ groupPostRefusal g x
-unfolding postCall
+pub post-refusal : (g : List Station) (x : Post) → (groupPostCall g x) .refusal ≡ groupPostRefusal g x
+unfolding groupPostCall
 post-refusal g x = refl
 
 module _ (n : ℕ) (g : List Station) (c : Members n g) (x : Post) where
@@ -106,16 +106,16 @@ module _ (n : ℕ) (g : List Station) (c : Members n g) (x : Post) where
           member = posted-member edit room;
         }
 
-  pub post-members : Members n ((postCall g x) .group)
-  post-members = go (eqb ((postCall g x) .refusal) done) refl
+  pub post-members : Members n ((groupPostCall g x) .group)
+  post-members = go (eqb ((groupPostCall g x) .refusal) done) refl
     where
-      go : (t : Bool) → eqb ((postCall g x) .refusal) done ≡ t → Members n ((postCall g x) .group)
+      go : (t : Bool) → eqb ((groupPostCall g x) .refusal) done ≡ t → Members n ((groupPostCall g x) .group)
       go true e =
           let a : Accepted g x = accepted g x (rw (post-refusal g x) at e) in
           rw (post-accepted g x e) (set-members (omega (arith, a .below, c .size)) (a .edit) (a .room))
       go false e = rw (post-refused g x e) c
 
 pub post-inside :
-    (g : List Station) (x : Post) → GroupShaped g → groupInside g ≡ true → groupInside ((postCall g x) .group) ≡ true
+    (g : List Station) (x : Post) → GroupShaped g → groupInside g ≡ true → groupInside ((groupPostCall g x) .group) ≡ true
 post-inside g x shape h =
-    members-inside (sizeOf g) ((postCall g x) .group) (post-members (sizeOf g) g (members-open g shape h) x)
+    members-inside (sizeOf g) ((groupPostCall g x) .group) (post-members (sizeOf g) g (members-open g shape h) x)

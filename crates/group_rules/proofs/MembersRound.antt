@@ -24,7 +24,7 @@ use Rattle.station_rules.proofs.LimitsSent.{sent-carried}
 use Rattle.station_rules.proofs.LimitsTurn.{turn-holds}
 use Rattle.station_rules.proofs.TurnCells.{turn-n, turn-own, afterTurn-shaped}
 use Rattle.group_rules.specs.State.{noStation, stationAt, sizeOf, groupInside}
-use Rattle.group_rules.specs.Calls.{hearing, heard, roundRefusal, afterRound, roundCall}
+use Rattle.group_rules.specs.Calls.{heardBelow, heard, roundRefusal, afterRound, roundCall}
 use Rattle.group_rules.proofs.Members.{Member, GroupShaped, Members, members-open, members-inside}
 
 -- a round puts at each place of the group the station as it heard and took its turn
@@ -71,17 +71,17 @@ module _ (n : ℕ) (g : List Station) (c : Members n g) (masks : List ℕ) (coun
       subst (λ (k : ℕ). AllCarried k (sentRecords (stationAt g j))) (c .member j m .size ∙ sym (c .member i l .size))
       (sent-carried (stationAt g j) (c .member j m .inside) (counts j m))
 
-  pub hears-below : (i j : ℕ) → i < n → j ≤ n → Hears (silent (stationAt g i)) (hearing g masks i j)
-  unfolding hearing
+  pub hears-below : (i j : ℕ) → i < n → j ≤ n → Hears (silent (stationAt g i)) (heardBelow g masks i j)
+  unfolding heardBelow
   hears-below i zero l m =
       hears-none (silent (stationAt g i)) (c .member i l .inside) (c .shape .stations i (omega (arith, c .high)))
   hears-below i (suc j) l m = go (hearsIn (sizeOf g) masks i j) (hears-below i j l (omega arith))
     where
       go :
-          (t : Bool) → Hears (silent (stationAt g i)) (hearing g masks i j) →
-          Hears (silent (stationAt g i)) (cond t (hearRecords (hearing g masks i j) (sentRecords (stationAt g j))) (hearing g masks i j))
+          (t : Bool) → Hears (silent (stationAt g i)) (heardBelow g masks i j) →
+          Hears (silent (stationAt g i)) (cond t (hearRecords (heardBelow g masks i j) (sentRecords (stationAt g j))) (heardBelow g masks i j))
       go true hs =
-          hears-records (silent (stationAt g i)) (c .member i l .inside) (hearing g masks i j) (sentRecords (stationAt g j)) hs (carried i j l m)
+          hears-records (silent (stationAt g i)) (c .member i l .inside) (heardBelow g masks i j) (sentRecords (stationAt g j)) hs (carried i j l m)
       go false hs = hs
 
   pub hears-all : (i : ℕ) → i < n → Hears (silent (stationAt g i)) (heard g masks i)

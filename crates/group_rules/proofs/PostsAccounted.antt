@@ -31,7 +31,7 @@ use Rattle.group_rules.specs.declared.Post.{Post}
 use Rattle.group_rules.specs.declared.Report.{Report}
 use Rattle.group_rules.specs.declared.RoundDone.{RoundDone}
 use Rattle.group_rules.specs.State.{stationAt, sizeOf}
-use Rattle.group_rules.specs.Calls.{afterPost, postCall, heard, noReport, reportOf, roundRefusal, roundCall}
+use Rattle.group_rules.specs.Calls.{afterPost, groupPostCall, heard, noReport, reportOf, roundRefusal, roundCall}
 use Rattle.group_rules.specs.History.{History, Call, Call.post, Call.round, next, begun, continued, historyOf, reportIn, startsIn, unlessEmpty, collect, takingsOf, postsAt, started, editsOf, airedList, onlyEdits}
 use Rattle.group_rules.proofs.Setups.{Accepts}
 use Rattle.group_rules.proofs.Members.{Members, fresh-at}
@@ -69,17 +69,17 @@ posted-waits s b c l = posted-edits (s .waiting) b c l
 
 -- the posts that a call adds to the accepted ones
 abbrev accepts : List Station → Post → List Post
-accepts g x = cond (eqb ((postCall g x) .refusal) done) (x ∷ []) []
+accepts g x = cond (eqb ((groupPostCall g x) .refusal) done) (x ∷ []) []
 
 module _ (n : ℕ) (g : List Station) (c : Members n g) (x : Post) (p : ℕ) where
   -- one more waits at the station of an accepted post
-  post-waits : waits ((postCall g x) .group) p ≡ waits g p ++ postsAt p (accepts g x)
+  post-waits : waits ((groupPostCall g x) .group) p ≡ waits g p ++ postsAt p (accepts g x)
   unfolding postsAt
-  post-waits = go (eqb ((postCall g x) .refusal) done) refl
+  post-waits = go (eqb ((groupPostCall g x) .refusal) done) refl
     where
       go :
-          (t : Bool) → eqb ((postCall g x) .refusal) done ≡ t →
-          waits ((postCall g x) .group) p ≡ waits g p ++ postsAt p (cond t (x ∷ []) [])
+          (t : Bool) → eqb ((groupPostCall g x) .refusal) done ≡ t →
+          waits ((groupPostCall g x) .group) p ≡ waits g p ++ postsAt p (cond t (x ∷ []) [])
       go true e =
           let k = x .station in
           let made = accepted g x (rw (post-refusal g x) at e) in
@@ -99,7 +99,7 @@ module _ (n : ℕ) (g : List Station) (c : Members n g) (x : Post) (p : ℕ) whe
           ]
       go false e = ap (λ (h : List Station). waits h p) (post-refused g x e) ∙ sym (append-nil (waits g p))
 
-post-lane : (g : List Station) (x : Post) (p : ℕ) → ownEdits g p ≡ ownEdits ((postCall g x) .group) p
+post-lane : (g : List Station) (x : Post) (p : ℕ) → ownEdits g p ≡ ownEdits ((groupPostCall g x) .group) p
 post-lane g x p = ap (λ (c : Cell). onlyEdits (bodies (c .lane))) (post-same g x p .cells p)
 
 -- a round

@@ -63,7 +63,7 @@ comes R u p s = rises R u p s && not (isEmpty (bodyAt R s (news (linksOf R) (suc
 -- what the simulation shows of every round: which bodies are taken, what becomes of the lanes, and who ends
 pub record Simulated (R : Run) : Type 0 where
   pub ends :
-      (u s : ℕ) → s < R .n → turn.ends ((hearingIn R u s) .station) ≡ number.ends (linksOf R) (suc u) s
+      (u s : ℕ) → s < R .n → turn.broadcastEnds ((hearingIn R u s) .station) ≡ number.ends (linksOf R) (suc u) s
   pub takings :
       (u p s : ℕ) → p < R .n → s < R .n → (p ≡ s → ⊥) →
       takingsOf s ((hearingIn R u p) .takings)

@@ -55,7 +55,7 @@ module _ (R : Run) where
           (gotOf-some L p p (vs p) u (c .own-version) ∙ got-own L u p)
 
       -- the end
-      pub ends-agree : turn.ends s ≡ number.ends L (suc u) p
+      pub ends-agree : turn.broadcastEnds s ≡ number.ends L (suc u) p
       ends-agree =
           ends-each s
           ∙ ap (λ (m : ℕ). allBelow m (ackedOf s)) (c .formed .size)
@@ -96,7 +96,7 @@ module _ (R : Run) where
 
       -- b says whether the broadcast ends
       module _
-          (b : Bool) (ended : turn.ends s ≡ b) (start-now : start L (suc u) p ≡ cond b (suc u) (start L u p))
+          (b : Bool) (ended : turn.broadcastEnds s ≡ b) (start-now : start L (suc u) p ≡ cond b (suc u) (start L u p))
           (num-now : num L (suc u) p ≡ cond b (suc (num L u p)) (num L u p))
           (began : first .body ≡ shown R p (suc u)) (after : stationAt (R .after (suc u)) p ≡ afterTurn s) where
         count-turn : (afterTurn s) .count ≡ counted L (suc u) p
@@ -121,7 +121,7 @@ module _ (R : Run) where
         body-turn = go b ended start-now
           where
             go :
-                (x : Bool) → turn.ends s ≡ x → start L (suc u) p ≡ cond x (suc u) (start L u p) →
+                (x : Bool) → turn.broadcastEnds s ≡ x → start L (suc u) p ≡ cond x (suc u) (start L u p) →
                 (afterTurn s) .body ≡ shown R p (suc (suc u))
             go true f e =
                 ap (λ (s : Station). s .body) (sym after) ∙ ap (λ (t : ℕ). (stationAt (R .after t) p) .body) (sym e)

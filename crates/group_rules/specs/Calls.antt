@@ -25,8 +25,8 @@ unfoldable pub groupFreshRefusal : Setup → ℕ
 groupFreshRefusal setup = refuse (not (leb 1 (setup .n) && leb (setup .n) 16)) badNumber done
 
 -- a refused call returns the fresh group of N = 1
-unfoldable pub freshCall : Setup → KeptGroup
-freshCall setup =
+unfoldable pub groupFreshCall : Setup → KeptGroup
+groupFreshCall setup =
     cond (eqb (groupFreshRefusal setup) done)
     (record { refusal = done; group = freshGroup setup })
     (record { refusal = groupFreshRefusal setup; group = freshGroup aloneSetup })
@@ -41,21 +41,21 @@ groupPostRefusal g x =
 abbrev pub afterPost : List Station → Post → List Station
 afterPost g x = set g (x .station) (posted (stationAt g (x .station)) (x .body))
 
-unfoldable pub postCall : List Station → Post → KeptGroup
-postCall g x =
+unfoldable pub groupPostCall : List Station → Post → KeptGroup
+groupPostCall g x =
     record { refusal = groupPostRefusal g x; group = cond (eqb (groupPostRefusal g x) done) (afterPost g x) g }
 
 -- station i once it has heard the frames of the senders below k of its mask, by ascending sender; each frame is of the group before any hearing
-unfoldable pub hearing : List Station → List ℕ → ℕ → ℕ → Hearing
-hearing g masks i zero = silent (stationAt g i)
-hearing g masks i (suc j) =
+unfoldable pub heardBelow : List Station → List ℕ → ℕ → ℕ → Hearing
+heardBelow g masks i zero = silent (stationAt g i)
+heardBelow g masks i (suc j) =
     cond (hearsIn (sizeOf g) masks i j)
-    (hearRecords (hearing g masks i j) (sentRecords (stationAt g j)))
-    (hearing g masks i j)
+    (hearRecords (heardBelow g masks i j) (sentRecords (stationAt g j)))
+    (heardBelow g masks i j)
 
 -- station i once it has heard all of its mask
 abbrev pub heard : List Station → List ℕ → ℕ → Hearing
-heard g masks i = hearing g masks i (sizeOf g)
+heard g masks i = heardBelow g masks i (sizeOf g)
 
 -- what a round reports of a station that is not in it
 unfoldable pub noReport : Report

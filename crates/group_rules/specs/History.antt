@@ -17,7 +17,7 @@ use Rattle.group_rules.specs.declared.Post.{Post}
 use Rattle.group_rules.specs.declared.Report.{Report}
 use Rattle.group_rules.specs.declared.RoundDone.{RoundDone}
 use Rattle.group_rules.specs.State.{sizeOf, freshGroup}
-use Rattle.group_rules.specs.Calls.{postCall, roundCall, noReport}
+use Rattle.group_rules.specs.Calls.{groupPostCall, roundCall, noReport}
 
 -- a group post or a round, with any arguments
 pub data Call : Type 0 where
@@ -44,7 +44,7 @@ startsIn n r =
 -- one call more
 unfoldable pub next : History → Call → History
 next H (post x) =
-    let made = postCall (H .group) x in
+    let made = groupPostCall (H .group) x in
     record {
       group = made .group;
       rounds = H .rounds;

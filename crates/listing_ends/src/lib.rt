@@ -13,14 +13,14 @@ ghost use lib.Dec.{ltb, eqb};
 ghost use Prim.Native.Nat.{_≤_};
 ghost use lib.ListN.{length};
 ghost use Rattle.lines.specs.Lines.{Put, endLine};
-ghost use Rattle.listing_rules.specs.Listing.{Answer, begun, halted, malformedText, restText, closed};
+ghost use Rattle.listing_rules.specs.Listing.{Answer, sessionBegun, halted, malformedText, restText, closed};
 
 // The refusal of a malformed line, as its line shows it.
 const MALFORMED: usize = MALFORMED_LINE as usize;
 
 // A session before any line is read.
 pub fn begin() -> Session
-    ensures { λ r. ⌜ r ≡ begun ⌝ }
+    ensures { λ r. ⌜ r ≡ sessionBegun ⌝ }
 {
     let made = group::fresh(Setup { n: 1 });
     let group = made.group;

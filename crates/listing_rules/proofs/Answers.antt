@@ -8,7 +8,7 @@ use borrow.Author.Tests.{lt-ltb, le-ltb}
 use Rattle.kinds.specs.declared.Body.{Body}
 use Rattle.group_rules.specs.declared.KeptGroup.{KeptGroup}
 use Rattle.group_rules.specs.declared.RoundDone.{RoundDone}
-use Rattle.group_rules.specs.Calls.{freshCall, postCall, roundCall}
+use Rattle.group_rules.specs.Calls.{groupFreshCall, groupPostCall, roundCall}
 use Rattle.script.specs.declared.Command.{Command}
 use Rattle.script.specs.declared.Command.the-variants.{Size, Post, Round, Malformed}
 use Rattle.script.specs.Line.{commandOf, masksOf}
@@ -50,7 +50,7 @@ by-command s masks k k' l m r e a = rw e a
 
 pub sized :
     (s : Session) (masks : List ℕ) (n : ℕ) (l : List ℕ) (r : Applied) →
-    r .session ≡ sizedBy s n (freshCall (setupOf n)) → r .len ≡ 0 → Answer (obeyed s masks (Size n)) (answered s masks (Size n)) l l r
+    r .session ≡ sizedBy s n (groupFreshCall (setupOf n)) → r .len ≡ 0 → Answer (obeyed s masks (Size n)) (answered s masks (Size n)) l l r
 unfolding obeyed answered
 sized s masks n l r q z = record { session = q; put = go (r .len) z }
   where
@@ -66,11 +66,11 @@ round-made s k k' l m r e a = rw e at a
 
 pub posted :
     (s : Session) (masks : List ℕ) (station kind event : ℕ) (argument : ℤ) (body : Body) (l m : List ℕ) (r : Applied) →
-    body ≡ postedBody kind event argument → AnswersPost s station (postCall (s .group) (record { station = station; body = body })) l m r →
+    body ≡ postedBody kind event argument → AnswersPost s station (groupPostCall (s .group) (record { station = station; body = body })) l m r →
     Answer (obeyed s masks (Post station kind event argument)) (answered s masks (Post station kind event argument)) l m r
 unfolding obeyed answered
 posted s masks station kind event argument body l m r b a =
-    post-made s station _ _ l m r (ap (λ (x : Body). postCall (s .group) (record { station = station; body = x })) b) a
+    post-made s station _ _ l m r (ap (λ (x : Body). groupPostCall (s .group) (record { station = station; body = x })) b) a
 
 pub rounded :
     (s : Session) (masks heard : List ℕ) (made : RoundDone) (l m : List ℕ) (r : Applied) → s .rounds < 999_999 →

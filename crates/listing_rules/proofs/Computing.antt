@@ -5,10 +5,10 @@ use Rattle.column_writer.specs.Writing.{lead, columns}
 use Rattle.script.specs.Line.{fieldOf, sizeLine, postShaped, postLine, isMask, masksInside, roundLine, commandOf, maskAt, masksOf}
 use Rattle.lines.specs.Lines.{headBytes, bodyBytes, lineBytes, endLine}
 use Rattle.round_lines.specs.Reports.{joined, takenText, airedText, turnText, reportText, roundText}
-use Rattle.group_rules.specs.Calls.{groupFreshRefusal, freshCall}
+use Rattle.group_rules.specs.Calls.{groupFreshRefusal, groupFreshCall}
 use Rattle.group_rules.proofs.Computing.{groupRuns}
-use Rattle.listing_rules.specs.Listing.{begun, postedBody, sizedBy, postedBy, roundedBy, obeyed, refusedText, answered, after, printed, restText, linesOf, listed, listingOf}
+use Rattle.listing_rules.specs.Listing.{sessionBegun, postedBody, sizedBy, postedBy, roundedBy, obeyed, refusedText, answered, after, printed, restText, linesOf, listed, listingOf}
 
 unfoldable pub listingRuns : Unit {0}
-unfolding groupRuns bodyOf started grown next readFrom lead columns fieldOf sizeLine postShaped postLine isMask masksInside roundLine commandOf maskAt masksOf headBytes bodyBytes lineBytes endLine joined takenText airedText turnText reportText roundText groupFreshRefusal freshCall begun postedBody sizedBy postedBy roundedBy obeyed refusedText answered after printed restText linesOf listed listingOf
+unfolding groupRuns bodyOf started grown next readFrom lead columns fieldOf sizeLine postShaped postLine isMask masksInside roundLine commandOf maskAt masksOf headBytes bodyBytes lineBytes endLine joined takenText airedText turnText reportText roundText groupFreshRefusal groupFreshCall sessionBegun postedBody sizedBy postedBy roundedBy obeyed refusedText answered after printed restText linesOf listed listingOf
 listingRuns = tt

@@ -13,7 +13,7 @@ use Rattle.kinds.specs.Refusals.{done, malformedLine}
 use Rattle.station_rules.specs.declared.Station.{Station}
 use Rattle.group_rules.specs.declared.Post as group
 use Rattle.group_rules.specs.State.{freshGroup}
-use Rattle.group_rules.specs.Calls.{groupFreshRefusal, freshCall, postCall, roundCall}
+use Rattle.group_rules.specs.Calls.{groupFreshRefusal, groupFreshCall, groupPostCall, roundCall}
 use Rattle.group_rules.specs.History.{Call, post, round, History, next, begun, continued}
 use Rattle.group_rules.proofs.Setups.{accepted}
 use Rattle.script.specs.declared.Command.{Command}
@@ -100,14 +100,14 @@ module _ (n : ℕ) (H : History) (c : Call) (calls : List Call) (stop : Bool) (f
       }
 
 module _ (s : Session) (H : History) (c : Stands s H) where
-  post-stands : (x : group.Post) → Stands (postedBy s (postCall (s .group) x)) (next H (post x))
+  post-stands : (x : group.Post) → Stands (postedBy s (groupPostCall (s .group) x)) (next H (post x))
   unfolding postedBy next
   post-stands x =
-      record { running = refl; group = ap (λ (g : List Station). (postCall g x) .group) (c .group); rounds = c .rounds }
+      record { running = refl; group = ap (λ (g : List Station). (groupPostCall g x) .group) (c .group); rounds = c .rounds }
 
-  post-text : (x : group.Post) → refusedText (s .n) (s .rounds) (x .station) ((postCall (s .group) x) .refusal) ≡ callText (s .n) H (post x)
+  post-text : (x : group.Post) → refusedText (s .n) (s .rounds) (x .station) ((groupPostCall (s .group) x) .refusal) ≡ callText (s .n) H (post x)
   unfolding callText
-  post-text x = (λ i. refusedText (s .n) (c .rounds i) (x .station) ((postCall (c .group i) x) .refusal))
+  post-text x = (λ i. refusedText (s .n) (c .rounds i) (x .station) ((groupPostCall (c .group i) x) .refusal))
 
   round-stands : (masks : List ℕ) → Stands (roundedBy s (roundCall (s .group) masks)) (next H (round masks))
   unfolding roundedBy next
@@ -137,7 +137,7 @@ module _ (s : Session) (H : History) (c : Stands s H) where
       unfolding called stopsAt answered obeyed postedBy roundedBy
       command-does masks (Post station kind event argument) h =
           let x : group.Post = postOf station kind event argument in
-          then-does (s .n) H (post x) _ _ _ _ _ (post-text x) (ih (postedBy s (postCall (s .group) x)) (next H (post x)) refl (post-stands x))
+          then-does (s .n) H (post x) _ _ _ _ _ (post-text x) (ih (postedBy s (groupPostCall (s .group) x)) (next H (post x)) refl (post-stands x))
       command-does masks Round h = go (ltb (s .rounds) lastRound)
         where
           go :
@@ -176,25 +176,25 @@ lines-do (line l ls) s H low c =
     (command-later (s .n) l low))
 
 -- the `N` line makes the fresh group
-fresh-group : (n : ℕ) → 1 ≤ n → n ≤ 16 → (freshCall (setupOf n)) .group ≡ (begun (setupOf n)) .group
-unfolding freshCall begun
+fresh-group : (n : ℕ) → 1 ≤ n → n ≤ 16 → (groupFreshCall (setupOf n)) .group ≡ (begun (setupOf n)) .group
+unfolding groupFreshCall begun
 fresh-group n low high = rw (accepted (setupOf n) (record { low = low; high = high }))
 
-sized-stands : (n : ℕ) → 1 ≤ n → n ≤ 16 → Stands (sizedBy listing.begun n (freshCall (setupOf n))) (begun (setupOf n))
-unfolding sizedBy listing.begun
+sized-stands : (n : ℕ) → 1 ≤ n → n ≤ 16 → Stands (sizedBy listing.sessionBegun n (groupFreshCall (setupOf n))) (begun (setupOf n))
+unfolding sizedBy listing.sessionBegun
 sized-stands n low high = record { running = refl; group = fresh-group n low high; rounds = unfold begun in refl }
 
 -- the first line, and all after it
 module _ (l : List ℕ) (ls : Lines) where
   abbrev b : Session
-  b = listing.begun
+  b = listing.sessionBegun
 
   begun-runs : b .stopped ≡ false
-  unfolding listing.begun
+  unfolding listing.sessionBegun
   begun-runs = refl
 
   begun-size : b .n ≡ 0
-  unfolding listing.begun
+  unfolding listing.sessionBegun
   begun-size = refl
 
   first-text : printed b l ≡ answered b (masksOf 0 l) (commandOf 0 l)
@@ -207,7 +207,7 @@ module _ (l : List ℕ) (ls : Lines) where
       (masks : List ℕ) (k : Command) → First k → 1 ≤ sizeSaid k →
       Does (sizeSaid k) (begun (setupOf (sizeSaid k))) (callsIn (sizeSaid k) 0 ls) (stopsIn (sizeSaid k) 0 ls)
       (answered b masks k ++ listed (obeyed b masks k) ls) (sessionIn (obeyed b masks k) ls)
-  unfolding answered obeyed sizedBy listing.begun
+  unfolding answered obeyed sizedBy listing.sessionBegun
   first-does masks (Size n) h low = lines-do ls _ (begun (setupOf n)) low (sized-stands n (h .0) (h .1))
   first-does masks (Post station kind event argument) h low = absurd h
   first-does masks Round h low = absurd h
@@ -228,7 +228,7 @@ module _ (l : List ℕ) (ls : Lines) where
   first-stops :
       (masks : List ℕ) (k : Command) → First k → sizeSaid k ≡ 0 →
       answered b masks k ++ listed (obeyed b masks k) ls ≡ refusalText 0 0 malformedLine
-  unfolding answered obeyed listing.begun
+  unfolding answered obeyed listing.sessionBegun
   first-stops masks (Size n) h e = absurd (omega (arith, h .0))
   first-stops masks (Post station kind event argument) h e = absurd h
   first-stops masks Round h e = absurd h
@@ -256,12 +256,12 @@ no-calls rounds (line l ls) = none-called rounds (masksOf 0 l) (commandOf 0 l) _
 runs-in :
     (ls : Lines) → 1 ≤ sizeIn ls →
     Does (sizeIn ls) (begun (setupOf (sizeIn ls))) (callsIn (sizeIn ls) 0 (linesAfter ls)) (stopsIn (sizeIn ls) 0 (linesAfter ls))
-    (listed listing.begun ls) (sessionIn listing.begun ls)
+    (listed listing.sessionBegun ls) (sessionIn listing.sessionBegun ls)
 runs-in (rest l) low = absurd (omega arith)
 runs-in (line l ls) low = script-does l ls low
 
-no-size-in : (ls : Lines) → sizeIn ls ≡ 0 → listed listing.begun ls ≡ refusalText 0 0 malformedLine
-unfolding listed restText listing.begun
+no-size-in : (ls : Lines) → sizeIn ls ≡ 0 → listed listing.sessionBegun ls ≡ refusalText 0 0 malformedLine
+unfolding listed restText listing.sessionBegun
 no-size-in (rest l) e = refl
 no-size-in (line l ls) e = script-stops l ls e
 

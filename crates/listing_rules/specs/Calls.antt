@@ -7,7 +7,7 @@ use mathlib.Core.List.{List, [], _∷_, _++_}
 use lib.Dec.{ltb, eqb}
 use lib.ListN.{length}
 use Rattle.kinds.specs.Refusals.{malformedLine}
-use Rattle.group_rules.specs.Calls.{postCall, roundCall}
+use Rattle.group_rules.specs.Calls.{groupPostCall, roundCall}
 use Rattle.group_rules.specs.History.{Call, post, round, History, next, begun, historyOf}
 use Rattle.script.specs.declared.Command.{Command}
 use Rattle.script.specs.declared.Command.the-variants.{Size, Post, Round, Malformed}
@@ -74,11 +74,11 @@ sessionIn s (rest l) = s
 sessionIn s (line l ls) = sessionIn (after s l) ls
 
 abbrev pub sessionOf : List ℕ → Session
-sessionOf script = sessionIn listing.begun (linesOf script)
+sessionOf script = sessionIn listing.sessionBegun (linesOf script)
 
 -- what a call prints in a group of n, after the calls of a history: a post its refusal, a round what it reports
 unfoldable pub callText : ℕ → History → Call → List ℕ
-callText n H (post x) = refusedText n (length (H .rounds)) (x .station) ((postCall (H .group) x) .refusal)
+callText n H (post x) = refusedText n (length (H .rounds)) (x .station) ((groupPostCall (H .group) x) .refusal)
 callText n H (round masks) = roundText n (length (H .rounds) + 1) ((roundCall (H .group) masks) .reports)
 
 unfoldable pub callsText : ℕ → History → List Call → List ℕ

@@ -17,7 +17,7 @@ use Rattle.group_rules.specs.declared.Post as group
 use Rattle.group_rules.specs.declared.KeptGroup.{KeptGroup}
 use Rattle.group_rules.specs.declared.RoundDone.{RoundDone}
 use Rattle.group_rules.specs.State.{freshGroup}
-use Rattle.group_rules.specs.Calls.{freshCall, postCall, roundCall}
+use Rattle.group_rules.specs.Calls.{groupFreshCall, groupPostCall, roundCall}
 use Rattle.script.specs.declared.Command.{Command}
 use Rattle.script.specs.declared.Command.the-variants.{Size, Post, Round, Malformed}
 use Rattle.script.specs.Line.{commandOf, masksOf}
@@ -27,8 +27,8 @@ use Rattle.lines.specs.Lines.{turnedDown, lineBytes, endLine, Put}
 use Rattle.round_lines.specs.Reports.{roundText}
 
 -- before any line is read: no size yet, no round done
-unfoldable pub begun : Session
-begun = record { n = 0; rounds = 0; stopped = false; group = freshGroup aloneSetup }
+unfoldable pub sessionBegun : Session
+sessionBegun = record { n = 0; rounds = 0; stopped = false; group = freshGroup aloneSetup }
 
 -- what an `N` line gives the fresh group
 abbrev pub setupOf : ℕ → Setup
@@ -74,8 +74,8 @@ refusedText n rounds station refusal =
 
 -- the session after a command, whose line has the masks of a round
 unfoldable pub obeyed : Session → List ℕ → Command → Session
-obeyed s masks (Size n) = sizedBy s n (freshCall (setupOf n))
-obeyed s masks (Post station kind event argument) = postedBy s (postCall (s .group) (postOf station kind event argument))
+obeyed s masks (Size n) = sizedBy s n (groupFreshCall (setupOf n))
+obeyed s masks (Post station kind event argument) = postedBy s (groupPostCall (s .group) (postOf station kind event argument))
 obeyed s masks Round = cond (ltb (s .rounds) lastRound) (roundedBy s (roundCall (s .group) masks)) (halted s)
 obeyed s masks Malformed = halted s
 
@@ -83,7 +83,7 @@ obeyed s masks Malformed = halted s
 unfoldable pub answered : Session → List ℕ → Command → List ℕ
 answered s masks (Size n) = []
 answered s masks (Post station kind event argument) =
-    refusedText (s .n) (s .rounds) station ((postCall (s .group) (postOf station kind event argument)) .refusal)
+    refusedText (s .n) (s .rounds) station ((groupPostCall (s .group) (postOf station kind event argument)) .refusal)
 answered s masks Round =
     cond (ltb (s .rounds) lastRound)
     (roundText (s .n) (s .rounds + 1) ((roundCall (s .group) masks) .reports))
@@ -100,7 +100,7 @@ printed s line = cond (s .stopped) [] (answered s (masksOf (s .n) line) (command
 -- the end of a script; so many bytes stand after its last line end. Nothing is printed where the reading has stopped, or where an `N` line was read and none
 -- stand there; else the script has no `N` line, or breaks off in a line, and that is malformed
 unfoldable pub restText : Session → ℕ → List ℕ
-restText s length = cond (s .stopped || (ltb 0 (s .n) && eqb length 0)) [] (malformedText s)
+restText s left = cond (s .stopped || (ltb 0 (s .n) && eqb left 0)) [] (malformedText s)
 
 abbrev pub closed : Session → List ℕ → List ℕ
 closed s rest = restText s (length rest)
@@ -139,4 +139,4 @@ listed s (line l ls) = printed s l ++ listed (after s l) ls
 
 -- the listing of a script
 unfoldable pub listingOf : List ℕ → List ℕ
-listingOf script = listed begun (linesOf script) ++ endLine
+listingOf script = listed sessionBegun (linesOf script) ++ endLine

@@ -22,7 +22,7 @@ use Rattle.station_rules.specs.declared.Station.{Station}
 use Rattle.group_rules.specs.State.{stationAt, sizeOf, groupInside}
 use Rattle.lanes.specs.Waiting.{hasRoom}
 use Rattle.group_rules.specs.declared.Post as group
-use Rattle.group_rules.specs.Calls.{freshCall, groupFreshRefusal, groupPostRefusal, postCall, roundCall}
+use Rattle.group_rules.specs.Calls.{groupFreshCall, groupFreshRefusal, groupPostRefusal, groupPostCall, roundCall}
 use Rattle.group_rules.proofs.Members.{Members, members-inside, fresh-members}
 use Rattle.group_rules.proofs.MembersPost.{post-members, post-refusal}
 use Rattle.group_rules.proofs.MembersRound.{round-members}
@@ -30,7 +30,7 @@ use Rattle.script.specs.declared.Command.{Command}
 use Rattle.script.specs.declared.Command.the-variants.{Size, Post, Round, Malformed}
 use Rattle.script.specs.Line.{commandOf, masksOf}
 use Rattle.listing_rules.specs.declared.Session.{Session}
-use Rattle.listing_rules.specs.Listing.{begun, setupOf, postOf, postedBody, sizedBy, postedBy, roundedBy, halted, obeyed, after, malformedText, restText, lastRound}
+use Rattle.listing_rules.specs.Listing.{sessionBegun, setupOf, postOf, postedBody, sizedBy, postedBy, roundedBy, halted, obeyed, after, malformedText, restText, lastRound}
 use Rattle.load_spec.specs.Draws.{postDraw, posts, afterRound}
 use Rattle.load_spec.specs.Script.{sizeLine, postLine, maskLine, postLines, roundLines, roundsLines, scriptLines, scriptOf, lineOf}
 use Rattle.load_spec.proofs.Draws.{post-draw-small}
@@ -59,7 +59,7 @@ is-insert d h = rw (insert-made d h) (insert-inside d h)
 
 post-room :
     (n : ℕ) (g : List Station) (x : group.Post) → Members n g → x .station < n → postable (x .body) ≡ true →
-    ((postCall g x) .refusal ≡ done) ⊎ ((postCall g x) .refusal ≡ queueFull)
+    ((groupPostCall g x) .refusal ≡ done) ⊎ ((groupPostCall g x) .refusal ≡ queueFull)
 unfolding groupPostRefusal
 post-room n g x c h e =
     rw (post-refusal g x, members-inside n g c, lt-ltb (x .station) (sizeOf g) (omega (arith, c .size)), e)
@@ -213,24 +213,24 @@ rounds-lead n r total seed (suc count) s a e h =
 
 -- the `N` line
 module _ (n : ℕ) (low : 1 ≤ n) (high : n ≤ 16) where
-  said-size : commandOf (begun .n) (sizeLine n) ≡ Size n
-  unfolding begun
+  said-size : commandOf (sessionBegun .n) (sizeLine n) ≡ Size n
+  unfolding sessionBegun
   said-size = size-said n low high
 
-  size-fine : Fine begun (sizeLine n)
-  unfolding begun
+  size-fine : Fine sessionBegun (sizeLine n)
+  unfolding sessionBegun
   size-fine =
       let e = said-size in
       record {
         reading = refl;
         formed = λ f. let z : _≡_ {A = ℕ} 0 1 = cc in omega arith;
-        room = inl (ap (postAnswer begun) e);
+        room = inl (ap (postAnswer sessionBegun) e);
       }
 
-  size-after : At n 0 (after begun (sizeLine n))
-  unfolding obeyed sizedBy freshCall groupFreshRefusal begun
+  size-after : At n 0 (after sessionBegun (sizeLine n))
+  unfolding obeyed sizedBy groupFreshCall groupFreshRefusal sessionBegun
   size-after =
-      rw (obeys begun (sizeLine n) (Size n) refl said-size, le-leb 1 n low, le-leb n 16 high)
+      rw (obeys sessionBegun (sizeLine n) (Size n) refl said-size, le-leb 1 n low, le-leb n 16 high)
       (record { size = refl; rounds = refl; reading = refl; members = fresh-members (setupOf n) high low })
 
 -- what goes through all lines goes through the text of them
@@ -250,7 +250,7 @@ pub loads-read : LoadsRead
 unfolding scriptOf scriptLines
 loads-read seed n count low high most =
     let first = size-after n low high in
-    let rest = rounds-lead n 0 count seed count (after begun (sizeLine n)) first (omega arith) most in
+    let rest = rounds-lead n 0 count seed count (after sessionBegun (sizeLine n)) first (omega arith) most in
     let path = goes (sizeLine n) (size-fine n low high) (rest .path) in
     let found = lines-found (one-more (size-ends n) (rest .ends)) in
     record {

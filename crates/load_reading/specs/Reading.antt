@@ -6,18 +6,18 @@ use mathlib.Core.Bool.{false}
 use mathlib.Core.List.{List, []}
 use mathlib.Core.Logic.{_⊎_}
 use Rattle.kinds.specs.Refusals.{done, queueFull}
-use Rattle.group_rules.specs.Calls.{postCall}
+use Rattle.group_rules.specs.Calls.{groupPostCall}
 use Rattle.script.specs.declared.Command.{Command}
 use Rattle.script.specs.declared.Command.the-variants.{Size, Post, Round, Malformed}
 use Rattle.script.specs.Line.{commandOf}
 use Rattle.listing_rules.specs.declared.Session.{Session}
-use Rattle.listing_rules.specs.Listing.{Lines, rest, line, begun, postOf, after, closed, linesOf, lastRound}
+use Rattle.listing_rules.specs.Listing.{Lines, rest, line, sessionBegun, postOf, after, closed, linesOf, lastRound}
 use Rattle.load_spec.specs.Script.{scriptOf}
 
 -- what the group returns for a command that is a post
 abbrev pub postAnswer : Session → Command → ℕ
 postAnswer s (Size n) = done
-postAnswer s (Post station kind event argument) = (postCall (s .group) (postOf station kind event argument)) .refusal
+postAnswer s (Post station kind event argument) = (groupPostCall (s .group) (postOf station kind event argument)) .refusal
 postAnswer s Round = done
 postAnswer s Malformed = done
 
@@ -36,7 +36,7 @@ pub data Through : Session → Lines → Session → Type 0 where
 -- a script is read to its end: it is of n stations, and all its rounds are done
 pub record ReadWhole (script : List ℕ) (n count : ℕ) : Type 0 where
   pub end : Session
-  pub through : Through begun (linesOf script) end
+  pub through : Through sessionBegun (linesOf script) end
   pub size : end .n ≡ n
   pub rounds : end .rounds ≡ count
 

@@ -7,7 +7,7 @@ use lib.ListN.{length, length-append}
 use borrow.Author.Tests.{ne-eqb}
 use Rattle.lines.specs.Lines.{endLine}
 use Rattle.listing_rules.specs.declared.Session.{Session}
-use Rattle.listing_rules.specs.Listing.{Lines, rest, line, before, begun, linesOf, listed, listingOf, after, printed, closed}
+use Rattle.listing_rules.specs.Listing.{Lines, rest, line, before, sessionBegun, linesOf, listed, listingOf, after, printed, closed}
 use Rattle.listing_rules.proofs.Overlong.{printed-long, after-long, closed-some}
 use Rattle.reader_rules.specs.Remaining.{behind, remainingAt}
 
@@ -55,6 +55,6 @@ unfolding remainingAt linesOf listed
 at-end s held = rw append-nil
 
 -- before any byte is read the whole listing is still to come
-pub at-start : (script : List ℕ) → remainingAt begun [] script ≡ listingOf script
+pub at-start : (script : List ℕ) → remainingAt sessionBegun [] script ≡ listingOf script
 unfolding remainingAt listingOf
 at-start script = rw behind-none

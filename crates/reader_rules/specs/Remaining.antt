@@ -5,7 +5,7 @@ use mathlib.Core.List.{List, _++_}
 use lib.ListN.{length, take, getD, replicate}
 use Rattle.lines.specs.Lines.{endLine, Put}
 use Rattle.listing_rules.specs.declared.Session.{Session}
-use Rattle.listing_rules.specs.Listing.{Lines, rest, line, begun, linesOf, listed}
+use Rattle.listing_rules.specs.Listing.{Lines, rest, line, sessionBegun, linesOf, listed}
 use Rattle.reader_rules.specs.declared.Reader.{Reader}
 use Rattle.reader_rules.specs.declared.Fed.{Fed}
 
@@ -29,7 +29,7 @@ remaining r bytes = remainingAt (r .session) (heldBy r) bytes
 
 -- before any byte is read
 abbrev pub beginning : Reader
-beginning = record { session = begun; len = 0; line = replicate 146 0 }
+beginning = record { session = sessionBegun; len = 0; line = replicate 146 0 }
 
 -- some bytes of a part are read, and the front of the buffer is what they print: with what is then to be listed it is what was to be listed before, whatever follows
 pub record Listed (s : Session) (held part entry : List ℕ) (s' : Session) (held' : List ℕ) (read len : ℕ) (exit : List ℕ) : Type 0 where

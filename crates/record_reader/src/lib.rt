@@ -4,7 +4,7 @@ ghost use mathlib.Core.Path.{_≡_};
 ghost use Prim.Native.Nat.{_+_, _*_, _≤_};
 ghost use lib.ListN.{length};
 ghost use Rattle.frame_rules.specs.Words.{wordAt, signed};
-ghost use Rattle.frame_rules.specs.Record.{recordOf};
+ghost use Rattle.frame_rules.specs.Record.{recordFrom};
 use frame_rules::Record;
 
 // A byte as a number.
@@ -43,7 +43,7 @@ pub fn signed(word: u32) -> i32
 // The record that sixteen bytes hold.
 pub fn read_record(part: &[u8]) -> Record
     requires { ⌜ length (now part) ≡ 16 ⌝ }
-    ensures { λ r. ⌜ r ≡ recordOf (now (part .entry)) ⌝ }
+    ensures { λ r. ⌜ r ≡ recordFrom (now (part .entry)) ⌝ }
 {
     let event = word_at(part, 4);
     let argument = signed(word_at(part, 8));

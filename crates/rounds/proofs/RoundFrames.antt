@@ -17,7 +17,7 @@ use Rattle.station_rules.specs.Calls.{ownCountInside}
 use Rattle.station_rules.specs.Hearing.{Hearing, silent, hearRecords}
 use Rattle.station_rules.specs.Inner.Frames.{hearFrames}
 use Rattle.group_rules.specs.State.{stationAt, sizeOf, groupInside}
-use Rattle.group_rules.specs.Calls.{hearing}
+use Rattle.group_rules.specs.Calls.{heardBelow}
 use Rattle.group_frames.specs.Frames.{frameStart, FramesBelow}
 use Rattle.group_frames.proofs.GroupFrames.{records-of}
 use Rattle.mask_hearing.specs.Mask.{heardCount, heardStarts}
@@ -55,18 +55,18 @@ module _ (g : List Station) (inside : groupInside g ≡ true) (counts : (k : ℕ
 
     -- hearing them is hearing the senders below j of the mask
     pub heard-below :
-        (j : ℕ) → j ≤ sizeOf g → sizeOf g ≤ 16 → hearFrames (silent (stationAt g i)) bytes (starts j) (count j) ≡ hearing g masks i j
-    unfolding heardCount heardStarts hearing
+        (j : ℕ) → j ≤ sizeOf g → sizeOf g ≤ 16 → hearFrames (silent (stationAt g i)) bytes (starts j) (count j) ≡ heardBelow g masks i j
+    unfolding heardCount heardStarts heardBelow
     heard-below zero l high = hearFrames-none (silent (stationAt g i)) bytes (starts zero)
     heard-below (suc j) l high = go (hearsIn (sizeOf g) masks i j) (heard-below j (omega arith) high)
       where
         go :
-            (t : Bool) → hearFrames (silent (stationAt g i)) bytes (starts j) (count j) ≡ hearing g masks i j →
+            (t : Bool) → hearFrames (silent (stationAt g i)) bytes (starts j) (count j) ≡ heardBelow g masks i j →
             hearFrames (silent (stationAt g i)) bytes (cond t (set (starts j) (count j) (frameStart j)) (starts j)) (count j + cond t 1 0)
-            ≡ cond t (hearRecords (hearing g masks i j) (sentRecords (stationAt g j))) (hearing g masks i j)
+            ≡ cond t (hearRecords (heardBelow g masks i j) (sentRecords (stationAt g j))) (heardBelow g masks i j)
         go true before =
             let more : List ℕ = set (starts j) (count j) (frameStart j) in
-            let first : hearFrames (silent (stationAt g i)) bytes more (count j) ≡ hearing g masks i j =
+            let first : hearFrames (silent (stationAt g i)) bytes more (count j) ≡ heardBelow g masks i j =
             hearFrames-set (silent (stationAt g i)) bytes (starts j) (count j) (frameStart j) (count j) (omega arith) ∙ before in
             let here : getD more (count j) 0 ≡ frameStart j =
             getD-set-same (starts j) (count j) (frameStart j) 0

@@ -13,7 +13,7 @@ use Rattle.kinds.specs.Refusals.{done, laneFull}
 use Rattle.frame_rules.specs.Record as frames
 use Rattle.frame_rules.proofs.Limits.{fits-open}
 use Rattle.frame_rules.proofs.RecordTrip.{held-fits}
-use Rattle.frame_rules.specs.Frame.{validNumber, part, stationAt, shapeWrong, addressWrong, recordsInside, frameRefusal, recordsOf}
+use Rattle.frame_rules.specs.Frame.{validNumber, part, recordStation, shapeWrong, addressWrong, recordsInside, frameRefusal, recordsOf}
 use Rattle.places.specs.Places.{allBelow, anyBelow, tabulate}
 use Rattle.places.proofs.Laws.{and-left, allBelow-at}
 use Rattle.lanes.specs.Waiting.{hasRoom}
@@ -32,9 +32,9 @@ use Rattle.station_rules.proofs.LimitsSent.{carried-append}
 use Rattle.station_rules.proofs.LimitsTurn.{turn-inside}
 
 -- sixteen bytes inside the record limits
-pub bytes-carried : (n : ℕ) (bytes : List ℕ) → frames.bytesInside n bytes ≡ true → Carried n (frames.recordOf bytes)
+pub bytes-carried : (n : ℕ) (bytes : List ℕ) → frames.bytesInside n bytes ≡ true → Carried n (frames.recordFrom bytes)
 bytes-carried n bytes h =
-    let l = fits-open n (frames.recordOf bytes) (held-fits n bytes h) in
+    let l = fits-open n (frames.recordFrom bytes) (held-fits n bytes h) in
     record { station = l .station; count = l .count; body = l .body; labels = l .labels }
 
 -- a frame that passes the check of its records
@@ -43,21 +43,21 @@ unfolding recordsInside recordsOf
 frame-carried n bytes h = go (getD bytes 2 0) (omega arith)
   where
     fine : ℕ → Bool
-    fine k = frames.bytesInside n (part bytes k) && (eqb k 0 || ltb (stationAt bytes (pred k)) (stationAt bytes k))
+    fine k = frames.bytesInside n (part bytes k) && (eqb k 0 || ltb (recordStation bytes (pred k)) (recordStation bytes k))
 
-    each : (k : ℕ) → k < getD bytes 2 0 → Carried n (frames.recordOf (part bytes k))
+    each : (k : ℕ) → k < getD bytes 2 0 → Carried n (frames.recordFrom (part bytes k))
     each k l =
         bytes-carried n (part bytes k)
-        (and-left (frames.bytesInside n (part bytes k)) (eqb k 0 || ltb (stationAt bytes (pred k)) (stationAt bytes k))
+        (and-left (frames.bytesInside n (part bytes k)) (eqb k 0 || ltb (recordStation bytes (pred k)) (recordStation bytes k))
         (allBelow-at (getD bytes 2 0) fine
-        (and-left (allBelow (getD bytes 2 0) fine) (anyBelow (getD bytes 2 0) (λ k. eqb (stationAt bytes k) (getD bytes 1 0))) h) k l))
+        (and-left (allBelow (getD bytes 2 0) fine) (anyBelow (getD bytes 2 0) (λ k. eqb (recordStation bytes k) (getD bytes 1 0))) h) k l))
 
-    go : (m : ℕ) → m ≤ getD bytes 2 0 → AllCarried n (tabulate m (λ k. frames.recordOf (part bytes k)))
+    go : (m : ℕ) → m ≤ getD bytes 2 0 → AllCarried n (tabulate m (λ k. frames.recordFrom (part bytes k)))
     go m = elim m [
       | zero ↦ λ l. unfold tabulate in tt
       | suc (j → ih) ↦
           λ l. unfold tabulate in
-          (carried-append n (tabulate j (λ k. frames.recordOf (part bytes k))) (frames.recordOf (part bytes j) ∷ [])
+          (carried-append n (tabulate j (λ k. frames.recordFrom (part bytes k))) (frames.recordFrom (part bytes j) ∷ [])
           (ih (omega arith)) (each j l, tt))
     ]
 

@@ -22,7 +22,7 @@ use Rattle.lanes.specs.Waiting.{nextEdit, withoutNext, waitingInside}
 use Rattle.lanes.proofs.WaitingLaws as waiting
 use Rattle.station_rules.specs.State.{Cell, cellOf, labelOf, ackedOf, recordOf, laneAt, withEntry, withCell}
 use Rattle.station_rules.specs.Limits.{laneInside, takeable, stationInside}
-use Rattle.station_rules.specs.Turn.{airs, ends, startsEdit, startedBody, passed, ownRecord, rewritten, afterTurn}
+use Rattle.station_rules.specs.Turn.{airs, broadcastEnds, startsEdit, startedBody, passed, ownRecord, rewritten, afterTurn}
 use Rattle.station_rules.proofs.BodyLaws.{postable-takeable, takeable-inside, empty-inside, neutral-takeable}
 use Rattle.station_rules.proofs.Setters.{Shaped, cell-self, cell-here, cell-other}
 use Rattle.station_rules.proofs.Shape.{passed-shaped}
@@ -72,7 +72,7 @@ module _ (s : Station) (shape : Shaped s) (c : Inside s) where
       rw (passed-cell-own s shape (c .high) (c .own))
       (record {
         label =
-            cond-keeps (λ (x : ℕ). isLabel x ≡ true) (ends s) (successor (labelOf s (s .own))) (labelOf s (s .own))
+            cond-keeps (λ (x : ℕ). isLabel x ≡ true) (broadcastEnds s) (successor (labelOf s (s .own))) (labelOf s (s .own))
             (successor-label (labelOf s (s .own))) (before .label);
         held = before .held;
         lane = rw (eq-eqb (s .own) (s .own) refl) own-inside;
@@ -91,11 +91,11 @@ module _ (s : Station) (shape : Shaped s) (c : Inside s) where
         low = c .low;
         high = c .high;
         own = c .own;
-        acked = ap (λ (x : Cell). x .acked) own ∙ cond-keeps (λ (b : Bool). b ≡ true) (ends s) true (ackedOf s (s .own)) refl (c .acked);
+        acked = ap (λ (x : Cell). x .acked) own ∙ cond-keeps (λ (b : Bool). b ≡ true) (broadcastEnds s) true (ackedOf s (s .own)) refl (c .acked);
         held = ap (λ (x : Cell). x .held) own ∙ c .held;
         body =
             rw (passed-body s)
-            (cond-keeps (λ (b : Body). bodyInside b ≡ true) (ends s) (startedBody s) (s .body) started-inside (c .body));
+            (cond-keeps (λ (b : Body). bodyInside b ≡ true) (broadcastEnds s) (startedBody s) (s .body) started-inside (c .body));
         waiting =
             rw (passed-waiting s)
             (cond-keeps (λ (w : Waiting). waitingInside w ≡ true) (startsEdit s) (withoutNext (s .waiting)) (s .waiting)

@@ -17,7 +17,7 @@ use Rattle.lanes.proofs.WaitingLaws.{WaitingSized}
 use Rattle.station_rules.specs.declared.Station.{Station}
 use Rattle.station_rules.specs.State.{recordOf, recordLabel, labelOf, laneAt, withBroadcast, withCell, withAcked, withLanes}
 use Rattle.station_rules.specs.Hearing.{replaced, heardNewer}
-use Rattle.station_rules.specs.Turn.{airs, ends, mayStart, startsEdit, startedBody, afterAiring, begins, takesOwn, passed, ownRecord, rewritten}
+use Rattle.station_rules.specs.Turn.{airs, broadcastEnds, mayStart, startsEdit, startedBody, afterAiring, begins, takesOwn, passed, ownRecord, rewritten}
 use Rattle.station_rules.specs.Calls.{posted}
 use Rattle.station_rules.proofs.Setters.{LabelsShaped, Shaped, SameSelf, self-refl, lanes-self, SameButWaiting, waiting-same, waiting-shaped, broadcast-shaped, cell-shaped, acked-shaped, lanes-shaped}
 
@@ -28,7 +28,7 @@ waiting-sized s e = go (startsEdit s) refl
     go : (t : Bool) → startsEdit s ≡ t → WaitingSized (cond t (withoutNext (s .waiting)) (s .waiting))
     go true h =
         let waits = ltb 0 (waitingCount (s .waiting)) in
-        let some = ltb-true 0 (waitingCount (s .waiting)) (and-right (mayStart s) waits (and-right (ends s) (mayStart s && waits) h)) in
+        let some = ltb-true 0 (waitingCount (s .waiting)) (and-right (mayStart s) waits (and-right (broadcastEnds s) (mayStart s && waits) h)) in
         laws.started-sized (s .waiting) some e
     go false h = e
 
@@ -88,7 +88,7 @@ passed-shaped s l c =
     let next = begins t (startedBody s) in
     let started : Shaped (takesOwn next (startedBody s)) =
     takesOwn-shaped next (startedBody s) (omega (arith, begins-own t (startedBody s))) (begins-shaped t (startedBody s) own shape) in
-    cond-keeps Shaped (ends s) _ t (waiting-shaped (takesOwn next (startedBody s)) _ (waiting-sized s (c .waiting)) started) shape
+    cond-keeps Shaped (broadcastEnds s) _ t (waiting-shaped (takesOwn next (startedBody s)) _ (waiting-sized s (c .waiting)) started) shape
 
 ownRecord-labels : (s : Station) → s .own < 16 → Shaped s → LabelsShaped (ownRecord s)
 unfolding ownRecord

@@ -19,12 +19,12 @@ use Rattle.lanes.specs.Lane.{pushed, popped}
 use Rattle.lanes.specs.Waiting.{withoutNext}
 use Rattle.station_rules.specs.declared.Station.{Station}
 use Rattle.station_rules.specs.State.{Cell, cellOf, labelOf, ackedOf, heldOf, recordOf, laneAt, recordLabel, withLabel, withEntry, withLane, withWaiting, withBroadcast, withCell, withAcked, withLanes}
-use Rattle.station_rules.specs.Turn.{airs, ends, startsEdit, startedBody, afterAiring, begins, takesOwn, passed, ownRecord, rewritten, afterTurn}
+use Rattle.station_rules.specs.Turn.{airs, broadcastEnds, startsEdit, startedBody, afterAiring, begins, takesOwn, passed, ownRecord, rewritten, afterTurn}
 use Rattle.station_rules.proofs.Setters.{Shaped, SameSelf, self-refl, withAck, waiting-cell, broadcast-cell, cell-self, cell-here, cell-other, acked-below, acked-above, lanes-below, lanes-above, broadcast-shaped, acked-shaped}
 use Rattle.station_rules.proofs.Shape.{aired-self, aired-shaped, begins-shaped, passed-shaped, rewritten-shaped}
 
 -- nothing starts where the broadcast goes on
-pub started-stays : (s : Station) → ends s ≡ false → startedBody s ≡ Empty
+pub started-stays : (s : Station) → broadcastEnds s ≡ false → startedBody s ≡ Empty
 unfolding startedBody
 started-stays s e = rw e
 
@@ -63,15 +63,15 @@ module _ (s : Station) (b : Body) where
 module _ (s : Station) where
   passed-self :
       ((passed s) .n ≡ s .n) × ((passed s) .own ≡ s .own) × ((passed s) .waiting ≡ cond (startsEdit s) (withoutNext (s .waiting)) (s .waiting))
-      × ((passed s) .body ≡ cond (ends s) (startedBody s) (s .body)) × ((passed s) .count ≡ cond (ends s) 0 (s .count))
+      × ((passed s) .body ≡ cond (broadcastEnds s) (startedBody s) (s .body)) × ((passed s) .count ≡ cond (broadcastEnds s) 0 (s .count))
   unfolding passed begins withCell withAcked
-  passed-self = go (ends s) refl
+  passed-self = go (broadcastEnds s) refl
     where
       next : Station
       next = begins (afterAiring s) (startedBody s)
 
       go :
-          (t : Bool) → ends s ≡ t →
+          (t : Bool) → broadcastEnds s ≡ t →
           ((passed s) .n ≡ s .n) × ((passed s) .own ≡ s .own) × ((passed s) .waiting ≡ cond (startsEdit s) (withoutNext (s .waiting)) (s .waiting))
           × ((passed s) .body ≡ cond t (startedBody s) (s .body)) × ((passed s) .count ≡ cond t 0 (s .count))
       go true e =
@@ -89,10 +89,10 @@ module _ (s : Station) where
   pub passed-waiting : (passed s) .waiting ≡ cond (startsEdit s) (withoutNext (s .waiting)) (s .waiting)
   passed-waiting = passed-self .2
 
-  pub passed-body : (passed s) .body ≡ cond (ends s) (startedBody s) (s .body)
+  pub passed-body : (passed s) .body ≡ cond (broadcastEnds s) (startedBody s) (s .body)
   passed-body = passed-self .3
 
-  pub passed-count : (passed s) .count ≡ cond (ends s) 0 (s .count)
+  pub passed-count : (passed s) .count ≡ cond (broadcastEnds s) 0 (s .count)
   passed-count = passed-self .4
 
   pub turn-n : (afterTurn s) .n ≡ s .n
@@ -107,11 +107,11 @@ module _ (s : Station) where
   unfolding afterTurn rewritten withCell
   turn-waiting = passed-waiting
 
-  pub turn-body : (afterTurn s) .body ≡ cond (ends s) (startedBody s) (s .body)
+  pub turn-body : (afterTurn s) .body ≡ cond (broadcastEnds s) (startedBody s) (s .body)
   unfolding afterTurn rewritten withCell
   turn-body = passed-body
 
-  pub turn-count : (afterTurn s) .count ≡ cond (ends s) 0 (s .count)
+  pub turn-count : (afterTurn s) .count ≡ cond (broadcastEnds s) 0 (s .count)
   unfolding afterTurn rewritten withCell
   turn-count = passed-count
 
@@ -209,20 +209,20 @@ module _ (s : Station) (shape : Shaped s) (high : s .n ≤ 16) (below : s .own <
   pub passed-cell-own :
       cellOf (passed s) (s .own)
       ≡ record {
-        label = cond (ends s) (successor (labelOf s (s .own))) (labelOf s (s .own));
-        acked = cond (ends s) true (ackedOf s (s .own));
+        label = cond (broadcastEnds s) (successor (labelOf s (s .own))) (labelOf s (s .own));
+        acked = cond (broadcastEnds s) true (ackedOf s (s .own));
         held = heldOf s (s .own);
         entry = recordOf s (s .own);
         lane = cond (isEmpty (startedBody s)) (laneAfter s (s .own)) (pushed (laneAfter s (s .own)) (startedBody s));
       }
   unfolding passed
-  passed-cell-own = go (ends s) refl
+  passed-cell-own = go (broadcastEnds s) refl
     where
       own : Cell
       own = cellOf s (s .own)
 
       go :
-          (t : Bool) → ends s ≡ t →
+          (t : Bool) → broadcastEnds s ≡ t →
           cellOf (cond t (withWaiting (takesOwn next (startedBody s)) (cond (startsEdit s) (withoutNext (s .waiting)) (s .waiting))) aired) (s .own)
           ≡ record {
             label = cond t (successor (own .label)) (own .label);
@@ -243,9 +243,9 @@ module _ (s : Station) (shape : Shaped s) (high : s .n ≤ 16) (below : s .own <
 
   pub passed-cell-other :
       (k : ℕ) → k < s .n → (k ≡ s .own → ⊥) →
-      cellOf (passed s) k ≡ withLane (withAck (cellOf s k) (cond (ends s) false (ackedOf s k))) (laneAfter s k)
+      cellOf (passed s) k ≡ withLane (withAck (cellOf s k) (cond (broadcastEnds s) false (ackedOf s k))) (laneAfter s k)
   unfolding passed
-  passed-cell-other k l d = go (ends s)
+  passed-cell-other k l d = go (broadcastEnds s)
     where
       go :
           (t : Bool) →
@@ -264,7 +264,7 @@ module _ (s : Station) (shape : Shaped s) (high : s .n ≤ 16) (below : s .own <
   passed-above k l =
       let b = startedBody s in
       let d : k ≡ s .own → ⊥ = λ e. absurd (omega arith) in
-      cond-keeps (λ (t : Station). cellOf t k ≡ cellOf s k) (ends s) (withWaiting (takesOwn next b) _) aired
+      cond-keeps (λ (t : Station). cellOf t k ≡ cellOf s k) (broadcastEnds s) (withWaiting (takesOwn next b) _) aired
       (waiting-cell (takesOwn next b) _ k
       ∙ takesOwn-other next b k (λ e. d (e ∙ next-own))
       ∙ begins-above aired (aired-shaped s shape) aired-high aired-own b k (omega (arith, same .n))
@@ -293,8 +293,8 @@ module _ (s : Station) (shape : Shaped s) (high : s .n ≤ 16) (below : s .own <
   own-cell :
       cellOf (afterTurn s) (s .own)
       ≡ record {
-        label = cond (ends s) (successor (labelOf s (s .own))) (labelOf s (s .own));
-        acked = cond (ends s) true (ackedOf s (s .own));
+        label = cond (broadcastEnds s) (successor (labelOf s (s .own))) (labelOf s (s .own));
+        acked = cond (broadcastEnds s) true (ackedOf s (s .own));
         held = heldOf s (s .own);
         entry = ownRecord (passed s);
         lane = cond (isEmpty (startedBody s)) (laneAfter s (s .own)) (pushed (laneAfter s (s .own)) (startedBody s));
@@ -303,25 +303,25 @@ module _ (s : Station) (shape : Shaped s) (high : s .n ≤ 16) (below : s .own <
 
   other-cell :
       (k : ℕ) → k < s .n → (k ≡ s .own → ⊥) →
-      cellOf (afterTurn s) k ≡ withLane (withAck (cellOf s k) (cond (ends s) false (ackedOf s k))) (laneAfter s k)
+      cellOf (afterTurn s) k ≡ withLane (withAck (cellOf s k) (cond (broadcastEnds s) false (ackedOf s k))) (laneAfter s k)
   other-cell k l d = turn-cell-other k d ∙ passed-cell-other s shape high below k l d
 
-  pub turn-label-own : labelOf (afterTurn s) (s .own) ≡ cond (ends s) (successor (labelOf s (s .own))) (labelOf s (s .own))
+  pub turn-label-own : labelOf (afterTurn s) (s .own) ≡ cond (broadcastEnds s) (successor (labelOf s (s .own))) (labelOf s (s .own))
   turn-label-own = ap (λ (c : Cell). c .label) own-cell
 
   pub turn-label-other : (k : ℕ) → k < s .n → (k ≡ s .own → ⊥) → labelOf (afterTurn s) k ≡ labelOf s k
   turn-label-other k l d = ap (λ (c : Cell). c .label) (other-cell k l d)
 
-  pub turn-acked : (k : ℕ) → k < s .n → ackedOf (afterTurn s) k ≡ cond (ends s) (eqb k (s .own)) (ackedOf s k)
+  pub turn-acked : (k : ℕ) → k < s .n → ackedOf (afterTurn s) k ≡ cond (broadcastEnds s) (eqb k (s .own)) (ackedOf s k)
   turn-acked k l =
       elim (ℕ-discrete k (s .own)) [
         | yes e ↦
-            subst (λ (p : ℕ). ackedOf (afterTurn s) p ≡ cond (ends s) (eqb p (s .own)) (ackedOf s p)) (sym e)
+            subst (λ (p : ℕ). ackedOf (afterTurn s) p ≡ cond (broadcastEnds s) (eqb p (s .own)) (ackedOf s p)) (sym e)
             (ap (λ (c : Cell). c .acked) own-cell
-            ∙ ap (λ (b : Bool). cond (ends s) b (ackedOf s (s .own))) (sym (eq-eqb (s .own) (s .own) refl)))
+            ∙ ap (λ (b : Bool). cond (broadcastEnds s) b (ackedOf s (s .own))) (sym (eq-eqb (s .own) (s .own) refl)))
         | no d ↦
             ap (λ (c : Cell). c .acked) (other-cell k l d)
-            ∙ ap (λ (b : Bool). cond (ends s) b (ackedOf s k)) (sym (ne-eqb k (s .own) d))
+            ∙ ap (λ (b : Bool). cond (broadcastEnds s) b (ackedOf s k)) (sym (ne-eqb k (s .own) d))
       ]
 
   pub turn-held : (k : ℕ) → k < s .n → heldOf (afterTurn s) k ≡ heldOf s k

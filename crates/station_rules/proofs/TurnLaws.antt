@@ -7,7 +7,7 @@ use borrow.Author.Tests.{ltb-true, eqb-true}
 use Rattle.kinds.specs.declared.Body.the-variants.{Empty, Neutral}
 use Rattle.lanes.specs.Waiting.{waitingCount, nextEdit}
 use Rattle.station_rules.specs.declared.Station.{Station}
-use Rattle.station_rules.specs.Turn.{ends, mayStart, startsEdit, startedBody}
+use Rattle.station_rules.specs.Turn.{broadcastEnds, mayStart, startsEdit, startedBody}
 use Rattle.station_rules.proofs.TurnCells.{laneAfter}
 
 -- what a turn starts: the next edit, Neutral, or nothing
@@ -18,9 +18,9 @@ pub data Start (s : Station) : Type 0 where
 
 pub start : (s : Station) → Start s
 unfolding startedBody
-start s = go (ends s) (mayStart s) (ltb 0 (waitingCount (s .waiting))) refl refl refl
+start s = go (broadcastEnds s) (mayStart s) (ltb 0 (waitingCount (s .waiting))) refl refl refl
   where
-    go : (a b c : Bool) → ends s ≡ a → mayStart s ≡ b → ltb 0 (waitingCount (s .waiting)) ≡ c → Start s
+    go : (a b c : Bool) → broadcastEnds s ≡ a → mayStart s ≡ b → ltb 0 (waitingCount (s .waiting)) ≡ c → Start s
     go true true true e m w =
         anEdit (rw (e, m, w)) (eqb-true ((laneAfter s (s .own)) .len) 0 m) (ltb-true 0 (waitingCount (s .waiting)) w) (rw (e, m, w))
     go true true false e m w = aNeutral (rw (e, m, w)) (eqb-true ((laneAfter s (s .own)) .len) 0 m) (rw (e, m, w))

@@ -13,7 +13,7 @@ use Rattle.lanes.specs.declared.Slot.{Slot}
 use Rattle.lanes.specs.Queue.{noSlot}
 use Rattle.station_rules.specs.declared.Station.{Station}
 use Rattle.station_rules.specs.State.{ackedOf, laneAt}
-use Rattle.station_rules.specs.Turn.{airs, rowOf, ends, mayStart, startedBody, afterTurn, turnReport}
+use Rattle.station_rules.specs.Turn.{airs, rowOf, broadcastEnds, mayStart, startedBody, afterTurn, turnReport}
 use Rattle.station_rules.proofs.TurnCells.{turn-body}
 
 -- a row is aired where every lane has a body, and the broadcast ends where every station is acknowledged
@@ -21,24 +21,24 @@ pub airs-each : (s : Station) → airs s ≡ allBelow (s .n) (λ k. ltb 0 ((lane
 unfolding airs
 airs-each s = refl
 
-pub ends-each : (s : Station) → ends s ≡ allBelow (s .n) (ackedOf s)
-unfolding ends
+pub ends-each : (s : Station) → broadcastEnds s ≡ allBelow (s .n) (ackedOf s)
+unfolding broadcastEnds
 ends-each s = refl
 
 -- the body that starts
 pub started-waits : (s : Station) → mayStart s ≡ false → startedBody s ≡ Empty
 unfolding startedBody
-started-waits s e = rw e (go (ends s))
+started-waits s e = rw e (go (broadcastEnds s))
   where
     go : (b : Bool) → _≡_ {A = Body} (cond b Empty Empty) Empty
     go true = refl
     go false = refl
 
 -- the body that the turn leaves
-pub body-ends : (s : Station) → ends s ≡ true → (afterTurn s) .body ≡ startedBody s
+pub body-ends : (s : Station) → broadcastEnds s ≡ true → (afterTurn s) .body ≡ startedBody s
 body-ends s e = rw e at (turn-body s)
 
-pub body-stays : (s : Station) → ends s ≡ false → (afterTurn s) .body ≡ s .body
+pub body-stays : (s : Station) → broadcastEnds s ≡ false → (afterTurn s) .body ≡ s .body
 body-stays s e = rw e at (turn-body s)
 
 -- what it reports
@@ -46,7 +46,7 @@ pub report-started : (s : Station) → (turnReport s) .«started_body» ≡ star
 unfolding turnReport
 report-started s = refl
 
-pub report-ended : (s : Station) → (turnReport s) .ended ≡ ends s
+pub report-ended : (s : Station) → (turnReport s) .ended ≡ broadcastEnds s
 unfolding turnReport
 report-ended s = refl
 

@@ -40,8 +40,8 @@ unfoldable pub afterAiring : Station → Station
 afterAiring s = cond (airs s) (withLanes s (λ k. popped (laneAt s k))) s
 
 -- all N are acknowledged, so the broadcast ends (Algorithm 2, line 18)
-unfoldable pub ends : Station → Bool
-ends s = allBelow (s .n) (ackedOf s)
+unfoldable pub broadcastEnds : Station → Bool
+broadcastEnds s = allBelow (s .n) (ackedOf s)
 
 -- the own lane is empty after the airing step, so a body may start (H3: the paper starts what is queued whenever a broadcast ends, line 21)
 abbrev pub mayStart : Station → Bool
@@ -49,13 +49,13 @@ mayStart s = eqb ((laneAt (afterAiring s) (s .own)) .len) 0
 
 -- an edit waits, and may start
 abbrev pub startsEdit : Station → Bool
-startsEdit s = ends s && (mayStart s && ltb 0 (waitingCount (s .waiting)))
+startsEdit s = broadcastEnds s && (mayStart s && ltb 0 (waitingCount (s .waiting)))
 
 -- what starts where the broadcast ends: the oldest waiting edit, Neutral where none waits (Algorithm 3, line 11), Empty where the own lane is not
 -- empty (Algorithm 2, lines 21 to 24)
 unfoldable pub startedBody : Station → Body
 startedBody s =
-    cond (ends s) (cond (mayStart s) (cond (ltb 0 (waitingCount (s .waiting))) (nextEdit (s .waiting)) Neutral) Empty) Empty
+    cond (broadcastEnds s) (cond (mayStart s) (cond (ltb 0 (waitingCount (s .waiting))) (nextEdit (s .waiting)) Neutral) Empty) Empty
 
 -- the station with its broadcast ended and one of another body begun: nothing counted, nobody but itself acknowledged, its own label the next (lines 19 and 20)
 unfoldable pub begins : Station → Body → Station
@@ -72,7 +72,7 @@ takesOwn s b =
 -- the station after the airing, the end and the start, before its own record is rewritten
 unfoldable pub passed : Station → Station
 passed s =
-    cond (ends s)
+    cond (broadcastEnds s)
     (withWaiting (takesOwn (begins (afterAiring s) (startedBody s)) (startedBody s))
     (cond (startsEdit s) (withoutNext (s .waiting)) (s .waiting)))
     (afterAiring s)
@@ -100,7 +100,7 @@ turnReport s =
     record {
       aired = airs s;
       row = cond (airs s) (rowOf s) (replicate 16 noSlot);
-      ended = ends s;
-      «ended_body» = cond (ends s) (s .body) Empty;
+      ended = broadcastEnds s;
+      «ended_body» = cond (broadcastEnds s) (s .body) Empty;
       «started_body» = startedBody s;
     }

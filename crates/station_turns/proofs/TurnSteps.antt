@@ -24,7 +24,7 @@ use Rattle.lanes.specs.Lane.{noLane, pushed, popped}
 use Rattle.lanes.specs.Queue.{noSlot}
 use Rattle.lanes.specs.Waiting.{waitingCount, nextEdit, withoutNext}
 use Rattle.station_rules.specs.State.{cellOf, labelOf, recordOf, laneAt, withEntry, withLane, withWaiting, withBroadcast, withArrays, withCell, withAcked, withLanes}
-use Rattle.station_rules.specs.Turn.{eachHasBody, oldestOfEach, airs, rowOf, afterAiring, ends, mayStart, startsEdit, startedBody, begins, takesOwn, passed, ownRecord, rewritten, afterTurn, turnReport}
+use Rattle.station_rules.specs.Turn.{eachHasBody, oldestOfEach, airs, rowOf, afterAiring, broadcastEnds, mayStart, startsEdit, startedBody, begins, takesOwn, passed, ownRecord, rewritten, afterTurn, turnReport}
 use Rattle.station_rules.specs.Calls.{turnDone}
 use Rattle.station_rules.proofs.Setters.{cell-label, cell-entry, cell-lane}
 use Rattle.station_rules.proofs.TurnCells.{started-stays}
@@ -69,7 +69,7 @@ module _ (s : Station) (step : Aired)
       go false = refl
 
 starts-of :
-    (s : Station) → startedBody s ≡ cond (ends s) (cond (mayStart s) (cond (ltb 0 (waitingCount (s .waiting))) (nextEdit (s .waiting)) Neutral) Empty) Empty
+    (s : Station) → startedBody s ≡ cond (broadcastEnds s) (cond (mayStart s) (cond (ltb 0 (waitingCount (s .waiting))) (nextEdit (s .waiting)) Neutral) Empty) Empty
 unfolding startedBody
 starts-of s = refl
 
@@ -113,18 +113,18 @@ module _ (s : Station) (left : List Lane) (l : withArrays s (s .acked) (s .label
   passed-arrays :
       passed s
       ≡ withArrays
-      (withBroadcast (withWaiting s (cond (startsEdit s) (withoutNext (s .waiting)) (s .waiting))) (cond (ends s) b (s .body)) (cond (ends s) 0 (s .count)))
-      (cond (ends s) (fill (s .n) (λ k. eqb k (s .own)) (s .acked)) (s .acked))
-      (set (s .labels) (s .own) (cond (ends s) next (labelOf s (s .own)))) (s .held) (s .table)
+      (withBroadcast (withWaiting s (cond (startsEdit s) (withoutNext (s .waiting)) (s .waiting))) (cond (broadcastEnds s) b (s .body)) (cond (broadcastEnds s) 0 (s .count)))
+      (cond (broadcastEnds s) (fill (s .n) (λ k. eqb k (s .own)) (s .acked)) (s .acked))
+      (set (s .labels) (s .own) (cond (broadcastEnds s) next (labelOf s (s .own)))) (s .held) (s .table)
       (set left (s .own) (cond (isEmpty b) (getD left (s .own) noLane) (pushed (getD left (s .own) noLane) b)))
   unfolding passed cellOf
-  passed-arrays = go (ends s) refl
+  passed-arrays = go (broadcastEnds s) refl
     where
       w : Waiting
       w = cond (startsEdit s) (withoutNext (s .waiting)) (s .waiting)
 
       go :
-          (t : Bool) → ends s ≡ t →
+          (t : Bool) → broadcastEnds s ≡ t →
           cond t (withWaiting (takesOwn (begins (afterAiring s) b) b) w) (afterAiring s)
           ≡ withArrays (withBroadcast (withWaiting s w) (cond t b (s .body)) (cond t 0 (s .count)))
           (cond t (fill (s .n) (λ k. eqb k (s .own)) (s .acked)) (s .acked))
@@ -161,7 +161,7 @@ module _
   may = eqb ((getD left (s .own) noLane) .len) 0
 
   pub turn-made :
-      aired ≡ airs s → ended ≡ ends s → row ≡ cond (airs s) (rowOf s) (replicate 16 noSlot) →
+      aired ≡ airs s → ended ≡ broadcastEnds s → row ≡ cond (airs s) (rowOf s) (replicate 16 noSlot) →
       withArrays s (s .acked) (s .labels) (s .held) (s .table) left ≡ afterAiring s →
       old ≡ nextEdit (s .waiting) →
       many ≡ waitingCount (s .waiting) →

@@ -7,7 +7,7 @@ use lib.ListN.{getD, length, length-set, length-take, length-drop}
 use lib.Seq.{getD-drop}
 use borrow.Author.Tests.{leb-true}
 use Rattle.frame_rules.specs.declared.Record.{Record}
-use Rattle.frame_rules.specs.Record.{recordOf}
+use Rattle.frame_rules.specs.Record.{recordFrom}
 use Rattle.station_rules.specs.State.{ownLabel}
 use Rattle.station_rules.proofs.LimitsHear.{Carried}
 use Rattle.frame_marks.specs.Marks.{recordAt, sizeAt, markOf, Marked}
@@ -77,7 +77,7 @@ module _ (c : tie.After-labels Inv-loop μ-loop) where
   read-is : read ≡ seen place
   read-is =
       c .before .read-record .ensures
-      ∙ ap recordOf (part-in (bytes (frame place)) (at place))
+      ∙ ap recordFrom (part-in (bytes (frame place)) (at place))
       ∙ record-at (bytes (frame place)) (start (frame place)) (r place)
 
   low : (read .station < 16) × (ownLabel read ≤ 2)

@@ -4,7 +4,7 @@ use Prim.Native.Nat.{_≤_, _-_}
 use native.Mathlib.Omega.{arith}
 use borrow.Author.Needs.{needs}
 use lib.ListN.{length-take, length-drop}
-use Rattle.frame_rules.specs.Record.{recordOf}
+use Rattle.frame_rules.specs.Record.{recordFrom}
 use Rattle.frame_rules.proofs.Check.{Shape, frame-shape, long-enough}
 use Rattle.frames.proofs.Records.{part-is}
 use Rattle.frame_rules.proofs.Entries.{entriesBelow, entries-none, entries-more, reading-refused, reading-done}
@@ -73,7 +73,7 @@ loop-again : tie.Need-loop-again Inv-loop μ-loop
 loop-again c =
     let l = c .before .before .before .loop in
     let bytes = c .before .before .before .before .before .before .before .before .before .args .bytes .now in
-    (omega arith, l .inv .1, entries-more bytes (l .k) (l .records) (c .read-record .result) (l .inv .2) (c .read-record .ensures ∙ ap recordOf (part-is bytes (l .k))))
+    (omega arith, l .inv .1, entries-more bytes (l .k) (l .records) (c .read-record .result) (l .inv .2) (c .read-record .ensures ∙ ap recordFrom (part-is bytes (l .k))))
 
 returns-2 : tie.Need-returns-2 Inv-loop μ-loop
 returns-2 c =

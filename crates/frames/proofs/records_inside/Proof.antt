@@ -9,7 +9,7 @@ use borrow.Author.Needs.{needs}
 use borrow.Author.Tests.{not-true, not-false}
 use lib.ListN.{getD, length-take, length-drop}
 use Rattle.frame_rules.specs.Record.{bytesInside}
-use Rattle.frame_rules.specs.Frame.{part, stationAt}
+use Rattle.frame_rules.specs.Frame.{part, recordStation}
 use Rattle.frames.proofs.Records.{Checked, checked-none, checked-more, checked-order, checked-bytes, checked-all, part-is}
 use Rattle.frames.proofs.records_inside.Statement.{statement}
 use Rattle.frames.proofs.records_inside.Tie as tie
@@ -39,7 +39,7 @@ module _ (c : tie.After-wide3 Inv-loop μ-loop) where
   abbrev judged : tie.After-record-inside Inv-loop μ-loop
   judged = c .before .before .before
 
-  station : c .wide3 .result ≡ stationAt (bytes judged) (k judged)
+  station : c .wide3 .result ≡ recordStation (bytes judged) (k judged)
   station = c .wide3 .ensures ∙ ap (λ (l : List ℕ). getD l 0 0) (part-is (bytes judged) (k judged))
 
   fine : bytesInside (n judged) (part (bytes judged) (k judged)) ≡ true

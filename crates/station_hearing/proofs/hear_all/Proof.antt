@@ -8,7 +8,7 @@ use mathlib.Core.List.{List}
 use lib.ListN.{getD, length, length-take, length-drop}
 use borrow.Author.Tests.{not-true, not-false}
 use Rattle.frame_rules.specs.declared.Record.{Record}
-use Rattle.frame_rules.specs.Record.{recordOf}
+use Rattle.frame_rules.specs.Record.{recordFrom}
 use Rattle.station_rules.specs.declared.Station.{Station}
 use Rattle.station_rules.specs.State.{cellOf}
 use Rattle.station_rules.specs.Hearing.{Hearing, silent, heeds, hearRecord}
@@ -149,7 +149,7 @@ module _ (c : tie.After-read-record Inv-loop μ-loop) where
   read-is : c .read-record .result ≡ seen turn
   read-is =
       c .read-record .ensures
-      ∙ ap recordOf (part-in (bytes turn) (at turn))
+      ∙ ap recordFrom (part-in (bytes turn) (at turn))
       ∙ record-at (bytes turn) (start turn) (place turn % 16)
 
   abbrev k : ℕ

@@ -10,7 +10,7 @@ use Rattle.places.specs.Places.{fill}
 use Rattle.lanes.specs.Lane.{noLane}
 use Rattle.station_rules.specs.declared.Station.{Station}
 use Rattle.station_rules.specs.State.{cellOf}
-use Rattle.station_rules.specs.Turn.{ends}
+use Rattle.station_rules.specs.Turn.{broadcastEnds}
 use Rattle.lanes.specs.Waiting.{waitingCount}
 use Rattle.station_rules.proofs.StationLimits.{Inside, inside-open}
 use Rattle.station_turns.proofs.TurnSteps.{most-if, fill-if, step-aired, step-row, step-left, waits, turn-made}
@@ -34,8 +34,8 @@ module _ (e : tie.After-all-acked) where
   own-in : station .own < 16
   own-in = omega (arith, inside .high, inside .own)
 
-  ended : e .all-acked .result ≡ ends station
-  unfolding cellOf ends
+  ended : e .all-acked .result ≡ broadcastEnds station
+  unfolding cellOf broadcastEnds
   ended = e .all-acked .ensures
 
 mul-own-lane : tie.Need-mul-own-lane
