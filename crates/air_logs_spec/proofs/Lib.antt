@@ -1,0 +1,10 @@
+pub mod Fields
+pub mod Form
+pub mod ReadBack
+pub mod Prints
+pub mod Carried
+pub mod RoundLog
+pub mod CallsLog
+pub mod ScriptLog
+pub mod LogsFit
+pub mod Examples
