@@ -8,14 +8,15 @@ use native.Mathlib.Nat.{pow-suc}
 use native.Mathlib.Decide.{decLe}
 use native.Mathlib.Omega.{arith}
 use lib.Dec.{leb, ltb, eqb}
-use lib.ListN.{length, getD}
+use lib.ListN.{length, drop, getD, length-drop}
+use lib.Seq.{getD-drop}
 use borrow.Author.Tests.{leb-true, leb-false, ltb-true, ltb-false, eqb-true, eqb-false, eq-eqb, ne-eqb, lt-ltb, le-ltb, le-leb, lt-leb}
 use Rattle.places.proofs.Laws.{and-left, and-right}
 use Rattle.column_reader.specs.declared.Reading.{Reading}
 use Rattle.column_reader.specs.declared.Reading.the-variants.{Blank, Minus, Number, Malformed}
-use Rattle.column_reader.specs.Reading.{digitOf, started, grown, next, readFrom}
+use Rattle.column_reader.specs.Reading.{digitOf, started, grown, next, readFrom, readColumns}
 use Rattle.script.specs.Line.{isNatural, isWhole}
-use Rattle.air_logs.specs.Inner.{isDigit, allDigits, isPositive, isUnsigned, isSigned}
+use Rattle.air_logs.specs.Inner.{isDigit, allDigits, isPositive, isUnsigned, isSigned, Unpadded}
 
 -- the reading is a number exactly if the test holds
 record Verdict (minus test : Bool) (r : Reading) : Type 0 where
@@ -198,7 +199,7 @@ minus-whole [] room = unfold isPositive in refl
 minus-whole (b ∷ t) room = is-whole true (isPositive (b ∷ t)) _ (positive-read true b t (omega arith) (λ q. refl))
 
 -- columns that do not begin with a blank
-pub natural-read : (s : List ℕ) → length s ≤ 9 → (0 < length s → getD s 0 0 ≡ 32 → ⊥) → isNatural (readFrom Blank s) ≡ isUnsigned s
+natural-read : (s : List ℕ) → length s ≤ 9 → (0 < length s → getD s 0 0 ≡ 32 → ⊥) → isNatural (readFrom Blank s) ≡ isUnsigned s
 unfolding readFrom next
 natural-read [] room h = unfold isUnsigned in refl
 natural-read (b ∷ t) room h = rw (ne-eqb b 32 (h (omega arith))) (go (eqb b 45) refl)
@@ -210,7 +211,7 @@ natural-read (b ∷ t) room h = rw (ne-eqb b 32 (h (omega arith))) (go (eqb b 45
         dash b e = unfold isUnsigned isPositive in (rw e)
     go false e = is-natural (isUnsigned (b ∷ t)) _ (unsigned-read b t (omega arith))
 
-pub whole-read : (s : List ℕ) → length s ≤ 9 → (0 < length s → getD s 0 0 ≡ 32 → ⊥) → isWhole (readFrom Blank s) ≡ isSigned s
+whole-read : (s : List ℕ) → length s ≤ 9 → (0 < length s → getD s 0 0 ≡ 32 → ⊥) → isWhole (readFrom Blank s) ≡ isSigned s
 unfolding readFrom next isSigned
 whole-read [] room h = refl
 whole-read (b ∷ t) room h = rw (ne-eqb b 32 (h (omega arith))) (go (eqb b 45))
@@ -218,3 +219,20 @@ whole-read (b ∷ t) room h = rw (ne-eqb b 32 (h (omega arith))) (go (eqb b 45))
     go : (u : Bool) → isWhole (readFrom (cond u Minus (started false (digitOf b))) t) ≡ cond u (isPositive t) (isUnsigned (b ∷ t))
     go true = minus-whole t (omega arith)
     go false = is-whole false (isUnsigned (b ∷ t)) _ (unsigned-read b t (omega arith))
+
+-- columns behind their blanks
+module _ (s : List ℕ) (r : ℕ) (room : length s ≤ 9) (h : Unpadded s r) where
+  left-room : length (drop r s) ≤ 9
+  left-room = rw length-drop (omega arith)
+
+  no-blank : 0 < length (drop r s) → getD (drop r s) 0 0 ≡ 32 → ⊥
+  no-blank l e =
+      let some : r < length s = omega (arith, length-drop r s) in
+      let zeroth : r + 0 ≡ r = omega arith in
+      h .used some (sym (ap (λ (k : ℕ). getD s k 0) zeroth) ∙ sym (getD-drop r s 0 0) ∙ e)
+
+  pub natural-columns : isNatural (readColumns s) ≡ isUnsigned (drop r s)
+  natural-columns = ap isNatural (h .read) ∙ natural-read (drop r s) left-room no-blank
+
+  pub whole-columns : isWhole (readColumns s) ≡ isSigned (drop r s)
+  whole-columns = ap isWhole (h .read) ∙ whole-read (drop r s) left-room no-blank
