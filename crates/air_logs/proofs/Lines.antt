@@ -49,6 +49,10 @@ answered-no r t e h = sym e ∙ not-true r h
 pub answered-yes : (r t : Bool) → r ≡ t → not r ≡ false → t ≡ true
 answered-yes r t e h = sym e ∙ not-false r h
 
+-- the 34 bytes of a line from a place on, as a part
+pub part-is : (bytes : List ℕ) (at : ℕ) → take (at + 34 - at) (drop at bytes) ≡ take 34 (drop at bytes)
+part-is bytes at = let e : at + 34 - at ≡ 34 = omega arith in rw e
+
 -- a listing from a place on
 module _ (bytes : List ℕ) (at : ℕ) where
   abbrev s : List ℕ

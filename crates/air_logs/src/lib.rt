@@ -11,6 +11,7 @@ ghost use Prim.Native.Nat.{_+_, _%_, _≤_, _<_};
 ghost use lib.ListN.{length, drop};
 ghost use Rattle.column_reader.specs.Reading.{readColumns};
 ghost use Rattle.script.specs.Line.{isNatural, isWhole};
+ghost use Rattle.lines.specs.Lines.{endLine};
 ghost use Rattle.air_logs_spec.specs.Form.{isLetter, isLine, sameBytes, isListing};
 ghost use Rattle.air_logs_spec.specs.Logs.{editIn, isKept, logOf};
 ghost use Rattle.air_logs_spec.specs.Compare.{sameEdit, comparedFrom, compareCall};
@@ -199,6 +200,13 @@ fn same_bytes(a: &[u8], b: &[u8]) -> bool
     true
 }
 
+// Are these bytes the last line?
+fn is_last_line(s: &[u8]) -> bool
+    ensures { λ r. ⌜ r ≡ sameBytes (now (s .entry)) endLine ⌝ }
+{
+    same_bytes(s, b"END\n")
+}
+
 // Are these bytes a listing?
 pub fn is_listing(bytes: &[u8]) -> bool
     ensures { λ r. ⌜ r ≡ isListing (now (bytes .entry)) ⌝ }
@@ -214,7 +222,7 @@ pub fn is_listing(bytes: &[u8]) -> bool
         }
         at = end + 1;
     }
-    same_bytes(&bytes[at..], b"END\n")
+    is_last_line(&bytes[at..])
 }
 
 // The byte before the last one of a station number.

@@ -31,11 +31,10 @@ returns-2 c =
 
 loop-again : tie.Need-loop-again Inv-loop μ-loop
 loop-again c =
-    let l = c .before .before .before .before .before in
-    (
+    let l = c .before .before .before .before .before in (
       search needs,
       l .loop .inv .1
-      ∙ digits-more (l .before .args .s .now) (l .loop .i) (c .before .before .before .before .loop-test .taken) (c .before .before .if1 .left) (c .if2 .left),
+          ∙ digits-more (l .before .args .s .now) (l .loop .i) (c .before .before .before .before .loop-test .taken) (c .before .before .if1 .left) (c .if2 .left),
     )
 
 returns-3 : tie.Need-returns-3 Inv-loop μ-loop

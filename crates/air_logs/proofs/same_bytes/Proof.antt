@@ -33,8 +33,7 @@ loop-again : tie.Need-loop-again Inv-loop μ-loop
 loop-again c =
     let l = c .before .before .before .before in
     let s = l .before .before .args in
-    let h = c .before .before .before .loop-test .taken in
-    (
+    let h = c .before .before .before .loop-test .taken in (
       search needs,
       l .loop .inv .1,
       l .loop .inv .2 ∙ same-more (s .a .now) (s .b .now) (l .loop .i) h (omega arith) (c .if2 .left),

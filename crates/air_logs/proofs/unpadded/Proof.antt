@@ -28,8 +28,7 @@ returns c =
 
 loop-again : tie.Need-loop-again Inv-loop μ-loop
 loop-again c =
-    let l = c .before .before .before in
-    (
+    let l = c .before .before .before in (
       search needs,
       l .loop .inv .1 ∙ blank-read (l .before .args .s .now) (l .loop .i) (c .before .before .loop-test .taken) (c .if1 .left),
     )
