@@ -7,12 +7,13 @@ use mathlib.Core.List.{List, [], _∷_, _++_}
 use native.Mathlib.Numerals.{add-one}
 use native.Mathlib.Omega.{arith}
 use lib.ListN.{length, take, drop, length-drop}
+use borrow.Author.Tests.{lt-ltb, le-ltb}
 use lib.Seq.{drop-drop}
 use Rattle.air_logs_spec.specs.declared.Compared.{Compared}
 use Rattle.air_logs_spec.specs.declared.Compared.the-variants.{Equal, FirstBegins, SecondBegins, Different, Refused}
 use Rattle.air_logs_spec.specs.Form.{isLine, isListing}
 use Rattle.air_logs_spec.specs.Logs.{Edit, editIn, isKept, logOf}
-use Rattle.air_logs_spec.specs.Compare.{sameEdit, comparedFrom}
+use Rattle.air_logs_spec.specs.Compare.{sameEdit, comparedFrom, compareRefusal, compareCall}
 use Rattle.air_logs_spec.proofs.Form.{Step, step, at-least, no-more}
 
 pub listing-inside : (bytes : List ℕ) (at : ℕ) → at ≤ length bytes → isListing (drop at bytes) ≡ true → at + 4 ≤ length bytes
@@ -74,3 +75,28 @@ module _ (k : ℕ) (xs ys : List Edit) where
       pub edits-same : sameEdit x y ≡ true → comparedFrom k xs ys ≡ comparedFrom (k + 1) more others
       unfolding comparedFrom
       edits-same t = rw (e, f, t, add-one k)
+
+-- the call by what it judges, in order
+module _ (first : List ℕ) (p : ℕ) (second : List ℕ) (q : ℕ) where
+  pub bad-first-number : 15 < p → compareCall first p second q ≡ Refused 1
+  unfolding compareCall compareRefusal
+  bad-first-number h = rw (lt-ltb 15 p h)
+
+  module _ (a : p ≤ 15) where
+    pub bad-second-number : 15 < q → compareCall first p second q ≡ Refused 1
+    unfolding compareCall compareRefusal
+    bad-second-number h = rw (le-ltb 15 p a, lt-ltb 15 q h)
+
+    module _ (b : q ≤ 15) where
+      pub bad-first-listing : isListing first ≡ false → compareCall first p second q ≡ Refused 16
+      unfolding compareCall compareRefusal
+      bad-first-listing e = rw (le-ltb 15 p a, le-ltb 15 q b, e)
+
+      pub bad-second-listing : isListing first ≡ true → isListing second ≡ false → compareCall first p second q ≡ Refused 16
+      unfolding compareCall compareRefusal
+      bad-second-listing e f = rw (le-ltb 15 p a, le-ltb 15 q b, e, f)
+
+      pub logs-compared :
+          isListing first ≡ true → isListing second ≡ true → compareCall first p second q ≡ comparedFrom 1 (logOf p first) (logOf q second)
+      unfolding compareCall compareRefusal
+      logs-compared e f = rw (le-ltb 15 p a, le-ltb 15 q b, e, f)
