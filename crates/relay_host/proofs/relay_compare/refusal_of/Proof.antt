@@ -1,0 +1,40 @@
+-- Each arm knows which case the answer is, and the definition computes there.
+use Rattle.air_logs_spec.specs.Compare.{refusalOf}
+use borrow.Author.Needs.{needs}
+use Rattle.relay_host.proofs.relay_compare.refusal_of.Statement.{statement}
+use Rattle.relay_host.proofs.relay_compare.refusal_of.Tie as tie
+
+returns : tie.Need-returns
+unfolding refusalOf
+returns c = search needs
+
+returns-2 : tie.Need-returns-2
+unfolding refusalOf
+returns-2 c = search needs
+
+returns-3 : tie.Need-returns-3
+unfolding refusalOf
+returns-3 c = search needs
+
+returns-4 : tie.Need-returns-4
+unfolding refusalOf
+returns-4 c = search needs
+
+returns-5 : tie.Need-returns-5
+unfolding refusalOf
+returns-5 c = search needs
+
+pub refusal-of-spec : {M : Type 1} → statement M
+refusal-of-spec =
+    tie.close
+    (tie.spec
+    (λ c. search needs)
+    (λ c. search needs)
+    (λ c. search needs)
+    (λ c. search needs)
+    (λ c. search needs)
+    returns
+    returns-2
+    returns-3
+    returns-4
+    returns-5)
