@@ -3,6 +3,7 @@
 import os
 import pathlib
 import random
+import re
 import subprocess
 import tempfile
 import unittest
@@ -11,7 +12,7 @@ from library import listings
 from model import air_logs, listing
 from relay_command import ROOT, run
 
-EXAMPLE = ROOT / "examples" / "five-stations.listing"
+EXAMPLE = ROOT / "examples" / "evening.listing"
 WORDS = ("equal\n", "first begins second: the second log goes on where the first ends\n",
          "second begins first: the first log goes on where the second ends\n")
 
@@ -62,6 +63,13 @@ class Compare(unittest.TestCase):
         for p in range(6):
             text = EXAMPLE.read_bytes()
             self.assertEqual(run("compare", EXAMPLE, "0", EXAMPLE, str(p)), expected(text, 0, text, p))
+
+    def test_document(self):
+        """The run that docs/SCRIPTS.md shows."""
+        document = (ROOT / "docs" / "SCRIPTS.md").read_text(encoding="utf-8")
+        command, shown = re.search(r"(?m)^    \$ \./relay (compare .*)\n((?:    .*\n)+)", document).groups()
+        status, text, words = run(*command.split(), cwd=ROOT)
+        self.assertEqual((status, text, words), (3, re.sub(r"(?m)^    ", "", shown), ""))
 
     def refused(self, text, station="1"):
         self.file.write_bytes(text)

@@ -16,6 +16,18 @@ pub enum Compared {
     Different(usize),
 }
 
+impl Compared {
+    /// Which answer it is, and its position.
+    pub fn numbers(self) -> [u64; 2] {
+        match self {
+            Compared::Equal => [0, 0],
+            Compared::FirstBegins => [1, 0],
+            Compared::SecondBegins => [2, 0],
+            Compared::Different(position) => [3, position as u64],
+        }
+    }
+}
+
 /// The log of one station against that of another.
 pub fn compare(first: &[u8], p: usize, second: &[u8], q: usize) -> Result<Compared, Refusal> {
     require(p < PLACES && q < PLACES, Refusal::BadNumber)?;

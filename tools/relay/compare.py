@@ -9,7 +9,7 @@ exit status: 0 the logs fit: they are equal, or one begins the other; 3 they
 differ; 1 a listing or a number is refused, which standard error explains
 
 example:
-    ./relay compare examples/five-stations.listing 0 examples/five-stations.listing 4
+    ./relay compare examples/evening.listing 0 examples/evening.listing 4
 """
 
 import argparse
