@@ -31,7 +31,8 @@ def expected(first, p, second, q):
     if answer != air_logs.DIFFERENT:
         return 0, WORDS[answer], ""
     sides = zip(("standard input", "%s"), (kept(first, p, position), kept(second, q, position)))
-    return 3, f"different at edit {position}\n" + "".join(f"{name}, line {n}: {line}\n" for name, (n, line) in sides), ""
+    shown = (f"{name}, line {number}: {line}\n" for name, (number, line) in sides)
+    return 3, f"different at edit {position}\n" + "".join(shown), ""
 
 
 class Compare(unittest.TestCase):
@@ -101,12 +102,14 @@ class Compare(unittest.TestCase):
             words = words.replace("?" * 60, "\\x00" * 60) if fault == bytes(100) else words
             for before in (0, 1, 2, 37):
                 if before or not fault.startswith(b"END\n"):
-                    self.assertEqual(self.refused(good * before + fault), f"F, line {before + 1}: {words} (refused with 16)")
+                    said = f"F, line {before + 1}: {words} (refused with 16)"
+                    self.assertEqual(self.refused(good * before + fault), said)
 
     def test_the_first_listing_is_judged_first(self):
         self.file.write_bytes(b"")
         status, _, words = run("compare", self.file, "0", "-", "0", given=b"END")
-        self.assertEqual((status, words), (1, f"relay compare: {self.file}, line 1: the last line, END, is missing (refused with 16)\n"))
+        said = f"relay compare: {self.file}, line 1: the last line, END, is missing (refused with 16)\n"
+        self.assertEqual((status, words), (1, said))
 
     def test_stations(self):
         said = "refused with 1: a station is 0 to 15, not 16"

@@ -27,7 +27,8 @@ def drawn(rng):
 def edit(rng):
     """Source, kind, event and argument."""
     kind = rng.choice((2, 3, 4))
-    return rng.randrange(16), kind, rng.choice((1, 7, 99_999_999)), rng.choice((0, 5, 90_000)) * (-1 if kind == 4 else 1)
+    argument = rng.choice((0, 5, 90_000)) * (-1 if kind == 4 else 1)
+    return rng.randrange(16), kind, rng.choice((1, 7, 99_999_999)), argument
 
 
 def changed(rng, edits):

@@ -7,7 +7,7 @@ from .records import PLACES
 from .refusals import BAD_LISTING, BAD_NUMBER, BUFFER_SHORT, DONE
 
 EQUAL, FIRST_BEGINS, SECOND_BEGINS, DIFFERENT = range(4)
-LETTERS = b"ADEX"
+LETTERS = {b"A", b"D", b"E", b"X"}
 LAST_LINE = b"END"
 AIRED = b"A"
 FIRST_POSITION = 1
@@ -42,7 +42,7 @@ def read_line(line):
     for name, columns in REST:
         numbers.append(read_number(name, line[at:at + columns]))
         at += columns
-    if len(line) != at or line[width:width + 1] != b" " or letter not in [bytes([one]) for one in LETTERS] or None in numbers:
+    if len(line) != at or line[width:width + 1] != b" " or letter not in LETTERS or None in numbers:
         return None
     return Line(letter, *numbers)
 

@@ -56,7 +56,7 @@ class Listing:
         return self.memory[at:at + LINE].split(b"\n")[0].decode("latin-1")
 
     def well(self, begin, end):
-        """Whether the lines from one number to another are well formed: with the last line behind them they are a listing."""
+        """Whether the lines from one number to another are well formed: then they are a listing with the last line."""
         lines = bytearray(self.memory[begin * LINE:end * LINE] + LAST_LINE)
         held = (ctypes.c_char * len(lines)).from_buffer(lines)
         lent = ctypes.addressof(held), len(lines)

@@ -10,7 +10,7 @@ use native.Mathlib.Omega.{arith}
 use lib.Dec.{leb, ltb, eqb}
 use lib.ListN.{length, drop, getD, length-drop}
 use lib.Seq.{getD-drop}
-use borrow.Author.Tests.{leb-true, leb-false, ltb-true, ltb-false, eqb-true, eqb-false, eq-eqb, ne-eqb, lt-ltb, le-ltb, le-leb, lt-leb}
+use borrow.Author.Tests.{leb-true, leb-false, ltb-true, ltb-false, eqb-true, eqb-false, ne-eqb, lt-ltb, le-ltb, le-leb, lt-leb}
 use Rattle.places.proofs.Laws.{and-left, and-right}
 use Rattle.column_reader.specs.declared.Reading.{Reading}
 use Rattle.column_reader.specs.declared.Reading.the-variants.{Blank, Minus, Number, Malformed}

@@ -1,6 +1,6 @@
 -- Lines by their bytes: a line fails where any of its parts does, a listing is judged in steps of 35 bytes, a kept line is told by four bytes, and two edits are
 -- the same exactly if the 23 bytes of their numbers are.
-use Prim.Native.Nat.{ℕ, zero, suc, _+_, _-_, _/_, _%_, _≤_, _<_}
+use Prim.Native.Nat.{ℕ, suc, _+_, _-_, _/_, _%_, _≤_, _<_}
 use mathlib.Core.Path.{_≡_, refl, sym, ap, _∙_}
 use mathlib.Core.Bool.{Bool, true, false, cond, not, _&&_, true≢false}
 use mathlib.Core.List.{List, [], _∷_, _++_}
@@ -8,7 +8,7 @@ use native.Mathlib.Omega.{arith}
 use lib.Dec.{ltb, eqb}
 use lib.ListN.{length, take, drop, getD, length-drop}
 use lib.Seq.{length-take-le, take-add, drop-drop, drop-cons, getD-drop}
-use borrow.Author.Tests.{eq-eqb, ne-eqb, lt-ltb, le-ltb, ltb-true, ltb-false, not-true, not-false}
+use borrow.Author.Tests.{eq-eqb, ne-eqb, ltb-false, not-true, not-false}
 use Rattle.column_writer.specs.Writing.{lead, columns, natColumns}
 use Rattle.script.specs.Line.{isNatural, isWhole}
 use Rattle.lines.specs.Lines.{endLine}

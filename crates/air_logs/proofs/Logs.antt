@@ -1,7 +1,7 @@
 -- The log from a place on in a listing: at a kept line it is that line's edit and the log behind it, at any other line the log behind it, and at the last line it
 -- is empty. The comparison goes by what the two logs are.
-use Prim.Native.Nat.{ℕ, suc, _+_, _-_, _≤_, _<_}
-use mathlib.Core.Path.{_≡_, refl, sym, ap, _∙_}
+use Prim.Native.Nat.{ℕ, _+_, _≤_, _<_}
+use mathlib.Core.Path.{_≡_, sym, ap, _∙_}
 use mathlib.Core.Bool.{Bool, true, false, cond}
 use mathlib.Core.List.{List, [], _∷_, _++_}
 use native.Mathlib.Numerals.{add-one}
@@ -9,7 +9,6 @@ use native.Mathlib.Omega.{arith}
 use lib.ListN.{length, take, drop, length-drop}
 use borrow.Author.Tests.{lt-ltb, le-ltb}
 use lib.Seq.{drop-drop}
-use Rattle.air_logs_spec.specs.declared.Compared.{Compared}
 use Rattle.air_logs_spec.specs.declared.Compared.the-variants.{Equal, FirstBegins, SecondBegins, Different, Refused}
 use Rattle.air_logs_spec.specs.Form.{isLine, isListing}
 use Rattle.air_logs_spec.specs.Logs.{Edit, editIn, isKept, logOf}

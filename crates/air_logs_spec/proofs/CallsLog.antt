@@ -1,14 +1,13 @@
 -- What the calls of a list print, and what is kept of it: of station p, what the rounds of their history report that p aired. By induction on the calls; the group
 -- stays inside its limits, and no round has a number above 999,999.
-use Prim.Native.Nat.{ℕ, zero, suc, _+_, _<_, _≤_}
-use mathlib.Core.Path.{_≡_, refl, sym, ap, subst, _∙_}
+use Prim.Native.Nat.{ℕ, suc, _+_, _<_, _≤_}
+use mathlib.Core.Path.{_≡_, refl, sym, ap, _∙_}
 use mathlib.Core.Bool.{Bool, true, false, cond, not}
 use mathlib.Core.List.{List, [], _∷_, _++_, append-nil, append-assoc, map, map-append}
 use native.Mathlib.Omega.{arith}
 use lib.Dec.{ltb, eqb}
 use lib.ListN.{length, length-append}
 use borrow.Author.Tests.{ltb-true}
-use Rattle.kinds.specs.declared.Body.{Body}
 use Rattle.kinds.specs.declared.Body.the-variants.{Empty}
 use Rattle.kinds.specs.Refusals.{done}
 use Rattle.kind_limits.specs.Limits.{postable}
@@ -28,7 +27,6 @@ use Rattle.group_rules.proofs.PostsAccounted.{collect-last}
 use Rattle.lines.specs.Lines.{turnedDown}
 use Rattle.listing_rules.specs.Listing.{refusalText, refusedText}
 use Rattle.listing_rules.specs.Calls.{callText, callsText}
-use Rattle.air_logs_spec.specs.Logs.{Edit}
 use Rattle.air_logs_spec.proofs.ReadBack.{in-columns}
 use Rattle.air_logs_spec.proofs.Prints.{Prints, prints-none, prints-as, prints-both}
 use Rattle.air_logs_spec.proofs.RoundLog.{logged, prints-other, airedIn, round-prints}

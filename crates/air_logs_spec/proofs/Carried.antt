@@ -1,28 +1,26 @@
 -- What a round of a group inside its limits reports is inside its limits: what a station took was in a record that a frame may carry, what it aired stood in a
 -- lane, what it ended was its body, and what it started is Empty or may stand in a lane.
 use Prim.Native.Nat.{ℕ, zero, suc, _<_, _≤_}
-use mathlib.Core.Path.{_≡_, refl, sym, ap, subst, _∙_}
+use mathlib.Core.Path.{_≡_, refl, subst}
 use mathlib.Core.Bool.{Bool, true, false, cond, _&&_, _||_, false≢true}
 use borrow.Author.Tests.{ltb-true}
-use mathlib.Core.List.{List, [], _∷_, _++_, append-nil}
+use mathlib.Core.List.{List, [], _∷_, _++_}
 use native.Mathlib.Omega.{arith}
 use lib.Dec.{leb, ltb, eqb}
 use lib.ListN.{length, getD, replicate, List·getD-append, getD-replicate}
-use Rattle.kinds.specs.declared.Body.{Body}
 use Rattle.kinds.specs.declared.Body.the-variants.{Empty}
 use Rattle.kinds.specs.Refusals.{done}
 use Rattle.kind_limits.specs.Limits.{bodyInside}
 use Rattle.links.specs.Log.{hearsIn}
 use Rattle.places.proofs.Laws.{allBelow-at, fill-below}
 use Rattle.frame_rules.specs.declared.Record.{Record}
-use Rattle.lanes.specs.declared.Slot.{Slot}
 use Rattle.lanes.specs.Queue.{noSlot}
 use Rattle.station_rules.specs.declared.Station.{Station}
 use Rattle.station_rules.specs.declared.Taking.{Taking}
 use Rattle.station_rules.specs.State.{sentRecords, laneAt}
 use Rattle.station_rules.specs.Hearing.{Hearing, heeds, takes, heardNewer, hearRecord, hearRecords}
-use Rattle.station_rules.specs.Turn.{airs, rowOf, broadcastEnds, startedBody, turnReport}
-use Rattle.station_rules.specs.Calls.{ownCountInside, noTurn}
+use Rattle.station_rules.specs.Turn.{airs, rowOf, broadcastEnds, turnReport}
+use Rattle.station_rules.specs.Calls.{noTurn}
 use Rattle.station_rules.proofs.BodyLaws.{takeable-inside, empty-inside}
 use Rattle.station_rules.proofs.LimitsHear.{Carried}
 use Rattle.station_rules.proofs.LimitsHearing.{AllCarried}

@@ -3,9 +3,9 @@ use mathlib.Core.Path.{_≡_, refl}
 use mathlib.Core.List.{List, [], _∷_, _++_}
 use Prim.Native.Nat.{ℕ}
 use mathlib.Core.Bool.{true, false}
-use lib.IntN.{pos, negsuc}
+use lib.IntN.{negsuc}
 use Rattle.kinds.specs.declared.Body.{Body}
-use Rattle.kinds.specs.declared.Body.the-variants.{Empty, Neutral, Insert, Drop, Shift}
+use Rattle.kinds.specs.declared.Body.the-variants.{Neutral, Drop, Shift}
 use Rattle.column_reader.specs.Reading.{started, grown, next, readFrom}
 use Rattle.column_writer.specs.Writing.{lead, columns, natColumns}
 use Rattle.lines.specs.Lines.{airing, delivered, headBytes, bodyBytes, lineBytes, endLine}

@@ -1,15 +1,14 @@
 -- The columns of a field hold a number exactly as it is written, and no other bytes do. So two fields of the same width have the same number exactly if they have
 -- the same bytes, and no field has a line end.
-use Prim.Native.Nat.{ℕ, zero, suc, _+_, _<_}
+use Prim.Native.Nat.{ℕ, zero, suc, _<_}
 use mathlib.Core.Path.{_≡_, refl, sym, ap, subst, _∙_}
-use mathlib.Core.Bool.{Bool, true, false, cond, _&&_, false≢true}
+use mathlib.Core.Bool.{Bool, true, false, _&&_, false≢true}
 use mathlib.Core.List.{List, [], _∷_, _++_}
 use native.Mathlib.Omega.{arith}
-use lib.Dec.{leb, ltb, eqb}
-use lib.IntN.{ℤ, pos, negsuc, natAbs, negℤ}
-use lib.Signed.{leZ, ltZ}
+use lib.Dec.{leb, eqb}
+use lib.IntN.{ℤ, pos, negsuc, natAbs}
 use lib.ListN.{length}
-use borrow.Author.Tests.{le-ltb, eqb-true, eq-eqb, leb-true, le-leb}
+use borrow.Author.Tests.{eqb-true, eq-eqb, leb-true, le-leb}
 use Rattle.places.proofs.Laws.{and-both, and-left, and-right}
 use Rattle.column_reader.specs.declared.Reading.{Reading}
 use Rattle.column_reader.specs.declared.Reading.the-variants.{Blank, Minus, Number, Malformed}

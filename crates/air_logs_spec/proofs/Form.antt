@@ -1,22 +1,22 @@
 -- The form of a listing as it grows from its end: a listing is the last line, or a line before a listing. No line has a line end in it, so the lines of the text are
 -- these lines, and the two descriptions are the same; and a line has 34 bytes, so a listing can be gone through in steps of 35.
-use Prim.Native.Nat.{ℕ, zero, suc, _+_, _<_, _≤_}
+use Prim.Native.Nat.{ℕ, suc, _+_, _<_, _≤_}
 use mathlib.Core.Path.{_≡_, refl, sym, ap, subst, _∙_}
-use mathlib.Core.Bool.{Bool, true, false, cond, not, _&&_, _||_, false≢true}
-use mathlib.Core.List.{List, [], _∷_, _++_, append-nil}
+use mathlib.Core.Bool.{Bool, true, false, cond, _&&_, false≢true}
+use mathlib.Core.List.{List, [], _∷_, _++_}
 use mathlib.Core.Logic.{_↔_}
 use native.Mathlib.Omega.{arith}
 use lib.Dec.{eqb}
 use lib.ListN.{length, take, drop, getD, length-append, length-drop, take-append-drop}
-use lib.Seq.{take-at, drop-at, getD-at, drop-cons, drop-drop, drop-append-add}
-use borrow.Author.Tests.{eqb-true, eq-eqb, ne-eqb}
-use Rattle.places.proofs.Laws.{and-both, and-left, and-right}
+use lib.Seq.{take-at, getD-at, drop-cons, drop-drop, drop-append-add}
+use borrow.Author.Tests.{eqb-true, ne-eqb}
+use Rattle.places.proofs.Laws.{and-left, and-right}
 use Rattle.script.specs.Line.{isNatural, isWhole}
-use Rattle.lines.specs.Lines.{airing, endLine}
+use Rattle.lines.specs.Lines.{endLine}
 use Rattle.listing_rules.specs.Listing.{Lines, rest, line, linesOf}
 use Rattle.listing_rules.proofs.LineEnds.{noEnd, noEnd-append, line-first, linesText, lines-text}
 use Rattle.air_logs_spec.specs.Form.{field, isLetter, isLine, sameBytes, isEnd, noneLeft, areListing, isListing}
-use Rattle.air_logs_spec.specs.Logs.{Edit, editIn, isKept, keptIn, logOf}
+use Rattle.air_logs_spec.specs.Logs.{editIn, isKept, keptIn, logOf}
 use Rattle.air_logs_spec.proofs.Fields.{together, same-self, same-only, natural-plain, whole-plain}
 
 -- what the test on a line says

@@ -1,17 +1,16 @@
 -- Two logs of one listing of the base program never differ, and are never refused: by demand 3 one of two aired lists is a beginning of the other, and a log is
 -- its station's aired list, or empty where the script has no such station.
-use Prim.Native.Nat.{ℕ, suc, _<_, _≤_}
+use Prim.Native.Nat.{ℕ, suc, _<_}
 use mathlib.Core.Path.{_≡_, refl, sym, ap, subst, _∙_}
-use mathlib.Core.Bool.{Bool, true, false, cond}
+use mathlib.Core.Bool.{true}
 use mathlib.Core.List.{List, [], _∷_, _++_, map, map-append}
 use mathlib.Core.Logic.{_⊎_, ⊎-elim}
 use native.Mathlib.Omega.{arith}
 use native.Mathlib.Decide.{decLe}
-use lib.Dec.{eqb}
 use borrow.Author.Tests.{le-ltb, eq-eqb}
 use Rattle.station_rules.specs.declared.Taking.{Taking}
 use Rattle.group_rules.specs.History.{airedList}
-use Rattle.group_rules.specs.Demand.{Begins, Demand}
+use Rattle.group_rules.specs.Demand.{Begins}
 use Rattle.group_rules.proofs.Setups.{accepted}
 use Rattle.group_rules.proofs.DemandThree.{demand-three}
 use Rattle.listing_rules.specs.Listing.{setupOf, listingOf}

@@ -2,15 +2,14 @@
 -- behind the other, and nothing above looks at bytes.
 use Prim.Native.Nat.{ℕ, zero, suc, _<_}
 use mathlib.Core.Path.{_≡_, refl, sym, ap, subst, _∙_}
-use mathlib.Core.Bool.{Bool, true, false, cond, _&&_}
+use mathlib.Core.Bool.{true, cond, _&&_}
 use mathlib.Core.List.{List, [], _∷_, _++_, append-assoc, append-nil}
 use native.Mathlib.Omega.{arith}
 use lib.Dec.{eqb}
-use lib.Seq.{append-snoc}
 use Rattle.kinds.specs.declared.Body.{Body}
 use Rattle.kinds.specs.Body.{kindOf, eventOf, argumentOf}
 use Rattle.lines.specs.Lines.{airing, lineBytes, endLine}
-use Rattle.round_lines.specs.Reports.{joined, lineIf}
+use Rattle.round_lines.specs.Reports.{joined}
 use Rattle.air_logs_spec.specs.Form.{isListing}
 use Rattle.air_logs_spec.specs.Logs.{Edit, isKept, logOf}
 use Rattle.air_logs_spec.proofs.Form.{before-listing, before-log, end-listing, end-log}

@@ -1,11 +1,10 @@
 -- What is printed reads back: a line whose numbers fit their columns has the listing's form, and its fields are its numbers. A field is found by what stands before
 -- it, whose length is known, and columns are read as what was written.
-use Prim.Native.Nat.{ℕ, zero, suc, _+_, _*_, _^_, _<_, _≤_}
-use mathlib.Core.Path.{_≡_, refl, sym, ap, _∙_}
-use mathlib.Core.Bool.{Bool, true, false, cond, _&&_, false≢true}
+use Prim.Native.Nat.{ℕ, _^_, _<_}
+use mathlib.Core.Path.{_≡_, refl, ap, _∙_}
+use mathlib.Core.Bool.{Bool, true, false, false≢true}
 use mathlib.Core.List.{List, [], _∷_, _++_, append-assoc, append-nil}
 use native.Mathlib.Omega.{arith}
-use lib.Dec.{ltb, eqb}
 use lib.IntN.{ℤ, pos, negsuc, natAbs}
 use lib.Signed.{ltZ}
 use lib.ListN.{length, take, drop, getD, length-append}
@@ -15,7 +14,6 @@ use Rattle.kinds.specs.declared.Body.{Body}
 use Rattle.kinds.specs.Body.{kindOf, eventOf, argumentOf}
 use Rattle.kind_limits.specs.Limits.{bodyInside}
 use Rattle.kind_limits.proofs.Laws.{body-kind-short, body-event-short, body-argument-short}
-use Rattle.column_reader.specs.declared.Reading.{Reading}
 use Rattle.column_reader.specs.declared.Reading.the-variants.{Number}
 use Rattle.column_reader.specs.Reading.{readColumns}
 use Rattle.column_reader.proofs.RoundTrip.{read-written}
@@ -24,7 +22,7 @@ use Rattle.column_writer.proofs.Fields.{length-columns}
 use Rattle.script.specs.Line.{signedOf}
 use Rattle.lines.specs.Lines.{headBytes, bodyBytes, lineBytes}
 use Rattle.air_logs_spec.specs.Form.{field, isLetter, isLine}
-use Rattle.air_logs_spec.specs.Logs.{Edit, editIn}
+use Rattle.air_logs_spec.specs.Logs.{editIn}
 
 abbrev pub minusOf : Body → Bool
 minusOf b = ltZ (argumentOf b) (pos 0)

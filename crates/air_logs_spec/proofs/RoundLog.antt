@@ -1,12 +1,12 @@
 -- What is kept of a round's text: of station p, the edits of the row that p reports as aired.
-use Prim.Native.Nat.{ℕ, zero, suc, _+_, _<_, _≤_}
-use mathlib.Core.Path.{_≡_, refl, sym, ap, ap₂, subst, _∙_}
+use Prim.Native.Nat.{ℕ, zero, suc, _<_, _≤_}
+use mathlib.Core.Path.{_≡_, refl, sym, ap, subst, _∙_}
 use mathlib.Core.Bool.{Bool, true, false, cond, not, _&&_}
-use mathlib.Core.List.{List, [], _∷_, _++_, append-nil, map}
+use mathlib.Core.List.{List, [], _∷_, append-nil, map}
 use native.Mathlib.Omega.{arith}
 use native.Mathlib.Decide.{ℕ-discrete, decLe}
 use lib.Dec.{ltb, eqb}
-use lib.ListN.{length, getD}
+use lib.ListN.{getD}
 use borrow.Author.Tests.{ltb-true, lt-ltb, le-ltb, eq-eqb, ne-eqb}
 use Rattle.kinds.specs.declared.Body.{Body}
 use Rattle.kinds.specs.Body.{isEmpty, isEdit}
@@ -17,10 +17,8 @@ use Rattle.lanes.specs.declared.Slot.{Slot}
 use Rattle.lanes.specs.Queue.{noSlot}
 use Rattle.station_rules.specs.declared.Station.{Station}
 use Rattle.station_rules.specs.declared.Taking.{Taking}
-use Rattle.station_rules.specs.declared.TurnReport.{TurnReport}
 use Rattle.group_rules.specs.declared.Report.{Report}
-use Rattle.group_rules.specs.declared.RoundDone.{RoundDone}
-use Rattle.group_rules.specs.Calls.{noTaking, noReport, roundCall}
+use Rattle.group_rules.specs.Calls.{noReport, roundCall}
 use Rattle.group_rules.specs.History.{reportIn, editsOf}
 use Rattle.group_rules.proofs.Members.{Members}
 use Rattle.lines.specs.Lines.{delivered, airing, ending}

@@ -1,10 +1,9 @@
 -- The listing of a whole script has the listing's form, and of station p the aired list of p is kept. The listing is what the script's calls print, and then a
 -- refusal where the reading stops; the calls make at most 999,999 rounds.
-use Prim.Native.Nat.{ℕ, zero, suc, _+_, _<_, _≤_}
-use mathlib.Core.Path.{_≡_, refl, sym, ap, subst, _∙_}
+use Prim.Native.Nat.{ℕ, _+_, _<_, _≤_}
+use mathlib.Core.Path.{_≡_, refl, sym, ap, _∙_}
 use mathlib.Core.Bool.{Bool, true, false, cond}
 use mathlib.Core.List.{List, [], _∷_, _++_, append-nil, map}
-use mathlib.Core.Logic.{_⊎_, inl, inr, ⊎-elim}
 use native.Mathlib.Omega.{arith}
 use native.Mathlib.Decide.{decLe}
 use lib.Dec.{ltb}
@@ -13,7 +12,7 @@ use borrow.Author.Tests.{lt-ltb, le-ltb, ltb-true}
 use Rattle.kinds.specs.Refusals.{malformedLine}
 use Rattle.station_rules.specs.declared.Taking.{Taking}
 use Rattle.group_rules.specs.declared.RoundDone.{RoundDone}
-use Rattle.group_rules.specs.History.{Call, post, round, History, begun, continued, collect, historyOf, reportIn, airedList}
+use Rattle.group_rules.specs.History.{Call, round, History, begun, collect, historyOf, reportIn, airedList}
 use Rattle.group_rules.proofs.Members.{Members, fresh-members}
 use Rattle.script.specs.declared.Command.{Command}
 use Rattle.script.specs.declared.Command.the-variants.{Size, Post, Round, Malformed}
@@ -24,7 +23,7 @@ use Rattle.listing_rules.specs.Calls.{called, callsIn, sizeSaid, sizeIn, linesA
 use Rattle.listing_rules.proofs.Commands.{First, command-first}
 use Rattle.listing_rules.proofs.ScriptCalls.{scripts-run}
 use Rattle.air_logs_spec.specs.Form.{isListing}
-use Rattle.air_logs_spec.specs.Logs.{Edit, logOf}
+use Rattle.air_logs_spec.specs.Logs.{logOf}
 use Rattle.air_logs_spec.proofs.Prints.{Prints, prints-none, prints-as, prints-both, listing-form, listing-log}
 use Rattle.air_logs_spec.proofs.RoundLog.{logged, airedIn}
 use Rattle.air_logs_spec.proofs.CallsLog.{loggedList, roundsOf, refusal-prints, Logs, calls-log}

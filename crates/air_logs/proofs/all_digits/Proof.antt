@@ -1,8 +1,6 @@
 -- `air_logs::all_digits` goes from byte to byte. The invariant: what is left has only digits exactly if what was given has.
-use Prim.Native.Nat.{ℕ, _-_, _≤_}
-use mathlib.Core.List.{List}
+use Prim.Native.Nat.{_-_, _≤_}
 use mathlib.Core.Path.{_≡_, refl, sym, _∙_}
-use native.Mathlib.Omega.{arith}
 use borrow.Author.Needs.{needs}
 use lib.ListN.{length, drop}
 use Rattle.air_logs.specs.Inner.{allDigits}

@@ -1,15 +1,14 @@
 -- `air_logs::compare_logs` goes from kept line to kept line in both listings. The invariant: at each place stands a kept line or the last line, and what is left
 -- to compare from there, at the present position, gives the answer of the whole; the position is no larger than the lines passed allow.
-use Prim.Native.Nat.{ℕ, _+_, _*_, _-_, _≤_}
-use mathlib.Core.List.{List}
-use mathlib.Core.Path.{_≡_, refl, sym, ap, _∙_}
+use Prim.Native.Nat.{_+_, _*_, _-_, _≤_}
+use mathlib.Core.Path.{_≡_, sym, ap, _∙_}
 use native.Mathlib.Omega.{arith}
 use borrow.Author.Needs.{needs}
 use lib.ListN.{length, drop}
 use Rattle.air_logs_spec.specs.Form.{isLine}
 use Rattle.air_logs_spec.specs.Logs.{editIn, logOf}
 use Rattle.air_logs_spec.specs.Compare.{sameEdit, comparedFrom}
-use Rattle.air_logs.specs.Inner.{KeptAt, NextKept}
+use Rattle.air_logs.specs.Inner.{KeptAt}
 use Rattle.air_logs.proofs.Lines.{part-is, answered-no, answered-yes}
 use Rattle.air_logs.proofs.Logs.{no-edit, line-room, line-good, next-listing, kept-log, both-end, first-ends, second-ends, edits-differ, edits-same}
 use Rattle.air_logs.proofs.compare_logs.Statement.{statement}

@@ -8,7 +8,6 @@ use borrow.Author.Needs.{needs}
 use lib.ListN.{length, drop}
 use Rattle.air_logs_spec.specs.Form.{isLine, isListing}
 use Rattle.air_logs_spec.specs.Logs.{isKept, logOf}
-use Rattle.air_logs.specs.Inner.{KeptAt, NextKept}
 use Rattle.air_logs.proofs.Lines.{part-is}
 use Rattle.air_logs.proofs.Logs.{listing-inside, line-room, line-good, next-listing, passed-log}
 use Rattle.air_logs.proofs.next_kept.Statement.{statement}

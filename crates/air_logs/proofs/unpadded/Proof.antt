@@ -1,13 +1,11 @@
 -- `air_logs::unpadded` passes over blanks. The invariant: what is left is read as all of it.
-use Prim.Native.Nat.{ℕ, _-_, _≤_}
-use mathlib.Core.List.{List}
-use mathlib.Core.Path.{_≡_, refl, sym, _∙_}
+use Prim.Native.Nat.{_-_, _≤_}
+use mathlib.Core.Path.{_≡_, refl, _∙_}
 use native.Mathlib.Omega.{arith}
 use borrow.Author.Needs.{needs}
 use lib.ListN.{length, drop}
 use Rattle.column_reader.specs.declared.Reading.the-variants.{Blank}
 use Rattle.column_reader.specs.Reading.{readFrom, readColumns}
-use Rattle.air_logs.specs.Inner.{Unpadded}
 use Rattle.air_logs.proofs.Bytes.{blank-read}
 use Rattle.air_logs.proofs.unpadded.Statement.{statement}
 use Rattle.air_logs.proofs.unpadded.Tie as tie
