@@ -5,7 +5,7 @@
 
    Memory that a call is lent stays the caller's: no call keeps a pointer, allocates, or writes outside
    what its text names. Pointers are not null, also where a length is 0. Two buffers of one call must
-   not overlap. A call that is refused changes nothing. */
+   not overlap, unless both are only read. A call that is refused changes nothing. */
 #ifndef RELAY_HOST_H
 #define RELAY_HOST_H
 

@@ -139,7 +139,7 @@ same-number a w p e ha f = together _ _ forth back
         eq-eqb _ _ (ap (λ (l : List ℕ). naturalOf (readColumns l)) (same-only a (natColumns w p) t) ∙ ap naturalOf (read-written false w p f))
 
 -- whole numbers
-same-whole-only : (a b : ℤ) → sameWhole a b ≡ true → a ≡ b
+pub same-whole-only : (a b : ℤ) → sameWhole a b ≡ true → a ≡ b
 same-whole-only (pos m) (pos n) h =
     ap pos (omega (arith, leb-true m n (and-left (leb m n) (leb n m) h), leb-true n m (and-right (leb m n) (leb n m) h)))
 same-whole-only (pos m) (negsuc n) h = absurd (false≢true h)

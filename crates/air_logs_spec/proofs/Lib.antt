@@ -6,5 +6,6 @@ pub mod Carried
 pub mod RoundLog
 pub mod CallsLog
 pub mod ScriptLog
+pub mod Meaning
 pub mod LogsFit
 pub mod Examples

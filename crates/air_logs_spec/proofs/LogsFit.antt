@@ -1,13 +1,12 @@
 -- Two logs of one listing of the base program never differ, and are never refused: by demand 3 one of two aired lists is a beginning of the other, and a log is
 -- its station's aired list, or empty where the script has no such station.
 use Prim.Native.Nat.{ℕ, suc, _<_}
-use mathlib.Core.Path.{_≡_, refl, sym, ap, subst, _∙_}
-use mathlib.Core.Bool.{true}
+use mathlib.Core.Path.{sym, ap, subst, _∙_}
 use mathlib.Core.List.{List, [], _∷_, _++_, map, map-append}
 use mathlib.Core.Logic.{_⊎_, ⊎-elim}
 use native.Mathlib.Omega.{arith}
 use native.Mathlib.Decide.{decLe}
-use borrow.Author.Tests.{le-ltb, eq-eqb}
+use borrow.Author.Tests.{le-ltb}
 use Rattle.station_rules.specs.declared.Taking.{Taking}
 use Rattle.group_rules.specs.History.{airedList}
 use Rattle.group_rules.specs.Demand.{Begins}
@@ -16,20 +15,10 @@ use Rattle.group_rules.proofs.DemandThree.{demand-three}
 use Rattle.listing_rules.specs.Listing.{setupOf, listingOf}
 use Rattle.listing_rules.specs.Calls.{callsOf}
 use Rattle.air_logs_spec.specs.Logs.{Edit, logOf}
-use Rattle.air_logs_spec.specs.Compare.{sameEdit, comparedFrom, compareRefusal, compareCall, Agrees, LogsFit}
-use Rattle.air_logs_spec.proofs.Fields.{same-whole-self}
+use Rattle.air_logs_spec.specs.Compare.{comparedFrom, compareRefusal, compareCall, Agrees, LogsFit}
+use Rattle.air_logs_spec.proofs.Meaning.{same-edit}
 use Rattle.air_logs_spec.proofs.RoundLog.{logged}
 use Rattle.air_logs_spec.proofs.ScriptLog.{size, told, size-most, script-form, script-log, script-above}
-
-same-edit : (x : Edit) → sameEdit x x ≡ true
-unfolding sameEdit
-same-edit x =
-    rw (
-      eq-eqb (x .source) (x .source) refl,
-      eq-eqb (x .kind) (x .kind) refl,
-      eq-eqb (x .event) (x .event) refl,
-      same-whole-self (x .argument),
-    )
 
 -- a beginning, on either side
 first-agrees : (k : ℕ) (xs more : List Edit) → Agrees (comparedFrom k xs (xs ++ more))

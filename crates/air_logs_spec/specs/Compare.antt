@@ -1,9 +1,11 @@
 -- Document 02, A8: how two air logs compare, the call with its refusals, and the claim about two logs of one listing.
-use Prim.Native.Nat.{ℕ, suc, _≤_}
+use Prim.Native.Nat.{ℕ, suc, _+_, _≤_}
 use mathlib.Core.Bool.{Bool, cond, not, _&&_, _||_}
-use mathlib.Core.List.{List, [], _∷_}
+use mathlib.Core.List.{List, [], _∷_, _++_}
+use mathlib.Core.Path.{_≡_}
 use lib.Dec.{ltb, eqb}
 use lib.IntN.{ℤ}
+use lib.ListN.{length}
 use lib.Signed.{leZ}
 use Rattle.kinds.specs.Refusals.{done, badNumber, badListing, refuse}
 use Rattle.listing_rules.specs.Listing.{listingOf}
@@ -48,26 +50,52 @@ compareCall first p second q =
 
 -- what each answer is in numbers: its refusal, 0 where there is none; which of the four answers it is, in document
 -- 02's order from 0; and the position, 0 where there is none
-unfoldable pub refusalOf : Compared → ℕ
+abbrev pub refusalOf : Compared → ℕ
 refusalOf Equal = done
 refusalOf FirstBegins = done
 refusalOf SecondBegins = done
 refusalOf (Different position) = done
 refusalOf (Refused refusal) = refusal
 
-unfoldable pub outcomeOf : Compared → ℕ
+abbrev pub outcomeOf : Compared → ℕ
 outcomeOf Equal = 0
 outcomeOf FirstBegins = 1
 outcomeOf SecondBegins = 2
 outcomeOf (Different position) = 3
 outcomeOf (Refused refusal) = 0
 
-unfoldable pub positionOf : Compared → ℕ
+abbrev pub positionOf : Compared → ℕ
 positionOf Equal = 0
 positionOf FirstBegins = 0
 positionOf SecondBegins = 0
 positionOf (Different position) = position
 positionOf (Refused refusal) = 0
+
+-- a log goes on after another that is its beginning
+pub record GoesOn (xs ys : List Edit) : Type 0 where
+  pub next : Edit
+  pub more : List Edit
+  pub whole : xs ++ (next ∷ more) ≡ ys
+
+-- two logs have the same edits before a position, counted from 1, and different ones there
+pub record DifferAt (position : ℕ) (xs ys : List Edit) : Type 0 where
+  pub same : List Edit
+  pub one : Edit
+  pub other : Edit
+  pub more : List Edit
+  pub others : List Edit
+  pub first : xs ≡ same ++ (one ∷ more)
+  pub second : ys ≡ same ++ (other ∷ others)
+  pub different : one ≡ other → ⊥
+  pub counted : position ≡ length same + 1
+
+-- what each answer says of two logs
+abbrev pub Means : List Edit → List Edit → Compared → Type 0
+Means xs ys Equal = xs ≡ ys
+Means xs ys FirstBegins = GoesOn xs ys
+Means xs ys SecondBegins = GoesOn ys xs
+Means xs ys (Different position) = DifferAt position xs ys
+Means xs ys (Refused refusal) = ⊥
 
 -- one of the first three answers
 abbrev pub Agrees : Compared → Type 0
