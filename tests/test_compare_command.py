@@ -65,6 +65,14 @@ class Compare(unittest.TestCase):
             text = EXAMPLE.read_bytes()
             self.assertEqual(run("compare", EXAMPLE, "0", EXAMPLE, str(p)), expected(text, 0, text, p))
 
+    def test_both_from_standard_input(self):
+        """Two stations of one listing, which comes through a pipe or is a file."""
+        text = EXAMPLE.read_bytes()
+        self.assertEqual(run("compare", "-", "0", "-", "9", given=text), expected(text, 0, text, 9))
+        with open(EXAMPLE, "rb") as file:
+            done = subprocess.run([ROOT / "relay", "compare", "-", "0", "-", "1"], stdin=file, capture_output=True, check=False)
+        self.assertEqual((done.returncode, done.stdout.decode()), expected(text, 0, text, 1)[:2])
+
     def test_document(self):
         """The run that docs/SCRIPTS.md shows."""
         document = (ROOT / "docs" / "SCRIPTS.md").read_text(encoding="utf-8")

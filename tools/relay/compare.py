@@ -2,8 +2,8 @@
 
 Only A lines of the named station count, 0 to 15. Source, kind, event and
 argument are compared; rounds may differ. Positions count from 1. A listing is
-a file of any size; '-' is standard input. Where the logs differ, the first
-different edit is shown from both sides with its line number.
+a file of any size; '-' is standard input, for one listing or as both. Where
+the logs differ, the first different edit is shown from both sides.
 
 exit status: 0 the logs fit: they are equal, or one begins the other; 3 they
 differ; 1 a listing or a number is refused, which standard error explains
@@ -58,7 +58,8 @@ def kept_line(listing, p, position):
 
 
 def run(given):
-    first, second = listings.Listing(given.first), listings.Listing(given.second)
+    first = listings.Listing(given.first)
+    second = first if given.second == given.first else listings.Listing(given.second)
     p, q = given.first_station, given.second_station
     refusal, (answer, position) = library.compare(first.lent, p, second.lent, q)
     if refusal:
