@@ -1,10 +1,11 @@
 /* What the edit relay offers to C: the frame check, for the host that moves frames; for planners the
-   forecast, the merge of link logs, a page of questions and the link contest; and the load generator.
+   forecast, the merge of link logs, a page of questions and the link contest; the load generator; and
+   the comparison of two air logs.
    Link with the archive that `rt staticlib relay_host` makes, target/staticlib/librelay_host.a.
 
    Memory that a call is lent stays the caller's: no call keeps a pointer, allocates, or writes outside
    what its text names. Pointers are not null, also where a length is 0. Two buffers of one call must
-   not overlap. A call that is refused changes nothing. */
+   not overlap, unless both are only read. A call that is refused changes nothing. */
 #ifndef RELAY_HOST_H
 #define RELAY_HOST_H
 
@@ -19,12 +20,13 @@ extern "C" {
    first of that list is given. */
 enum relay_refusal {
     RELAY_DONE = 0,        /* nothing is wrong */
-    RELAY_BAD_NUMBER = 1,  /* n is not 1 to 16, a station is not below n, or too many rounds are due */
+    RELAY_BAD_NUMBER = 1,  /* n is not 1 to 16, there is no such station, or too many rounds are due */
     RELAY_BAD_SHAPE = 5,   /* the length, byte 2 or byte 3 is wrong */
     RELAY_BAD_ADDRESS = 6, /* the frame is for another n, or its sender is own or not below n */
     RELAY_BAD_RECORD = 7,  /* a record is outside its limits */
     RELAY_SHORT_BUFFER = 9, /* a lent buffer has no room for what is to be written */
     RELAY_BAD_LINK_LOG = 12, /* a link log is not whole rounds, or has more than 2,048 */
+    RELAY_BAD_LISTING = 16, /* a listing has a line of another form, or does not end with its last line */
     RELAY_BAD_QUESTION = 18, /* a question is bad, is not whole, or is past the 64th */
     RELAY_BAD_CONTEST = 20 /* a contest has too many stations, sets or rounds, no set, or masks that are not whole sets */
 };
@@ -175,6 +177,46 @@ uint32_t relay_questions(const uint16_t *log, size_t log_len, uint32_t n,
            printf("%u %u\n", answer[0], answer[1]);   prints 1 1: the keeper, by picking set 1 */
 uint32_t relay_contest(uint32_t n, uint32_t s, const uint16_t *sets, size_t sets_len, uint32_t rounds,
                        uint32_t *answer, size_t answer_len);
+
+/* What relay_compare answers. */
+enum relay_compared {
+    RELAY_EQUAL = 0,         /* the two logs are equal */
+    RELAY_FIRST_BEGINS = 1,  /* the first log is a beginning of the second, which goes on */
+    RELAY_SECOND_BEGINS = 2, /* the second log is a beginning of the first, which goes on */
+    RELAY_DIFFERENT = 3      /* at some position the two have different edits */
+};
+
+/* Compares two air logs. The log of a station in a listing is its A lines, in their order; of each the
+   source, the kind, the event and the argument are compared, and rounds may differ.
+
+   first, first_len    a listing: any bytes, which are judged whole and not changed
+   p                   the station of its log, 0 to 15; a station that is not in the listing has an
+                       empty log
+   second, second_len  another listing, which may be the same memory
+   q                   the station of its log
+   answer, answer_len  where the answer goes: room for at least 2 numbers. Number 0 becomes one of
+                       relay_compared, and number 1 the position of the first different edit, counted
+                       from 1 in each log, or 0 where there is none. Numbers past the second are not
+                       touched.
+
+   Two logs of one listing that the relay's program printed are never RELAY_DIFFERENT.
+
+   Returns 0, or, and then the buffer does not change, in this order:
+       1    p or q is above 15
+       16   a line of a listing, with its line end, does not have the listing's form, the last line is
+            not END, or something follows it
+       9    answer_len is less than 2
+
+   Example: a listing with one edit, aired by stations 0 and 1 in different rounds.
+
+       const uint8_t listing[] = "     3 A  0  0 2        7      100\n"
+                                 "     4 A  1  0 2        7      100\nEND\n";
+       uint64_t answer[2];
+       size_t len = sizeof listing - 1;
+       if (relay_compare(listing, len, 0, listing, len, 1, answer, 2) == RELAY_DONE)
+           printf("%d\n", answer[0] == RELAY_EQUAL);   prints 1: the two logs are equal */
+uint32_t relay_compare(const uint8_t *first, size_t first_len, uint32_t p, const uint8_t *second,
+                       size_t second_len, uint32_t q, uint64_t *answer, size_t answer_len);
 
 #ifdef __cplusplus
 }

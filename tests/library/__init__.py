@@ -3,6 +3,7 @@
     rooms.py      lent buffers between pages that cannot be touched
     compare.py    a call beside the model's, case by case; calls that are wrong on purpose
     logs.py       link logs: all of small groups, drawn ones, damaged ones
+    listings.py   listings: of drawn scripts, of drawn edits, and the bytes that damage them
 """
 
 import pathlib

@@ -1,1 +1,1 @@
-pub mod Contest
+pub mod Pair
