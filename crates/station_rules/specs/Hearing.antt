@@ -5,6 +5,7 @@ use mathlib.Core.List.{List, [], _∷_, _++_}
 use lib.Dec.{leb, ltb, eqb}
 use Rattle.kinds.specs.declared.Body.the-variants.{Empty}
 use Rattle.kinds.specs.Body.{isEmpty}
+use Rattle.kinds.specs.Refusals.{done, laneFull, refuse}
 use Rattle.labels.specs.Label.{successor}
 use Rattle.labels.specs.Newer.{isNewer}
 use Rattle.frame_rules.specs.declared.Record.{Record}
@@ -60,14 +61,18 @@ heardNewer s r =
 abbrev pub noTaking : Taking
 noTaking = record { source = 0; body = Empty }
 
--- a station while it hears: what it took so far, in the order heard, and whether a lane that held two would have got a third
+-- its body is to be taken, and the lane of its station has two already
+abbrev pub overfills : Station → Record → Bool
+overfills s r = takes s r && leb 2 ((laneAt s (r .station)) .len)
+
+-- a station while it hears: what it took so far, in the order heard, and the refusal of the first refused frame
 pub record Hearing : Type 0 where
   pub station : Station
   pub takings : List Taking
-  pub overfull : Bool
+  pub refusal : ℕ
 
 abbrev pub silent : Station → Hearing
-silent s = record { station = s; takings = []; overfull = false }
+silent s = record { station = s; takings = []; refusal = done }
 
 -- what one record does
 unfoldable pub hearRecord : Hearing → Record → Hearing
@@ -77,7 +82,7 @@ hearRecord h r =
     (record {
       station = heardNewer s r;
       takings = h .takings ++ cond (takes s r) (record { source = r .station; body = r .body } ∷ []) [];
-      overfull = h .overfull || (takes s r && leb 2 ((laneAt s (r .station)) .len));
+      refusal = refuse (overfills s r) laneFull (h .refusal);
     })
     h
 
@@ -85,3 +90,7 @@ hearRecord h r =
 unfoldable pub hearRecords : Hearing → List Record → Hearing
 hearRecords h [] = h
 hearRecords h (r ∷ rs) = hearRecords (hearRecord h r) rs
+
+-- one more frame; after a refused one none is heard, so that the first refused frame decides
+unfoldable pub hearFrame : Hearing → List Record → Hearing
+hearFrame h rs = cond (eqb (h .refusal) done) (hearRecords h rs) h
