@@ -1,0 +1,3 @@
+-- what hearing begins with
+pub mod OwnPlaces
+pub mod OwnFrame
