@@ -24,6 +24,12 @@ pub record LanesRoom (n own : ℕ) (lens taken : List ℕ) (len : ℕ) : Type 0 
   pub two : (k : ℕ) → k < n → getD lens k 0 ≤ 2
   pub few : len ≤ total n (λ k. cond (eqb k own) 0 (getD lens k 0))
 
+-- a record stands at a place, and is of one of the stations
+pub record RecordRoom (bytes : List ℕ) (at : ℕ) : Type 0 where
+  pub room : at + 16 ≤ length bytes
+  pub station : getD bytes at 0 < sizeIn bytes
+
+-- the hearer is one of at most sixteen stations, and its notes are of records in the bytes
 pub record Room (own : ℕ) (bytes : List ℕ) (x : Notes) : Type 0 where
   pub high : sizeIn bytes ≤ 16
   pub own-below : own < sizeIn bytes
@@ -31,7 +37,9 @@ pub record Room (own : ℕ) (bytes : List ℕ) (x : Notes) : Type 0 where
   pub places-long : length (x .places) ≡ 16
   pub inside : (k : ℕ) → k < sizeIn bytes → getD (x .places) k 0 + 16 ≤ length bytes
   pub lanes : LanesRoom (sizeIn bytes) own (x .lens) (x .taken) (x .ear .len)
+  pub taken : (i : ℕ) → i < x .ear .len → RecordRoom bytes (getD (x .taken) i 0)
 
+-- the same of the records heard last
 pub record LastRoom (bytes last : List ℕ) : Type 0 where
   pub long : length last ≡ 16
   pub inside : (k : ℕ) → k < sizeIn bytes → getD last k 0 + 16 ≤ length bytes
