@@ -8,6 +8,7 @@ use Rattle.station_rules.specs.declared.Station.{Station}
 use Rattle.station_rules.specs.Hearing.{Hearing, silent}
 use Rattle.hearing_spec.specs.Buffer.{sizeIn, takingAt}
 use Rattle.hearing_spec.specs.StandsFor.{Notes, notes, actsOn}
+use Rattle.hearing_spec.specs.Room.{RecordRoom}
 use Rattle.acting.specs.declared.Listened.{Listened}
 
 -- its notes; how many bodies the lanes have is no longer asked for
@@ -18,8 +19,7 @@ notesOf x = notes (x .places) [] (x .taken) (x .ear)
 pub record Readable (bytes : List ℕ) (x : Listened) : Type 0 where
   pub places : (k : ℕ) → k < sizeIn bytes → getD (x .places) k 0 + 16 ≤ length bytes
   pub few : x .ear .len ≤ 30
-  pub taken : (i : ℕ) → i < x .ear .len → getD (x .taken) i 0 + 16 ≤ length bytes
-  pub sources : (i : ℕ) → i < x .ear .len → getD bytes (getD (x .taken) i 0) 0 < sizeIn bytes
+  pub taken : (i : ℕ) → i < x .ear .len → RecordRoom bytes (getD (x .taken) i 0)
 
 -- station s has heard, `f` being what its hearing makes of silence: the refusal is that of the hearing, and where there is none, its takings and the station
 -- with all that was heard are those of the hearing
