@@ -1,0 +1,12 @@
+-- what hearing needs of a record's labels, whatever they are kept in
+pub mod RecordLabels
+-- the three laws of a settled record
+pub mod Settled
+-- what hearing leaves of a station, and the numbers that stand for it
+pub mod Gathering
+pub mod Standing
+pub mod Heeding
+-- the loops over a frame and over a mask, and what comes of them
+pub mod FrameLoop
+pub mod MaskLoop
+pub mod Acting
