@@ -31,7 +31,8 @@ fn long_at(part: &[u8], at: usize) -> u64
     requires { ⌜ at + 8 ≤ length (now part) ⌝ }
     ensures { λ r. ⌜ r ≡ wordAt (now (part .entry)) at + 4_294_967_296 * wordAt (now (part .entry)) (at + 4) ⌝ }
 {
-    (record_reader::word_at(part, at) as u64) + 4_294_967_296 * (record_reader::word_at(part, at + 4) as u64)
+    (record_reader::word_at(part, at) as u64)
+        + 4_294_967_296 * (record_reader::word_at(part, at + 4) as u64)
 }
 
 // Have two records the same sixteen bytes? They are compared as two numbers of eight.
@@ -83,7 +84,15 @@ fn raised(count: u8) -> u8
 
 // A newer record of station k, at a place: its station may be acknowledged, its label advances, the count rises, its body is taken. A lane that has two refuses the
 // frame, and the rest of it is heard all the same.
-fn heed(e: Ear, seen: &[u8], at: usize, k: usize, own: usize, lens: &mut [u8], taken: &mut [u16]) -> Ear
+fn heed(
+    e: Ear,
+    seen: &[u8],
+    at: usize,
+    k: usize,
+    own: usize,
+    lens: &mut [u8],
+    taken: &mut [u16],
+) -> Ear
     requires { ⌜ (length (now seen) ≡ 16) × (k ≡ getD (now seen) 0 0) × (k < 16) × (own < 16) × (at ≤ mostBytes) ⌝ ∗
         ⌜ (length (now lens) ≡ 16) × (length (now taken) ≡ takingsRoom) ⌝ ∗ ⌜ (getD (now lens) k 0 < 2 → e .len < takingsRoom) ⌝ }
     ensures { λ r.

@@ -149,15 +149,15 @@ acted-is s st ts tops holds shape₀ shape c held =
     let helds : st .held ≡ fill (s .n) holds (s .held) =
     fill-made (s .n) holds (s .held) (st .held) false (shape .held ∙ sym (shape₀ .held)) held (c .held-above) in
     λ i.
-      record {
-        n = c .n i;
-        own = c .own i;
-        waiting = c .waiting i;
-        acked = st .acked;
-        body = c .body i;
-        count = st .count;
-        labels = st .labels;
-        held = helds i;
-        table = table i;
-        lanes = c .lanes i;
-      }
+    record {
+      n = c .n i;
+      own = c .own i;
+      waiting = c .waiting i;
+      acked = st .acked;
+      body = c .body i;
+      count = st .count;
+      labels = st .labels;
+      held = helds i;
+      table = table i;
+      lanes = c .lanes i;
+    }

@@ -182,7 +182,10 @@ module _ (s : Station) (most : s .n ≤ 16) (own : ℕ) (mine : s .own ≡ own) 
   bodies' j l =
       elim (ℕ-discrete j k) [
         | yes i ↦
-            rw (i, heard-here st r shape (omega arith), takes-is) (here (takes st r) (laneHasTwo (x .lens) r) refl)
+            rw i
+            (ap (λ (t : Bool). getD (cond (t && not (laneHasTwo (x .lens) r)) more (x .lens)) k 0) takes-is
+            ∙ here (takes st r) (laneHasTwo (x .lens) r) refl
+            ∙ ap (λ (z : Cell). z .lane .len) (sym (heard-here st r shape (omega arith))))
         | no d ↦ other (earPuts (x .lens) (x .ear) r) d ∙ c .bodies j l ∙ ap (λ (z : Cell). z .lane .len) (sym (heard-other st r j d))
       ]
     where
@@ -193,12 +196,19 @@ module _ (s : Station) (most : s .n ≤ 16) (own : ℕ) (mine : s .own ≡ own) 
           (t u : Bool) → laneHasTwo (x .lens) r ≡ u →
           getD (cond (t && not u) more (x .lens)) k 0 ≡ (cond t (pushed (laneAt st k) (r .body)) (laneAt st k)) .len
       here true true e =
-          omega (arith, c .bodies k below, leb-true 2 (getD (x .lens) k 0) e,
-              len-full (laneAt st k) (r .body) (omega (arith, c .bodies k below, leb-true 2 (getD (x .lens) k 0) e)))
+          omega (
+            arith,
+            c .bodies k below,
+            leb-true 2 (getD (x .lens) k 0) e,
+            len-full (laneAt st k) (r .body) (omega (arith, c .bodies k below, leb-true 2 (getD (x .lens) k 0) e)),
+          )
       here true false e =
           getD-set-same (x .lens) k (getD (x .lens) k 0 + 1) 0 (omega arith)
-          ∙ omega (arith, c .bodies k below,
-              len-pushed (laneAt st k) (r .body) (omega (arith, c .bodies k below, leb-false 2 (getD (x .lens) k 0) e)))
+          ∙ omega (
+            arith,
+            c .bodies k below,
+            len-pushed (laneAt st k) (r .body) (omega (arith, c .bodies k below, leb-false 2 (getD (x .lens) k 0) e)),
+          )
       here false u e = c .bodies k below
 
       other : (t : Bool) → (j ≡ k → ⊥) → getD (cond t more (x .lens)) j 0 ≡ getD (x .lens) j 0

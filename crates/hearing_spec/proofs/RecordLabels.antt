@@ -4,7 +4,7 @@ use Prim.Native.Nat.{ℕ, zero, suc, _<_, _≤_, _/_, _%_, _^_}
 use mathlib.Core.List.{List}
 use mathlib.Core.Path.{_≡_, refl, sym, ap, _∙_}
 use native.Mathlib.Decide.{decLt}
-use native.Mathlib.Nat.{div-one}
+use native.Mathlib.Nat.{div-one, div-div-eq-div-mul, pow-succ'}
 use native.Mathlib.Omega.{arith}
 use lib.ListN.{getD, length, replicate}
 use lib.Seq.{ext-getD}
@@ -24,7 +24,9 @@ unpacked-at : (m word k : ℕ) → k < m → getD (unpacked m word) k 0 ≡ word
 unfolding unpacked
 unpacked-at zero word k l = absurd (omega arith)
 unpacked-at (suc m) word zero l = rw (div-one word)
-unpacked-at (suc m) word (suc k) l = unpacked-at m (word / 4) k (omega arith) ∙ ap (λ (x : ℕ). x % 4) (omega arith)
+unpacked-at (suc m) word (suc k) l =
+    unpacked-at m (word / 4) k (omega arith)
+    ∙ ap (λ (x : ℕ). x % 4) (div-div-eq-div-mul word 4 (4 ^ k) ∙ ap (λ (p : ℕ). word / p) (sym (pow-succ' 4 k)))
 
 -- the label of station k that sixteen bytes carry
 pub label-carried : (bytes : List ℕ) (k : ℕ) → k < 16 → recordLabel (recordFrom bytes) k ≡ wordAt bytes 12 / 4 ^ k % 4

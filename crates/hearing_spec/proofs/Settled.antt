@@ -12,7 +12,7 @@ use Rattle.labels.specs.Newer.{isNewer}
 use Rattle.frame_rules.specs.declared.Record.{Record}
 use Rattle.frame_rules.specs.Record.{framed}
 use Rattle.station_rules.specs.declared.Station.{Station}
-use Rattle.station_rules.specs.State.{heldOf, recordOf, recordLabel, ownLabel}
+use Rattle.station_rules.specs.State.{Cell, heldOf, recordOf, recordLabel, ownLabel}
 use Rattle.station_rules.specs.Hearing.{Hearing, heeds, heardNewer, hearRecord}
 use Rattle.station_rules.proofs.HearRecord.{heardOne, hearRecord-heeds, hearRecord-skips}
 use Rattle.station_rules.proofs.Setters.{Shaped}
@@ -32,23 +32,27 @@ module _ (s : Station) (r : Record) where
   settled-equal e₁ e₂ e₃ =
       record { passed = rw (e₁, e₂, e₃, newer-self (ownLabel r) (r .count)) (and-false (not (eqb (r .station) (s .own)))) }
 
+module _ (s : Station) (r : Record) where
   -- (i) for a newer record
   pub newer-settled : Shaped s → r .station < s .n → s .n ≤ 16 → Settled (heardNewer s r) r
   newer-settled shape below most =
-      record {
-        passed =
-            rw (
-              heard-here s r shape (omega arith),
-              heard-label s r shape most (omega arith) (r .station) below,
-              replaced-count (s .n) (recordOf s (r .station)) r,
-              newer-self (ownLabel r) (r .count),
-            )
-            (and-false (not (eqb (r .station) ((heardNewer s r) .own))));
-      }
+      let here = heard-here s r shape (omega arith) in
+      settled-equal (heardNewer s r) r (ap (λ (c : Cell). c .held) here)
+      (ap (λ (c : Cell). recordLabel (c .entry) (r .station)) here ∙ heard-label s r shape most (omega arith) (r .station) below)
+      (ap (λ (c : Cell). c .entry .count) here ∙ replaced-count (s .n) (recordOf s (r .station)) r)
 
   -- (ii) for a newer record
   pub newer-leaves : (q : Record) → (q .station ≡ r .station → ⊥) → Settled s q → Settled (heardNewer s r) q
-  newer-leaves q d c = record { passed = rw (heard-own s r, heard-other s r (q .station) d) (c .passed) }
+  newer-leaves q d c =
+      let own = heard-own s r in
+      let cell = heard-other s r (q .station) d in
+      record {
+        passed =
+            (λ i.
+            not (eqb (q .station) (own i))
+            && isNewer ((cell i) .held) (recordLabel ((cell i) .entry) (q .station)) ((cell i) .entry .count) (ownLabel q) (q .count))
+            ∙ c .passed;
+      }
 
 module _ (h : Hearing) (r : Record) where
   pub record-n : ((hearRecord h r) .station) .n ≡ h .station .n
