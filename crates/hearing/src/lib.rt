@@ -47,7 +47,7 @@ fn same(a: &[u8], b: &[u8]) -> bool
 }
 
 // The label of station k in the sixteen bytes of a record.
-fn label_in(part: &[u8], k: usize) -> u8
+fn label_of(part: &[u8], k: usize) -> u8
     requires { ⌜ (length (now part) ≡ 16) × (k < 16) ⌝ }
     ensures { λ r. ⌜ r ≡ recordLabel (recordFrom (now (part .entry))) k ⌝ }
 {
@@ -69,7 +69,7 @@ fn age_of(held: bool, old: &[u8], seen: &[u8], k: usize) -> Age
     requires { ⌜ (length (now old) ≡ 16) × (length (now seen) ≡ 16) × (k < 16) ⌝ }
     ensures { λ r. ⌜ r ≡ ageBeside held (recordFrom (now (old .entry))) (recordFrom (now (seen .entry))) k ⌝ }
 {
-    labels::newer(held, label_in(old, k), old[1], label_in(seen, k), seen[1])
+    labels::newer(held, label_of(old, k), old[1], label_of(seen, k), seen[1])
 }
 
 // One more, and 255 stays 255.
@@ -101,10 +101,10 @@ fn heed(
         × (now (taken .exit) ≡ takenAfter (now (lens .entry)) (now (taken .entry)) e (recordFrom (now (seen .entry))) at) ⌝ }
 {
     let mut ear = e;
-    let acknowledges = label_in(seen, own) == ear.labels[own];
+    let acknowledges = label_of(seen, own) == ear.labels[own];
     ear.acked[k] = ear.acked[k] | acknowledges;
     let next = labels::successor(ear.labels[k]);
-    if label_in(seen, k) != next {
+    if label_of(seen, k) != next {
         return ear;
     }
     ear.labels[k] = next;
