@@ -11,10 +11,16 @@ use Rattle.kinds.specs.Body.{isEmpty}
 use Rattle.kinds.specs.Refusals.{laneFull}
 use Rattle.labels.specs.Label.{successor}
 use Rattle.frame_rules.specs.declared.Record.{Record}
+use Rattle.frame_rules.specs.Record.{recordFrom}
 use Rattle.station_rules.specs.State.{recordLabel}
 use Rattle.station_rules.specs.Hearing.{raised}
 use Rattle.hearing_spec.specs.declared.Ear.{Ear}
 use Rattle.hearing_spec.specs.Heeding.{earAdvances, laneHasTwo, earAfter, lensAfter, takenAfter}
+
+-- the station of a record is byte 0
+pub station-carried : (part : List ℕ) → (recordFrom part) .station ≡ getD part 0 0
+unfolding recordFrom
+station-carried part = refl
 
 module _ (own : ℕ) (lens taken : List ℕ) (e : Ear) (r : Record) (at k : ℕ) (k-is : k ≡ r .station) where
   -- what is promised

@@ -1,138 +1,90 @@
 -- `hearing::heed` meets its contract: each of its four ends is one way of a newer record.
-use mathlib.Core.Path.{_≡_, refl, sym, ap, _∙_}
+use mathlib.Core.Path.{_≡_, sym, _∙_}
 use native.Mathlib.Omega.{arith}
 use borrow.Author.Needs.{needs}
-use Rattle.hearing.proofs.HeedCases.{case-known, case-empty, case-full, case-taken}
+use Rattle.frame_rules.specs.Record.{recordFrom}
+use Rattle.hearing.proofs.HeedCases.{station-carried, case-known, case-empty, case-full, case-taken}
 use Rattle.hearing.proofs.heed.Statement.{statement}
 use Rattle.hearing.proofs.heed.Tie as tie
-use Rattle.hearing.proofs.heed.Reads as reads
-use Rattle.hearing.proofs.heed.Lts as lts
-use Rattle.hearing.proofs.holds_empty.Reads as holds-empty-reads
-use Rattle.hearing.proofs.label_of.Reads as label-of-reads
-use Rattle.hearing.proofs.raised.Reads as raised-reads
-use Rattle.labels.proofs.successor.Reads as successor-reads
 
--- src/lib.rt:104:24
-label-of-requires : tie.Need-label-of-requires
-label-of-requires c κs = search needs
-
--- src/lib.rt:104:47
-element-copy-out-acknowledges : tie.Need-element-copy-out-acknowledges
-element-copy-out-acknowledges c = search needs
-
--- src/lib.rt:105:20
-element-copy-out-ear : tie.Need-element-copy-out-ear
-element-copy-out-ear c = search needs
-
--- src/lib.rt:105:5
-element-write-ear : tie.Need-element-write-ear
-element-write-ear c = search needs
-
--- src/lib.rt:106:34
-element-copy-out-successor : tie.Need-element-copy-out-successor
-element-copy-out-successor c = search needs
-
--- src/lib.rt:106:9
-successor-requires : tie.Need-successor-requires
-successor-requires c κs = search needs
-
--- src/lib.rt:107:8
-label-of-requires-2 : tie.Need-label-of-requires-2
-label-of-requires-2 c κs = search needs
-
--- src/lib.rt:108:9
 returns : tie.Need-returns
-returns c = ?
+returns c =
+    let s = c .before .before .before .before .before .before .before .before .before .before in
+    let a = s .args in
+    let successor = c .before .before .successor .ensures in
+    let label = c .before .label-of2 .ensures in
+    rw (c .before .before .before .before .before .before .label-of .ensures)
+    (case-known (a .own) (a .lens .now) (a .taken .now) (a .e) (recordFrom (a .seen .now)) (a .at) (a .k)
+    (s .pre .0 .1 ∙ sym (station-carried (a .seen .now)))
+    (λ z. c .if1 .taken (label ∙ z ∙ sym successor)))
 
--- src/lib.rt:110:5
-element-write-ear-2 : tie.Need-element-write-ear-2
-element-write-ear-2 c = search needs
-
--- src/lib.rt:111:17
-raised-requires : tie.Need-raised-requires
-raised-requires c κs = search needs
-
--- src/lib.rt:112:8
-holds-empty-requires : tie.Need-holds-empty-requires
-holds-empty-requires c κs = search needs
-
--- src/lib.rt:113:9
 returns-2 : tie.Need-returns-2
-returns-2 c = ?
+returns-2 c =
+    let s = c .before .before .before .before .before .before .before .before .before .before .before .before .before in
+    let a = s .args in
+    let successor = c .before .before .before .before .before .successor .ensures in
+    let label = c .before .before .before .before .label-of2 .ensures in
+    rw (c .before .before .before .before .before .before .before .before .before .label-of .ensures, successor, c .before .before .raised .ensures)
+    (case-empty (a .own) (a .lens .now) (a .taken .now) (a .e) (recordFrom (a .seen .now)) (a .at) (a .k)
+    (s .pre .0 .1 ∙ sym (station-carried (a .seen .now))) (sym label ∙ c .before .before .before .if1 .left ∙ successor)
+    (sym (c .before .holds-empty .ensures) ∙ c .if2 .taken))
 
--- src/lib.rt:115:13
-slice-read-if3 : tie.Need-slice-read-if3
-slice-read-if3 c = search needs
-
--- src/lib.rt:117:9
 returns-3 : tie.Need-returns-3
-returns-3 c = ?
+returns-3 c =
+    let s = c .before .before .before .before .before .before .before .before .before .before .before .before .before .before .before in
+    let a = s .args in
+    let successor = c .before .before .before .before .before .before .before .successor .ensures in
+    let label = c .before .before .before .before .before .before .label-of2 .ensures in
+    rw (c .before .before .before .before .before .before .before .before .before .before .before .label-of .ensures, successor, c .before .before .before .before .raised .ensures)
+    (case-full (a .own) (a .lens .now) (a .taken .now) (a .e) (recordFrom (a .seen .now)) (a .at) (a .k)
+    (s .pre .0 .1 ∙ sym (station-carried (a .seen .now))) (sym label ∙ c .before .before .before .before .before .if1 .left ∙ successor)
+    (sym (c .before .before .before .holds-empty .ensures) ∙ c .before .before .if2 .left) (c .if3 .taken))
 
--- src/lib.rt:120:15
-slice-read-lens : tie.Need-slice-read-lens
-slice-read-lens c = search needs
-
--- src/lib.rt:120:15
-add-lens : tie.Need-add-lens
-add-lens c = search needs
-
--- src/lib.rt:120:5
-slice-write-lens : tie.Need-slice-write-lens
-slice-write-lens c = search needs
-
--- src/lib.rt:121:18
-cast-taken : tie.Need-cast-taken
-cast-taken c = search needs
-
--- src/lib.rt:121:5
-mul-taken : tie.Need-mul-taken
-mul-taken c = ?
-
--- src/lib.rt:121:5
-slice-write-taken : tie.Need-slice-write-taken
-slice-write-taken c = ?
-
--- src/lib.rt:122:15
-add-ear : tie.Need-add-ear
-add-ear c = ?
-
--- src/lib.rt:87:1
-same-length : tie.Need-same-length
-same-length c = search needs
-
--- src/lib.rt:87:1
-same-length-2 : tie.Need-same-length-2
-same-length-2 c = search needs
-
--- src/lib.rt:87:1
 returns-4 : tie.Need-returns-4
-returns-4 c = ?
+returns-4 c =
+    let s = c .before .before .before .before .before .before .before .before .before .before .before .before .before .before .before .before in
+    let a = s .args in
+    let successor = c .before .before .before .before .before .before .before .before .successor .ensures in
+    let label = c .before .before .before .before .before .before .before .label-of2 .ensures in
+    rw (c .before .before .before .before .before .before .before .before .before .before .before .before .label-of .ensures, successor, c .before .before .before .before .before .raised .ensures)
+    (case-taken (a .own) (a .lens .now) (a .taken .now) (a .e) (recordFrom (a .seen .now)) (a .at) (a .k)
+    (s .pre .0 .1 ∙ sym (station-carried (a .seen .now))) (sym label ∙ c .before .before .before .before .before .before .if1 .left ∙ successor)
+    (sym (c .before .before .before .before .holds-empty .ensures) ∙ c .before .before .before .if2 .left) (omega (arith, c .before .if3 .left)))
+
+mul-taken : tie.Need-mul-taken
+mul-taken c = omega (arith, c .before .before .before .before .before .before .before .before .before .before .before .before .before .before .before .before .pre .1 .1 (omega (arith, c .before .if3 .left)), c .before .before .before .before .before .before .before .before .before .before .before .before .before .before .before .before .pre .1 .0 .1)
+
+slice-write-taken : tie.Need-slice-write-taken
+slice-write-taken c = omega (arith, c .before .before .before .before .before .before .before .before .before .before .before .before .before .before .before .before .pre .1 .1 (omega (arith, c .before .if3 .left)), c .before .before .before .before .before .before .before .before .before .before .before .before .before .before .before .before .pre .1 .0 .1)
+
+add-ear : tie.Need-add-ear
+add-ear c = omega (arith, c .before .before .before .before .before .before .before .before .before .before .before .before .before .before .before .before .pre .1 .1 (omega (arith, c .before .if3 .left)), c .before .before .before .before .before .before .before .before .before .before .before .before .before .before .before .before .pre .1 .0 .1)
 
 pub heed-spec : {M : Type 1} → statement M
 heed-spec =
     tie.close
     (tie.spec
-    label-of-requires
-    element-copy-out-acknowledges
-    element-copy-out-ear
-    element-write-ear
-    element-copy-out-successor
-    successor-requires
-    label-of-requires-2
+    (λ c κs. search needs)
+    (λ c. search needs)
+    (λ c. search needs)
+    (λ c. search needs)
+    (λ c. search needs)
+    (λ c κs. search needs)
+    (λ c κs. search needs)
     returns
-    element-write-ear-2
-    raised-requires
-    holds-empty-requires
+    (λ c. search needs)
+    (λ c κs. search needs)
+    (λ c κs. search needs)
     returns-2
-    slice-read-if3
+    (λ c. search needs)
     returns-3
-    slice-read-lens
-    add-lens
-    slice-write-lens
-    cast-taken
+    (λ c. search needs)
+    (λ c. search needs)
+    (λ c. search needs)
+    (λ c. search needs)
     mul-taken
     slice-write-taken
     add-ear
-    same-length
-    same-length-2
+    (λ c. search needs)
+    (λ c. search needs)
     returns-4)
