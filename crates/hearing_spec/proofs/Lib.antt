@@ -6,7 +6,8 @@ pub mod Settled
 pub mod Gathering
 pub mod Standing
 pub mod Heeding
--- the loops over a frame and over a mask, and what comes of them
+-- one record, the loops over a frame and over a mask, and what comes of them
 pub mod FrameLoop
+pub mod RecordSteps
 pub mod MaskLoop
 pub mod Acting
