@@ -1,2 +1,3 @@
 pub mod SameBytes
 pub mod HeedCases
+pub mod RecordCases

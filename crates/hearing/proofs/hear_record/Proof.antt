@@ -1,152 +1,93 @@
+-- `hearing::hear_record` meets its contract: the hearer's own record and one that is not newer leave the notes, a newer one is acted on.
+use mathlib.Core.Path.{_≡_, sym, _∙_}
+use native.Mathlib.Omega.{arith}
 use borrow.Author.Needs.{needs}
+use Rattle.hearing_spec.specs.StandsFor.{notes}
+use Rattle.hearing_spec.proofs.RecordSteps.{case-own, case-room}
+use Rattle.hearing.proofs.RecordCases.{part-long, part-station, ends-old, ends-newer}
 use Rattle.hearing.proofs.hear_record.Statement.{statement}
 use Rattle.hearing.proofs.hear_record.Tie as tie
-use Rattle.hearing.proofs.hear_record.Reads as reads
-use Rattle.hearing.proofs.hear_record.Lts as lts
-use Rattle.hearing.proofs.age_of.Reads as age-of-reads
-use Rattle.hearing.proofs.heed.Reads as heed-reads
 
--- src/lib.rt:145:9
 returns : tie.Need-returns
-returns c = ?
+returns c =
+    let s = c .before .before .before .before .before in
+    let a = s .args in
+    (case-own (a .own) (a .bytes .now) (a .at) (notes (a .places .now) (a .lens .now) (a .taken .now) (a .e)) (s .pre .0) (s .pre .1 .0) (a .k) (s .pre .1 .1 .0) (c .if1 .taken), s .pre .0)
 
--- src/lib.rt:147:16
-mul-held : tie.Need-mul-held
-mul-held c = search needs
-
--- src/lib.rt:147:16
-slice-read-held : tie.Need-slice-read-held
-slice-read-held c = search needs
-
--- src/lib.rt:147:16
 cast-held : tie.Need-cast-held
-cast-held c = ?
+cast-held c =
+    let s = c .before .before .before .before .before .before in
+    let below = s .pre .1 .0 .station in
+    let k-is = s .pre .1 .1 .0 in
+    omega (arith, s .pre .0 .inside (s .args .k) (omega (arith, k-is, below)), s .pre .0 .short)
 
--- src/lib.rt:148:48
 add-age-of : tie.Need-add-age-of
-add-age-of c = ?
+add-age-of c =
+    let s = c .before .before .before .before .before .before in
+    let below = s .pre .1 .0 .station in
+    let k-is = s .pre .1 .1 .0 in
+    omega (arith, s .pre .0 .inside (s .args .k) (omega (arith, k-is, below)), s .pre .0 .short)
 
--- src/lib.rt:148:35
-sub-age-of : tie.Need-sub-age-of
-sub-age-of c = search needs
-
--- src/lib.rt:148:35
-part-age-of-start : tie.Need-part-age-of-start
-part-age-of-start c = search needs
-
--- src/lib.rt:148:35
 part-age-of-end : tie.Need-part-age-of-end
-part-age-of-end c = ?
+part-age-of-end c =
+    let s = c .before .before .before .before .before .before in
+    let below = s .pre .1 .0 .station in
+    let k-is = s .pre .1 .1 .0 in
+    omega (arith, s .pre .0 .inside (s .args .k) (omega (arith, k-is, below)), s .pre .0 .short)
 
--- src/lib.rt:148:71
-add-age-of-2 : tie.Need-add-age-of-2
-add-age-of-2 c = search needs
-
--- src/lib.rt:148:60
-sub-age-of-2 : tie.Need-sub-age-of-2
-sub-age-of-2 c = search needs
-
--- src/lib.rt:148:60
-part-age-of-start-2 : tie.Need-part-age-of-start-2
-part-age-of-start-2 c = search needs
-
--- src/lib.rt:148:60
-part-age-of-end-2 : tie.Need-part-age-of-end-2
-part-age-of-end-2 c = search needs
-
--- src/lib.rt:148:9
-age-of-requires : tie.Need-age-of-requires
-age-of-requires c κs = search needs
-
--- src/lib.rt:151:25
-enum-told : tie.Need-enum-told
-enum-told c = search needs
-
--- src/lib.rt:151:25
-cast-places : tie.Need-cast-places
-cast-places c = search needs
-
--- src/lib.rt:151:13
-mul-places : tie.Need-mul-places
-mul-places c = search needs
-
--- src/lib.rt:151:13
-slice-write-places : tie.Need-slice-write-places
-slice-write-places c = search needs
-
--- src/lib.rt:152:32
-add-heed : tie.Need-add-heed
-add-heed c = search needs
-
--- src/lib.rt:152:21
-sub-heed : tie.Need-sub-heed
-sub-heed c = search needs
-
--- src/lib.rt:152:21
-part-heed-start : tie.Need-part-heed-start
-part-heed-start c = search needs
-
--- src/lib.rt:152:21
-part-heed-end : tie.Need-part-heed-end
-part-heed-end c = search needs
-
--- src/lib.rt:152:13
 heed-requires : tie.Need-heed-requires
-heed-requires c κs = ?
+heed-requires c κs =
+    let s = c .before .before .before .before .before .before .before .before .before .before .before .before .before .before in
+    let a = s .args in
+    let room = s .pre .0 in
+    let here = s .pre .1 .0 in
+    let k-is = s .pre .1 .1 .0 in
+    ((part-long (a .bytes .now) (a .at) (here .room), k-is ∙ sym (part-station (a .bytes .now) (a .at)), omega (arith, k-is, here .station, room .high), omega (arith, room .own-below, room .high), omega (arith, here .room, room .short)), ((room .lanes .lens-long, room .lanes .taken-long),
+    case-room (a .own) (a .bytes .now) (a .at) (notes (a .places .now) (a .lens .now) (a .taken .now) (a .e)) room here (a .k) k-is (c .before .before .before .before .before .before .before .before .before .if1 .left)))
 
--- src/lib.rt:154:26
-enum-told-2 : tie.Need-enum-told-2
-enum-told-2 c = search needs
-
--- src/lib.rt:127:1
-same-length : tie.Need-same-length
-same-length c = search needs
-
--- src/lib.rt:127:1
-same-length-2 : tie.Need-same-length-2
-same-length-2 c = search needs
-
--- src/lib.rt:127:1
-same-length-3 : tie.Need-same-length-3
-same-length-3 c = search needs
-
--- src/lib.rt:127:1
 returns-2 : tie.Need-returns-2
-returns-2 c = ?
+returns-2 c =
+    let s = c .before .before .before .before .before .before .before .before .before .before .before .before .before .before .before .before .before .before .before in
+    let a = s .args in
+    ends-newer (a .own) (a .bytes .now) (a .at) (a .k) (a .places .now) (a .lens .now) (a .taken .now) (a .e) (s .pre .0) (s .pre .1 .0) (s .pre .1 .1 .0)
+    (c .before .before .before .before .before .before .before .before .before .before .before .before .before .before .if1 .left) _ _ _ (s .pre .1 .1 .1) (sym (c .before .before .before .before .before .before .before .before .before .before .age-of .ensures) ∙ c .before .before .before .before .before .before .before .before .enum-told .given .1) (c .before .before .before .before .heed .ensures)
 
--- src/lib.rt:127:1
 returns-3 : tie.Need-returns-3
-returns-3 c = ?
+returns-3 c =
+    let s = c .before .before .before .before .before .before .before .before .before .before .before in
+    let a = s .args in
+    (ends-old (a .own) (a .bytes .now) (a .at) (a .k) (a .places .now) (a .lens .now) (a .taken .now) (a .e) (s .pre .0) (s .pre .1 .0) (s .pre .1 .1 .0)
+    (c .before .before .before .before .before .before .if1 .left) (sym (c .before .before .age-of .ensures) ∙ c .enum-told2 .given .1), s .pre .0)
 
 pub hear-record-spec : {M : Type 1} → statement M
 hear-record-spec =
     tie.close
     (tie.spec
     returns
-    mul-held
-    slice-read-held
+    (λ c. search needs)
+    (λ c. search needs)
     cast-held
     add-age-of
-    sub-age-of
-    part-age-of-start
+    (λ c. search needs)
+    (λ c. search needs)
     part-age-of-end
-    add-age-of-2
-    sub-age-of-2
-    part-age-of-start-2
-    part-age-of-end-2
-    age-of-requires
-    enum-told
-    cast-places
-    mul-places
-    slice-write-places
-    add-heed
-    sub-heed
-    part-heed-start
-    part-heed-end
+    (λ c. search needs)
+    (λ c. search needs)
+    (λ c. search needs)
+    (λ c. search needs)
+    (λ c κs. search needs)
+    (λ c. search needs)
+    (λ c. search needs)
+    (λ c. search needs)
+    (λ c. search needs)
+    (λ c. search needs)
+    (λ c. search needs)
+    (λ c. search needs)
+    (λ c. search needs)
     heed-requires
-    enum-told-2
-    same-length
-    same-length-2
-    same-length-3
+    (λ c. search needs)
+    (λ c. search needs)
+    (λ c. search needs)
+    (λ c. search needs)
     returns-2
     returns-3)
