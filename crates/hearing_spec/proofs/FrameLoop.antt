@@ -20,7 +20,7 @@ use Rattle.station_rules.proofs.Cells.{hearRecords-append, hearRecords-one, hea
 use Rattle.station_rules.proofs.LimitsHearing.{hearRecord-shaped}
 use Rattle.hearing_spec.specs.Buffer.{sizeIn, recordAt, recordsAt, firstRecords}
 use Rattle.hearing_spec.specs.StandsFor.{Notes, StandsFor, Stands}
-use Rattle.hearing_spec.specs.Room.{RecordRoom, Room, LastRoom, FrameRoom}
+use Rattle.hearing_spec.specs.Room.{mostBytes, RecordRoom, Room, LastRoom, FrameRoom}
 use Rattle.hearing_spec.specs.Promises.{Named, HearsRecord, Hears, HearsFrame}
 use Rattle.hearing_spec.proofs.Settled.{repeated, settled-again}
 
@@ -60,36 +60,52 @@ unfolding hearFrame
 frame-heard-is h rs e = rw (eq-eqb (h .refusal) done e)
 
 -- the invariant at `at`, r records being heard, since the notes were x₀ and the places of the last records last₀
-pub record FrameInv (own : ℕ) (bytes : List ℕ) (start : ℕ) (last₀ : List ℕ) (x₀ : Notes) (last : List ℕ) (x : Notes) (at : ℕ) : Type 0 where
+pub record FrameInv
+    (own : ℕ) (bytes : List ℕ) (start end : ℕ) (last₀ : List ℕ) (x₀ : Notes) (last : List ℕ) (x : Notes) (at : ℕ) : Type 0 where
   pub r : ℕ
   pub place : at ≡ start + 4 + 16 * r
   pub many : r ≤ getD bytes (start + 2) 0
+  pub ends : end ≡ start + 4 + 16 * getD bytes (start + 2) 0
+  pub frame : FrameRoom bytes start
   pub room : Room own bytes x
   pub last-room : LastRoom bytes last
   pub stands :
       (s : Station) (h : Hearing) → Named s (sizeIn bytes) own → Stands s bytes last₀ x₀ h → h .refusal ≡ done →
       Stands s bytes last x (hearRecords h (firstRecords bytes start r))
 
-module _ (own : ℕ) (bytes : List ℕ) (start : ℕ) (frame : FrameRoom bytes start) (last₀ : List ℕ) (x₀ : Notes) where
-  pub frame-first : Room own bytes x₀ → LastRoom bytes last₀ → FrameInv own bytes start last₀ x₀ last₀ x₀ (start + 4)
-  frame-first room last =
+-- what makes the accesses to the record at a place safe, and to the last one of its station
+pub record FrameStep (bytes : List ℕ) (end : ℕ) (last : List ℕ) (at : ℕ) : Type 0 where
+  pub here : RecordRoom bytes at
+  pub some : 0 < at
+  pub next : at + 16 ≤ end
+  pub station : getD bytes at 0 < 16
+  pub before : getD last (getD bytes at 0) 0 + 16 ≤ length bytes
+  pub long : length last ≡ 16
+  pub short : length bytes ≤ mostBytes
+
+module _ (own : ℕ) (bytes : List ℕ) (start end : ℕ) (last₀ : List ℕ) (x₀ : Notes) where
+  pub frame-first :
+      end ≡ start + 4 + 16 * getD bytes (start + 2) 0 → FrameRoom bytes start → Room own bytes x₀ → LastRoom bytes last₀ →
+      FrameInv own bytes start end last₀ x₀ last₀ x₀ (start + 4)
+  frame-first ends frame room last =
       record {
         r = 0;
         place = omega arith;
         many = omega arith;
+        ends = ends;
+        frame = frame;
         room = room;
         last-room = last;
         stands = λ s h i c f. rw (first-none h bytes start) c;
       }
 
-  module _ (last : List ℕ) (x : Notes) (at : ℕ) (inv : FrameInv own bytes start last₀ x₀ last x at) where
+  module _ (last : List ℕ) (x : Notes) (at : ℕ) (inv : FrameInv own bytes start end last₀ x₀ last x at) where
     -- the end of the frame
-    pub frame-end :
-        start + 4 + 16 * getD bytes (start + 2) 0 ≤ at → HearsFrame own bytes start last₀ x₀ last x
+    pub frame-end : end ≤ at → HearsFrame own bytes start last₀ x₀ last x
     frame-end over = record { refusal = λ s h i c f. here s h i c f .numbers .refusal; stands = λ s h i c f z. here s h i c f }
       where
         all : inv .r ≡ getD (drop start bytes) 2 0
-        all = omega (arith, inv .place, inv .many, getD-drop start bytes 2 0)
+        all = omega (arith, inv .place, inv .many, inv .ends, getD-drop start bytes 2 0)
 
         here :
             (s : Station) (h : Hearing) → Named s (sizeIn bytes) own → Stands s bytes last₀ x₀ h → h .refusal ≡ done →
@@ -100,16 +116,27 @@ module _ (own : ℕ) (bytes : List ℕ) (start : ℕ) (frame : FrameRoom bytes s
             ∙ sym (frame-heard-is h (recordsAt bytes start) f))
             (inv .stands s h i c f)
 
-    module _ (inside : at < start + 4 + 16 * getD bytes (start + 2) 0) where
+    module _ (inside : at < end) where
       more : inv .r < getD bytes (start + 2) 0
-      more = omega (arith, inv .place)
+      more = omega (arith, inv .place, inv .ends)
 
-      -- the record is within the bytes, and of one of the stations
-      pub record-room : RecordRoom bytes at
+      record-room : RecordRoom bytes at
       record-room =
           record {
-            room = omega (arith, inv .place, more, frame .room);
-            station = rw (← inv .place) at (frame .stations (inv .r) more);
+            room = omega (arith, inv .place, more, inv .frame .room);
+            station = rw (← inv .place) at (inv .frame .stations (inv .r) more);
+          }
+
+      pub frame-step : FrameStep bytes end last at
+      frame-step =
+          record {
+            here = record-room;
+            some = omega (arith, inv .place);
+            next = omega (arith, inv .place, inv .ends, more);
+            station = omega (arith, record-room .station, inv .room .high);
+            before = inv .last-room .inside (getD bytes at 0) (record-room .station);
+            long = inv .last-room .long;
+            short = inv .room .short;
           }
 
       below : (recordAt bytes at) .station < sizeIn bytes
@@ -117,12 +144,14 @@ module _ (own : ℕ) (bytes : List ℕ) (start : ℕ) (frame : FrameRoom bytes s
 
       -- the record has the bytes of the last one of its station
       pub frame-passed :
-          take 16 (drop (getD last (getD bytes at 0) 0) bytes) ≡ take 16 (drop at bytes) → FrameInv own bytes start last₀ x₀ last x (at + 16)
+          take 16 (drop (getD last (getD bytes at 0) 0) bytes) ≡ take 16 (drop at bytes) → FrameInv own bytes start end last₀ x₀ last x (at + 16)
       frame-passed equal =
           record {
             r = suc (inv .r);
             place = omega (arith, inv .place);
             many = more;
+            ends = inv .ends;
+            frame = inv .frame;
             room = inv .room;
             last-room = inv .last-room;
             stands = stands;
@@ -143,12 +172,14 @@ module _ (own : ℕ) (bytes : List ℕ) (start : ℕ) (frame : FrameRoom bytes s
       -- any other record
       pub frame-heard :
           (y : Notes) → HearsRecord own bytes at x y → Room own bytes y →
-          FrameInv own bytes start last₀ x₀ (set last (getD bytes at 0) at) y (at + 16)
+          FrameInv own bytes start end last₀ x₀ (set last (getD bytes at 0) at) y (at + 16)
       frame-heard y does room' =
           record {
             r = suc (inv .r);
             place = omega (arith, inv .place);
             many = more;
+            ends = inv .ends;
+            frame = inv .frame;
             room = room';
             last-room = last-room';
             stands = stands;
