@@ -41,9 +41,13 @@ heed-requires c κs =
     let a = s .args in
     let room = s .pre .0 in
     let here = s .pre .1 .0 in
-    let k-is = s .pre .1 .1 .0 in
-    ((part-long (a .bytes .now) (a .at) (here .room), k-is ∙ sym (part-station (a .bytes .now) (a .at)), omega (arith, k-is, here .station, room .high), omega (arith, room .own-below, room .high), omega (arith, here .room, room .short)), ((room .lanes .lens-long, room .lanes .taken-long),
-    case-room (a .own) (a .bytes .now) (a .at) (notes (a .places .now) (a .lens .now) (a .taken .now) (a .e)) room here (a .k) k-is (c .before .before .before .before .before .before .before .before .before .if1 .left)))
+    let k-is = s .pre .1 .1 .0 in (
+      (part-long (a .bytes .now) (a .at) (here .room), k-is ∙ sym (part-station (a .bytes .now) (a .at)), omega (arith, k-is, here .station, room .high), omega (arith, room .own-below, room .high), omega (arith, here .room, room .short)),
+      (
+        (room .lanes .lens-long, room .lanes .taken-long),
+        case-room (a .own) (a .bytes .now) (a .at) (notes (a .places .now) (a .lens .now) (a .taken .now) (a .e)) room here (a .k) k-is (c .before .before .before .before .before .before .before .before .before .if1 .left),
+      ),
+    )
 
 returns-2 : tie.Need-returns-2
 returns-2 c =
@@ -55,9 +59,11 @@ returns-2 c =
 returns-3 : tie.Need-returns-3
 returns-3 c =
     let s = c .before .before .before .before .before .before .before .before .before .before .before in
-    let a = s .args in
-    (ends-old (a .own) (a .bytes .now) (a .at) (a .k) (a .places .now) (a .lens .now) (a .taken .now) (a .e) (s .pre .0) (s .pre .1 .0) (s .pre .1 .1 .0)
-    (c .before .before .before .before .before .before .if1 .left) (sym (c .before .before .age-of .ensures) ∙ c .enum-told2 .given .1), s .pre .0)
+    let a = s .args in (
+      ends-old (a .own) (a .bytes .now) (a .at) (a .k) (a .places .now) (a .lens .now) (a .taken .now) (a .e) (s .pre .0) (s .pre .1 .0) (s .pre .1 .1 .0)
+          (c .before .before .before .before .before .before .if1 .left) (sym (c .before .before .age-of .ensures) ∙ c .enum-told2 .given .1),
+      s .pre .0,
+    )
 
 pub hear-record-spec : {M : Type 1} → statement M
 hear-record-spec =
