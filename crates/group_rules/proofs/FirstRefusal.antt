@@ -1,7 +1,7 @@
 -- The refusal of the first station that has one: it is done exactly where every station's is, and else it is that of some station.
 use Prim.Native.Nat.{ℕ, zero, suc, _<_}
-use mathlib.Core.Bool.{Bool, true, false, cond}
-use mathlib.Core.Path.{_≡_, refl, _∙_}
+use mathlib.Core.Bool.{Bool, true, false, cond, false≢true}
+use mathlib.Core.Path.{_≡_, refl, sym, _∙_}
 use native.Mathlib.Decide.{ℕ-discrete}
 use native.Mathlib.Omega.{arith}
 use lib.Dec.{eqb}
@@ -25,7 +25,7 @@ first-more k refusal = go (eqb (firstRefusal k refusal) done) refl
         (t : Bool) → eqb (firstRefusal k refusal) done ≡ t → cond t (refusal k) (firstRefusal k refusal) ≡ done →
         (firstRefusal k refusal ≡ done) × (refusal k ≡ done)
     go true e q = (eqb-true (firstRefusal k refusal) done e, q)
-    go false e q = absurd (omega (arith, eq-eqb (firstRefusal k refusal) done q, e))
+    go false e q = absurd (false≢true (sym e ∙ eq-eqb (firstRefusal k refusal) done q))
 
 pub first-done : (n : ℕ) (refusal : ℕ → ℕ) → firstRefusal n refusal ≡ done → (i : ℕ) → i < n → refusal i ≡ done
 first-done zero refusal e i l = absurd (omega arith)

@@ -223,7 +223,7 @@ module _ (R : Run) where
 
         overfull-after :
             (x : Bool) → b ≡ x →
-            (anyBelow (R .n) (full-at vs) || (takes s r && leb 2 ((laneAt s k) .len)))
+            (anyBelow (R .n) (λ q. gains R u p q (vs q) && leb 2 ((laneAt first q) .len)) || (takes s r && leb 2 ((laneAt s k) .len)))
             ≡ anyBelow (R .n) (λ q. gains R u p q (vs′ q) && leb 2 ((laneAt first q) .len))
         unfolding full-at
         overfull-after true f =

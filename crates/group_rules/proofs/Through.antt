@@ -53,17 +53,17 @@ pub below-through :
     heardBelow g masks i k ≡ heardThrough g masks i k
 unfolding heardBelow heardThrough
 below-through g masks i zero e = refl
-below-through g masks i (suc j) e = go (hearsIn (sizeOf g) masks i j) e
+below-through g masks i (suc j) e = go (hearsIn (sizeOf g) masks i j) (below-through g masks i j) e
   where
     go :
-        (t : Bool) →
+        (t : Bool) → ((heardThrough g masks i j) .refusal ≡ done → heardBelow g masks i j ≡ heardThrough g masks i j) →
         (cond t (hearRecords (heardThrough g masks i j) (sentRecords (stationAt g j))) (heardThrough g masks i j)) .refusal ≡ done →
         cond t (hearFrame (heardBelow g masks i j) (sentRecords (stationAt g j))) (heardBelow g masks i j)
         ≡ cond t (hearRecords (heardThrough g masks i j) (sentRecords (stationAt g j))) (heardThrough g masks i j)
-    go true q =
+    go true same q =
         let before = records-not-refused (heardThrough g masks i j) (sentRecords (stationAt g j)) q in
-        rw (below-through g masks i j before) (frame-heard (heardThrough g masks i j) (sentRecords (stationAt g j)) before)
-    go false q = below-through g masks i j q
+        rw (same before) (frame-heard (heardThrough g masks i j) (sentRecords (stationAt g j)) before)
+    go false same q = same q
 
 -- a round in which no hearing is refused is that of hearing on
 pub round-through :

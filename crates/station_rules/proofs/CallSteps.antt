@@ -11,6 +11,7 @@ use borrow.Author.Tests.{leb-true, ltb-true, le-leb, lt-leb, ne-eqb}
 use Rattle.kinds.specs.declared.Body.{Body}
 use Rattle.kind_limits.specs.Limits.{postable}
 use Rattle.frame_rules.specs.Record.{bytesInside}
+use Rattle.kinds.specs.Refusals.{done}
 use Rattle.frame_rules.specs.Frame.{validNumber, part, recordsInside, frameRefusal, recordsOf}
 use Rattle.frame_rules.proofs.Check.{accepted-frame, shape}
 use Rattle.places.proofs.Laws.{and-left, and-right, allBelow-at, allBelow-make}
