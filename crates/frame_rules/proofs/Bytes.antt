@@ -34,13 +34,13 @@ records-append n (r ∷ rs) ss =
     ∙ sym (append-assoc (recordBytes n r) (recordsBytes n rs) (recordsBytes n ss))
 
 pub framed-bytes : (n : ℕ) (r : Record) → recordBytes n (framed n r) ≡ recordBytes n r
-unfolding recordBytes
+unfolding recordBytes framed
 framed-bytes n r =
     ap
     (λ (w : ℕ).
-    (framed n r) .station
-    ∷ (framed n r) .count
-    ∷ kindOf ((framed n r) .body)
+    r .station
+    ∷ r .count
+    ∷ kindOf (r .body)
     ∷ 0
-    ∷ wordBytes (eventOf ((framed n r) .body)) ++ wordBytes (unsigned (argumentOf ((framed n r) .body))) ++ wordBytes w)
+    ∷ wordBytes (eventOf (r .body)) ++ wordBytes (unsigned (argumentOf (r .body))) ++ wordBytes w)
     (over-ext n (recordLabel (framed n r)) (recordLabel r) 0 (λ k l. framed-label n r k l))

@@ -42,9 +42,9 @@ labels-inside-requires c κs = search needs
 
 returns-4 : tie.Need-returns-4
 returns-4 c =
-    let a = c .before .before .before .before .before .before .before .before .args in
+    let a = c .before .before .before .before .before .before .before .args in
     c .labels-inside .ensures
-    ∙ by-labels (a .n) (a .k) (a .r) (c .before .before .before .before .before .before .if1 .left) (omega arith) (omega arith) (sym (c .before .before .before .body-inside .ensures) ∙ not-false _ (c .before .before .if3 .left))
+    ∙ by-labels (a .n) (a .k) (a .r) (c .before .before .before .before .before .if1 .left) (omega arith) (omega arith) (sym (c .before .before .body-inside .ensures) ∙ not-false _ (c .before .if3 .left))
 
 pub place-fits-spec : {M : Type 1} → statement M
 place-fits-spec =

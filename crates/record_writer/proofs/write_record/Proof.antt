@@ -17,7 +17,7 @@ kind-of-requires : tie.Need-kind-of-requires
 kind-of-requires c κs = search needs
 
 cast-part : tie.Need-cast-part
-cast-part c = omega (arith, c .kind-of .ensures, kind-small (c .before .before .before .args .r .body))
+cast-part c = omega (arith, c .kind-of .ensures, kind-small (c .before .before .args .r .body))
 
 slice-write-part-3 : tie.Need-slice-write-part-3
 slice-write-part-3 c = search needs
@@ -52,7 +52,7 @@ same-length c =
 
 returns : tie.Need-returns
 returns c =
-    let s = c .before .before .before .before .before .before .before .before .before .before .before .before .before .before .before .before .before .before .before .args in
+    let s = c .before .before .before .before .before .before .before .before .before .before .before .before .before .before .before .before .before .before .args in
     record-made (s .n) (s .r) (s .part .now) (omega arith)
     (c .before .before .before .before .before .before .before .before .before .before .before .before .before .before .before .before .kind-of .result)
     (c .before .before .before .before .before .before .before .before .before .before .before .before .before .before .event-of .result)
