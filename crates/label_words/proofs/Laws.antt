@@ -4,13 +4,12 @@ use Prim.Native.Nat.{ℕ, zero, suc, _+_, _*_, _/_, _%_, _^_, _≤_, _<_}
 use native.Mathlib.Nat.{div-one, div-div-eq-div-mul, pow-suc, pow-succ', pow-le-pow-right, one-le-pow, mod-lt, mul-assoc, zero-add, zero-mul, zero-div}
 use native.Mathlib.Decide.{decLt}
 use native.Mathlib.Omega.{arith}
-use mathlib.Core.Bool.{Bool, true, false, _||_}
+use mathlib.Core.Bool.{Bool, true, _||_}
 use mathlib.Core.Path.{_≡_, refl, sym, ap, ap₂, _∙_}
 use lib.Arith.{mod-mul}
 use lib.Dec.{eqb, ltb}
 use borrow.Author.Tests.{eqb-true, eq-eqb, lt-ltb, le-ltb}
 use Rattle.labels.specs.Label.{isLabel}
-use Rattle.places.specs.Places.{allBelow}
 use Rattle.places.proofs.Laws.{allBelow-at, allBelow-make}
 use Rattle.label_words.specs.Packing.{labelIn, labelsOver, labelsInside, zeroFrom}
 

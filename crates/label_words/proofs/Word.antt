@@ -4,13 +4,12 @@ use Prim.Native.Nat.{ℕ, zero, suc, _+_, _-_, _*_, _/_, _%_, _^_, _≤_, _<_, m
 use native.Mathlib.Nat.{mod-one, pow-suc, one-le-pow, div-eq-of-lt, div-lt-iff-lt-mul}
 use native.Mathlib.Decide.{decLt}
 use native.Mathlib.Omega.{arith}
-use mathlib.Core.Bool.{Bool, true, _&&_}
+use mathlib.Core.Bool.{_&&_}
 use mathlib.Core.Path.{_≡_, refl, sym, ap, ap₂, _∙_}
 use lib.Arith.{mod-mul}
 use lib.Bits.{bitAnd, bitOr, and-step, and-mask, and-zero-r, and-le-l, and-le-r, or-add-and}
-use lib.Dec.{leb, eqb}
+use lib.Dec.{eqb}
 use borrow.Author.Tests.{leb-true, eqb-true, le-leb, eq-eqb}
-use Rattle.labels.specs.Label.{isLabel}
 use Rattle.labels.proofs.Laws.{same-test}
 use Rattle.places.proofs.Laws.{both, and-both}
 use Rattle.label_words.specs.Packing.{labelIn, labelsInside, zeroFrom, wordInside}

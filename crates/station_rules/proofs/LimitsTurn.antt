@@ -19,7 +19,7 @@ use Rattle.station_rules.specs.declared.Station.{Station}
 use Rattle.lanes.specs.Lane.{pushed, popped}
 use Rattle.lanes.specs.Waiting.{nextEdit, withoutNext, waitingInside}
 use Rattle.lanes.proofs.WaitingLaws as waiting
-use Rattle.station_rules.specs.State.{Cell, cellOf, labelOf, ackedOf, recordOf, laneAt, withEntry, withCell}
+use Rattle.station_rules.specs.State.{Cell, cellOf, labelOf, ackedOf, laneAt, withEntry, withCell}
 use Rattle.station_rules.specs.Limits.{laneInside, takeable, stationInside}
 use Rattle.station_rules.specs.Turn.{airs, broadcastEnds, startsEdit, startedBody, passed, ownRecord, rewritten, afterTurn}
 use Rattle.station_rules.proofs.BodyLaws.{postable-takeable, takeable-inside, empty-inside, neutral-takeable}

@@ -1,7 +1,6 @@
 -- Every step of a station keeps the lengths of its arrays, for it only changes entries: each is made of setters, and these keep them.
-use Prim.Native.Nat.{ℕ}
 use mathlib.Core.Bool.{Bool, true, false, cond, _&&_}
-use mathlib.Core.Path.{_≡_, refl, _∙_}
+use mathlib.Core.Path.{_≡_, refl}
 use lib.Dec.{eqb, ltb}
 use borrow.Author.Tests.{ltb-true}
 use Rattle.kinds.specs.declared.Body.{Body}

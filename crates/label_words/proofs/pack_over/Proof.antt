@@ -1,12 +1,11 @@
 -- `label_words::pack_over` meets its contract. The loop goes down: its word is that of the labels from i to n over what is left of the old word, and each turn puts
 -- one more label below them.
-use Prim.Native.Nat.{ℕ, _+_, _-_, _*_, _/_, _^_, _≤_, _<_}
+use Prim.Native.Nat.{ℕ, _+_, _-_, _*_, _^_, _≤_, _<_}
 use native.Mathlib.Nat.{div-le-self}
 use native.Mathlib.Omega.{arith}
-use mathlib.Core.Path.{_≡_, sym, ap, _∙_}
+use mathlib.Core.Path.{_≡_, ap, _∙_}
 use lib.ListN.{getD}
 use borrow.Author.Needs.{needs}
-use Rattle.label_words.proofs.Word.{four}
 use Rattle.label_words.proofs.Made.{wordFrom, word-first, word-last, word-step, word-fits}
 use Rattle.label_words.proofs.pack_over.Statement.{statement}
 use Rattle.label_words.proofs.pack_over.Tie as tie
