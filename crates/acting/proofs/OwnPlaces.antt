@@ -24,7 +24,9 @@ module _ {A : Type 0} (test : ℕ → Bool) (f : ℕ → A) (d : A) where
   gather-entry zero k l e = absurd (omega arith)
   gather-entry (suc n) k l e =
       elim (ℕ-discrete k n) [
-        | yes z ↦ rw (z, sym (ap test (sym z)) ∙ e) (omega (arith, length-append (gather n test f) (f n ∷ [])), getD-at (gather n test f) (f n) [] d (length (gather n test f)) refl)
+        | yes z ↦
+            rw (z, sym (ap test z) ∙ e)
+            (omega (arith, length-append (gather n test f) (f n ∷ [])), getD-at (gather n test f) (f n) [] d (length (gather n test f)) refl)
         | no z ↦
             (let before = gather-entry n k (omega arith) e in (
               omega (arith, before .0, length-append (gather n test f) (cond (test n) (f n ∷ []) [])),
@@ -42,15 +44,15 @@ module _ (bytes : List ℕ) (start n : ℕ) (high : n ≤ 16) (held : ℕ → Bo
   before k = length (gather k held f)
 
   -- the frame's records are the held ones, each of the station of its place
-  record Holds : Type 0 where
-    station : (k : ℕ) → k < n → held k ≡ true → getD bytes (recordPlace start (before k)) 0 ≡ k
+  pub record Holds : Type 0 where
+    pub station : (k : ℕ) → k < n → held k ≡ true → getD bytes (recordPlace start (before k)) 0 ≡ k
 
   -- the records of the stations below m are placed
-  record Placed (m : ℕ) (places : List ℕ) : Type 0 where
-    long : length places ≡ 16
-    here : (k : ℕ) → k < m → held k ≡ true → getD places k 0 ≡ recordPlace start (before k)
-    none : (k : ℕ) → k < m → held k ≡ false → getD places k 0 ≡ 0
-    above : (k : ℕ) → m ≤ k → k < 16 → getD places k 0 ≡ 0
+  pub record Placed (m : ℕ) (places : List ℕ) : Type 0 where
+    pub long : length places ≡ 16
+    pub here : (k : ℕ) → k < m → held k ≡ true → getD places k 0 ≡ recordPlace start (before k)
+    pub none : (k : ℕ) → k < m → held k ≡ false → getD places k 0 ≡ 0
+    pub above : (k : ℕ) → m ≤ k → k < 16 → getD places k 0 ≡ 0
 
   abbrev upTo : ℕ → List ℕ
   upTo m = placesOf bytes start (replicate 16 0) (before m)
