@@ -4,3 +4,4 @@ pub mod OwnFrame
 pub mod PlacesLoop
 -- what was heard, read from the bytes
 pub mod TakingSteps
+pub mod ActSteps

@@ -62,7 +62,7 @@ module _ (c : tie.After-read-record Inv-loop μ-loop) where
 
 loop-again : tie.Need-loop-again Inv-loop μ-loop
 loop-again c =
-    let d = c .before .before in
+    let d = c .before .before .before in
     let l = (turn d) .before .loop in
     let w = low (turn d) in (
       omega (arith, (turn d) .loop-test .taken),
@@ -92,13 +92,13 @@ filled-spec =
     (λ c. omega arith)
     (λ c. omega (arith, low (c .before)))
     (λ c κs. simp (length-take, length-drop) (omega (arith, low (c .before .before))))
-    ?
-    ?
-    ?
+    (λ c. record { fits = omega (arith, k-low (c .before)) })
+    (λ c. record { fits = omega (arith, k-low (c .before)) })
+    (λ c. omega (arith, k-low (c .before), low (turn (c .before))))
     (λ c κs. tt)
-    ?
-    ?
-    ?
-    ?
+    (λ c. record { fits = omega (arith, k-low (c .before .before .before)) })
+    (λ c. omega (arith, k-low (c .before .before .before), low (turn (c .before .before .before))))
+    (λ c. record { fits = omega (arith, low (turn (c .before .before .before))) })
+    (λ c. omega (arith, (turn (c .before .before .before)) .loop-test .taken))
     loop-again
     returns)
