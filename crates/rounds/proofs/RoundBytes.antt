@@ -2,7 +2,7 @@
 use Prim.Native.Nat.{ℕ, zero, suc, _≤_, _<_}
 use mathlib.Core.Bool.{Bool, true, cond}
 use mathlib.Core.List.{List}
-use mathlib.Core.Path.{_≡_, refl, _∙_}
+use mathlib.Core.Path.{_≡_, refl, sym}
 use native.Mathlib.Omega.{arith}
 use lib.ListN.{getD}
 use borrow.Author.Tests.{lt-ltb}
@@ -26,8 +26,7 @@ module _ (g : List Station) (masks bytes : List ℕ) (sent : AllSent g bytes) (i
   unfolding hearSenders heardBelow
   heard-below zero l = refl
   heard-below (suc j) l =
-      rw (
-        hears-is j l,
-        heard-below j (omega arith),
-        records-of g (sent .inside) (sent .counts) bytes (sent .frames) j l,
-      )
+      let hears = sym (hears-is j l) in
+      let before = heard-below j (omega arith) in
+      let records = records-of g (sent .inside) (sent .counts) bytes (sent .frames) j l in
+      λ t. cond (hears t) (hearFrame (before t) (records t)) (before t)
