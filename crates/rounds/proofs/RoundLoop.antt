@@ -161,6 +161,11 @@ module _ (g : List Station) (masks : List ℕ) (none : Report) (bytes : List ℕ
                   ];
             }
 
+        -- as the code has it
+        pub listening-next :
+            (w v : ℕ) → w ≡ 16 → v ≡ 30 → Listening g masks bytes all (withPart w (16 * j) places places') (withPart v (30 * j) taken taken') (j + 1)
+        listening-next w v p q = rw (p, q) listening-more
+
 -- the station k that has taken what it heard into its state, and what the round reports of it, as the loop of turns sees them
 abbrev pub actedAt : List Station → List ℕ → List Ear → List ℕ → List ℕ → ℕ → Station
 actedAt g bytes ears places taken k =

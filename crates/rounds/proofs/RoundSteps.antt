@@ -1,11 +1,11 @@
 -- The answers of a round, each with the tests on its way decided.
-use Prim.Native.Nat.{ℕ, _+_, _≤_, _<_}
-use native.Mathlib.Numerals.{add-one}
+use Prim.Native.Nat.{ℕ, _≤_}
 use mathlib.Core.Bool.{Bool, true, false, false≢true}
 use mathlib.Core.List.{List}
 use mathlib.Core.Path.{_≡_, refl, sym, ap, _∙_}
+use native.Mathlib.Omega.{arith}
 use borrow.Author.Tests.{le-leb, lt-ltb}
-use Rattle.places.specs.Places.{allBelow, anyBelow}
+use Rattle.places.specs.Places.{allBelow}
 use Rattle.places.proofs.Laws.{and-both}
 use Rattle.frame_rules.specs.Frame.{validNumber}
 use Rattle.station_rules.specs.declared.Station.{Station}
@@ -30,6 +30,16 @@ size-outside g v = go (groupInside g) refl
         (sym v
         ∙ and-both (and-both (le-leb 1 (sizeOf g) (group-low g e)) (le-leb (sizeOf g) 16 (group-high g e))) (lt-ltb 0 (sizeOf g) (group-low g e))))
     go false e = e
+
+-- what is judged of the stations is a small number
+pub judged-small : (g : List Station) (k : ℕ) → judgedBelow g k ≤ 10
+judged-small g k = go (allBelow k (memberInside g)) refl (allBelow k (λ j. ownCountInside (stationAt g j))) refl
+  where
+    go :
+        (a : Bool) → allBelow k (memberInside g) ≡ a → (b : Bool) → allBelow k (λ j. ownCountInside (stationAt g j)) ≡ b → judgedBelow g k ≤ 10
+    go true p true q = omega (arith, judged-is g k true p true q)
+    go true p false q = omega (arith, judged-is g k true p false q)
+    go false p b q = omega (arith, judged-is g k false p b q)
 
 module _ (g : List Station) (masks : List ℕ) where
   -- a group of which a station is refused

@@ -1,359 +1,284 @@
+-- `rounds::round` meets its contract. First the frames: those of the stations below k stand, where none of them is refused. Then the stations hear, and those below j have heard. Then each acts and takes its
+-- turn, and those below i have. The lemmas of `RoundLoop` say what one more station does in each loop.
+use Prim.Native.Nat.{ℕ, _+_, _-_, _*_, _≤_, _<_}
+use mathlib.Core.Bool.{true, false}
+use mathlib.Core.List.{List}
+use mathlib.Core.Path.{_≡_, refl, sym, ap, subst, _∙_}
+use native.Mathlib.Omega.{arith}
+use borrow.Author.Needs.{needs}
+use borrow.Author.Tests.{not-true, not-false}
+use lib.ListN.{getD, take, drop, length, length-take, length-drop}
+use Rattle.station_rules.specs.declared.Station.{Station}
+use Rattle.station_rules.proofs.CallSteps.{valid-parts}
+use Rattle.hearing_spec.specs.declared.Ear.{Ear}
+use Rattle.hearing_spec.specs.StandsFor.{actsOn}
+use Rattle.acting.specs.Listened.{heardNotes, Readable}
+use Rattle.group_rules.specs.declared.Report.{Report}
+use Rattle.group_rules.specs.State.{stationAt, sizeOf}
+use Rattle.group_frames.proofs.WrittenFrames.{SentBelow, AllSent, sent-none, sent-more, all-sent}
+use Rattle.group_rules.proofs.CallSteps.{round-outside}
+use Rattle.rounds.proofs.GroupLengths.{group-lengths}
+use Rattle.rounds.proofs.Parts.{part}
+use Rattle.rounds.proofs.HeardTurn.{takingsIn}
+use Rattle.rounds.proofs.RoundSteps.{size-outside, judged-small, round-judged}
+use Rattle.rounds.proofs.RoundLoop.{refusedRound, Begun, noEar, Listening, listening-none, listening-hears, listening-zeros, listening-taken, listening-stopped, listening-next, MayTurn, Turning, turning-none, turning-size, turning-turns, turning-more, may-turn-all, turning-done}
 use Rattle.rounds.proofs.round.Statement.{statement}
 use Rattle.rounds.proofs.round.Tie as tie
-use Rattle.rounds.proofs.round.Reads as reads
-use Rattle.rounds.proofs.round.Lts as lts
-use Rattle.acting.proofs.acted.Reads as acted-reads
-use Rattle.acting.proofs.takings_of.Reads as takings-of-reads
-use Rattle.group_frames.proofs.send.Reads as send-reads
-use Rattle.listening.proofs.listen.Reads as listen-reads
-use Rattle.numbers.proofs.valid_number.Reads as valid-number-reads
-use Rattle.rounds.proofs.no_report.Reads as no-report-reads
-use Rattle.station_turns.proofs.take_turn.Reads as take-turn-reads
 
 abbrev Inv-loop : tie.InvT-loop
-Inv-loop masks group reports ears bytes₀ places taken n refusal₀ k₀ bytes refusal k = ?
+Inv-loop masks group reports ears bytes₀ places taken n refusal₀ k₀ bytes refusal k =
+    (n ≡ sizeOf group) × (1 ≤ n) × (k ≤ n) × (n ≤ 16) × SentBelow group k refusal bytes
 
 abbrev μ-loop : tie.MeasureT-loop
-μ-loop masks group reports ears bytes₀ places taken n refusal₀ k₀ bytes refusal k = ?
+μ-loop masks group reports ears bytes₀ places taken n refusal₀ k₀ bytes refusal k = n - k
 
 abbrev Inv-loop2 : tie.InvT-loop2
-Inv-loop2 masks group reports ears₀ bytes places₀ taken₀ n refusal k j₀ ears places taken j = ?
+Inv-loop2 masks group reports ears₀ bytes places₀ taken₀ n refusal k j₀ ears places taken j =
+    (j ≤ n) × (n ≤ 16) × Listening group masks bytes ears places taken j
 
 abbrev μ-loop2 : tie.MeasureT-loop2
-μ-loop2 masks group reports ears₀ bytes places₀ taken₀ n refusal k j₀ ears places taken j = ?
+μ-loop2 masks group reports ears₀ bytes places₀ taken₀ n refusal k j₀ ears places taken j = n - j
 
 abbrev Inv-loop3 : tie.InvT-loop3
-Inv-loop3 group₀ reports₀ ears bytes places taken n refusal k j i₀ group reports i = ?
+Inv-loop3 group₀ reports₀ ears bytes places taken n refusal k j i₀ group reports i =
+    (i ≤ n) × MayTurn group₀ bytes ears places taken n × Turning group₀ bytes ears places taken reports₀ group reports i
 
 abbrev μ-loop3 : tie.MeasureT-loop3
-μ-loop3 group₀ reports₀ ears bytes places taken n refusal k j i₀ group reports i = ?
+μ-loop3 group₀ reports₀ ears bytes places taken n refusal k j i₀ group reports i = n - i
 
--- src/lib.rt:37:9
-no-report-requires :
-    tie.Need-no-report-requires Inv-loop μ-loop Inv-loop2 μ-loop2 Inv-loop3 μ-loop3
-no-report-requires c κs = ?
+-- ---- the frames
 
--- src/lib.rt:50:17
-array-copy-out-first :
-    tie.Need-array-copy-out-first Inv-loop μ-loop Inv-loop2 μ-loop2 Inv-loop3 μ-loop3
-array-copy-out-first c = ?
-
--- src/lib.rt:52:9
-valid-number-requires :
-    tie.Need-valid-number-requires Inv-loop μ-loop Inv-loop2 μ-loop2 Inv-loop3 μ-loop3
-valid-number-requires c κs = ?
-
--- src/lib.rt:54:22
-cast-t36 : tie.Need-cast-t36 Inv-loop μ-loop Inv-loop2 μ-loop2 Inv-loop3 μ-loop3
-cast-t36 c = ?
-
--- src/lib.rt:53:9
 returns : tie.Need-returns Inv-loop μ-loop Inv-loop2 μ-loop2 Inv-loop3 μ-loop3
-returns c = ?
+returns c =
+    let a = c .before .before .before .before .args in
+    ap (refusedRound 2 (a .g)) (c .before .before .before .no-report .ensures)
+    ∙ round-outside (a .g) (a .t2) (size-outside (a .g) (sym (c .before .valid-number .ensures) ∙ not-true _ (c .if1 .taken)))
 
--- src/lib.rt:61:5
 loop-holds : tie.Need-loop-holds Inv-loop μ-loop Inv-loop2 μ-loop2 Inv-loop3 μ-loop3
-loop-holds c = ?
+loop-holds c =
+    let g = c .before .before .before .before .args .g in
+    let v = valid-parts (sizeOf g) 0 (sym (c .before .valid-number .ensures) ∙ not-false _ (c .if1 .left)) in
+    (refl, v .0, omega arith, v .1, sent-none g _ refl)
 
--- src/lib.rt:62:38
-slice-aggregate-send :
-    tie.Need-slice-aggregate-send Inv-loop μ-loop Inv-loop2 μ-loop2 Inv-loop3 μ-loop3
-slice-aggregate-send c = ?
-
--- src/lib.rt:62:50
-mul-send : tie.Need-mul-send Inv-loop μ-loop Inv-loop2 μ-loop2 Inv-loop3 μ-loop3
-mul-send c = ?
-
--- src/lib.rt:62:50
-array-copy-out-send :
-    tie.Need-array-copy-out-send Inv-loop μ-loop Inv-loop2 μ-loop2 Inv-loop3 μ-loop3
-array-copy-out-send c = ?
-
--- src/lib.rt:62:9
-send-requires : tie.Need-send-requires Inv-loop μ-loop Inv-loop2 μ-loop2 Inv-loop3 μ-loop3
-send-requires c κs = ?
-
--- src/lib.rt:63:9
-add-k : tie.Need-add-k Inv-loop μ-loop Inv-loop2 μ-loop2 Inv-loop3 μ-loop3
-add-k c = ?
-
--- src/lib.rt:61:5
-loop-less : tie.Need-loop-less Inv-loop μ-loop Inv-loop2 μ-loop2 Inv-loop3 μ-loop3
-loop-less c = ?
-
--- src/lib.rt:61:5
 loop-again : tie.Need-loop-again Inv-loop μ-loop Inv-loop2 μ-loop2 Inv-loop3 μ-loop3
-loop-again c = ?
+loop-again c =
+    let l = c .before .before .before .before .before .loop in
+    let sent = c .before .send in
+    let below = c .before .before .before .before .loop-test .taken in (
+      refl,
+      l .inv .1,
+      omega (arith, below),
+      l .inv .3,
+      sent-more (c .before .before .before .before .before .before .before .before .before .before .args .g) (l .k) (omega (arith, below, l .inv .3)) (l .refusal) (l .bytes) (l .inv .4) _ (sent .ensures .1) (sent .result)
+          (sent .ensures .0),
+    )
 
--- src/lib.rt:67:22
-cast-t46 : tie.Need-cast-t46 Inv-loop μ-loop Inv-loop2 μ-loop2 Inv-loop3 μ-loop3
-cast-t46 c = ?
-
--- src/lib.rt:66:9
 returns-2 : tie.Need-returns-2 Inv-loop μ-loop Inv-loop2 μ-loop2 Inv-loop3 μ-loop3
-returns-2 c = ?
+returns-2 c =
+    let a = c .before .before .before .before .before .before .before .args in
+    let l = c .before .before .loop in
+    ap (refusedRound (l .refusal) (a .g)) (c .before .before .before .before .before .before .no-report .ensures)
+    ∙ round-judged (a .g) (a .t2) (l .k) (l .refusal) (omega (arith, l .inv .2, c .before .loop-test .left)) (l .inv .1) (l .inv .4 .judged) (c .if2 .taken)
 
--- src/lib.rt:73:5
+-- all frames stand
+begun : (c : tie.Else2 Inv-loop μ-loop Inv-loop2 μ-loop2 Inv-loop3 μ-loop3) → Begun (c .before .before .before .before .before .before .before .args .g) (c .before .before .before .before .before .before .no-report .result) (c .before .before .loop .bytes)
+begun c =
+    let l = c .before .before .loop in
+    let g = c .before .before .before .before .before .before .before .args .g in
+    record {
+      none-is = c .before .before .before .before .before .before .no-report .ensures;
+      sent = all-sent g (l .k) (l .refusal) (l .bytes) (l .inv .4) (omega (arith, l .inv .2, c .before .loop-test .left)) (l .inv .1) (c .if2 .left);
+      shape = group-lengths g _ (c .before .before .before .before .before .before .before .good .0);
+    }
+
+-- ---- hearing
+
 loop2-holds : tie.Need-loop2-holds Inv-loop μ-loop Inv-loop2 μ-loop2 Inv-loop3 μ-loop3
-loop2-holds c = ?
+loop2-holds c =
+    let a = c .before .before .before .before .before .before .before .args in
+    (omega arith, c .before .before .loop .inv .3, listening-none (a .g) (a .t2) _ _ (begun c) _ refl)
 
--- src/lib.rt:74:17
-mul-a : tie.Need-mul-a Inv-loop μ-loop Inv-loop2 μ-loop2 Inv-loop3 μ-loop3
-mul-a c = ?
+module _ (c : tie.In-loop2 Inv-loop μ-loop Inv-loop2 μ-loop2 Inv-loop3 μ-loop3) where
+  abbrev g : List Station
+  g = c .before .before .before .before .before .before .before .before .before .args .g
 
--- src/lib.rt:75:17
-mul-b : tie.Need-mul-b Inv-loop μ-loop Inv-loop2 μ-loop2 Inv-loop3 μ-loop3
-mul-b c = ?
+  abbrev masks : List ℕ
+  masks = c .before .before .before .before .before .before .before .before .before .args .t2
 
--- src/lib.rt:76:39
-slice-aggregate-listen :
-    tie.Need-slice-aggregate-listen Inv-loop μ-loop Inv-loop2 μ-loop2 Inv-loop3 μ-loop3
-slice-aggregate-listen c = ?
+  abbrev j : ℕ
+  j = c .before .loop2 .j
 
--- src/lib.rt:76:47
-mul-listen : tie.Need-mul-listen Inv-loop μ-loop Inv-loop2 μ-loop2 Inv-loop3 μ-loop3
-mul-listen c = ?
+  ready : Begun g (c .before .before .before .before .before .before .before .before .no-report .result) (c .before .before .before .before .loop .bytes)
+  ready = begun (c .before .before)
 
--- src/lib.rt:76:47
-array-read-listen : tie.Need-array-read-listen Inv-loop μ-loop Inv-loop2 μ-loop2 Inv-loop3 μ-loop3
-array-read-listen c = ?
+  heard-so-far : Listening g masks (c .before .before .before .before .loop .bytes) (c .before .loop2 .ears) (c .before .loop2 .places) (c .before .loop2 .taken) j
+  heard-so-far = c .before .loop2 .inv .2
 
--- src/lib.rt:76:72
-add-listen : tie.Need-add-listen Inv-loop μ-loop Inv-loop2 μ-loop2 Inv-loop3 μ-loop3
-add-listen c = ?
+  low :
+      (j < 16)
+      × (j < sizeOf g)
+      × (length (c .before .loop2 .ears) ≡ 16)
+      × (length (c .before .loop2 .places) ≡ 256)
+      × (length (c .before .loop2 .taken) ≡ 480)
+      × (16 * j + 16 - 16 * j ≡ 16)
+      × (30 * j + 30 - 30 * j ≡ 30)
+  low =
+      let l = heard-so-far in (
+        omega (arith, c .loop2-test .taken, c .before .loop2 .inv .1),
+        c .loop2-test .taken,
+        l .ears-long,
+        l .places-long,
+        l .taken-long,
+        omega arith,
+        omega arith,
+      )
 
--- src/lib.rt:76:57
-mul-places : tie.Need-mul-places Inv-loop μ-loop Inv-loop2 μ-loop2 Inv-loop3 μ-loop3
-mul-places c = ?
-
--- src/lib.rt:76:57
-sub-listen : tie.Need-sub-listen Inv-loop μ-loop Inv-loop2 μ-loop2 Inv-loop3 μ-loop3
-sub-listen c = ?
-
--- src/lib.rt:76:57
-part-places-start : tie.Need-part-places-start Inv-loop μ-loop Inv-loop2 μ-loop2 Inv-loop3 μ-loop3
-part-places-start c = ?
-
--- src/lib.rt:76:57
-part-places-end : tie.Need-part-places-end Inv-loop μ-loop Inv-loop2 μ-loop2 Inv-loop3 μ-loop3
-part-places-end c = ?
-
--- src/lib.rt:76:95
-add-listen-2 : tie.Need-add-listen-2 Inv-loop μ-loop Inv-loop2 μ-loop2 Inv-loop3 μ-loop3
-add-listen-2 c = ?
-
--- src/lib.rt:76:81
-mul-taken : tie.Need-mul-taken Inv-loop μ-loop Inv-loop2 μ-loop2 Inv-loop3 μ-loop3
-mul-taken c = ?
-
--- src/lib.rt:76:81
-sub-listen-2 : tie.Need-sub-listen-2 Inv-loop μ-loop Inv-loop2 μ-loop2 Inv-loop3 μ-loop3
-sub-listen-2 c = ?
-
--- src/lib.rt:76:81
-part-taken-start : tie.Need-part-taken-start Inv-loop μ-loop Inv-loop2 μ-loop2 Inv-loop3 μ-loop3
-part-taken-start c = ?
-
--- src/lib.rt:76:81
-part-taken-end : tie.Need-part-taken-end Inv-loop μ-loop Inv-loop2 μ-loop2 Inv-loop3 μ-loop3
-part-taken-end c = ?
-
--- src/lib.rt:76:104
-mul-listen-2 : tie.Need-mul-listen-2 Inv-loop μ-loop Inv-loop2 μ-loop2 Inv-loop3 μ-loop3
-mul-listen-2 c = ?
-
--- src/lib.rt:76:104
-array-copy-out-listen :
-    tie.Need-array-copy-out-listen Inv-loop μ-loop Inv-loop2 μ-loop2 Inv-loop3 μ-loop3
-array-copy-out-listen c = ?
-
--- src/lib.rt:76:13
 listen-requires : tie.Need-listen-requires Inv-loop μ-loop Inv-loop2 μ-loop2 Inv-loop3 μ-loop3
-listen-requires c κs = ?
+listen-requires c κs =
+    let d = c .before .before .before .before in
+    let l = low d in
+    let h = listening-hears (g d) (masks d) _ _ (ready d) (j d) (l .1) in
+    let z = listening-zeros (g d) (masks d) _ _ (ready d) _ _ _ (j d) (heard-so-far d) (l .0) in
+    let t = listening-taken (g d) (masks d) _ _ (ready d) _ _ _ (j d) (heard-so-far d) (l .0) in (
+      h .0,
+      (
+        h .1,
+        (
+          ap (λ (m : ℕ). part m (16 * j d) (d .before .loop2 .places)) (l .5) ∙ z,
+          ap (λ (m : ℕ). length (part m (30 * j d) (d .before .loop2 .taken))) (l .6) ∙ t,
+        ),
+      ),
+    )
 
--- src/lib.rt:79:26
-cast-t74 : tie.Need-cast-t74 Inv-loop μ-loop Inv-loop2 μ-loop2 Inv-loop3 μ-loop3
-cast-t74 c = ?
-
--- src/lib.rt:78:13
 returns-3 : tie.Need-returns-3 Inv-loop μ-loop Inv-loop2 μ-loop2 Inv-loop3 μ-loop3
-returns-3 c = ?
+returns-3 c =
+    let d = c .before .before .before .before .before .before .before .before .before .before in
+    let l = low d in
+    let h = c .before .before .before .before .before .listen in
+    listening-stopped (g d) (masks d) _ _ (ready d) _ _ _ (j d) (heard-so-far d) (l .0) (l .1) _ _ (h .result) (h .ensures) (c .before .if3 .taken)
 
--- src/lib.rt:84:9
-mul-ears : tie.Need-mul-ears Inv-loop μ-loop Inv-loop2 μ-loop2 Inv-loop3 μ-loop3
-mul-ears c = ?
-
--- src/lib.rt:84:9
-array-set-from-ears :
-    tie.Need-array-set-from-ears Inv-loop μ-loop Inv-loop2 μ-loop2 Inv-loop3 μ-loop3
-array-set-from-ears c = ?
-
--- src/lib.rt:85:9
-add-j : tie.Need-add-j Inv-loop μ-loop Inv-loop2 μ-loop2 Inv-loop3 μ-loop3
-add-j c = ?
-
--- src/lib.rt:73:5
-loop2-less : tie.Need-loop2-less Inv-loop μ-loop Inv-loop2 μ-loop2 Inv-loop3 μ-loop3
-loop2-less c = ?
-
--- src/lib.rt:73:5
 loop2-again : tie.Need-loop2-again Inv-loop μ-loop Inv-loop2 μ-loop2 Inv-loop3 μ-loop3
-loop2-again c = ?
+loop2-again c =
+    let d = c .before .before .before .before .before .before .before .before .before in
+    let l = low d in
+    let h = c .before .before .before .before .listen in (
+      omega (arith, d .loop2-test .taken),
+      d .before .loop2 .inv .1,
+      listening-next (g d) (masks d) _ _ (ready d) _ _ _ (j d) (heard-so-far d) (l .0) (l .1) _ _ (h .result) (h .ensures) (c .if3 .left) _ _ (l .5) (l .6),
+    )
 
--- src/lib.rt:88:5
+-- ---- the turns
+
+-- all have heard
+all-heard :
+    (c : tie.After-loop2 Inv-loop μ-loop Inv-loop2 μ-loop2 Inv-loop3 μ-loop3) →
+    Listening (c .before .before .before .before .before .before .before .before .before .args .g) (c .before .before .before .before .before .before .before .before .before .args .t2) (c .before .before .before .before .loop .bytes) (c .before .loop2 .ears) (c .before .loop2 .places) (c .before .loop2 .taken)
+    (sizeOf (c .before .before .before .before .before .before .before .before .before .args .g))
+all-heard c =
+    let l = c .before .loop2 in
+    let e : l .j ≡ sizeOf (c .before .before .before .before .before .before .before .before .before .args .g) = omega (arith, l .inv .0, c .loop2-test .left) in
+    rw e at (l .inv .2)
+
 loop3-holds : tie.Need-loop3-holds Inv-loop μ-loop Inv-loop2 μ-loop2 Inv-loop3 μ-loop3
-loop3-holds c = ?
+loop3-holds c =
+    let a = c .before .before .before .before .before .before .before .before .before .args in (
+      omega arith,
+      may-turn-all (a .g) (a .t2) _ _ (begun (c .before .before)) _ _ _ (sizeOf (a .g)) refl (all-heard c),
+      turning-none _ _ _ _ _ _,
+    )
 
--- src/lib.rt:89:17
-mul-a-2 : tie.Need-mul-a-2 Inv-loop μ-loop Inv-loop2 μ-loop2 Inv-loop3 μ-loop3
-mul-a-2 c = ?
+module _ (c : tie.In-loop3 Inv-loop μ-loop Inv-loop2 μ-loop2 Inv-loop3 μ-loop3) where
+  abbrev i : ℕ
+  i = c .before .loop3 .i
 
--- src/lib.rt:90:17
-mul-b-2 : tie.Need-mul-b-2 Inv-loop μ-loop Inv-loop2 μ-loop2 Inv-loop3 μ-loop3
-mul-b-2 c = ?
+  may : MayTurn (c .before .before .before .before .before .before .before .before .before .before .before .args .g) (c .before .before .before .before .before .before .loop .bytes) (c .before .before .before .loop2 .ears) (c .before .before .before .loop2 .places) (c .before .before .before .loop2 .taken) (sizeOf (c .before .before .before .before .before .before .before .before .before .before .before .args .g))
+  may = c .before .loop3 .inv .1
 
--- src/lib.rt:91:21
-mul-heard : tie.Need-mul-heard Inv-loop μ-loop Inv-loop2 μ-loop2 Inv-loop3 μ-loop3
-mul-heard c = ?
+  low3 :
+      (i < 16)
+      × (length (c .before .before .before .loop2 .ears) ≡ 16)
+      × (length (c .before .before .before .loop2 .places) ≡ 256)
+      × (length (c .before .before .before .loop2 .taken) ≡ 480)
+      × (16 * i + 16 - 16 * i ≡ 16)
+      × (30 * i + 30 - 30 * i ≡ 30)
+  low3 = (omega (arith, c .loop3-test .taken, may .high), may .ears-long, may .places-long, may .taken-long, omega arith, omega arith)
 
--- src/lib.rt:91:21
-array-copy-out-heard :
-    tie.Need-array-copy-out-heard Inv-loop μ-loop Inv-loop2 μ-loop2 Inv-loop3 μ-loop3
-array-copy-out-heard c = ?
+-- what the loop sees
+module _ (c : tie.In-loop3 Inv-loop μ-loop Inv-loop2 μ-loop2 Inv-loop3 μ-loop3) where
+  abbrev group₀ : List Station
+  group₀ = c .before .before .before .before .before .before .before .before .before .before .before .args .g
 
--- src/lib.rt:92:42
-slice-aggregate-takings-of :
-    tie.Need-slice-aggregate-takings-of Inv-loop μ-loop Inv-loop2 μ-loop2 Inv-loop3 μ-loop3
-slice-aggregate-takings-of c = ?
+  abbrev bytes : List ℕ
+  bytes = c .before .before .before .before .before .before .loop .bytes
 
--- src/lib.rt:92:60
-add-takings-of : tie.Need-add-takings-of Inv-loop μ-loop Inv-loop2 μ-loop2 Inv-loop3 μ-loop3
-add-takings-of c = ?
+  abbrev ears : List Ear
+  ears = c .before .before .before .loop2 .ears
 
--- src/lib.rt:92:50
-mul-takings-of : tie.Need-mul-takings-of Inv-loop μ-loop Inv-loop2 μ-loop2 Inv-loop3 μ-loop3
-mul-takings-of c = ?
+  abbrev places : List ℕ
+  places = c .before .before .before .loop2 .places
 
--- src/lib.rt:92:50
-sub-takings-of : tie.Need-sub-takings-of Inv-loop μ-loop Inv-loop2 μ-loop2 Inv-loop3 μ-loop3
-sub-takings-of c = ?
+  abbrev taken : List ℕ
+  taken = c .before .before .before .loop2 .taken
 
--- src/lib.rt:92:50
-part-takings-of-start :
-    tie.Need-part-takings-of-start Inv-loop μ-loop Inv-loop2 μ-loop2 Inv-loop3 μ-loop3
-part-takings-of-start c = ?
+  abbrev group : List Station
+  group = c .before .loop3 .group
 
--- src/lib.rt:92:50
-part-takings-of-end :
-    tie.Need-part-takings-of-end Inv-loop μ-loop Inv-loop2 μ-loop2 Inv-loop3 μ-loop3
-part-takings-of-end c = ?
+  abbrev heard : Ear
+  heard = getD ears (i c) noEar
 
--- src/lib.rt:92:13
-takings-of-requires :
-    tie.Need-takings-of-requires Inv-loop μ-loop Inv-loop2 μ-loop2 Inv-loop3 μ-loop3
-takings-of-requires c κs = ?
+  reads : Readable bytes (part 16 (16 * i c) places) (part 30 (30 * i c) taken) (heard .len)
+  reads = may c .readable (i c) (c .loop3-test .taken)
 
--- src/lib.rt:93:42
-slice-aggregate-acted :
-    tie.Need-slice-aggregate-acted Inv-loop μ-loop Inv-loop2 μ-loop2 Inv-loop3 μ-loop3
-slice-aggregate-acted c = ?
+  -- as the code has it
+  code-reads : Readable bytes (part (16 * i c + 16 - 16 * i c) (16 * i c) places) (part (30 * i c + 30 - 30 * i c) (30 * i c) taken) (heard .len)
+  code-reads =
+      subst (λ (w : ℕ). Readable bytes (part w (16 * i c) places) (part (30 * i c + 30 - 30 * i c) (30 * i c) taken) (heard .len)) (sym (low3 c .4))
+      (subst (λ (v : ℕ). Readable bytes (part 16 (16 * i c) places) (part v (30 * i c) taken) (heard .len)) (sym (low3 c .5)) reads)
 
--- src/lib.rt:93:61
-add-acted : tie.Need-add-acted Inv-loop μ-loop Inv-loop2 μ-loop2 Inv-loop3 μ-loop3
-add-acted c = ?
+  code-acts :
+      actsOn (stationAt group (i c)) bytes
+      (heardNotes (part (16 * i c + 16 - 16 * i c) (16 * i c) places) (part (30 * i c + 30 - 30 * i c) (30 * i c) taken) heard)
+      ≡ actsOn (stationAt group (i c)) bytes (heardNotes (part 16 (16 * i c) places) (part 30 (30 * i c) taken) heard)
+  code-acts t =
+      actsOn (stationAt group (i c)) bytes (heardNotes (part (low3 c .4 t) (16 * i c) places) (part (low3 c .5 t) (30 * i c) taken) heard)
 
--- src/lib.rt:93:50
-mul-acted : tie.Need-mul-acted Inv-loop μ-loop Inv-loop2 μ-loop2 Inv-loop3 μ-loop3
-mul-acted c = ?
+  code-takings : takingsIn bytes (part (30 * i c + 30 - 30 * i c) (30 * i c) taken) (heard .len) ≡ takingsIn bytes (part 30 (30 * i c) taken) (heard .len)
+  code-takings t = takingsIn bytes (part (low3 c .5 t) (30 * i c) taken) (heard .len)
 
--- src/lib.rt:93:50
-sub-acted : tie.Need-sub-acted Inv-loop μ-loop Inv-loop2 μ-loop2 Inv-loop3 μ-loop3
-sub-acted c = ?
+takings-of-requires : tie.Need-takings-of-requires Inv-loop μ-loop Inv-loop2 μ-loop2 Inv-loop3 μ-loop3
+takings-of-requires c κs = code-reads (c .before .before .before .before) .takings
 
--- src/lib.rt:93:50
-part-acted-start : tie.Need-part-acted-start Inv-loop μ-loop Inv-loop2 μ-loop2 Inv-loop3 μ-loop3
-part-acted-start c = ?
-
--- src/lib.rt:93:50
-part-acted-end : tie.Need-part-acted-end Inv-loop μ-loop Inv-loop2 μ-loop2 Inv-loop3 μ-loop3
-part-acted-end c = ?
-
--- src/lib.rt:93:80
-add-acted-2 : tie.Need-add-acted-2 Inv-loop μ-loop Inv-loop2 μ-loop2 Inv-loop3 μ-loop3
-add-acted-2 c = ?
-
--- src/lib.rt:93:70
-mul-acted-2 : tie.Need-mul-acted-2 Inv-loop μ-loop Inv-loop2 μ-loop2 Inv-loop3 μ-loop3
-mul-acted-2 c = ?
-
--- src/lib.rt:93:70
-sub-acted-2 : tie.Need-sub-acted-2 Inv-loop μ-loop Inv-loop2 μ-loop2 Inv-loop3 μ-loop3
-sub-acted-2 c = ?
-
--- src/lib.rt:93:70
-part-acted-start-2 :
-    tie.Need-part-acted-start-2 Inv-loop μ-loop Inv-loop2 μ-loop2 Inv-loop3 μ-loop3
-part-acted-start-2 c = ?
-
--- src/lib.rt:93:70
-part-acted-end-2 : tie.Need-part-acted-end-2 Inv-loop μ-loop Inv-loop2 μ-loop2 Inv-loop3 μ-loop3
-part-acted-end-2 c = ?
-
--- src/lib.rt:93:89
-mul-acted-3 : tie.Need-mul-acted-3 Inv-loop μ-loop Inv-loop2 μ-loop2 Inv-loop3 μ-loop3
-mul-acted-3 c = ?
-
--- src/lib.rt:93:89
-array-copy-out-acted :
-    tie.Need-array-copy-out-acted Inv-loop μ-loop Inv-loop2 μ-loop2 Inv-loop3 μ-loop3
-array-copy-out-acted c = ?
-
--- src/lib.rt:93:13
 acted-requires : tie.Need-acted-requires Inv-loop μ-loop Inv-loop2 μ-loop2 Inv-loop3 μ-loop3
-acted-requires c κs = ?
+acted-requires c κs =
+    let d = c .before .before .before .before .before .before .before .before .before .before .before in (
+      turning-size (group₀ d) (bytes d) (ears d) (places d) (taken d) _ (group d) _ (i d) (d .before .loop3 .inv .2) (may d .size (i d) (d .loop3-test .taken)),
+      code-reads d,
+    )
 
--- src/lib.rt:94:13
-take-turn-requires :
-    tie.Need-take-turn-requires Inv-loop μ-loop Inv-loop2 μ-loop2 Inv-loop3 μ-loop3
-take-turn-requires c κs = ?
+take-turn-requires : tie.Need-take-turn-requires Inv-loop μ-loop Inv-loop2 μ-loop2 Inv-loop3 μ-loop3
+take-turn-requires c κs =
+    let d = c .before .before .before .before .before .before .before .before .before .before .before .before in
+    turning-turns (group₀ d) (bytes d) (ears d) (places d) (taken d) _ (group d) _ (i d) (d .before .loop3 .inv .2) (c .acted .result)
+    (c .acted .ensures ∙ code-acts d) (may d .inside (i d) (d .loop3-test .taken))
 
--- src/lib.rt:96:9
-mul-reports : tie.Need-mul-reports Inv-loop μ-loop Inv-loop2 μ-loop2 Inv-loop3 μ-loop3
-mul-reports c = ?
-
--- src/lib.rt:96:9
-array-set-from-reports :
-    tie.Need-array-set-from-reports Inv-loop μ-loop Inv-loop2 μ-loop2 Inv-loop3 μ-loop3
-array-set-from-reports c = ?
-
--- src/lib.rt:102:9
-mul-group : tie.Need-mul-group Inv-loop μ-loop Inv-loop2 μ-loop2 Inv-loop3 μ-loop3
-mul-group c = ?
-
--- src/lib.rt:102:9
-array-set-from-group :
-    tie.Need-array-set-from-group Inv-loop μ-loop Inv-loop2 μ-loop2 Inv-loop3 μ-loop3
-array-set-from-group c = ?
-
--- src/lib.rt:103:9
-add-i : tie.Need-add-i Inv-loop μ-loop Inv-loop2 μ-loop2 Inv-loop3 μ-loop3
-add-i c = ?
-
--- src/lib.rt:88:5
-loop3-less : tie.Need-loop3-less Inv-loop μ-loop Inv-loop2 μ-loop2 Inv-loop3 μ-loop3
-loop3-less c = ?
-
--- src/lib.rt:88:5
 loop3-again : tie.Need-loop3-again Inv-loop μ-loop Inv-loop2 μ-loop2 Inv-loop3 μ-loop3
-loop3-again c = ?
+loop3-again c =
+    let d = c .before .before .before .before .before .before .before .before .before .before .before .before .before .before .before in
+    let h = c .before .before .before .acted in
+    let t = c .before .before .take-turn in (
+      omega (arith, d .loop3-test .taken),
+      may d,
+      turning-more (group₀ d) (bytes d) (ears d) (places d) (taken d) _ (group d) _ (i d) (d .before .loop3 .inv .2) (h .result) (h .ensures ∙ code-acts d)
+          (t .result) (t .ensures) _ (c .before .before .before .before .before .before .before .before .before .before .takings-of .ensures ∙ code-takings d),
+    )
 
--- src/lib.rt:106:18
-cast-t114 : tie.Need-cast-t114 Inv-loop μ-loop Inv-loop2 μ-loop2 Inv-loop3 μ-loop3
-cast-t114 c = ?
-
--- src/lib.rt:33:1
 returns-4 : tie.Need-returns-4 Inv-loop μ-loop Inv-loop2 μ-loop2 Inv-loop3 μ-loop3
-returns-4 c = ?
+returns-4 c =
+    let a = c .before .before .before .before .before .before .before .before .before .before .before .args in
+    let l = c .before .loop3 in
+    let d = c .before .before in
+    turning-done (a .g) (a .t2) _ _ (begun (d .before .before)) _ _ _ (sizeOf (a .g)) refl (all-heard d) (l .group) (l .reports) (l .i) (l .inv .2)
+    (omega (arith, l .inv .0, c .loop3-test .left))
 
 pub round-spec : {M : Type 1} → statement M
 round-spec =
@@ -365,80 +290,80 @@ round-spec =
     μ-loop2
     Inv-loop3
     μ-loop3
-    no-report-requires
-    array-copy-out-first
-    valid-number-requires
-    cast-t36
+    (λ c κs. search needs)
+    (λ c. search needs)
+    (λ c κs. search needs)
+    (λ c. search needs)
     returns
     loop-holds
-    slice-aggregate-send
-    mul-send
-    array-copy-out-send
-    send-requires
-    add-k
-    loop-less
+    (λ c. search needs)
+    (λ c. search needs)
+    (λ c. search needs)
+    (λ c κs. c .before .before .before .loop .inv .4 .long)
+    (λ c. search needs)
+    (λ c. search needs)
     loop-again
-    cast-t46
+    (λ c. record { fits = omega (arith, c .before .before .loop .inv .4 .judged, judged-small (c .before .before .before .before .before .before .before .args .g) (c .before .before .loop .k)) })
     returns-2
     loop2-holds
-    mul-a
-    mul-b
-    slice-aggregate-listen
-    mul-listen
-    array-read-listen
-    add-listen
-    mul-places
-    sub-listen
-    part-places-start
-    part-places-end
-    add-listen-2
-    mul-taken
-    sub-listen-2
-    part-taken-start
-    part-taken-end
-    mul-listen-2
-    array-copy-out-listen
+    (λ c. search needs)
+    (λ c. search needs)
+    (λ c. search needs)
+    (λ c. search needs)
+    (λ c. search needs)
+    (λ c. search needs)
+    (λ c. search needs)
+    (λ c. search needs)
+    (λ c. search needs)
+    (λ c. search needs)
+    (λ c. search needs)
+    (λ c. search needs)
+    (λ c. search needs)
+    (λ c. search needs)
+    (λ c. search needs)
+    (λ c. search needs)
+    (λ c. search needs)
     listen-requires
-    cast-t74
+    (λ c. search needs)
     returns-3
-    mul-ears
-    array-set-from-ears
-    add-j
-    loop2-less
+    (λ c. search needs)
+    (λ c. search needs)
+    (λ c. search needs)
+    (λ c. search needs)
     loop2-again
     loop3-holds
-    mul-a-2
-    mul-b-2
-    mul-heard
-    array-copy-out-heard
-    slice-aggregate-takings-of
-    add-takings-of
-    mul-takings-of
-    sub-takings-of
-    part-takings-of-start
-    part-takings-of-end
+    (λ c. search needs)
+    (λ c. search needs)
+    (λ c. search needs)
+    (λ c. search needs)
+    (λ c. search needs)
+    (λ c. search needs)
+    (λ c. search needs)
+    (λ c. search needs)
+    (λ c. search needs)
+    (λ c. search needs)
     takings-of-requires
-    slice-aggregate-acted
-    add-acted
-    mul-acted
-    sub-acted
-    part-acted-start
-    part-acted-end
-    add-acted-2
-    mul-acted-2
-    sub-acted-2
-    part-acted-start-2
-    part-acted-end-2
-    mul-acted-3
-    array-copy-out-acted
+    (λ c. search needs)
+    (λ c. search needs)
+    (λ c. search needs)
+    (λ c. search needs)
+    (λ c. search needs)
+    (λ c. search needs)
+    (λ c. search needs)
+    (λ c. search needs)
+    (λ c. search needs)
+    (λ c. search needs)
+    (λ c. search needs)
+    (λ c. search needs)
+    (λ c. search needs)
     acted-requires
     take-turn-requires
-    mul-reports
-    array-set-from-reports
-    mul-group
-    array-set-from-group
-    add-i
-    loop3-less
+    (λ c. record { fits = omega (arith, low3 (c .before .before .before .before .before .before .before .before .before .before .before .before .before .before)) })
+    (λ c. omega (arith, low3 (c .before .before .before .before .before .before .before .before .before .before .before .before .before .before)))
+    (λ c. record { fits = omega (arith, low3 (c .before .before .before .before .before .before .before .before .before .before .before .before .before .before .before)) })
+    (λ c. omega (arith, low3 (c .before .before .before .before .before .before .before .before .before .before .before .before .before .before .before)))
+    (λ c. record { fits = omega (arith, low3 (c .before .before .before .before .before .before .before .before .before .before .before .before .before .before .before)) })
+    (λ c. omega (arith, (c .before .before .before .before .before .before .before .before .before .before .before .before .before .before .before) .loop3-test .taken))
     loop3-again
-    cast-t114
+    (λ c. search needs)
     returns-4)
