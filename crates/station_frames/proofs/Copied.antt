@@ -46,3 +46,20 @@ written-roomed f l = rw (le-ltb 260 (length f) l) (put-roomed f l)
 
 pub roomed-length : (f : List ℕ) → length f ≤ 260 → length (roomed f) ≡ 260
 roomed-length f l = omega (arith, length-append f (replicate (260 - length f) 0), length-replicate {A = ℕ} (260 - length f) 0)
+
+-- two frames, each put into its room
+pub both-are :
+    (f h x y : List ℕ) → length f ≤ 260 → length h ≤ 260 → x ≡ bufferWith f (replicate 260 0) →
+    y ≡ h ++ drop (length h) (take 260 (drop 260 (x ++ replicate 260 0))) →
+    take 260 (x ++ replicate 260 0) ++ (y ++ drop 260 (drop 260 (x ++ replicate 260 0))) ≡ roomed f ++ roomed h
+both-are f h x y lf lh xe ye =
+    let z : List ℕ = replicate 260 0 in
+    let is : x ≡ roomed f = xe ∙ written-roomed f lf in
+    let size : length x ≡ 260 = ap length is ∙ roomed-length f lf in
+    let rest : drop 260 (x ++ z) ≡ z = drop-at x z 260 size in
+    let put : y ≡ roomed h = ye ∙ ap (λ (l : List ℕ). h ++ drop (length h) (take 260 l)) rest ∙ put-roomed h lh in
+    (λ i. take-at x z 260 size i ++ (put i ++ drop 260 (rest i)))
+    ∙ (λ i. is i ++ append-nil (roomed h) i)
+
+pub table-roomed : (f : List ℕ) → length f ≤ 260 → (t : List ℕ) → t ≡ f → length t ≤ 260
+table-roomed f l t e = rw e l

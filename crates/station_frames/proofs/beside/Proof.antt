@@ -1,57 +1,62 @@
+-- `station_frames::beside` meets its contract: each frame is put into its room.
+use Prim.Native.Nat.{ℕ, _+_, _≤_}
+use mathlib.Core.List.{List, _++_}
+use mathlib.Core.Path.{_≡_, refl, sym, ap, _∙_}
+use native.Mathlib.Omega.{arith}
 use borrow.Author.Needs.{needs}
+use lib.ListN.{length, replicate, length-append}
+use Rattle.frame_rules.specs.Calls.{bufferWith}
+use Rattle.station_rules.specs.declared.Station.{Station}
+use Rattle.station_rules.specs.Calls.{frameOf}
+use Rattle.station_rules.proofs.StationLimits.{Inside, inside-open}
+use Rattle.station_rules.proofs.WriteSteps.{frame-is}
+use Rattle.station_frames.proofs.OwnFrame.{own-fits}
+use Rattle.station_frames.proofs.Copied.{both-are, written-roomed, roomed-length}
 use Rattle.station_frames.proofs.beside.Statement.{statement}
 use Rattle.station_frames.proofs.beside.Tie as tie
-use Rattle.station_frames.proofs.beside.Reads as reads
-use Rattle.station_frames.proofs.beside.Lts as lts
-use Rattle.frame_writer.proofs.write_table.Reads as write-table-reads
-use Rattle.station_frames.proofs.put_frame.Reads as put-frame-reads
 
--- src/lib.rt:67:31
-sub-write-table : tie.Need-sub-write-table
-sub-write-table c = search needs
-
--- src/lib.rt:67:31
-part-both-start : tie.Need-part-both-start
-part-both-start c = search needs
-
--- src/lib.rt:67:31
-part-both-end : tie.Need-part-both-end
-part-both-end c = search needs
-
--- src/lib.rt:67:5
 write-table-requires : tie.Need-write-table-requires
-write-table-requires c κs = ?
+write-table-requires c κs =
+    let z = c .before .before .before .before in
+    let i = inside-open (z .args .s) (z .pre .0) in
+    (i .high, omega (arith, i .own, i .high))
 
--- src/lib.rt:68:15
-sub-put-frame : tie.Need-sub-put-frame
-sub-put-frame c = search needs
+-- the own frame in its room
+module _ (c : tie.After-write-table) where
+  abbrev z : tie.Start
+  z = c .before .before .before .before .before
 
--- src/lib.rt:68:15
-part-both-start-2 : tie.Need-part-both-start-2
-part-both-start-2 c = search needs
+  abbrev s : Station
+  s = z .args .s
 
--- src/lib.rt:68:15
+  inside : Inside s
+  inside = inside-open s (z .pre .0)
+
+  own-is : c .write-table .last .0 ≡ bufferWith (frameOf s) (replicate 260 0)
+  own-is = c .write-table .ensures .1 ∙ ap (λ (f : List ℕ). bufferWith f (replicate 260 0)) (frame-is s)
+
+  own-length : length (c .write-table .last .0) ≡ 260
+  own-length = ap length (own-is ∙ written-roomed (frameOf s) (own-fits s inside)) ∙ roomed-length (frameOf s) (own-fits s inside)
+
 part-both-end-2 : tie.Need-part-both-end-2
-part-both-end-2 c = ?
+part-both-end-2 c = omega (arith, own-length (c .before), length-append (c .before .write-table .last .0) (replicate 260 0))
 
--- src/lib.rt:68:5
-put-frame-requires : tie.Need-put-frame-requires
-put-frame-requires c κs = search needs
-
--- src/lib.rt:60:1
 returns : tie.Need-returns
-returns c = ?
+returns c =
+    let d = c .before .before .before .before in
+    both-are (frameOf (s d)) (z d .args .frame .now) (d .write-table .last .0) (c .before .put-frame .last .0) (own-fits (s d) (inside d)) (z d .pre .1) (own-is d)
+    (c .before .put-frame .ensures)
 
 pub beside-spec : {M : Type 1} → statement M
 beside-spec =
     tie.close
     (tie.spec
-    sub-write-table
-    part-both-start
-    part-both-end
+    (λ c. search needs)
+    (λ c. search needs)
+    (λ c. search needs)
     write-table-requires
-    sub-put-frame
-    part-both-start-2
+    (λ c. search needs)
+    (λ c. search needs)
     part-both-end-2
-    put-frame-requires
+    (λ c κs. search needs)
     returns)
