@@ -22,13 +22,14 @@ use Rattle.links.proofs.Bounds.{gotOf-some}
 use Rattle.links.proofs.Version.{gotOf-mono, gotOf-limit, gotOf-close, numOf-limit}
 use Rattle.links.proofs.Tally.{tally-same, tally-rises}
 use Rattle.frame_rules.specs.declared.Record.{Record}
+use Rattle.frame_rules.specs.Record.{recordLabel}
 use Rattle.places.specs.Places.{anyBelow}
 use Rattle.places.proofs.Laws.{anyBelow-ext, anyBelow-add}
 use Rattle.station_rules.specs.declared.Station.{Station}
 use Rattle.station_rules.specs.declared.Taking.{Taking}
 use Rattle.lanes.specs.Lane.{pushed}
 use Rattle.kinds.specs.Refusals.{done, laneFull, refuse}
-use Rattle.station_rules.specs.State.{Cell, labelOf, ackedOf, recordOf, laneAt, recordLabel}
+use Rattle.station_rules.specs.State.{Cell, labelOf, ackedOf, recordOf, laneAt}
 use Rattle.station_rules.specs.Hearing.{Hearing, heeds, advances, takes, overfills, raised, heardNewer, hearRecord}
 use Rattle.station_rules.proofs.HearRecord.{heardOne, hearRecord-skips, hearRecord-heeds}
 use Rattle.station_rules.proofs.Cells
@@ -123,7 +124,7 @@ module _ (R : Run) where
               stands =
                   λ x z.
                   subst (λ i. Stands R (recordOf s′ k) k i) (omega (arith, z))
-                  (subst (λ (y : Cell). Stands R (y .entry) k w) (sym e) (stands-replaced R s r w (f .size) (f .shape) lk t));
+                  (subst (λ (y : Cell). Stands R (y .entry) k w) (sym e) (stands-replaced R s r w (f .size) t));
             }
 
         cells-after :
@@ -244,7 +245,7 @@ module _ (R : Run) where
         standing-heeded e =
             subst (λ x. Standing R u p first x vs′) (sym (hearRecord-heeds h r e))
             (record {
-              formed = formed-heard R p s r lk (c .formed);
+              formed = formed-heard R p s r (c .formed);
               body = Cells.heard-body s r ∙ c .body;
               own-version = rest p (λ q. other (sym q)) ∙ c .own-version;
               low = λ q l. low-after q l (ℕ-discrete q k);

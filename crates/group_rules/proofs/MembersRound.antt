@@ -113,8 +113,7 @@ module _ (n : ℕ) (g : List Station) (c : Members n g) (masks : List ℕ) (run 
         | no l ↦
             let below : i < n = omega arith in
             rw (after-at i below)
-            (afterTurn-shaped ((heard g masks i) .station)
-            (rw (run-hears i below .own ∙ c .member i below .own) b) (run-hears i below .shaped))
+            (afterTurn-shaped ((heard g masks i) .station) (run-hears i below .shaped))
       ]
 
   after-member : (i : ℕ) → i < n → Member n (afterRound g masks) i

@@ -19,6 +19,7 @@ use Rattle.links.proofs.Clock.{news-own, news-limit}
 use Rattle.links.proofs.Hearing.{hearing-all}
 use Rattle.links.proofs.Got.{got-numOf, version}
 use Rattle.frame_rules.specs.declared.Record.{Record}
+use Rattle.frame_rules.proofs.Labels.{framed-label}
 use Rattle.frame_rules.specs.Record.{framed}
 use Rattle.places.specs.Places.{gather}
 use Rattle.places.proofs.Laws.{anyBelow-none}
@@ -73,12 +74,11 @@ module _ (R : Run) where
 
   stands-framed : (n : ℕ) (r : Record) (k w : ℕ) → n ≡ R .n → Stands R r k w → Stands R (framed n r) k w
   stands-framed n r k w e t =
-      let high = R .high in
       record {
         station = Cells.framed-station n r ∙ t .station;
         count = Cells.framed-count n r ∙ t .count;
         body = Cells.framed-body n r ∙ t .body;
-        labels = λ i b. Cells.framed-label n r i (omega arith) (omega arith) ∙ t .labels i b;
+        labels = λ i b. framed-label n r i (omega arith) ∙ t .labels i b;
       }
 
   -- p hears the frame of j

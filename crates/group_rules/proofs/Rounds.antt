@@ -14,8 +14,9 @@ use Rattle.links.proofs.Clock.{news-own, news-start}
 use Rattle.links.proofs.Number.{num-zero, start-zero}
 use Rattle.links.proofs.Hearing.{counted-zero}
 use Rattle.links.proofs.Got.{got-none, got-own}
+use Rattle.frame_rules.specs.Record.{recordLabel}
 use Rattle.station_rules.specs.declared.Station.{Station}
-use Rattle.station_rules.specs.State.{Cell, recordLabel, freshRecord, freshStation}
+use Rattle.station_rules.specs.State.{Cell, freshRecord, freshStation}
 use Rattle.station_rules.specs.Turn.{afterTurn}
 use Rattle.group_rules.specs.State.{stationAt, sizeOf}
 use Rattle.group_rules.proofs.Run.{Run, linksOf, hearingIn}

@@ -18,10 +18,11 @@ use Rattle.links.proofs.Clock.{news-own}
 use Rattle.links.proofs.Got.{got-numOf, got-own, numOf-some}
 use Rattle.links.proofs.Bounds.{counted-limit}
 use Rattle.frame_rules.specs.declared.Record.{Record}
+use Rattle.frame_rules.specs.Record.{recordLabel}
 use Rattle.places.proofs.Laws.{anyBelow-ext}
 use Rattle.lanes.specs.Lane.{pushed}
 use Rattle.kinds.specs.Refusals.{done, laneFull, refuse}
-use Rattle.station_rules.specs.State.{labelOf, ackedOf, heldOf, recordOf, recordLabel, laneAt}
+use Rattle.station_rules.specs.State.{labelOf, ackedOf, heldOf, recordOf, laneAt}
 use Rattle.station_rules.specs.Calls.{ownCountInside}
 use Rattle.station_rules.specs.Turn as turn
 use Rattle.group_rules.specs.State.{stationAt}

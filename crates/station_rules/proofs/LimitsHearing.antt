@@ -156,7 +156,7 @@ module _ (a : Hearing) (c : Inside (a .station)) where
           body = heard-body (h .station) r ∙ hs .body;
           lane =
               ap (λ (x : Cell). x .lane) (heard-other (h .station) r (a .station .own) (λ z. heeds-other (h .station) r e (sym z ∙ sym (hs .own)))) ∙ hs .lane;
-          shaped = heardNewer-shaped (h .station) r below (hs .shaped);
+          shaped = heardNewer-shaped (h .station) r (hs .shaped);
           inside =
               λ f. heard-holds (h .station) r (hs .shaped) (hs .inside (apart f .1)) here e (apart f .0);
           takings = takings-most e;
@@ -179,20 +179,18 @@ module _ (a : Hearing) (c : Inside (a .station)) where
   hears-frame h rs hs all = cond-keeps (Hears a) (eqb (h .refusal) done) (hearRecords h rs) h (hears-records h rs hs all) hs
 
 -- the shape is kept whether or not the station is inside its limits
-pub hearRecord-shaped : (h : Hearing) (r : Record) → r .station < 16 → Shaped (h .station) → Shaped ((hearRecord h r) .station)
+pub hearRecord-shaped : (h : Hearing) (r : Record) → Shaped (h .station) → Shaped ((hearRecord h r) .station)
 unfolding heardOne
-hearRecord-shaped h r b c = go (heeds (h .station) r) refl
+hearRecord-shaped h r c = go (heeds (h .station) r) refl
   where
     go : (t : Bool) → heeds (h .station) r ≡ t → Shaped ((hearRecord h r) .station)
-    go true e = rw (hearRecord-heeds h r e) (heardNewer-shaped (h .station) r b c)
+    go true e = rw (hearRecord-heeds h r e) (heardNewer-shaped (h .station) r c)
     go false e = rw (hearRecord-skips h r e) c
 
-pub hearRecords-shaped :
-    (n : ℕ) → n ≤ 16 → (h : Hearing) (rs : List Record) → AllCarried n rs → Shaped (h .station) → Shaped ((hearRecords h rs) .station)
+pub hearRecords-shaped : (h : Hearing) (rs : List Record) → Shaped (h .station) → Shaped ((hearRecords h rs) .station)
 unfolding hearRecords
-hearRecords-shaped n high h [] all shape = shape
-hearRecords-shaped n high h (r ∷ rs) all shape =
-    hearRecords-shaped n high (hearRecord h r) rs (all .1) (hearRecord-shaped h r (omega (arith, all .0 .station)) shape)
+hearRecords-shaped h [] shape = shape
+hearRecords-shaped h (r ∷ rs) shape = hearRecords-shaped (hearRecord h r) rs (hearRecord-shaped h r shape)
 
 -- at most two in the lane of each of at most fifteen others
 pub takings-bounded : (s : Station) (h : Hearing) → Hears (silent s) h → h .refusal ≡ done → length (h .takings) ≤ 30

@@ -8,12 +8,13 @@ use Rattle.kinds.specs.Body.{isEmpty}
 use Rattle.kinds.specs.Refusals.{done, laneFull, refuse}
 use Rattle.labels.specs.Label.{successor}
 use Rattle.labels.specs.Newer.{isNewer}
+use Rattle.label_words.specs.Packing.{labelsOver}
 use Rattle.frame_rules.specs.declared.Record.{Record}
-use Rattle.places.specs.Places.{fill}
+use Rattle.frame_rules.specs.Record.{recordLabel}
 use Rattle.station_rules.specs.declared.Station.{Station}
 use Rattle.station_rules.specs.declared.Taking.{Taking}
 use Rattle.lanes.specs.Lane.{pushed}
-use Rattle.station_rules.specs.State.{labelOf, ackedOf, heldOf, recordOf, laneAt, recordLabel, ownLabel, withBroadcast, withCell}
+use Rattle.station_rules.specs.State.{labelOf, ackedOf, heldOf, recordOf, laneAt, ownLabel, withBroadcast, withCell}
 
 -- the station heeds the record: it is of another station, and newer than the one held of it (source document 001, Algorithm 2, lines 6 to 8)
 abbrev pub heeds : Station → Record → Bool
@@ -37,7 +38,7 @@ takes s r = advances s r && not (isEmpty (r .body))
 -- the seen record in the place of the held one, whose labels from n up stay (lines 9 to 11)
 unfoldable pub replaced : ℕ → Record → Record → Record
 replaced n old r =
-    record { station = r .station; count = r .count; body = r .body; labels = fill n (recordLabel r) (old .labels) }
+    record { station = r .station; count = r .count; body = r .body; labels = labelsOver n (recordLabel r) (old .labels) }
 
 -- one more, and 255 stays 255
 abbrev pub raised : ℕ → ℕ
