@@ -11,8 +11,7 @@ use Rattle.kinds.specs.Body.{isEmpty}
 use Rattle.kinds.specs.Refusals.{laneFull}
 use Rattle.labels.specs.Label.{successor}
 use Rattle.frame_rules.specs.declared.Record.{Record}
-use Rattle.frame_rules.specs.Record.{recordFrom}
-use Rattle.station_rules.specs.State.{recordLabel}
+use Rattle.frame_rules.specs.Record.{recordFrom, recordLabel}
 use Rattle.station_rules.specs.Hearing.{raised}
 use Rattle.hearing_spec.specs.declared.Ear.{Ear}
 use Rattle.hearing_spec.specs.Heeding.{earAdvances, laneHasTwo, earAfter, lensAfter, takenAfter}

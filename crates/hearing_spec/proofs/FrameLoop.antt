@@ -220,5 +220,5 @@ module _ (own : ℕ) (bytes : List ℕ) (start end : ℕ) (last₀ : List ℕ) (
                     (λ k. recordAt bytes (getD last' k 0))
                     (ap (λ (k : ℕ). recordAt bytes (getD last' k 0)) (station-at bytes at) ∙ ap (λ (m : ℕ). recordAt bytes m) here)
                     (λ k d. ap (λ (m : ℕ). recordAt bytes m) (getD-set-other last (getD bytes at 0) k at 0 (λ z. d (z ∙ sym (station-at bytes at)))));
-                shaped = hearRecord-shaped g q (omega (arith, under, most)) (now .shaped);
+                shaped = hearRecord-shaped g q (now .shaped);
               })

@@ -14,17 +14,16 @@ use Rattle.labels.specs.Label.{successor}
 use Rattle.places.specs.Places.{fill}
 use Rattle.places.proofs.Laws.{length-fill, fill-below, fill-above}
 use Rattle.frame_rules.specs.declared.Record.{Record}
-use Rattle.frame_rules.specs.Record.{noRecord, framed}
+use Rattle.frame_rules.specs.Record.{noRecord, framed, recordLabel}
 use Rattle.lanes.specs.declared.Lane.{Lane}
 use Rattle.lanes.specs.Lane.{noLane, pushed}
 use Rattle.station_rules.specs.declared.Station.{Station}
 use Rattle.station_rules.specs.declared.Taking.{Taking}
-use Rattle.station_rules.specs.State.{Cell, cellOf, labelOf, ackedOf, heldOf, recordOf, laneAt, recordLabel, withCell}
+use Rattle.station_rules.specs.State.{Cell, cellOf, labelOf, ackedOf, heldOf, recordOf, laneAt, withCell}
 use Rattle.station_rules.specs.Hearing.{advances, takes, replaced, heardNewer}
 use Rattle.station_rules.proofs.Setters.{Shaped}
-use Rattle.station_rules.proofs.Cells.{heard-n, heard-own, heard-waiting, heard-body, heard-here, heard-other}
+use Rattle.station_rules.proofs.Cells.{heard-n, heard-own, heard-waiting, heard-body, heard-here, heard-other, replaced-twice, replaced-framed}
 use Rattle.hearing_spec.specs.Gathered.{pushedAll, actedOn, Gathered}
-use Rattle.hearing_spec.proofs.RecordLabels.{replaced-twice, replaced-framed}
 
 -- a list that is f below n, and as another from n up
 fill-made :
@@ -100,7 +99,7 @@ module _ (s : Station) (most : s .n ≤ 16) where
         own = refl;
         waiting = refl;
         body = refl;
-        table = λ k l. sym (replaced-framed (s .n) (recordOf s k) most);
+        table = λ k l. sym (replaced-framed (s .n) (recordOf s k));
         table-above = λ k l. refl;
         held-above = λ k l. refl;
         lanes = refl;

@@ -22,7 +22,8 @@ use Rattle.lanes.proofs.LaneLaws.{len-pushed}
 use Rattle.lanes.proofs.LaneSteps.{push-two}
 use Rattle.station_rules.specs.declared.Station.{Station}
 use Rattle.station_rules.specs.declared.Taking.{Taking}
-use Rattle.station_rules.specs.State.{Cell, cellOf, labelOf, heldOf, laneAt, recordLabel}
+use Rattle.station_rules.specs.State.{Cell, cellOf, labelOf, heldOf, laneAt}
+use Rattle.frame_rules.specs.Record.{recordLabel}
 use Rattle.station_rules.specs.Hearing.{Hearing, heeds, advances, takes, overfills, raised, heardNewer, hearRecord}
 use Rattle.station_rules.proofs.HearRecord.{heardOne, hearRecord-heeds}
 use Rattle.station_rules.proofs.Setters.{Shaped}

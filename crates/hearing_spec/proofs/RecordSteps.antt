@@ -11,7 +11,7 @@ use Rattle.labels.specs.declared.Age.the-variants.{Newer, NotNewer}
 use Rattle.labels.specs.Newer.{isNewer, ageOf}
 use Rattle.frame_rules.specs.declared.Record.{Record}
 use Rattle.station_rules.specs.declared.Station.{Station}
-use Rattle.station_rules.specs.State.{recordLabel}
+use Rattle.frame_rules.specs.Record.{recordLabel}
 use Rattle.station_rules.specs.Hearing.{Hearing, heeds, hearRecord}
 use Rattle.station_rules.proofs.Setters.{Shaped}
 use Rattle.hearing_spec.specs.Buffer.{sizeIn, recordAt}

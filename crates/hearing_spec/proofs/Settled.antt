@@ -10,13 +10,14 @@ use borrow.Author.Tests.{eq-eqb, ne-eqb, le-ltb}
 use Rattle.labels.specs.Label.{successor}
 use Rattle.labels.specs.Newer.{isNewer}
 use Rattle.frame_rules.specs.declared.Record.{Record}
-use Rattle.frame_rules.specs.Record.{framed}
+use Rattle.frame_rules.specs.Record.{framed, recordLabel}
 use Rattle.station_rules.specs.declared.Station.{Station}
-use Rattle.station_rules.specs.State.{Cell, heldOf, recordOf, recordLabel, ownLabel}
+use Rattle.station_rules.specs.State.{Cell, heldOf, recordOf, ownLabel}
 use Rattle.station_rules.specs.Hearing.{Hearing, heeds, heardNewer, hearRecord}
 use Rattle.station_rules.proofs.HearRecord.{heardOne, hearRecord-heeds, hearRecord-skips}
 use Rattle.station_rules.proofs.Setters.{Shaped}
-use Rattle.station_rules.proofs.Cells.{heard-n, heard-own, heard-here, heard-other, heard-label, replaced-count, framed-label, framed-station, framed-count}
+use Rattle.station_rules.proofs.Cells.{heard-n, heard-own, heard-here, heard-other, replaced-label, replaced-count, framed-station, framed-count}
+use Rattle.frame_rules.proofs.Labels.{framed-label}
 use Rattle.hearing_spec.specs.Settled.{Settled, AllSettled}
 
 -- no label comes after itself, so no record is newer than itself; that holds of every number, label or not
@@ -38,7 +39,7 @@ module _ (s : Station) (r : Record) where
   newer-settled shape below most =
       let here = heard-here s r shape (omega arith) in
       settled-equal (heardNewer s r) r (ap (λ (c : Cell). c .held) here)
-      (ap (λ (c : Cell). recordLabel (c .entry) (r .station)) here ∙ heard-label s r shape most (omega arith) (r .station) below)
+      (ap (λ (c : Cell). recordLabel (c .entry) (r .station)) here ∙ replaced-label (s .n) (recordOf s (r .station)) r (r .station) below)
       (ap (λ (c : Cell). c .entry .count) here ∙ replaced-count (s .n) (recordOf s (r .station)) r)
 
   -- (ii) for a newer record
@@ -92,8 +93,8 @@ held-settled s k below most held e =
     let q = framed (s .n) (recordOf s k) in
     let at : q .station ≡ k = framed-station (s .n) (recordOf s k) ∙ e in
     settled-equal s q (ap (heldOf s) at ∙ held)
-    (rw at (sym (framed-label (s .n) (recordOf s k) k below most)))
-    (rw at (sym (framed-count (s .n) (recordOf s k))))
+    (ap (λ (j : ℕ). recordLabel (recordOf s j) j) at ∙ sym (framed-label (s .n) (recordOf s k) k below) ∙ ap (recordLabel q) (sym at))
+    (ap (λ (j : ℕ). (recordOf s j) .count) at ∙ sym (framed-count (s .n) (recordOf s k)))
 
 -- what the loop over a frame uses: a record that equals the last of its station does nothing; any other is settled once it is heard, and is then the last of
 -- its station

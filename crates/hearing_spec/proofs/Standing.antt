@@ -11,16 +11,15 @@ use Rattle.kinds.specs.Refusals.{done}
 use Rattle.labels.specs.Newer.{isNewer}
 use Rattle.labels.proofs.NewerLaws.{newer-none}
 use Rattle.frame_rules.specs.declared.Record.{Record}
-use Rattle.frame_rules.specs.Record.{framed}
+use Rattle.frame_rules.specs.Record.{framed, recordLabel}
 use Rattle.station_rules.specs.declared.Station.{Station}
-use Rattle.station_rules.specs.State.{heldOf, recordOf, laneAt, recordLabel, ownLabel}
+use Rattle.station_rules.specs.State.{heldOf, recordOf, laneAt, ownLabel}
 use Rattle.station_rules.specs.Hearing.{Hearing, silent, heeds, replaced, hearRecord}
 use Rattle.station_rules.proofs.HearRecord.{hearRecord-skips}
 use Rattle.station_rules.proofs.Setters.{Shaped}
-use Rattle.station_rules.proofs.Cells.{heeds-own, heeds-newer, replaced-count}
+use Rattle.station_rules.proofs.Cells.{heeds-own, heeds-newer, replaced-label, replaced-count}
 use Rattle.hearing_spec.specs.Buffer.{recordAt}
 use Rattle.hearing_spec.specs.StandsFor.{Notes, holdsAt, topAt, StandsFor}
-use Rattle.hearing_spec.proofs.RecordLabels.{held-label}
 use Rattle.hearing_spec.proofs.Gathering.{gathered-none, gathered-ext}
 
 -- at first: the own frame has what the table holds
@@ -74,7 +73,7 @@ module _ (s : Station) (most : s .n ≤ 16) (bytes : List ℕ) (x : Notes) (h : 
           let is : recordOf st k ≡ replaced (s .n) (recordOf s k) o =
           c .gathered .table k below ∙ ap (λ (t : Bool). replaced (s .n) (recordOf s k) (cond t o (framed (s .n) (recordOf s k)))) e in
           let held : heldOf st k ≡ true = c .held k below ∙ e in
-          let label : recordLabel (recordOf st k) k ≡ recordLabel o k = held-label st (s .n) (recordOf s k) o k shape long below is in
+          let label : recordLabel (recordOf st k) k ≡ recordLabel o k = ap (λ (q : Record). recordLabel q k) is ∙ replaced-label (s .n) (recordOf s k) o k below in
           let count : (recordOf st k) .count ≡ o .count = ap (λ (q : Record). q .count) is ∙ replaced-count (s .n) (recordOf s k) o in
           λ i. isNewer (held i) (label i) (count i) (ownLabel r) (r .count)
       go false e =

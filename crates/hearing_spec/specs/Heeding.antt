@@ -10,7 +10,7 @@ use Rattle.labels.specs.Label.{successor}
 use Rattle.labels.specs.declared.Age.{Age}
 use Rattle.labels.specs.Newer.{isNewer, ageOf}
 use Rattle.frame_rules.specs.declared.Record.{Record}
-use Rattle.station_rules.specs.State.{recordLabel}
+use Rattle.frame_rules.specs.Record.{recordLabel}
 use Rattle.station_rules.specs.Hearing.{follows, raised}
 use Rattle.hearing_spec.specs.declared.Ear.{Ear}
 

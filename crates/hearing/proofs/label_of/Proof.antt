@@ -17,7 +17,7 @@ four (suc k) =
 returns : tie.Need-returns
 returns c =
     let a = c .before .before .args in
-    rw (c .word-at .ensures, four (a .k)) (sym (label-carried (a .part .now) (a .k) (c .before .before .pre .1)))
+    rw (c .word-at .ensures, four (a .k)) (sym (label-carried (a .part .now) (a .k)))
 
 pub label-of-spec : {M : Type 1} → statement M
 label-of-spec =
