@@ -1,8 +1,8 @@
 -- The loop over a frame. Its invariant at a place: the notes stand for the hearing of the first r records, and the record of each station heard last is settled. A
 -- record that has the bytes of the last one of its station is passed over; any other is heard, and is then the last.
-use Prim.Native.Nat.{ℕ, zero, suc, _+_, _*_, _<_, _≤_}
-use mathlib.Core.List.{List, [], _∷_, _++_}
-use mathlib.Core.Path.{_≡_, refl, sym, ap, subst, _∙_}
+use Prim.Native.Nat.{ℕ, suc, _+_, _*_, _<_, _≤_}
+use mathlib.Core.List.{List, [], _∷_}
+use mathlib.Core.Path.{_≡_, sym, ap, subst, _∙_}
 use native.Mathlib.Decide.{ℕ-discrete}
 use native.Mathlib.Omega.{arith}
 use lib.ListN.{getD, set, take, drop, length, length-set}
@@ -19,9 +19,9 @@ use Rattle.station_rules.specs.Hearing.{Hearing, hearRecord, hearRecords, hearF
 use Rattle.station_rules.proofs.Cells.{hearRecords-append, hearRecords-one, hearRecords-none}
 use Rattle.station_rules.proofs.LimitsHearing.{hearRecord-shaped}
 use Rattle.hearing_spec.specs.Buffer.{sizeIn, recordAt, recordsAt, firstRecords}
-use Rattle.hearing_spec.specs.StandsFor.{Notes, StandsFor, Stands}
+use Rattle.hearing_spec.specs.StandsFor.{Notes, Stands}
 use Rattle.hearing_spec.specs.Room.{mostBytes, RecordRoom, Room, LastRoom, FrameRoom}
-use Rattle.hearing_spec.specs.Promises.{Named, HearsRecord, Hears, HearsFrame}
+use Rattle.hearing_spec.specs.Promises.{Named, HearsRecord, HearsFrame}
 use Rattle.hearing_spec.proofs.Settled.{repeated, settled-again}
 
 -- the station of the record at a place is its first byte

@@ -19,7 +19,7 @@ use Rattle.lanes.specs.declared.Lane.{Lane}
 use Rattle.lanes.specs.Lane.{noLane, pushed}
 use Rattle.station_rules.specs.declared.Station.{Station}
 use Rattle.station_rules.specs.declared.Taking.{Taking}
-use Rattle.station_rules.specs.State.{Cell, cellOf, labelOf, ackedOf, heldOf, recordOf, laneAt, withCell}
+use Rattle.station_rules.specs.State.{Cell, cellOf, heldOf, recordOf, withCell}
 use Rattle.station_rules.specs.Hearing.{advances, takes, replaced, heardNewer}
 use Rattle.station_rules.proofs.Setters.{Shaped}
 use Rattle.station_rules.proofs.Cells.{heard-n, heard-own, heard-waiting, heard-body, heard-here, heard-other, replaced-twice, replaced-framed}

@@ -3,8 +3,8 @@
 use Prim.Native.Nat.{ℕ, suc, _+_, _*_, _<_, _≤_}
 use mathlib.Core.Bool.{Bool, true, false, cond, not, _&&_, _||_}
 use mathlib.Core.List.{List, [], _∷_, _++_, append-nil, map, map-append}
-use mathlib.Core.Path.{_≡_, refl, sym, ap, subst, _∙_}
-use native.Mathlib.Decide.{ℕ-discrete, decLt}
+use mathlib.Core.Path.{_≡_, refl, sym, ap, _∙_}
+use native.Mathlib.Decide.{ℕ-discrete}
 use native.Mathlib.Numerals.{add-one}
 use native.Mathlib.Omega.{arith}
 use lib.Dec.{eqb, leb}
@@ -14,7 +14,7 @@ use borrow.Author.Tests.{eq-eqb, ne-eqb, leb-true, leb-false}
 use Rattle.kinds.specs.Refusals.{done, laneFull, refuse}
 use Rattle.labels.specs.Label.{successor}
 use Rattle.places.specs.Places.{total}
-use Rattle.places.proofs.Total.{total-gap, total-raised, total-ext}
+use Rattle.places.proofs.Total.{total-gap, total-raised}
 use Rattle.frame_rules.specs.declared.Record.{Record}
 use Rattle.lanes.specs.declared.Lane.{Lane}
 use Rattle.lanes.specs.Lane.{pushed}
@@ -22,13 +22,12 @@ use Rattle.lanes.proofs.LaneLaws.{len-pushed}
 use Rattle.lanes.proofs.LaneSteps.{push-two}
 use Rattle.station_rules.specs.declared.Station.{Station}
 use Rattle.station_rules.specs.declared.Taking.{Taking}
-use Rattle.station_rules.specs.State.{Cell, cellOf, labelOf, heldOf, laneAt}
+use Rattle.station_rules.specs.State.{Cell, cellOf, heldOf, laneAt}
 use Rattle.frame_rules.specs.Record.{recordLabel}
 use Rattle.station_rules.specs.Hearing.{Hearing, heeds, advances, takes, overfills, raised, heardNewer, hearRecord}
 use Rattle.station_rules.proofs.HearRecord.{heardOne, hearRecord-heeds}
 use Rattle.station_rules.proofs.Setters.{Shaped}
 use Rattle.station_rules.proofs.Cells.{heard-count, heard-here, heard-other}
-use Rattle.hearing_spec.specs.declared.Ear.{Ear}
 use Rattle.hearing_spec.specs.Buffer.{sizeIn, recordAt, takingAt}
 use Rattle.hearing_spec.specs.Gathered.{Gathered}
 use Rattle.hearing_spec.specs.StandsFor.{Notes, notes, holdsAt, topAt, StandsFor}

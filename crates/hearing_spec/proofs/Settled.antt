@@ -1,6 +1,6 @@
 -- A record that was heard is settled: the station does not heed it any more. Hearing a record of another station leaves it settled, and hearing a settled
 -- record does nothing. So a record that equals the one of its station heard last may be passed over.
-use Prim.Native.Nat.{ℕ, _<_, _≤_, _+_, _%_}
+use Prim.Native.Nat.{ℕ, _<_, _≤_}
 use mathlib.Core.Bool.{Bool, true, false, not, _&&_, and-false}
 use mathlib.Core.Path.{_≡_, refl, sym, ap, subst, _∙_}
 use native.Mathlib.Decide.{ℕ-discrete}
