@@ -1,4 +1,5 @@
--- The four ways of a newer record of station k, on numbers: its label is known already; its body is Empty; the lane of its station has two; or its body is taken.
+-- The four ways of a newer record of station k, on numbers: its label is known already; its body is
+-- Empty; the lane of its station has two; or its body is taken.
 use Prim.Native.Nat.{ℕ, _+_, _<_, _≤_}
 use mathlib.Core.Bool.{Bool, true, false, _||_}
 use mathlib.Core.List.{List}

@@ -1,4 +1,5 @@
--- The ways of one record as the code goes them: it is read from its own part of the bytes, beside the one held of its station; where it is newer, its place is put down.
+-- The ways of one record as the code goes them: it is read from its own part of the bytes, beside
+-- the one held of its station; where it is newer, its place is put down.
 use Prim.Native.Nat.{ℕ, _+_, _-_, _<_, _≤_}
 use mathlib.Core.List.{List}
 use mathlib.Core.Path.{_≡_, sym, ap, subst, _∙_}

@@ -1,4 +1,5 @@
--- Sixteen bytes are the same where their two numbers of eight bytes are: a number of eight bytes is two words, a word four bytes, and each tells its parts.
+-- Sixteen bytes are the same where their two numbers of eight bytes are: a number of eight bytes is
+-- two words, a word four bytes, and each tells its parts.
 use Prim.Native.Nat.{ℕ, zero, suc, _+_, _-_, _*_, _<_}
 use mathlib.Core.Bool.{true, _&&_}
 use mathlib.Core.List.{List}

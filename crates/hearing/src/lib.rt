@@ -1,4 +1,5 @@
-// Hearing, on the bytes of frames and on numbers alone: no station is touched. A record is told by its place, where its sixteen bytes begin; no record begins at 0.
+// Hearing, on the bytes of frames and on numbers alone: no station is touched. A record is told by
+// its place, where its sixteen bytes begin; no record begins at 0.
 //
 //   places[k]   the place of the record that the hearer holds of station k; 0 where it holds none
 //   last[k]     the place of the record of k heard last
@@ -64,8 +65,9 @@ fn raised(count: u8) -> u8
     255
 }
 
-// A newer record of station k, at a place: its station may be acknowledged, its label advances, the count rises, its body is taken. A lane that has two refuses the
-// frame, and the rest of it is heard all the same.
+// A newer record of station k, at a place: its station may be acknowledged, its label advances, the
+// count rises, its body is taken. A lane that has two refuses the frame, and the rest of it is
+// heard all the same.
 fn heed(
     e: Ear,
     seen: Record,
@@ -76,7 +78,8 @@ fn heed(
     taken: &mut [u16],
 ) -> Ear
     requires { ⌜ (k ≡ seen .station) × (k < 16) × (own < 16) × (at ≤ mostBytes) ⌝ ∗
-        ⌜ (length (now lens) ≡ 16) × (length (now taken) ≡ takingsRoom) ⌝ ∗ ⌜ (getD (now lens) k 0 < 2 → e .len < takingsRoom) ⌝ }
+        ⌜ (length (now lens) ≡ 16) × (length (now taken) ≡ takingsRoom) ⌝ ∗
+        ⌜ (getD (now lens) k 0 < 2 → e .len < takingsRoom) ⌝ }
     ensures { λ r.
         ⌜ (r ≡ earAfter own (now (lens .entry)) e seen) × (now (lens .exit) ≡ lensAfter (now (lens .entry)) e seen)
         × (now (taken .exit) ≡ takenAfter (now (lens .entry)) (now (taken .entry)) e seen at) ⌝ }
@@ -105,7 +108,8 @@ fn heed(
     ear
 }
 
-// One record, at a place, of station k. The hearer's own is skipped, and one that is not newer does nothing.
+// One record, at a place, of station k. The hearer's own is skipped, and one that is not newer does
+// nothing.
 fn hear_record(
     e: Ear,
     bytes: &[u8],
@@ -119,7 +123,8 @@ fn hear_record(
     requires { ⌜ Room own (now bytes) (notes (now places) (now lens) (now taken) e) ⌝ ∗ ⌜ RecordRoom (now bytes) at ⌝ ∗
         ⌜ (k ≡ getD (now bytes) at 0) × (0 < at) ⌝ }
     ensures { λ r.
-        ⌜ HearsRecord own (now (bytes .entry)) at (notes (now (places .entry)) (now (lens .entry)) (now (taken .entry)) e)
+        ⌜ HearsRecord own (now (bytes .entry)) at
+        (notes (now (places .entry)) (now (lens .entry)) (now (taken .entry)) e)
         (notes (now (places .exit)) (now (lens .exit)) (now (taken .exit)) r) ⌝ ∗
         ⌜ Room own (now (bytes .entry)) (notes (now (places .exit)) (now (lens .exit)) (now (taken .exit)) r) ⌝ }
 {
@@ -139,7 +144,8 @@ fn hear_record(
     }
 }
 
-// The frame that begins at `start`, where none was refused before. A record with the bytes of the one of its station heard last is passed over.
+// The frame that begins at `start`, where none was refused before. A record with the bytes of the
+// one of its station heard last is passed over.
 pub fn hear_frame(
     e: Ear,
     bytes: &[u8],
@@ -150,7 +156,8 @@ pub fn hear_frame(
     lens: &mut [u8],
     taken: &mut [u16],
 ) -> Ear
-    requires { ⌜ Room own (now bytes) (notes (now places) (now lens) (now taken) e) ⌝ ∗ ⌜ LastRoom (now bytes) (now last) ⌝ ∗
+    requires { ⌜ Room own (now bytes) (notes (now places) (now lens) (now taken) e) ⌝ ∗
+        ⌜ LastRoom (now bytes) (now last) ⌝ ∗
         ⌜ FrameRoom (now bytes) start ⌝ }
     ensures { λ r.
         ⌜ HearsFrame own (now (bytes .entry)) start (now (last .entry))
@@ -186,7 +193,8 @@ fn hears(mask: u16, own: usize, j: usize) -> bool
     links::set_at(mask, j)
 }
 
-// The frames of a mask, of those of n stations that stand in the bytes, by ascending sender, until one is refused.
+// The frames of a mask, of those of n stations that stand in the bytes, by ascending sender, until
+// one is refused.
 pub fn hear_mask(
     e: Ear,
     bytes: &[u8],
@@ -198,8 +206,10 @@ pub fn hear_mask(
     lens: &mut [u8],
     taken: &mut [u16],
 ) -> Ear
-    requires { ⌜ Room own (now bytes) (notes (now places) (now lens) (now taken) e) ⌝ ∗ ⌜ LastRoom (now bytes) (now last) ⌝ ∗
-        ⌜ ((j : ℕ) → j < n → FrameRoom (now bytes) (frameStart j)) ⌝ ∗ ⌜ (n ≡ sizeIn (now bytes)) × (e .refusal ≡ done) ⌝ }
+    requires { ⌜ Room own (now bytes) (notes (now places) (now lens) (now taken) e) ⌝ ∗
+        ⌜ LastRoom (now bytes) (now last) ⌝ ∗
+        ⌜ ((j : ℕ) → j < n → FrameRoom (now bytes) (frameStart j)) ⌝ ∗
+        ⌜ (n ≡ sizeIn (now bytes)) × (e .refusal ≡ done) ⌝ }
     ensures { λ r.
         ⌜ HearsMask own (now (bytes .entry)) mask (now (last .entry))
         (notes (now (places .entry)) (now (lens .entry)) (now (taken .entry)) e) (now (last .exit))

@@ -1,5 +1,6 @@
--- The loop over a frame. Its invariant at a place: the notes stand for the hearing of the first r records, and the record of each station heard last is settled. A
--- record that has the bytes of the last one of its station is passed over; any other is heard, and is then the last.
+-- The loop over a frame. Its invariant at a place: the notes stand for the hearing of the first r
+-- records, and the record of each station heard last is settled. A record that has the bytes of the
+-- last one of its station is passed over; any other is heard, and is then the last.
 use Prim.Native.Nat.{ℕ, suc, _+_, _*_, _<_, _≤_}
 use mathlib.Core.List.{List, [], _∷_}
 use mathlib.Core.Path.{_≡_, sym, ap, subst, _∙_}
@@ -59,7 +60,8 @@ pub frame-heard-is : (h : Hearing) (rs : List Record) → h .refusal ≡ done �
 unfolding hearFrame
 frame-heard-is h rs e = rw (eq-eqb (h .refusal) done e)
 
--- the invariant at `at`, r records being heard, since the notes were x₀ and the places of the last records last₀
+-- the invariant at `at`, r records being heard, since the notes were x₀ and the places of the last
+-- records last₀
 pub record FrameInv
     (own : ℕ) (bytes : List ℕ) (start end : ℕ) (last₀ : List ℕ) (x₀ : Notes) (last : List ℕ) (x : Notes) (at : ℕ) : Type 0 where
   pub r : ℕ

@@ -1,5 +1,6 @@
--- Hearing records one after the other leaves in the table the newest record of each station, and in the lanes the takings in order. A newer record replaces
--- one that replaced another, so the last of them decides; each taking is put behind those before it.
+-- Hearing records one after the other leaves in the table the newest record of each station, and in
+-- the lanes the takings in order. A newer record replaces one that replaced another, so the last of
+-- them decides; each taking is put behind those before it.
 use Prim.Native.Nat.{ℕ, _<_, _≤_}
 use mathlib.Core.Bool.{Bool, true, false, cond, _||_}
 use mathlib.Core.List.{List, [], _∷_, _++_}

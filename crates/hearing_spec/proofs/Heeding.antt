@@ -1,5 +1,6 @@
--- A newer record: what it does to the numbers stands for what it does to the station, and the notes keep their room. Its body is taken, put into a lane with fewer than
--- two; or nothing is taken; or the lane has two, and the frame is refused.
+-- A newer record: what it does to the numbers stands for what it does to the station, and the notes
+-- keep their room. Its body is taken, put into a lane with fewer than two; or nothing is taken; or
+-- the lane has two, and the frame is refused.
 use Prim.Native.Nat.{ℕ, suc, _+_, _*_, _<_, _≤_}
 use mathlib.Core.Bool.{Bool, true, false, cond, not, _&&_, _||_}
 use mathlib.Core.List.{List, [], _∷_, _++_, append-nil, map, map-append}

@@ -1,5 +1,5 @@
--- The loop over a mask. Its invariant at j: the frames of the senders below j are heard, and none of them was refused. A refused frame decides, for none is heard after
--- it.
+-- The loop over a mask. Its invariant at j: the frames of the senders below j are heard, and none
+-- of them was refused. A refused frame decides, for none is heard after it.
 use Prim.Native.Nat.{ℕ, zero, suc, _+_, _-_, _<_, _≤_}
 use mathlib.Core.Bool.{Bool, true, false, cond}
 use mathlib.Core.List.{List}

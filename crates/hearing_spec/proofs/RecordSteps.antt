@@ -1,5 +1,5 @@
--- The three ways of one record at a place: it is the hearer's own; it is not newer; it is newer. By each, notes that stand for a hearing stand for it once the record is
--- heard.
+-- The three ways of one record at a place: it is the hearer's own; it is not newer; it is newer. By
+-- each, notes that stand for a hearing stand for it once the record is heard.
 use Prim.Native.Nat.{ℕ, _<_, _≤_}
 use mathlib.Core.Bool.{Bool, true, false}
 use mathlib.Core.List.{List}

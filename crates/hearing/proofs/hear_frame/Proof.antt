@@ -1,4 +1,5 @@
--- `hearing::hear_frame` meets its contract. The loop's invariant is that of `FrameLoop`: the notes stand for the hearing of the records before `at`.
+-- `hearing::hear_frame` meets its contract. The loop's invariant is that of `FrameLoop`: the notes
+-- stand for the hearing of the records before `at`.
 use Prim.Native.Nat.{_+_, _-_}
 use mathlib.Core.Path.{refl, sym, _∙_}
 use native.Mathlib.Omega.{arith}

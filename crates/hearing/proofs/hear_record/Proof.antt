@@ -1,4 +1,5 @@
--- `hearing::hear_record` meets its contract: the hearer's own record and one that is not newer leave the notes, a newer one is acted on.
+-- `hearing::hear_record` meets its contract: the hearer's own record and one that is not newer
+-- leave the notes, a newer one is acted on.
 use mathlib.Core.Path.{sym, _∙_}
 use native.Mathlib.Omega.{arith}
 use borrow.Author.Needs.{needs}
