@@ -18,9 +18,6 @@ use Rattle.group_frames.specs.Frames.{judgedBelow}
 use Rattle.group_limits.proofs.GroupLimits.{group-judged}
 use Rattle.group_frames.proofs.SendSteps.{judged-is}
 
-pub anyBelow-more : (n : ℕ) (test : ℕ → Bool) → anyBelow n test ≡ false → test n ≡ false → anyBelow (n + 1) test ≡ false
-unfolding anyBelow
-anyBelow-more n test h e = rw (add-one n, h, e)
 
 -- a group of a number of stations that there is not
 pub size-outside : (g : List Station) → validNumber (sizeOf g) 0 ≡ false → groupInside g ≡ false
