@@ -1,8 +1,9 @@
--- Sixteen bytes are the same where their two numbers of eight bytes are: a number of eight bytes is two words, a word four bytes, and each tells its parts.
-use Prim.Native.Nat.{ℕ, zero, suc, _+_, _-_, _*_, _<_, _≤_}
-use mathlib.Core.Bool.{Bool, true, _&&_}
+-- Sixteen bytes are the same where their two numbers of eight bytes are: a number of eight bytes is
+-- two words, a word four bytes, and each tells its parts.
+use Prim.Native.Nat.{ℕ, zero, suc, _+_, _-_, _*_, _<_}
+use mathlib.Core.Bool.{true, _&&_}
 use mathlib.Core.List.{List}
-use mathlib.Core.Path.{_≡_, refl, sym, ap, _∙_}
+use mathlib.Core.Path.{_≡_, sym, ap, _∙_}
 use native.Mathlib.Decide.{decLt}
 use native.Mathlib.Nat.{add-zero, zero-add}
 use native.Mathlib.Omega.{arith}

@@ -1,5 +1,3 @@
--- what hearing needs of a record's labels, whatever they are kept in
-pub mod RecordLabels
 -- the three laws of a settled record
 pub mod Settled
 -- what hearing leaves of a station, and the numbers that stand for it

@@ -1,18 +1,17 @@
--- The three ways of one record at a place: it is the hearer's own; it is not newer; it is newer. By each, notes that stand for a hearing stand for it once the record is
--- heard.
-use Prim.Native.Nat.{ℕ, _+_, _<_, _≤_}
-use mathlib.Core.Bool.{Bool, true, false, cond}
+-- The three ways of one record at a place: it is the hearer's own; it is not newer; it is newer. By
+-- each, notes that stand for a hearing stand for it once the record is heard.
+use Prim.Native.Nat.{ℕ, _<_, _≤_}
+use mathlib.Core.Bool.{Bool, true, false}
 use mathlib.Core.List.{List}
 use mathlib.Core.Path.{_≡_, refl, sym, ap, subst, _∙_}
 use native.Mathlib.Omega.{arith}
-use lib.ListN.{getD, length}
+use lib.ListN.{getD}
 use Rattle.labels.specs.declared.Age.{Age}
 use Rattle.labels.specs.declared.Age.the-variants.{Newer, NotNewer}
 use Rattle.labels.specs.Newer.{isNewer, ageOf}
-use Rattle.frame_rules.specs.declared.Record.{Record}
 use Rattle.station_rules.specs.declared.Station.{Station}
 use Rattle.frame_rules.specs.Record.{recordLabel}
-use Rattle.station_rules.specs.Hearing.{Hearing, heeds, hearRecord}
+use Rattle.station_rules.specs.Hearing.{Hearing, heeds}
 use Rattle.station_rules.proofs.Setters.{Shaped}
 use Rattle.hearing_spec.specs.Buffer.{sizeIn, recordAt}
 use Rattle.hearing_spec.specs.StandsFor.{Notes, holdsAt, StandsFor}

@@ -1,6 +1,7 @@
--- A record that was heard is settled: the station does not heed it any more. Hearing a record of another station leaves it settled, and hearing a settled
--- record does nothing. So a record that equals the one of its station heard last may be passed over.
-use Prim.Native.Nat.{ℕ, _<_, _≤_, _+_, _%_}
+-- A record that was heard is settled: the station does not heed it any more. Hearing a record of
+-- another station leaves it settled, and hearing a settled record does nothing. So a record that
+-- equals the one of its station heard last may be passed over.
+use Prim.Native.Nat.{ℕ, _<_, _≤_}
 use mathlib.Core.Bool.{Bool, true, false, not, _&&_, and-false}
 use mathlib.Core.Path.{_≡_, refl, sym, ap, subst, _∙_}
 use native.Mathlib.Decide.{ℕ-discrete}
@@ -20,7 +21,8 @@ use Rattle.station_rules.proofs.Cells.{heard-n, heard-own, heard-here, heard-ot
 use Rattle.frame_rules.proofs.Labels.{framed-label}
 use Rattle.hearing_spec.specs.Settled.{Settled, AllSettled}
 
--- no label comes after itself, so no record is newer than itself; that holds of every number, label or not
+-- no label comes after itself, so no record is newer than itself; that holds of every number, label
+-- or not
 pub newer-self : (l c : ℕ) → isNewer true l c l c ≡ false
 unfolding isNewer
 newer-self l c = rw (ne-eqb l (successor l) (λ e. omega arith), eq-eqb l l refl, le-ltb c c (omega arith))
@@ -96,8 +98,8 @@ held-settled s k below most held e =
     (ap (λ (j : ℕ). recordLabel (recordOf s j) j) at ∙ sym (framed-label (s .n) (recordOf s k) k below) ∙ ap (recordLabel q) (sym at))
     (ap (λ (j : ℕ). (recordOf s j) .count) at ∙ sym (framed-count (s .n) (recordOf s k)))
 
--- what the loop over a frame uses: a record that equals the last of its station does nothing; any other is settled once it is heard, and is then the last of
--- its station
+-- what the loop over a frame uses: a record that equals the last of its station does nothing; any
+-- other is settled once it is heard, and is then the last of its station
 module _ (h : Hearing) (last : ℕ → Record) (c : AllSettled (h .station) last) (r : Record) (below : r .station < h .station .n) where
   pub repeated : last (r .station) ≡ r → hearRecord h r ≡ h
   repeated e =
