@@ -1,23 +1,23 @@
 -- The ways of one record as the code goes them: it is read from its own part of the bytes, beside
 -- the one held of its station; where it is newer, its place is put down.
 use Prim.Native.Nat.{ℕ, _+_, _-_, _<_, _≤_}
+use mathlib.Core.Bool.{true}
 use mathlib.Core.List.{List}
 use mathlib.Core.Path.{_≡_, sym, ap, subst, _∙_}
 use native.Mathlib.Omega.{arith}
 use lib.ListN.{getD, set, take, drop, length, length-drop}
 use lib.Seq.{length-take-le}
-use Rattle.labels.specs.declared.Age.the-variants.{Newer, NotNewer}
 use Rattle.frame_rules.specs.declared.Record.{Record}
 use Rattle.frame_rules.specs.Record.{recordFrom}
 use Rattle.hearing_spec.specs.declared.Ear.{Ear}
 use Rattle.hearing_spec.specs.Buffer.{recordAt}
-use Rattle.hearing_spec.specs.StandsFor.{Notes, notes, holdsAt}
-use Rattle.hearing_spec.specs.Heeding.{ageBeside, earAfter, lensAfter, takenAfter}
+use Rattle.hearing_spec.specs.StandsFor.{notes}
+use Rattle.hearing_spec.specs.Heeding.{heedsAt, earAfter, lensAfter, takenAfter}
 use Rattle.hearing_spec.specs.Room.{RecordRoom, Room}
 use Rattle.hearing_spec.specs.Promises.{HearsRecord}
 use Rattle.hearing_spec.proofs.Heeding.{noted}
 use Rattle.hearing_spec.proofs.FrameLoop.{station-at}
-use Rattle.hearing_spec.proofs.RecordSteps.{case-old, case-newer, case-newer-room}
+use Rattle.hearing_spec.proofs.RecordSteps.{case-heeded}
 
 -- the sixteen bytes from a place on
 abbrev pub partAt : List ℕ → ℕ → List ℕ
@@ -37,33 +37,26 @@ module _ (bytes : List ℕ) (at : ℕ) (r : Record) (read : r ≡ recordFrom (pa
   pub read-station : r .station ≡ getD bytes at 0
   read-station = ap (λ (q : Record). q .station) read-is ∙ station-at bytes at
 
+-- a record that is heeded: its place is put down, and it is acted on
 module _ (own : ℕ) (bytes : List ℕ) (at k : ℕ) (places lens taken : List ℕ) (e : Ear) (room : Room own bytes (notes places lens taken e))
-    (here : RecordRoom bytes at) (k-is : k ≡ getD bytes at 0) (other : k ≡ own → ⊥) (old seen : Record)
-    (old-read : old ≡ recordFrom (partAt bytes (getD places k 0))) (seen-read : seen ≡ recordFrom (partAt bytes at)) where
-  abbrev x : Notes
-  x = notes places lens taken e
-
-  old-is : old ≡ recordAt bytes (getD places k 0)
-  old-is = read-is bytes (getD places k 0) old old-read
-
+    (here : RecordRoom bytes at) (k-is : k ≡ getD bytes at 0) (heeded : heedsAt own bytes (getD places k 0) at k ≡ true) (seen : Record)
+    (seen-read : seen ≡ recordFrom (partAt bytes at)) where
   seen-is : seen ≡ recordAt bytes at
   seen-is = read-is bytes at seen seen-read
 
-  age-is : ageBeside (holdsAt places k) old seen k ≡ ageBeside (holdsAt places k) (recordAt bytes (getD places k 0)) (recordAt bytes at) k
-  age-is = λ i. ageBeside (holdsAt places k) (old-is i) (seen-is i) k
-
-  pub ends-old : ageBeside (holdsAt places k) old seen k ≡ NotNewer → HearsRecord own bytes at x x
-  ends-old a = case-old own bytes at x room here k k-is other (sym age-is ∙ a)
-
-  pub ends-newer :
-      (lens' taken' : List ℕ) (e' : Ear) → 0 < at → ageBeside (holdsAt places k) old seen k ≡ Newer →
+  pub ends-heeded :
+      (lens' taken' : List ℕ) (e' : Ear) → 0 < at →
       (e' ≡ earAfter own lens e seen) × (lens' ≡ lensAfter lens e seen) × (taken' ≡ takenAfter lens taken e seen at) →
-      HearsRecord own bytes at x (notes (set places k at) lens' taken' e') × Room own bytes (notes (set places k at) lens' taken' e')
-  ends-newer lens' taken' e' some a does =
+      HearsRecord own bytes at (notes places lens taken e) (notes (set places k at) lens' taken' e')
+      × Room own bytes (notes (set places k at) lens' taken' e')
+  ends-heeded lens' taken' e' some does =
       let q = recordAt bytes at in
+      let x = notes places lens taken e in
       let station : k ≡ q .station = k-is ∙ sym (station-at bytes at) in
       let is : notes (set places k at) lens' taken' e' ≡ noted own at q x =
-      (λ i. notes (set places (station i) at) (does .1 i) (does .2 i) (does .0 i)) ∙ (λ i. notes (set places (q .station) at) (lensAfter lens e (seen-is i)) (takenAfter lens taken e (seen-is i) at) (earAfter own lens e (seen-is i))) in (
-        subst (HearsRecord own bytes at x) (sym is) (case-newer own bytes at x room here k k-is other some (sym age-is ∙ a)),
-        subst (Room own bytes) (sym is) (case-newer-room own bytes at x room here k k-is other),
-      )
+      (λ i. notes (set places (station i) at) (does .1 i) (does .2 i) (does .0 i))
+      ∙ (λ i.
+      notes (set places (q .station) at) (lensAfter lens e (seen-is i)) (takenAfter lens taken e (seen-is i) at)
+      (earAfter own lens e (seen-is i))) in
+      let h = case-heeded own bytes at x room here k k-is heeded some in
+      (subst (HearsRecord own bytes at x) (sym is) (h .0), subst (Room own bytes) (sym is) (h .1))

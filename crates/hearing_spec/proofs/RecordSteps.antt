@@ -1,11 +1,13 @@
 -- The three ways of one record at a place: it is the hearer's own; it is not newer; it is newer. By
 -- each, notes that stand for a hearing stand for it once the record is heard.
 use Prim.Native.Nat.{ℕ, _<_, _≤_}
-use mathlib.Core.Bool.{Bool, true, false}
+use mathlib.Core.Bool.{Bool, true, false, false≢true}
 use mathlib.Core.List.{List}
 use mathlib.Core.Path.{_≡_, refl, sym, ap, subst, _∙_}
+use native.Mathlib.Decide.{ℕ-discrete}
 use native.Mathlib.Omega.{arith}
 use lib.ListN.{getD}
+use borrow.Author.Tests.{eq-eqb, ne-eqb}
 use Rattle.labels.specs.declared.Age.{Age}
 use Rattle.labels.specs.declared.Age.the-variants.{Newer, NotNewer}
 use Rattle.labels.specs.Newer.{isNewer, ageOf}
@@ -15,20 +17,24 @@ use Rattle.station_rules.specs.Hearing.{Hearing, heeds}
 use Rattle.station_rules.proofs.Setters.{Shaped}
 use Rattle.hearing_spec.specs.Buffer.{sizeIn, recordAt}
 use Rattle.hearing_spec.specs.StandsFor.{Notes, holdsAt, StandsFor}
-use Rattle.hearing_spec.specs.Heeding.{ageBeside}
+use Rattle.hearing_spec.specs.Heeding.{ageBeside, isNew, heedsAt}
 use Rattle.hearing_spec.specs.Room.{takingsRoom, RecordRoom, Room}
 use Rattle.hearing_spec.specs.Promises.{Named, HearsRecord}
 use Rattle.hearing_spec.proofs.Standing.{heeds-stands, stands-own, stands-old}
 use Rattle.hearing_spec.proofs.Heeding.{noted, taking-room, stands-newer, newer-room}
 use Rattle.hearing_spec.proofs.FrameLoop.{station-at}
 
-abbrev isNew : Age → Bool
-isNew Newer = true
-isNew NotNewer = false
-
 age-new : (test : Bool) → isNew (ageOf test) ≡ test
 age-new true = refl
 age-new false = refl
+
+is-new : (a : Age) → isNew a ≡ true → a ≡ Newer
+is-new Newer e = refl
+is-new NotNewer e = absurd (false≢true e)
+
+not-new : (a : Age) → isNew a ≡ false → a ≡ NotNewer
+not-new Newer e = absurd (false≢true (sym e))
+not-new NotNewer e = refl
 
 module _ (own : ℕ) (bytes : List ℕ) (at : ℕ) (x : Notes) (room : Room own bytes x) (here : RecordRoom bytes at) (k : ℕ) (k-is : k ≡ getD bytes at 0) where
   station-is : (recordAt bytes at) .station ≡ k
@@ -59,7 +65,7 @@ module _ (own : ℕ) (bytes : List ℕ) (at : ℕ) (x : Notes) (room : Room own 
         station-is
         ∙ sym (age-new _)
 
-  pub case-own : k ≡ own → HearsRecord own bytes at x x
+  case-own : k ≡ own → HearsRecord own bytes at x x
   case-own i =
       record {
         hears =
@@ -69,7 +75,7 @@ module _ (own : ℕ) (bytes : List ℕ) (at : ℕ) (x : Notes) (room : Room own 
       }
 
   module _ (other : k ≡ own → ⊥) where
-    pub case-old : age ≡ NotNewer → HearsRecord own bytes at x x
+    case-old : age ≡ NotNewer → HearsRecord own bytes at x x
     case-old e =
         record {
           hears =
@@ -79,10 +85,10 @@ module _ (own : ℕ) (bytes : List ℕ) (at : ℕ) (x : Notes) (room : Room own 
         }
 
     -- where the lane has fewer than two there is room for a taking
-    pub case-room : getD (x .lens) k 0 < 2 → x .ear .len < takingsRoom
+    case-room : getD (x .lens) k 0 < 2 → x .ear .len < takingsRoom
     case-room = taking-room (sizeIn bytes) own (x .lens) (x .taken) (x .ear .len) (room .high) (room .own-below) (room .lanes) k below other
 
-    pub case-newer : 0 < at → age ≡ Newer → HearsRecord own bytes at x (noted own at (recordAt bytes at) x)
+    case-newer : 0 < at → age ≡ Newer → HearsRecord own bytes at x (noted own at (recordAt bytes at) x)
     case-newer some e =
         record {
           hears =
@@ -95,6 +101,32 @@ module _ (own : ℕ) (bytes : List ℕ) (at : ℕ) (x : Notes) (room : Room own 
               (heeds-is s h name c shape other ∙ ap isNew e);
         }
 
-    pub case-newer-room : Room own bytes (noted own at (recordAt bytes at) x)
+    case-newer-room : Room own bytes (noted own at (recordAt bytes at) x)
     case-newer-room =
         newer-room own bytes x room at here (recordAt bytes at) (station-at bytes at) (λ z. other (sym station-is ∙ z))
+
+  -- the record is not heeded
+  pub case-passed : heedsAt own bytes (getD (x .places) k 0) at k ≡ false → HearsRecord own bytes at x x
+  unfolding heedsAt
+  case-passed e =
+      elim (ℕ-discrete k own) [
+        | yes i ↦ case-own i
+        | no d ↦ case-old d (not-new age (rw (ne-eqb k own d) at e))
+      ]
+
+  -- it is heeded
+  module _ (heeded : heedsAt own bytes (getD (x .places) k 0) at k ≡ true) where
+    other : k ≡ own → ⊥
+    unfolding heedsAt
+    other i = absurd (false≢true (rw (eq-eqb k own i) at heeded))
+
+    newer : age ≡ Newer
+    unfolding heedsAt
+    newer = is-new age (rw (ne-eqb k own other) at heeded)
+
+    pub heeded-room : getD (x .lens) k 0 < 2 → x .ear .len < takingsRoom
+    heeded-room = case-room other
+
+    pub case-heeded :
+        0 < at → HearsRecord own bytes at x (noted own at (recordAt bytes at) x) × Room own bytes (noted own at (recordAt bytes at) x)
+    case-heeded some = (case-newer other some newer, case-newer-room other)

@@ -1,13 +1,19 @@
 -- `hearing::hear_frame` meets its contract. The loop's invariant is that of `FrameLoop`: the notes
 -- stand for the hearing of the records before `at`.
-use Prim.Native.Nat.{_+_, _-_}
-use mathlib.Core.Path.{refl, sym, _∙_}
+use Prim.Native.Nat.{ℕ, _+_, _-_, _*_, _≤_, _<_}
+use mathlib.Core.Bool.{true}
+use mathlib.Core.List.{List}
+use mathlib.Core.Path.{_≡_, refl, sym, _∙_}
 use native.Mathlib.Omega.{arith}
 use borrow.Author.Needs.{needs}
-use lib.ListN.{getD}
-use Rattle.hearing_spec.specs.StandsFor.{notes}
-use Rattle.hearing_spec.proofs.FrameLoop.{FrameInv, frame-first, frame-end, frame-step, frame-passed, frame-heard}
-use Rattle.hearing.proofs.RecordCases.{part-is, part-long}
+use borrow.Author.Tests.{not-true, not-false}
+use lib.ListN.{getD, length}
+use Rattle.hearing_spec.specs.StandsFor.{Notes, notes}
+use Rattle.hearing_spec.specs.Heeding.{heedsAt}
+use Rattle.hearing_spec.specs.Room.{Room}
+use Rattle.hearing_spec.proofs.FrameLoop.{FrameInv, FrameStep, frame-first, frame-end, frame-step, frame-passed, frame-heard}
+use Rattle.hearing_spec.proofs.RecordSteps.{case-passed, heeded-room}
+use Rattle.hearing.proofs.RecordCases.{part-is, part-long, read-station, ends-heeded}
 use Rattle.hearing.proofs.hear_frame.Statement.{statement}
 use Rattle.hearing.proofs.hear_frame.Tie as tie
 
@@ -58,91 +64,93 @@ loop-holds c =
     let s = c .before .before .before .before .before .before in
     frame-first _ _ _ _ _ _ refl (s .pre .1 .1) (s .pre .0) (s .pre .1 .0)
 
-shared-slice-read-k : tie.Need-shared-slice-read-k Inv-loop μ-loop
-shared-slice-read-k c =
-    omega (arith, frame-step _ _ _ _ _ _ _ _ _ (c .before .before .loop .inv) (c .before .loop-test .taken))
+-- a record
+module _ (c : tie.In-loop Inv-loop μ-loop) where
+  abbrev bytes : List ℕ
+  bytes = c .before .before .before .before .before .before .before .before .args .bytes .now
 
-cast-k : tie.Need-cast-k Inv-loop μ-loop
-cast-k c =
-    omega (arith, frame-step _ _ _ _ _ _ _ _ _ (c .before .before .loop .inv) (c .before .loop-test .taken))
+  abbrev own : ℕ
+  own = c .before .before .before .before .before .before .before .before .args .own
 
-mul-before : tie.Need-mul-before Inv-loop μ-loop
-mul-before c =
-    omega (arith, frame-step _ _ _ _ _ _ _ _ _ (c .before .before .loop .inv) (c .before .loop-test .taken))
+  abbrev at : ℕ
+  at = c .before .loop .at
 
-slice-read-before : tie.Need-slice-read-before Inv-loop μ-loop
-slice-read-before c =
-    omega (arith, frame-step _ _ _ _ _ _ _ _ _ (c .before .before .before .loop .inv) (c .before .before .loop-test .taken))
+  abbrev k : ℕ
+  k = getD bytes at 0
 
-cast-before : tie.Need-cast-before Inv-loop μ-loop
-cast-before c =
-    omega (arith, frame-step _ _ _ _ _ _ _ _ _ (c .before .before .before .loop .inv) (c .before .before .loop-test .taken))
+  abbrev x : Notes
+  x = notes (c .before .loop .places) (c .before .loop .lens) (c .before .loop .taken) (c .before .loop .ear)
 
-add-same : tie.Need-add-same Inv-loop μ-loop
-add-same c =
-    omega (arith, frame-step _ _ _ _ _ _ _ _ _ (c .before .before .before .loop .inv) (c .before .before .loop-test .taken))
+  room : Room own bytes x
+  room = c .before .loop .inv .room
 
-part-same-end : tie.Need-part-same-end Inv-loop μ-loop
-part-same-end c =
-    omega (arith, frame-step _ _ _ _ _ _ _ _ _ (c .before .before .before .loop .inv) (c .before .before .loop-test .taken))
+  step : FrameStep bytes (c .before .before .before .before .before .before .before .before .args .start + 4 + 16 * getD bytes (c .before .before .before .before .before .before .before .before .args .start + 2) 0) (c .before .loop .last) at
+  step = frame-step _ _ _ _ _ _ _ _ _ (c .before .loop .inv) (c .loop-test .taken)
 
-add-same-2 : tie.Need-add-same-2 Inv-loop μ-loop
-add-same-2 c =
-    omega (arith, frame-step _ _ _ _ _ _ _ _ _ (c .before .before .before .before .loop .inv) (c .before .before .before .loop-test .taken))
-
-part-same-end-2 : tie.Need-part-same-end-2 Inv-loop μ-loop
-part-same-end-2 c =
-    omega (arith, frame-step _ _ _ _ _ _ _ _ _ (c .before .before .before .before .loop .inv) (c .before .before .before .loop-test .taken))
-
-same-requires : tie.Need-same-requires Inv-loop μ-loop
-same-requires c κs =
-    let z = frame-step _ _ _ _ _ _ _ _ _ (c .before .before .before .before .before .loop .inv) (c .before .before .before .before .loop-test .taken) in
-    (part-long _ _ (z .before), part-long _ _ (z .here .room))
-
-add-at-2 : tie.Need-add-at-2 Inv-loop μ-loop
-add-at-2 c =
-    omega (arith, frame-step _ _ _ _ _ _ _ _ _ (c .before .before .before .before .before .before .before .loop .inv) (c .before .before .before .before .before .before .loop-test .taken))
-
-loop-less : tie.Need-loop-less Inv-loop μ-loop
-loop-less c =
-    omega (arith, frame-step _ _ _ _ _ _ _ _ _ (c .before .before .before .before .before .before .before .loop .inv) (c .before .before .before .before .before .before .loop-test .taken))
+  low :
+      (at + 16 ≤ length bytes)
+      × (length bytes ≤ 65535)
+      × (k < 16)
+      × (own < 16)
+      × (getD (c .before .loop .last) k 0 + 16 ≤ length bytes)
+      × (getD (c .before .loop .places) k 0 + 16 ≤ length bytes)
+      × (length (c .before .loop .last) ≡ 16)
+      × (length (c .before .loop .places) ≡ 16)
+  low =
+      let s = step in (
+        s .here .room,
+        s .short,
+        s .station,
+        omega (arith, room .own-below, room .high),
+        s .before,
+        room .inside k (s .here .station),
+        s .long,
+        room .places-long,
+      )
 
 loop-again : tie.Need-loop-again Inv-loop μ-loop
 loop-again c =
-    let bytes = c .before .before .before .before .before .before .before .before .before .before .before .before .before .before .args .bytes .now in
-    let loop = c .before .before .before .before .before .before .before .loop in
-    frame-passed _ _ _ _ _ _ _ _ _ (loop .inv) (c .before .before .before .before .before .before .loop-test .taken)
-    (sym (part-is bytes (getD (loop .last) (getD bytes (loop .at) 0) 0)) ∙ c .before .same .ensures .0 (c .if1 .taken) ∙ part-is bytes (loop .at))
+    let d = c .before .before .before .before .before .before in
+    let loop = d .before .loop in
+    frame-passed _ _ _ _ _ _ _ _ _ (loop .inv) (d .loop-test .taken)
+    (sym (part-is (bytes d) (getD (loop .last) (k d) 0)) ∙ c .before .same .ensures .0 (c .if1 .taken) ∙ part-is (bytes d) (at d))
 
-cast-last : tie.Need-cast-last Inv-loop μ-loop
-cast-last c =
-    omega (arith, frame-step _ _ _ _ _ _ _ _ _ (c .before .before .before .before .before .before .before .loop .inv) (c .before .before .before .before .before .before .loop-test .taken))
-
-mul-last : tie.Need-mul-last Inv-loop μ-loop
-mul-last c =
-    omega (arith, frame-step _ _ _ _ _ _ _ _ _ (c .before .before .before .before .before .before .before .loop .inv) (c .before .before .before .before .before .before .loop-test .taken))
-
-slice-write-last : tie.Need-slice-write-last Inv-loop μ-loop
-slice-write-last c =
-    omega (arith, frame-step _ _ _ _ _ _ _ _ _ (c .before .before .before .before .before .before .before .loop .inv) (c .before .before .before .before .before .before .loop-test .taken))
-
-hear-record-requires : tie.Need-hear-record-requires Inv-loop μ-loop
-hear-record-requires c κs =
-    let z = frame-step _ _ _ _ _ _ _ _ _ (c .before .before .before .before .before .before .before .before .before .before .loop .inv) (c .before .before .before .before .before .before .before .before .before .loop-test .taken) in
-    (c .before .before .before .before .before .before .before .before .before .before .loop .inv .room, (z .here, (refl, z .some)))
-
-add-at-3 : tie.Need-add-at-3 Inv-loop μ-loop
-add-at-3 c =
-    omega (arith, frame-step _ _ _ _ _ _ _ _ _ (c .before .before .before .before .before .before .before .before .before .before .before .before .before .before .before .before .before .loop .inv) (c .before .before .before .before .before .before .before .before .before .before .before .before .before .before .before .before .loop-test .taken))
-
-loop-less-2 : tie.Need-loop-less-2 Inv-loop μ-loop
-loop-less-2 c =
-    omega (arith, frame-step _ _ _ _ _ _ _ _ _ (c .before .before .before .before .before .before .before .before .before .before .before .before .before .before .before .before .before .loop .inv) (c .before .before .before .before .before .before .before .before .before .before .before .before .before .before .before .before .loop-test .taken))
-
+-- it is not heeded
 loop-again-2 : tie.Need-loop-again-2 Inv-loop μ-loop
 loop-again-2 c =
-    let done = c .before .before .before .before .before .before .hear-record .ensures in
-    frame-heard _ _ _ _ _ _ _ _ _ (c .before .before .before .before .before .before .before .before .before .before .before .before .before .before .before .before .before .loop .inv) (c .before .before .before .before .before .before .before .before .before .before .before .before .before .before .before .before .loop-test .taken) _ (done .0) (done .1)
+    let d = c .before .before .before .before .before .before .before .before .before in
+    frame-heard _ _ _ _ _ _ _ _ _ (d .before .loop .inv) (d .loop-test .taken) _
+    (case-passed (own d) (bytes d) (at d) (x d) (room d) (step d .here) (k d) refl (sym (c .before .heeds .ensures) ∙ not-true _ (c .if2 .taken))) (room d)
+
+-- it is heeded
+module _ (c : tie.Else2 Inv-loop μ-loop) where
+  abbrev turn : tie.In-loop Inv-loop μ-loop
+  turn = c .before .before .before .before .before .before .before .before .before
+
+  heeded : heedsAt (own turn) (bytes turn) (getD (turn .before .loop .places) (k turn) 0) (at turn) (k turn) ≡ true
+  heeded = sym (c .before .heeds .ensures) ∙ not-false _ (c .if2 .left)
+
+heed-requires : tie.Need-heed-requires Inv-loop μ-loop
+heed-requires c κs =
+    let e = c .before .before .before .before in
+    let d = turn e in
+    let l = low d in (
+      (sym (read-station (bytes d) (at d) _ (c .before .before .read-record .ensures)), l .2, l .3, omega (arith, l .0, l .1)),
+      (
+        (room d .lanes .lens-long, room d .lanes .taken-long),
+        heeded-room (own d) (bytes d) (at d) (x d) (room d) (step d .here) (k d) refl (heeded e),
+      ),
+    )
+
+loop-again-3 : tie.Need-loop-again-3 Inv-loop μ-loop
+loop-again-3 c =
+    let e = c .before .before .before .before .before .before .before .before .before in
+    let d = turn e in
+    let l = d .before .loop in
+    let done =
+    ends-heeded (own d) (bytes d) (at d) (k d) (l .places) (l .lens) (l .taken) (l .ear) (room d) (step d .here) refl (heeded e) _
+    (c .before .before .before .before .before .before .before .read-record .ensures) _ _ _ (step d .some) (c .before .before .before .before .heed .ensures) in
+    frame-heard _ _ _ _ _ _ _ _ _ (l .inv) (d .loop-test .taken) _ (done .0) (done .1)
 
 same-length : tie.Need-same-length Inv-loop μ-loop
 same-length c =
@@ -179,30 +187,45 @@ hear-frame-spec =
     add-end-3
     add-at
     loop-holds
-    shared-slice-read-k
-    cast-k
-    mul-before
-    slice-read-before
-    cast-before
-    add-same
+    (λ c. omega (arith, low (c .before)))
+    (λ c. omega (arith, low (c .before)))
+    (λ c. omega (arith, low (c .before)))
+    (λ c. omega (arith, low (c .before .before)))
+    (λ c. omega (arith, low (c .before .before)))
+    (λ c. omega (arith, low (c .before .before)))
     (λ c. search needs)
     (λ c. search needs)
-    part-same-end
-    add-same-2
+    (λ c. omega (arith, low (c .before .before)))
+    (λ c. omega (arith, low (c .before .before .before)))
     (λ c. search needs)
     (λ c. search needs)
-    part-same-end-2
-    same-requires
-    add-at-2
-    loop-less
+    (λ c. omega (arith, low (c .before .before .before)))
+    (λ c κs. let l = low (c .before .before .before .before) in (part-long _ _ (l .4), part-long _ _ (l .0)))
+    (λ c. omega (arith, low (c .before .before .before .before .before .before)))
+    (λ c. omega (arith, step (c .before .before .before .before .before .before)))
     loop-again
-    cast-last
-    mul-last
-    slice-write-last
-    hear-record-requires
-    add-at-3
-    loop-less-2
+    (λ c. omega (arith, low (c .before .before .before .before .before .before)))
+    (λ c. omega (arith, low (c .before .before .before .before .before .before)))
+    (λ c. omega (arith, low (c .before .before .before .before .before .before)))
+    (λ c. omega (arith, low (c .before .before .before .before .before .before)))
+    (λ c. omega (arith, low (c .before .before .before .before .before .before .before)))
+    (λ c. omega (arith, low (c .before .before .before .before .before .before .before)))
+    (λ c κs. let l = low (c .before .before .before .before .before .before .before) in (l .5, l .0, l .1, l .2))
+    (λ c. omega (arith, low (c .before .before .before .before .before .before .before .before .before)))
+    (λ c. omega (arith, step (c .before .before .before .before .before .before .before .before .before)))
     loop-again-2
+    (λ c. omega (arith, low (c .before .before .before .before .before .before .before .before .before)))
+    (λ c. omega (arith, low (c .before .before .before .before .before .before .before .before .before)))
+    (λ c. omega (arith, low (c .before .before .before .before .before .before .before .before .before)))
+    (λ c. omega (arith, low (c .before .before .before .before .before .before .before .before .before)))
+    (λ c. search needs)
+    (λ c. search needs)
+    (λ c. omega (arith, low (c .before .before .before .before .before .before .before .before .before)))
+    (λ c κs. part-long _ _ (low (c .before .before .before .before .before .before .before .before .before .before) .0))
+    heed-requires
+    (λ c. omega (arith, low (c .before .before .before .before .before .before .before .before .before .before .before .before .before .before .before .before .before .before)))
+    (λ c. omega (arith, step (c .before .before .before .before .before .before .before .before .before .before .before .before .before .before .before .before .before .before)))
+    loop-again-3
     same-length
     same-length-2
     same-length-3
