@@ -62,6 +62,7 @@ run-spec =
     masks-requires
     round-requires
     add-round
+    (λ c κs. search needs)
     of-reports-requires
     of-group-requires
     write-requires
