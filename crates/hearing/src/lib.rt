@@ -111,7 +111,8 @@ fn heed(
 // Does the hearer heed the record of station k at a place, beside the one that it holds at another?
 // Its own it does not, and of others a newer one.
 fn heeds(bytes: &[u8], held: usize, at: usize, k: usize, own: usize) -> bool
-    requires { ⌜ (held + 16 ≤ length (now bytes)) × (at + 16 ≤ length (now bytes)) × (length (now bytes) ≤ mostBytes) × (k < 16) ⌝ }
+    requires { ⌜ (held + 16 ≤ length (now bytes)) × (at + 16 ≤ length (now bytes)) ⌝ ∗
+        ⌜ (length (now bytes) ≤ mostBytes) × (k < 16) ⌝ }
     ensures { λ r. ⌜ r ≡ heedsAt own (now (bytes .entry)) held at k ⌝ }
 {
     if k == own {

@@ -26,9 +26,11 @@ abbrev pub isNew : Age → Bool
 isNew Newer = true
 isNew NotNewer = false
 
--- the record of station k at a place is heeded, beside the one that is held at another: it is of another station than the hearer, and newer
+-- the record of station k at a place is heeded, beside the one that is held at another: it is of
+-- another station than the hearer, and newer
 unfoldable pub heedsAt : ℕ → List ℕ → ℕ → ℕ → ℕ → Bool
-heedsAt own bytes held at k = not (eqb k own) && isNew (ageBeside (not (eqb held 0)) (recordAt bytes held) (recordAt bytes at) k)
+heedsAt own bytes held at k =
+    not (eqb k own) && isNew (ageBeside (not (eqb held 0)) (recordAt bytes held) (recordAt bytes at) k)
 
 -- the label for the record's station advances
 abbrev pub earAdvances : Ear → Record → Bool

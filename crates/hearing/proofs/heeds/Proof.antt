@@ -1,13 +1,10 @@
--- `hearing::heeds` meets its contract: the hearer's own record is told by its station, and any other is judged beside the held one.
-use mathlib.Core.Bool.{Bool, not, _&&_}
-use mathlib.Core.List.{List}
-use mathlib.Core.Path.{_≡_, refl, sym, ap, _∙_}
+-- `hearing::heeds` meets its contract: the hearer's own record is told by its station, and any
+-- other is judged beside the held one.
+use mathlib.Core.Bool.{not}
+use mathlib.Core.Path.{_≡_, sym, ap, _∙_}
 use lib.Dec.{eqb}
 use borrow.Author.Needs.{needs}
 use borrow.Author.Tests.{eq-eqb, ne-eqb}
-use Rattle.labels.specs.declared.Age.{Age}
-use Rattle.frame_rules.specs.declared.Record.{Record}
-use Rattle.hearing_spec.specs.Buffer.{recordAt}
 use Rattle.hearing_spec.specs.Heeding.{ageBeside, isNew, heedsAt}
 use Rattle.hearing.proofs.RecordCases.{read-is}
 use Rattle.hearing.proofs.heeds.Statement.{statement}
