@@ -19,6 +19,8 @@ const BODY_WIDTH: usize = 12;
 
 const TAKING_WIDTH: usize = 16;
 
+const TURN_PLACE: usize = 484;
+
 const REPORT_WIDTH: usize = 704;
 
 // Sixteen flags, a byte each.
@@ -76,7 +78,7 @@ fn put_report(bytes: &mut [u8], at: usize, report: Report)
         put_taking(bytes, at + 4 + TAKING_WIDTH * i, takings[i]);
         i += 1;
     }
-    put_turn(bytes, at + 4 + TAKING_WIDTH * 30, turn);
+    put_turn(bytes, at + TURN_PLACE, turn);
 }
 
 // What a round reports of all stations, put at the front.

@@ -88,20 +88,20 @@ module _ (l : List ℕ) (at : ℕ) where
       written-more l l₂ l₃ at (wordBytes k ++ wordBytes e) (wordBytes u) 8 two long s₃
       ∙ (λ i. sets l at (wordBytes (kind i) ++ wordBytes (event i) ++ wordBytes (u-is i)))
 
-  pub label-next :
-      (labels l₁ : List ℕ) (i : ℕ) → l₁ ≡ sets l at (tabulate i (λ j. getD labels j 0)) → set l₁ (at + i) (getD labels i 0) ≡ sets l at (tabulate (i + 1) (λ j. getD labels j 0))
+  -- one entry more
+  pub entry-next :
+      (f : ℕ → ℕ) (l₁ : List ℕ) (i : ℕ) → l₁ ≡ sets l at (tabulate i f) → set l₁ (at + i) (f i) ≡ sets l at (tabulate (i + 1) f)
   unfolding tabulate
-  label-next labels l₁ i h =
-      written-more l l₁ (set l₁ (at + i) (getD labels i 0)) at (tabulate i (λ j. getD labels j 0)) (getD labels i 0 ∷ []) i h
-      (length-tabulate i (λ j. getD labels j 0)) refl
-      ∙ ap (λ (n : ℕ). sets l at (tabulate n (λ j. getD labels j 0))) (sym (add-one i))
+  entry-next f l₁ i h =
+      written-more l l₁ (set l₁ (at + i) (f i)) at (tabulate i f) (f i ∷ []) i h (length-tabulate i f) refl
+      ∙ ap (λ (n : ℕ). sets l at (tabulate n f)) (sym (add-one i))
 
-  pub label-none : (labels : List ℕ) → l ≡ sets l at (tabulate 0 (λ j. getD labels j 0))
+  pub entry-none : (f : ℕ → ℕ) → l ≡ sets l at (tabulate 0 f)
   unfolding tabulate
-  label-none labels = refl
+  entry-none f = refl
 
-  pub labels-written : (labels l₁ : List ℕ) (i : ℕ) → i ≡ 16 → l₁ ≡ sets l at (tabulate i (λ j. getD labels j 0)) → l₁ ≡ sets l at (encodeLabels labels)
-  labels-written labels l₁ i e h = h ∙ ap (λ (n : ℕ). sets l at (tabulate n (λ j. getD labels j 0))) e
+  pub entries-written : (f : ℕ → ℕ) (l₁ : List ℕ) (n i : ℕ) → i ≡ n → l₁ ≡ sets l at (tabulate i f) → l₁ ≡ sets l at (tabulate n f)
+  entries-written f l₁ n i e h = h ∙ ap (λ (j : ℕ). sets l at (tabulate j f)) e
 
   pub record-written :
       (r : Record) (k e : ℕ) (z : ℤ) (u : ℕ) (l₁ l₂ l₃ l₄ : List ℕ) → k ≡ kindOf (r .body) → e ≡ eventOf (r .body) → SFits w32 z → z ≡ argumentOf (r .body) →

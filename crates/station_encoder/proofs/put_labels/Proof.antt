@@ -5,7 +5,7 @@ use native.Mathlib.Omega.{arith}
 use lib.ListN.{getD, length, length-set}
 use lib.Seq.{sets}
 use Rattle.places.specs.Places.{tabulate}
-use Rattle.station_encoder.proofs.Writing.{label-none, label-next, labels-written}
+use Rattle.station_encoder.proofs.Writing.{entry-none, entry-next, entries-written}
 use Rattle.station_encoder.proofs.put_labels.Statement.{statement}
 use Rattle.station_encoder.proofs.put_labels.Tie as tie
 use Rattle.station_encoder.proofs.put_labels.Reads as reads
@@ -18,7 +18,7 @@ abbrev μ-loop : tie.MeasureT-loop
 μ-loop bytes₀ at labels i₀ bytes i = 16 - i
 
 loop-holds : tie.Need-loop-holds Inv-loop μ-loop
-loop-holds c = (omega arith, refl, label-none _ (c .args .at) (c .args .t3))
+loop-holds c = (omega arith, refl, entry-none _ (c .args .at) (λ j. getD (c .args .t3) j 0))
 
 array-read-bytes : tie.Need-array-read-bytes Inv-loop μ-loop
 array-read-bytes c = omega arith
@@ -39,13 +39,13 @@ loop-again : tie.Need-loop-again Inv-loop μ-loop
 loop-again c = 
     let l = c .before .loop in
     let s = c .before .before .args in
-    (omega arith, simp length-set (l .inv .1), label-next (s .bytes .now) (s .at) (s .t3) (l .bytes) (l .i) (l .inv .2))
+    (omega arith, simp length-set (l .inv .1), entry-next (s .bytes .now) (s .at) (λ j. getD (s .t3) j 0) (l .bytes) (l .i) (l .inv .2))
 
 same-length : tie.Need-same-length Inv-loop μ-loop
 same-length c = c .before .loop .inv .1
 
 returns : tie.Need-returns Inv-loop μ-loop
-returns c = labels-written (c .before .before .args .bytes .now) (c .before .before .args .at) (c .before .before .args .t3) _ _ (omega arith) (c .before .loop .inv .2)
+returns c = entries-written (c .before .before .args .bytes .now) (c .before .before .args .at) (λ j. getD (c .before .before .args .t3) j 0) _ 16 _ (omega arith) (c .before .loop .inv .2)
 
 pub put-labels-spec : {M : Type 1} → statement M
 put-labels-spec =
