@@ -1,6 +1,7 @@
 // The calls of a group that lies as bytes in the host's memory.
 
 ghost use mathlib.Core.Path.{_≡_};
+ghost use lib.ListN.{getD};
 ghost use Rattle.planning_spec.specs.Merge.{frontWritten};
 ghost use Rattle.station_bytes_spec.specs.Group.{encodeGroup};
 ghost use Rattle.station_bytes_spec.specs.Reports.{encodeReports};
@@ -66,6 +67,16 @@ pub extern "C" fn relay_group_post(
     DONE
 }
 
+// The mask at a place; 0 where there is none.
+fn mask_at(masks: &[u16], k: usize) -> u16
+    ensures { λ r. ⌜ r ≡ getD (now (masks .entry)) k 0 ⌝ }
+{
+    if masks.len() <= k {
+        return 0;
+    }
+    masks[k]
+}
+
 // Sixteen masks, as an array; those that are not there are 0.
 fn sixteen_masks(masks: &[u16]) -> [u16; 16]
     ensures { λ r. ⌜ r ≡ sixteenMasks (now (masks .entry)) ⌝ }
@@ -73,9 +84,7 @@ fn sixteen_masks(masks: &[u16]) -> [u16; 16]
     let mut sixteen = [0u16; 16];
     let mut k: usize = 0;
     while k < 16 {
-        if k < masks.len() {
-            sixteen[k] = masks[k];
-        }
+        sixteen[k] = mask_at(masks, k);
         k += 1;
     }
     sixteen
