@@ -119,7 +119,7 @@ length-front r = refl
 
 pub length-record : (r : Record) → length (encodeRecord r) ≡ recordWidth
 unfolding encodeRecord
-length-record r = length-append (front r) (encodeLabels r) ∙ ap₂ _+_ (length-front r) (length-tabulate 16 (λ i. getD (r .labels) i 0))
+length-record r = length-append (front r) (encodeLabels (r .labels)) ∙ ap₂ _+_ (length-front r) (length-tabulate 16 (λ i. getD (r .labels) i 0))
 
 module _ (l : List ℕ) (at : ℕ) (r : Record) (f : RecordFits r) (h : Stands l at (encodeRecord r)) where
   abbrev head : List ℕ
@@ -127,14 +127,14 @@ module _ (l : List ℕ) (at : ℕ) (r : Record) (f : RecordFits r) (h : Stands l
 
   stands-front : Stands l at (front r)
   unfolding encodeRecord
-  stands-front = stands-left l at (front r) (encodeLabels r) h
+  stands-front = stands-left l at (front r) (encodeLabels (r .labels)) h
 
   labels-there : decodeLabels l (at + 12) ≡ r .labels
   unfolding encodeRecord
   labels-there =
       tabulate-is 16 (λ i. getD l (at + 12 + i) 0) (r .labels) 0 (f .labels-long)
       (λ i m.
-        (stands-right l at (front r) (encodeLabels r) 12 (length-front r) h) .is i (omega (arith, length-tabulate 16 (λ j. getD (r .labels) j 0)))
+        (stands-right l at (front r) (encodeLabels (r .labels)) 12 (length-front r) h) .is i (omega (arith, length-tabulate 16 (λ j. getD (r .labels) j 0)))
         ∙ tabulate-at 16 (λ j. getD (r .labels) j 0) i 0 m)
 
   event-there : wordAt l (at + 4) ≡ eventOf (r .body)

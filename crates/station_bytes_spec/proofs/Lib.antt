@@ -3,3 +3,4 @@ pub mod Body
 pub mod Station
 pub mod Group
 pub mod Inside
+pub mod Reports

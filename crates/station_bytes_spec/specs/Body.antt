@@ -40,8 +40,8 @@ isBody b at = wordsRight (wordAt b at) (wordAt b (at + 4)) (wordAt b (at + 8))
 abbrev pub labelsWidth : ℕ
 labelsWidth = 16
 
-abbrev pub encodeLabels : Record → List ℕ
-encodeLabels r = tabulate labelsWidth (λ i. getD (r .labels) i 0)
+abbrev pub encodeLabels : List ℕ → List ℕ
+encodeLabels labels = tabulate labelsWidth (λ i. getD labels i 0)
 
 abbrev pub decodeLabels : List ℕ → ℕ → List ℕ
 decodeLabels b at = tabulate labelsWidth (λ i. byteAt b (at + i))
@@ -54,7 +54,7 @@ encodeRecord r =
     (r .station ∷ r .count ∷ kindOf (r .body) ∷ 0 ∷ [])
     ++ wordBytes (eventOf (r .body))
     ++ wordBytes (unsigned (argumentOf (r .body)))
-    ++ encodeLabels r
+    ++ encodeLabels (r .labels)
 
 unfoldable pub decodeRecord : List ℕ → ℕ → Record
 decodeRecord b at =

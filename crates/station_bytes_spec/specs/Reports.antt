@@ -3,6 +3,7 @@ use Prim.Native.Nat.{ℕ, _+_, _*_}
 use mathlib.Core.Bool.{Bool, false}
 use mathlib.Core.List.{List, [], _∷_, _++_}
 use lib.ListN.{getD}
+use Rattle.kinds.specs.declared.Body.the-variants.{Empty}
 use Rattle.places.specs.Places.{tabulate}
 use Rattle.frame_rules.specs.Words.{wordBytes}
 use Rattle.lanes.specs.Queue.{noSlot}
@@ -10,7 +11,6 @@ use Rattle.station_rules.specs.declared.Taking.{Taking}
 use Rattle.station_rules.specs.declared.TurnReport.{TurnReport}
 use Rattle.station_rules.specs.Hearing.{noTaking}
 use Rattle.group_rules.specs.declared.Report.{Report}
-use Rattle.group_rules.specs.Calls.{noReport}
 use Rattle.station_bytes_spec.specs.Bytes.{flagByte, asByte, joinedBelow}
 use Rattle.station_bytes_spec.specs.Body.{bodyWidth, encodeBody}
 
@@ -46,9 +46,18 @@ encodeReport r =
     ++ joinedBelow 30 (λ i. encodeTaking (getD (r .takings) i noTaking))
     ++ encodeTurn (r .turn)
 
+-- what is read past the end of a list of reports
+abbrev pub absentReport : Report
+absentReport =
+    record {
+      «takings_len» = 0;
+      takings = [];
+      turn = record { aired = false; row = []; ended = false; «ended_body» = Empty; «started_body» = Empty };
+    }
+
 -- and of all sixteen
 abbrev pub reportsWidth : ℕ
 reportsWidth = reportWidth * 16
 
 unfoldable pub encodeReports : List Report → List ℕ
-encodeReports reports = joinedBelow 16 (λ k. encodeReport (getD reports k noReport))
+encodeReports reports = joinedBelow 16 (λ k. encodeReport (getD reports k absentReport))
