@@ -8,13 +8,24 @@ use group_rules::Report;
 use kinds::Body;
 use station_rules::Setup;
 use station_rules::Station;
-use station_sums::mix;
 
 // The bytes of one round's masks: sixteen, two bytes each, the low byte first.
 const MASKS_SIZE: usize = 32;
 
 // A post comes before every eighth round, the first among them, at one station after the other.
 const POST_EVERY: u32 = 8;
+
+const LOW: u64 = 4_294_967_296;
+
+// A number mixed into a sum.
+fn mix(sum: u64, number: u32) -> u64 {
+    sum % LOW * 2_654_435_769 + (number as u64)
+}
+
+// The number that a sum leaves.
+fn low(sum: u64) -> u32 {
+    (sum % LOW) as u32
+}
 
 // A number of at most 99 as it is; there are no others here.
 fn small(number: usize) -> u32 {
@@ -131,7 +142,7 @@ fn run(schedule: &[u8], n: usize, rounds: u32) -> u32
         }
         number += 1;
     }
-    station_sums::low(sum)
+    low(sum)
 }
 
 // From fresh, rounds with the masks of a schedule, again and again; gives a checksum of what they report, and 0 if a number is refused.
