@@ -134,8 +134,8 @@ module _ (l : List ℕ) (at : ℕ) (r : Record) (f : RecordFits r) (h : Stands l
   labels-there =
       tabulate-is 16 (λ i. getD l (at + 12 + i) 0) (r .labels) 0 (f .labels-long)
       (λ i m.
-        (stands-right l at (front r) (encodeLabels (r .labels)) 12 (length-front r) h) .is i (omega (arith, length-tabulate 16 (λ j. getD (r .labels) j 0)))
-        ∙ tabulate-at 16 (λ j. getD (r .labels) j 0) i 0 m)
+      (stands-right l at (front r) (encodeLabels (r .labels)) 12 (length-front r) h) .is i (omega (arith, length-tabulate 16 (λ j. getD (r .labels) j 0)))
+      ∙ tabulate-at 16 (λ j. getD (r .labels) j 0) i 0 m)
 
   event-there : wordAt l (at + 4) ≡ eventOf (r .body)
   event-there =

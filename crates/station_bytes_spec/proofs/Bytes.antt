@@ -102,10 +102,10 @@ module _ (b : List ℕ) where
       (sym
       (span-cons at 3 (omega arith)
       ∙ ap (λ (r : List ℕ). getD b at 0 ∷ r)
-        (span-cons (suc at) 2 (omega arith)
-        ∙ ap (λ (r : List ℕ). getD b (suc at) 0 ∷ r)
-          (span-cons (suc (suc at)) 1 (omega arith)
-          ∙ ap (λ (r : List ℕ). getD b (suc (suc at)) 0 ∷ r) (span-cons (suc (suc (suc at))) 0 (omega arith))))))
+      (span-cons (suc at) 2 (omega arith)
+      ∙ ap (λ (r : List ℕ). getD b (suc at) 0 ∷ r)
+      (span-cons (suc (suc at)) 1 (omega arith)
+      ∙ ap (λ (r : List ℕ). getD b (suc (suc at)) 0 ∷ r) (span-cons (suc (suc (suc at))) 0 (omega arith))))))
 
   pub word-span : AllBytes b → (at : ℕ) → at + 4 ≤ length b → wordBytes (wordAt b at) ≡ span at 4 b
   unfolding wordAt

@@ -75,7 +75,7 @@ module _ (b : List ℕ) (at : ℕ) where
   unfolding isRecord
   by-words h = rw (eq-eqb _ _ h)
 
--- ---- a cell
+  -- ---- a cell
 
   pub no-flag : 1 < byteAt b at → false ≡ isCell b at
   unfolding isCell
@@ -100,7 +100,7 @@ module _ (b : List ℕ) (at : ℕ) where
         unfolding isCell
         by-record h = rw (le-leb _ _ h₁, le-leb _ _ h₂, h₃, h)
 
--- ---- the waiting edits
+  -- ---- the waiting edits
 
   abbrev edits : ℕ → Bool
   edits i = isBody b (at + 4 + 12 * i)
@@ -118,7 +118,7 @@ module _ (b : List ℕ) (at : ℕ) where
     unfolding isWaiting
     all-edits i e h = rw (lt-ltb _ _ few) (rw e at (sym h))
 
--- ---- a station
+  -- ---- a station
 
   pub no-zero : (byteAt b (at + 3) ≡ 0 → ⊥) → false ≡ isStationAt b at
   unfolding isStationAt

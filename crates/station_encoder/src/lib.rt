@@ -36,11 +36,7 @@ pub fn flag_byte(flag: bool) -> u8
 pub fn as_byte(number: usize) -> u8
     ensures { λ r. ⌜ r ≡ asByte number ⌝ }
 {
-    if number < 256 {
-        number as u8
-    } else {
-        255
-    }
+    if number < 256 { number as u8 } else { 255 }
 }
 
 // Four bytes, put at a place.
@@ -61,7 +57,11 @@ pub fn put_body(bytes: &mut [u8], at: usize, body: Body)
 {
     put_word(bytes, at, kinds::kind_of(body));
     put_word(bytes, at + 4, kinds::event_of(body));
-    put_word(bytes, at + 8, record_writer::unsigned(kinds::argument_of(body)));
+    put_word(
+        bytes,
+        at + 8,
+        record_writer::unsigned(kinds::argument_of(body)),
+    );
 }
 
 // The labels of a record, put at a place.
@@ -85,7 +85,11 @@ fn put_record(bytes: &mut [u8], at: usize, r: Record)
     let labels = r.labels;
     put_four(bytes, at, r.station, r.count, kinds::kind_of(body) as u8, 0);
     put_word(bytes, at + 4, kinds::event_of(body));
-    put_word(bytes, at + 8, record_writer::unsigned(kinds::argument_of(body)));
+    put_word(
+        bytes,
+        at + 8,
+        record_writer::unsigned(kinds::argument_of(body)),
+    );
     put_labels(bytes, at + 12, labels);
 }
 
@@ -105,7 +109,14 @@ fn put_cell(
 {
     let first = lane.first;
     let second = lane.second;
-    put_four(bytes, at, flag_byte(acked), flag_byte(held), label, lane.len);
+    put_four(
+        bytes,
+        at,
+        flag_byte(acked),
+        flag_byte(held),
+        label,
+        lane.len,
+    );
     put_body(bytes, at + 4, first);
     put_body(bytes, at + 16, second);
     put_record(bytes, at + 28, entry);

@@ -36,7 +36,7 @@ loop-less : tie.Need-loop-less Inv-loop μ-loop
 loop-less c = omega arith
 
 loop-again : tie.Need-loop-again Inv-loop μ-loop
-loop-again c = 
+loop-again c =
     let l = c .before .before .loop in
     let s = c .before .before .before .args in
     (omega arith, fill-next (l .i) (λ j. byteAt (s .bytes .now) (s .at + j)) (replicate 16 0) (l .labels) _ (l .inv .1) refl)

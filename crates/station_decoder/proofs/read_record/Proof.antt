@@ -54,7 +54,7 @@ shared-slice-read-t13 c = search needs
 
 returns : tie.Need-returns
 unfolding decodeRecord
-returns c = 
+returns c =
     let s = c .before .before .before .before .before .before .before .before .args in
     let z = c .before .before .before in
     let body = z .body-of-words .ensures ∙ (λ j. bodyOfWords (byteAt (s .bytes .now) (s .at + 2)) (z .before .before .before .word-at .ensures j) (z .before .before .word-at2 .ensures j)) in

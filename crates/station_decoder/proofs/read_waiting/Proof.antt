@@ -47,7 +47,7 @@ loop-less : tie.Need-loop-less Inv-loop μ-loop
 loop-less c = omega arith
 
 loop-again : tie.Need-loop-again Inv-loop μ-loop
-loop-again c = 
+loop-again c =
     let l = c .before .before .loop in
     let s = c .before .before .before .before .args in
     (omega arith, fill-next (l .i) (editIn (s .bytes .now) (s .at)) (replicate 32 noSlot) (l .slots) _ (l .inv .1) (λ j. record { body = c .read-body .ensures j }))

@@ -82,7 +82,7 @@ loop-less : tie.Need-loop-less Inv-loop μ-loop
 loop-less c = omega arith
 
 loop-again : tie.Need-loop-again Inv-loop μ-loop
-loop-again c = 
+loop-again c =
     let l = c .before .before .before .before .before .before .loop in
     let s = c .before .before .before .before .before .before .before .before .args in
     (omega arith, cells-next (s .bytes .now) (s .at) (l .k) (l .acked) (l .held) (l .labels) (l .table) (l .lanes) (l .inv .1) _ _ (c .before .read-record .ensures) (c .read-lane .ensures))
@@ -121,7 +121,7 @@ shared-slice-read-t46 : tie.Need-shared-slice-read-t46 Inv-loop μ-loop
 shared-slice-read-t46 c = omega arith
 
 returns : tie.Need-returns Inv-loop μ-loop
-returns c = 
+returns c =
     let l = c .before .before .before .before .before .before .loop in
     let s = c .before .before .before .before .before .before .before .before .args in
     station-read (s .bytes .now) (s .at) (l .k) (l .acked) (l .held) (l .labels) (l .table) (l .lanes) (l .inv .1) (omega arith) _ _ (c .before .before .before .before .read-body .ensures)

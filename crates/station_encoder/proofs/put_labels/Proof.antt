@@ -36,7 +36,7 @@ loop-less : tie.Need-loop-less Inv-loop μ-loop
 loop-less c = omega arith
 
 loop-again : tie.Need-loop-again Inv-loop μ-loop
-loop-again c = 
+loop-again c =
     let l = c .before .loop in
     let s = c .before .before .args in
     (omega arith, simp length-set (l .inv .1), entry-next (s .bytes .now) (s .at) (λ j. getD (s .t3) j 0) (l .bytes) (l .i) (l .inv .2))
