@@ -55,8 +55,8 @@ loop-again c =
 word-at-requires : tie.Need-word-at-requires Inv-loop μ-loop
 word-at-requires c κs = omega arith
 
-cast-t17 : tie.Need-cast-t17 Inv-loop μ-loop
-cast-t17 c = omega arith
+cast-len : tie.Need-cast-len Inv-loop μ-loop
+cast-len c = omega arith
 
 returns : tie.Need-returns Inv-loop μ-loop
 returns c = waiting-read _ _ _ _ _ (c .word-at .ensures) (omega arith) (c .before .before .loop .inv .1)
@@ -78,5 +78,5 @@ read-waiting-spec =
     loop-less
     loop-again
     word-at-requires
-    cast-t17
+    cast-len
     returns)
