@@ -14,7 +14,7 @@ use Rattle.kinds.specs.Refusals.{done}
 use Rattle.places.specs.Places.{allBelow, anyBelow, tabulate}
 use Rattle.places.proofs.Laws.{or-left, and-both, and-left, and-right, allBelow-at, allBelow-make, anyBelow-ext, anyBelow-none, length-tabulate, tabulate-ext, tabulate-map}
 use Rattle.frame_rules.specs.declared.Record.{Record}
-use Rattle.frame_rules.specs.Record.{recordFrom, recordBytes, framed, noRecord, bytesInside, recordFits}
+use Rattle.frame_rules.specs.Record.{recordLabel, recordFrom, recordBytes, framed, noRecord, bytesInside, recordFits}
 use Rattle.frame_rules.specs.Frame.{part, recordStation, shapeWrong, addressWrong, recordsInside, frameRefusal, recordsOf, recordsBytes, frameBytes, recordsFit}
 use Rattle.frame_rules.proofs.Bytes.{length-record, length-frame, records-append}
 use Rattle.frame_rules.proofs.Check.{by-length, by-sender, accepted, Accepted, accepted-frame, Shape, shape}
@@ -164,7 +164,7 @@ module _ (bytes : List ℕ) (n own : ℕ) (h : frameRefusal bytes n own ≡ done
   pub accepted-fits : (k : ℕ) → k < count → recordFits n (recordFrom (part bytes k)) ≡ true
   accepted-fits k l = held-fits n (part bytes k) (part-inside k l)
 
-  pub accepted-zeros : (k : ℕ) → k < count → (j : ℕ) → n ≤ j → getD ((recordFrom (part bytes k)) .labels) j 0 ≡ 0
+  pub accepted-zeros : (k : ℕ) → k < count → (j : ℕ) → n ≤ j → j < 16 → recordLabel (recordFrom (part bytes k)) j ≡ 0
   accepted-zeros k l = held-zeros n (part bytes k) (part-inside k l)
 
   bytes-are : bytes ≡ getD bytes 0 0 ∷ getD bytes 1 0 ∷ getD bytes 2 0 ∷ getD bytes 3 0 ∷ drop 4 bytes

@@ -23,6 +23,7 @@ use Rattle.group_rules.specs.History.{History, Call, post, round, next, 
 use Rattle.group_rules.proofs.Setups.{Accepts}
 use Rattle.group_rules.proofs.Run.{Run, linksOf}
 use Rattle.group_rules.proofs.Simulation.{ready-formed}
+use Rattle.group_rules.proofs.Lanes.{run-step}
 use Rattle.group_rules.proofs.CallRun.{afterPosts, nextMasks, afterNext, callsAfter, masksOf, groupAfter, runOf}
 
 -- what round u + 1 of a run returns, the rounds up to u, and their log
@@ -78,7 +79,7 @@ module _ (R : Run) where
   unfolding roundCall roundIn
   round-call u e =
       let n : sizeOf (R .ready u) ≡ R .n = ready-formed R u 0 (R .low) .size in
-      rw (e, R .step u, n)
+      rw (e, run-step R u, n)
 
   pub report-at : (u p : ℕ) → p < R .n → reportIn (roundIn R u) p ≡ reportOf (R .ready u) (R .masks (suc u)) p
   unfolding roundIn

@@ -19,8 +19,9 @@ use Rattle.links.proofs.Got.{numOf-none, numOf-some, got-own}
 use Rattle.links.proofs.Version.{numOf-close, counted-mono}
 use Rattle.links.proofs.Clock.{news-limit}
 use Rattle.frame_rules.specs.declared.Record.{Record}
+use Rattle.frame_rules.specs.Record.{recordLabel}
 use Rattle.station_rules.specs.declared.Station.{Station}
-use Rattle.station_rules.specs.State.{labelOf, heldOf, recordOf, recordLabel}
+use Rattle.station_rules.specs.State.{labelOf, heldOf, recordOf}
 use Rattle.station_rules.specs.Hearing.{heeds, advances}
 use Rattle.station_rules.proofs.Cells.{heeds-newer}
 use Rattle.group_rules.proofs.Run.{Run, linksOf}

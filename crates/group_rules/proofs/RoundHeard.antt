@@ -19,16 +19,18 @@ use Rattle.links.proofs.Clock.{news-own, news-limit}
 use Rattle.links.proofs.Hearing.{hearing-all}
 use Rattle.links.proofs.Got.{got-numOf, version}
 use Rattle.frame_rules.specs.declared.Record.{Record}
+use Rattle.frame_rules.proofs.Labels.{framed-label}
 use Rattle.frame_rules.specs.Record.{framed}
 use Rattle.places.specs.Places.{gather}
 use Rattle.places.proofs.Laws.{anyBelow-none}
 use Rattle.station_rules.specs.declared.Station.{Station}
+use Rattle.kinds.specs.Refusals.{done, laneFull, refuse}
 use Rattle.station_rules.specs.State.{heldOf, recordOf, laneAt, sentRecords}
 use Rattle.station_rules.specs.Hearing.{Hearing, silent, hearRecord, hearRecords}
 use Rattle.station_rules.proofs.HearRecord.{hearRecord-skips}
 use Rattle.station_rules.proofs.Cells
 use Rattle.group_rules.specs.State.{stationAt, sizeOf}
-use Rattle.group_rules.specs.Calls.{heardBelow}
+use Rattle.group_rules.proofs.Through.{heardThrough}
 use Rattle.group_rules.specs.History.{takingsOf}
 use Rattle.group_rules.proofs.Run.{Run, linksOf, hearingIn}
 use Rattle.group_rules.proofs.Version.{Stands, CellAt, shown, gains}
@@ -60,9 +62,10 @@ module _ (R : Run) where
         cells = a .cells;
         caught = λ q l. record { lane-now = rw (still q); taken-now = rw (still q) };
         count = a .count;
-        overfull =
-            sym
-            (anyBelow-none (R .n) (λ q. gains R u p q (news L u p q) && leb 2 ((laneAt s q) .len)) (λ q l. rw (still q)));
+        refusal =
+            ap (λ (t : Bool). refuse t laneFull done)
+            (sym
+            (anyBelow-none (R .n) (λ q. gains R u p q (news L u p q) && leb 2 ((laneAt s q) .len)) (λ q l. rw (still q))));
       }
     where
       still : (q : ℕ) → ltb (got L u p q) (numOf L q (news L u p q)) ≡ false
@@ -71,12 +74,11 @@ module _ (R : Run) where
 
   stands-framed : (n : ℕ) (r : Record) (k w : ℕ) → n ≡ R .n → Stands R r k w → Stands R (framed n r) k w
   stands-framed n r k w e t =
-      let high = R .high in
       record {
         station = Cells.framed-station n r ∙ t .station;
         count = Cells.framed-count n r ∙ t .count;
         body = Cells.framed-body n r ∙ t .body;
-        labels = λ i b. Cells.framed-label n r i (omega arith) (omega arith) ∙ t .labels i b;
+        labels = λ i b. framed-label n r i (omega arith) ∙ t .labels i b;
       }
 
   -- p hears the frame of j
@@ -193,35 +195,35 @@ module _ (R : Run) where
 
     hear-senders :
         (k : ℕ) → k ≤ R .n →
-        Standing R u p (stationAt (R .ready u) p) (heardBelow (R .ready u) (R .masks (suc u)) p k) (λ q. heardVersion u p k q)
-    unfolding heardBelow clock.hearing latest
+        Standing R u p (stationAt (R .ready u) p) (heardThrough (R .ready u) (R .masks (suc u)) p k) (λ q. heardVersion u p k q)
+    unfolding heardThrough clock.hearing latest
     hear-senders zero l = standing-silent u p (stationAt (R .ready u) p) lp (all p lp)
     hear-senders (suc k) l =
         subst (λ b. Standing R u p (stationAt (R .ready u) p)
         (cond b
-        (hearRecords (heardBelow (R .ready u) (R .masks (suc u)) p k) (sentRecords (stationAt (R .ready u) k)))
-        (heardBelow (R .ready u) (R .masks (suc u)) p k))
+        (hearRecords (heardThrough (R .ready u) (R .masks (suc u)) p k) (sentRecords (stationAt (R .ready u) k)))
+        (heardThrough (R .ready u) (R .masks (suc u)) p k))
         (λ q. cond (hearsIn (R .n) (R .masks (suc u)) p k) (max (heardVersion u p k q) (news L u k q)) (heardVersion u p k q)))
         (ap (λ (m : ℕ). hearsIn m (R .masks (suc u)) p k) (sym ready-size))
         (go (hearsIn (R .n) (R .masks (suc u)) p k) (hear-senders k (omega arith)))
       where
         go :
             (b : Bool) →
-            Standing R u p (stationAt (R .ready u) p) (heardBelow (R .ready u) (R .masks (suc u)) p k) (λ q. heardVersion u p k q) →
+            Standing R u p (stationAt (R .ready u) p) (heardThrough (R .ready u) (R .masks (suc u)) p k) (λ q. heardVersion u p k q) →
             Standing R u p (stationAt (R .ready u) p)
             (cond b
-            (hearRecords (heardBelow (R .ready u) (R .masks (suc u)) p k) (sentRecords (stationAt (R .ready u) k)))
-            (heardBelow (R .ready u) (R .masks (suc u)) p k))
+            (hearRecords (heardThrough (R .ready u) (R .masks (suc u)) p k) (sentRecords (stationAt (R .ready u) k)))
+            (heardThrough (R .ready u) (R .masks (suc u)) p k))
             (λ q. cond b (max (heardVersion u p k q) (news L u k q)) (heardVersion u p k q))
         go true c =
             hear-sent u p lp (stationAt (R .ready u) p) k l (stationAt (R .ready u) k) (all k l)
-            (heardBelow (R .ready u) (R .masks (suc u)) p k) (λ q. heardVersion u p k q) c
+            (heardThrough (R .ready u) (R .masks (suc u)) p k) (λ q. heardVersion u p k q) c
         go false c = c
 
     -- all of them
     pub hear-round : Standing R u p (stationAt (R .ready u) p) (hearingIn R u p) (λ q. heardVersion u p (R .n) q)
     hear-round =
-        subst (λ m. Standing R u p (stationAt (R .ready u) p) (heardBelow (R .ready u) (R .masks (suc u)) p m) (λ q. heardVersion u p (R .n) q))
+        subst (λ m. Standing R u p (stationAt (R .ready u) p) (heardThrough (R .ready u) (R .masks (suc u)) p m) (λ q. heardVersion u p (R .n) q))
         (sym ready-size) (hear-senders (R .n) (le-refl (R .n)))
 
     -- of another station that is the clock of the round

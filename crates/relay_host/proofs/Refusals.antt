@@ -34,6 +34,12 @@ module _ (n : ℕ) (l : List ℕ) where
   pub room : n ≤ length l → done ≡ roomRefusal n l
   room h = rw (le-ltb (length l) n h)
 
+pub refused-is-2 : outsideLimits ≡ done → ⊥
+refused-is-2 h = omega (arith, h)
+
+pub short-is-9 : shortBuffer ≡ done → ⊥
+short-is-9 h = omega (arith, h)
+
 -- ---- lent buffers
 
 pub kept-whole : (r : ℕ) (xs l : List ℕ) → (r ≡ done → ⊥) → l ≡ frontWritten r xs l

@@ -26,13 +26,7 @@ use Rattle.station_bytes_spec.specs.Reports.{turnWidth, encodeTurn, encodeFlags
 use Rattle.station_bytes_spec.proofs.Station.{length-station}
 use Rattle.station_bytes_spec.proofs.Reports.{length-turn, length-flags}
 use Rattle.relay_host.specs.Station.{namedBody, freshAnswer, freshReturned, postAnswer, postReturned, hearAnswer, hearReturned, turnAnswer, turnReturned}
-use Rattle.relay_host.proofs.Refusals.{first-refused, first-done, state-refused, state-taken, no-room, room, kept-whole, front-made}
-
-refused-is-2 : outsideLimits ≡ done → ⊥
-refused-is-2 h = omega (arith, h)
-
-short-is-9 : shortBuffer ≡ done → ⊥
-short-is-9 h = omega (arith, h)
+use Rattle.relay_host.proofs.Refusals.{first-refused, first-done, state-refused, state-taken, no-room, room, kept-whole, front-made, refused-is-2, short-is-9}
 
 -- ---- fresh
 
@@ -109,9 +103,10 @@ module _ (b : List ℕ) (h : isStation b ≡ true) (s : Station) (read : s ≡ d
         k .refusal ≡ done → (l : List ℕ) → l ≡ sets b 0 (encodeStation (k .station)) →
         (done ≡ postReturned b body) × (l ≡ frontWritten done (encodeStation (postAnswer b body .station)) b)
     unfolding postReturned
-    post-done fine l made =
-        (sym fine ∙ ap (λ (x : Kept). x .refusal) post-is ∙ state-taken (isStation b) _ h,
-        state-made (postAnswer b body .station) l (made ∙ ap (λ (x : Kept). sets b 0 (encodeStation (x .station))) post-is))
+    post-done fine l made = (
+      sym fine ∙ ap (λ (x : Kept). x .refusal) post-is ∙ state-taken (isStation b) _ h,
+      state-made (postAnswer b body .station) l (made ∙ ap (λ (x : Kept). sets b 0 (encodeStation (x .station))) post-is),
+    )
 
   -- hear
   module _ (frame taken : List ℕ) (k : Heard) (call : k ≡ hearCall s frame) where
@@ -145,10 +140,11 @@ module _ (b : List ℕ) (h : isStation b ≡ true) (s : Station) (read : s ≡ d
           × (m ≡ frontWritten done (encodeFlags (hearAnswer b frame .taken)) taken)
       unfolding hearReturned
       hear-done enough l m made told =
-          let a = hearAnswer b frame in
-          (room 16 taken enough ∙ first-done _ _ hear-fine ∙ state-taken (isStation b) _ h,
-          state-made (a .station) l (made ∙ ap (λ (x : Heard). sets b 0 (encodeStation (x .station))) hear-is),
-          front-made (encodeFlags (a .taken)) taken m (omega (arith, length-flags (a .taken))) (told ∙ ap (λ (x : Heard). sets taken 0 (encodeFlags (x .taken))) hear-is))
+          let a = hearAnswer b frame in (
+            room 16 taken enough ∙ first-done _ _ hear-fine ∙ state-taken (isStation b) _ h,
+            state-made (a .station) l (made ∙ ap (λ (x : Heard). sets b 0 (encodeStation (x .station))) hear-is),
+            front-made (encodeFlags (a .taken)) taken m (omega (arith, length-flags (a .taken))) (told ∙ ap (λ (x : Heard). sets taken 0 (encodeFlags (x .taken))) hear-is),
+          )
 
   -- turn
   module _ (report : List ℕ) (k : Turned) (call : k ≡ turnCall s) where
@@ -182,10 +178,11 @@ module _ (b : List ℕ) (h : isStation b ≡ true) (s : Station) (read : s ≡ d
           × (m ≡ frontWritten done (encodeTurn (turnAnswer b .report)) report)
       unfolding turnReturned
       turn-done enough l m made told =
-          let a = turnAnswer b in
-          (room turnWidth report enough ∙ first-done _ _ turn-fine ∙ state-taken (isStation b) _ h,
-          state-made (a .station) l (made ∙ ap (λ (x : Turned). sets b 0 (encodeStation (x .station))) turn-is),
-          front-made (encodeTurn (a .report)) report m (omega (arith, length-turn (a .report))) (told ∙ ap (λ (x : Turned). sets report 0 (encodeTurn (x .report))) turn-is))
+          let a = turnAnswer b in (
+            room turnWidth report enough ∙ first-done _ _ turn-fine ∙ state-taken (isStation b) _ h,
+            state-made (a .station) l (made ∙ ap (λ (x : Turned). sets b 0 (encodeStation (x .station))) turn-is),
+            front-made (encodeTurn (a .report)) report m (omega (arith, length-turn (a .report))) (told ∙ ap (λ (x : Turned). sets report 0 (encodeTurn (x .report))) turn-is),
+          )
 
 -- ---- the body that three numbers name
 

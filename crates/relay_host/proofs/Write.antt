@@ -14,13 +14,14 @@ use Rattle.frame_rules.specs.declared.Written.{Written}
 use Rattle.frame_rules.proofs.Bytes.{length-frame}
 use Rattle.planning_spec.specs.Merge.{frontWritten}
 use Rattle.station_rules.specs.declared.Station.{Station}
-use Rattle.station_rules.specs.State.{sentRecords}
+use Rattle.frame_rules.specs.Record.{framed}
+use Rattle.station_rules.specs.State.{heldOf, recordOf, sentRecords}
 use Rattle.station_rules.specs.Limits.{stationInside}
 use Rattle.station_rules.specs.Calls.{ownCountInside, frameOf, writeRefusal, writeCall, bufferAfter}
 use Rattle.station_rules.proofs.StationLimits.{inside-open}
 use Rattle.station_bytes_spec.specs.Station.{decodeStation, isStation}
 use Rattle.relay_host.specs.Station.{orElse, stationOf, roomRefusal, writeReturned}
-use Rattle.relay_host.proofs.Refusals.{first-refused, first-done, state-refused, state-taken, no-room, room, kept-whole, front-made}
+use Rattle.relay_host.proofs.Refusals.{first-refused, first-done, state-refused, state-taken, no-room, room, kept-whole, front-made, refused-is-2, short-is-9}
 
 -- ---- what the station's call answers
 
@@ -59,7 +60,7 @@ module _ (s : Station) (size : ℕ) where
   frame-few : writeRefusal s size ≡ done → length (frameOf s) ≤ 260
   unfolding frameOf sentRecords
   frame-few h =
-      omega (arith, length-frame (s .n) (s .own) (sentRecords s), gather-few (s .n) _ _, (inside-open s (inside-done h)) .high)
+      omega (arith, length-frame (s .n) (s .own) (sentRecords s), gather-few (s .n) (heldOf s) (λ k. framed (s .n) (recordOf s k)), (inside-open s (inside-done h)) .high)
 
 -- what refuses a frame, the room apart, refuses it whatever the room is
 any-room : (s : Station) (one other : ℕ) → orElse (writeRefusal s one) shortBuffer ≡ orElse (writeRefusal s other) shortBuffer
@@ -78,12 +79,6 @@ any-room s one other = go (not (stationInside s)) (not (ownCountInside s)) (ltb 
     go false false false false = refl
 
 -- ---- the call
-
-refused-is-2 : outsideLimits ≡ done → ⊥
-refused-is-2 h = omega (arith, h)
-
-short-is-9 : shortBuffer ≡ done → ⊥
-short-is-9 h = omega (arith, h)
 
 -- what the call promises of its return and of the two buffers
 abbrev pub Promise : List ℕ → List ℕ → List ℕ → ℕ → List ℕ → List ℕ → Type 0
@@ -153,7 +148,8 @@ module _ (b frame lengths : List ℕ) where
         unfolding writeReturned
         write-done enough =
             let answered = ap (λ (x : Written). x .refusal) (sym write-is) ∙ fine in
-            let len : w .len ≡ length (frameOf (stationOf b)) = ap (λ (x : Written). x .len) write-is ∙ length-is (stationOf b) (length frame) answered in
-            (room 1 lengths enough ∙ first-done _ _ answered ∙ state-taken (isStation b) _ h,
-            frame-of ∙ ap (λ (r : ℕ). frontWritten r (frameOf (stationOf b)) frame) fine,
-            front-made (length (frameOf (stationOf b)) ∷ []) lengths (set lengths 0 (w .len)) enough (ap (set lengths 0) len))
+            let len : w .len ≡ length (frameOf (stationOf b)) = ap (λ (x : Written). x .len) write-is ∙ length-is (stationOf b) (length frame) answered in (
+              room 1 lengths enough ∙ first-done _ _ answered ∙ state-taken (isStation b) _ h,
+              frame-of ∙ ap (λ (r : ℕ). frontWritten r (frameOf (stationOf b)) frame) fine,
+              front-made (length (frameOf (stationOf b)) ∷ []) lengths (set lengths 0 (w .len)) enough (ap (set lengths 0) len),
+            )

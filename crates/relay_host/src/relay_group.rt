@@ -13,7 +13,7 @@ use kinds::refusals::OUTSIDE_LIMITS;
 use kinds::refusals::SHORT_BUFFER;
 use station_rules::Setup;
 
-const GROUP_WIDTH: usize = 20800;
+const GROUP_WIDTH: usize = 17728;
 
 const REPORTS_WIDTH: usize = 11264;
 

@@ -14,7 +14,7 @@ use kinds::refusals::OUTSIDE_LIMITS;
 use kinds::refusals::SHORT_BUFFER;
 use station_rules::Setup;
 
-const STATION_WIDTH: usize = 1300;
+const STATION_WIDTH: usize = 1108;
 
 const TURN_WIDTH: usize = 220;
 

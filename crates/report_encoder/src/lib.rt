@@ -43,7 +43,14 @@ pub fn put_turn(bytes: &mut [u8], at: usize, turn: TurnReport)
     let ended_body = turn.ended_body;
     let started_body = turn.started_body;
     let row = turn.row;
-    put_four(bytes, at, flag_byte(turn.aired), flag_byte(turn.ended), 0, 0);
+    put_four(
+        bytes,
+        at,
+        flag_byte(turn.aired),
+        flag_byte(turn.ended),
+        0,
+        0,
+    );
     put_body(bytes, at + 4, ended_body);
     put_body(bytes, at + 16, started_body);
     let mut k: usize = 0;

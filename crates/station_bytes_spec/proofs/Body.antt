@@ -6,7 +6,7 @@ use mathlib.Core.List.{List, [], _∷_, _++_}
 use Prim.Native.Nat.{ℕ, _+_, _<_, _≤_}
 use native.Mathlib.Omega.{arith}
 use lib.Dec.{eqb}
-use lib.ListN.{getD, length, length-append}
+use lib.ListN.{length, length-append}
 use mir.Syntax.{w32}
 use mir.Val.{SFits}
 use borrow.Author.Tests.{eqb-true, eq-eqb}
@@ -14,14 +14,13 @@ use Rattle.kinds.specs.declared.Body.{Body}
 use Rattle.kinds.specs.declared.Body.the-variants.{Empty, Neutral, Insert, Drop, Shift}
 use Rattle.kinds.specs.Body.{kindOf, eventOf, argumentOf, bodyOf}
 use Rattle.kinds.proofs.Laws.{body-back}
-use Rattle.places.specs.Places.{tabulate}
-use Rattle.places.proofs.Laws.{and-both, both, length-tabulate, tabulate-at, tabulate-ext}
+use Rattle.places.proofs.Laws.{and-both, both}
 use Rattle.frame_rules.specs.Words.{wordAt, wordBytes, signed, unsigned}
 use Rattle.frame_rules.specs.declared.Record.{Record}
 use Rattle.frame_rules.proofs.Spelled.{signed-back, unsigned-small}
 use Rattle.station_bytes_spec.specs.Bytes.{byteAt, span}
-use Rattle.station_bytes_spec.specs.Body.{encodeBody, bodyOfWords, wordsRight, decodeBody, isBody, labelsWidth, recordWidth, encodeLabels, decodeLabels, encodeRecord, decodeRecord, isRecord}
-use Rattle.station_bytes_spec.proofs.Bytes.{Stands, AllBytes, first-byte, stands-left, stands-right, stands-word, span-join, four-span, word-span, length-word, tabulate-is, tabulate-span}
+use Rattle.station_bytes_spec.specs.Body.{encodeBody, bodyOfWords, wordsRight, decodeBody, isBody, recordWidth, encodeRecord, decodeRecord, isRecord}
+use Rattle.station_bytes_spec.proofs.Bytes.{Stands, AllBytes, first-byte, stands-left, stands-right, stands-word, span-join, four-span, word-span, length-word}
 
 -- the numbers of a body are of 32 bits, as its type says
 pub record BodyFits (b : Body) : Type 0 where
@@ -106,7 +105,7 @@ module _ (l : List ℕ) (bytes : AllBytes l) (at : ℕ) (room : at + 12 ≤ leng
 
 -- the numbers of a record are of their widths, as its type says
 pub record RecordFits (r : Record) : Type 0 where
-  pub labels-long : length (r .labels) ≡ labelsWidth
+  pub labels-fit : r .labels < 4_294_967_296
   pub body-fits : BodyFits (r .body)
 
 abbrev front : Record → List ℕ
@@ -119,7 +118,7 @@ length-front r = refl
 
 pub length-record : (r : Record) → length (encodeRecord r) ≡ recordWidth
 unfolding encodeRecord
-length-record r = length-append (front r) (encodeLabels (r .labels)) ∙ ap₂ _+_ (length-front r) (length-tabulate 16 (λ i. getD (r .labels) i 0))
+length-record r = length-append (front r) (wordBytes (r .labels)) ∙ ap₂ _+_ (length-front r) (length-word (r .labels))
 
 module _ (l : List ℕ) (at : ℕ) (r : Record) (f : RecordFits r) (h : Stands l at (encodeRecord r)) where
   abbrev head : List ℕ
@@ -127,15 +126,12 @@ module _ (l : List ℕ) (at : ℕ) (r : Record) (f : RecordFits r) (h : Stands l
 
   stands-front : Stands l at (front r)
   unfolding encodeRecord
-  stands-front = stands-left l at (front r) (encodeLabels (r .labels)) h
+  stands-front = stands-left l at (front r) (wordBytes (r .labels)) h
 
-  labels-there : decodeLabels l (at + 12) ≡ r .labels
+  labels-there : wordAt l (at + 12) ≡ r .labels
   unfolding encodeRecord
   labels-there =
-      tabulate-is 16 (λ i. getD l (at + 12 + i) 0) (r .labels) 0 (f .labels-long)
-      (λ i m.
-        (stands-right l at (front r) (encodeLabels (r .labels)) 12 (length-front r) h) .is i (omega (arith, length-tabulate 16 (λ j. getD (r .labels) j 0)))
-        ∙ tabulate-at 16 (λ j. getD (r .labels) j 0) i 0 m)
+      stands-word l (at + 12) (r .labels) (f .labels-fit) (stands-right l at (front r) (wordBytes (r .labels)) 12 (length-front r) h)
 
   event-there : wordAt l (at + 4) ≡ eventOf (r .body)
   event-there =
@@ -186,11 +182,9 @@ module _ (l : List ℕ) (bytes : AllBytes l) (at : ℕ) (room : at + recordWidth
       let mark : 0 ≡ byteAt l (at + 3) = sym (eqb-true _ _ (tests .0)) in
       let e = ap wordBytes (same .1) ∙ word-span l bytes (at + 4) (omega arith) in
       let a = ap wordBytes (same .2) ∙ word-span l bytes (at + 8) (omega arith) in
-      let read : ℕ → ℕ = λ i. getD l (at + 12 + i) 0 in
-      let labels =
-      tabulate-ext 16 (λ i. getD (tabulate 16 read) i 0) read (λ i m. tabulate-at 16 read i 0 m) ∙ tabulate-span l (at + 12) 16 (omega arith) in
+      let labels = word-span l bytes (at + 12) (omega arith) in
       (λ i. (byteAt l at ∷ byteAt l (at + 1) ∷ same .0 i ∷ mark i ∷ []) ++ e i ++ a i ++ labels i)
-      ∙ ap (λ (r : List ℕ). r ++ span (at + 4) 4 l ++ span (at + 8) 4 l ++ span (at + 12) 16 l) (four-span l at (omega arith))
-      ∙ ap (λ (r : List ℕ). r ++ span (at + 8) 4 l ++ span (at + 12) 16 l) (span-join l at 4 4 8 refl)
-      ∙ ap (λ (r : List ℕ). r ++ span (at + 12) 16 l) (span-join l at 8 4 12 refl)
-      ∙ span-join l at 12 16 28 refl
+      ∙ ap (λ (r : List ℕ). r ++ span (at + 4) 4 l ++ span (at + 8) 4 l ++ span (at + 12) 4 l) (four-span l at (omega arith))
+      ∙ ap (λ (r : List ℕ). r ++ span (at + 8) 4 l ++ span (at + 12) 4 l) (span-join l at 4 4 8 refl)
+      ∙ ap (λ (r : List ℕ). r ++ span (at + 12) 4 l) (span-join l at 8 4 12 refl)
+      ∙ span-join l at 12 4 16 refl

@@ -10,8 +10,8 @@ use native.Mathlib.Nat.{mul-suc, mul-zero, add-zero, zero-add}
 use native.Mathlib.Numerals.{add-one, add-two, add-three}
 use native.Mathlib.Omega.{arith}
 use lib.Dec.{eqb, leb, ltb}
-use lib.ListN.{getD, set, take, drop, length, length-append, length-take, length-drop, List·getD-append}
-use lib.Seq.{sets, drop-cons, drop-drop, take-add, getD-take, getD-drop, getD-append-add, ext-getD}
+use lib.ListN.{getD, set, take, drop, length, length-append, List·getD-append}
+use lib.Seq.{sets, drop-cons, drop-drop, take-add, getD-append-add, ext-getD}
 use borrow.Author.Tests.{lt-ltb, ltb-true, leb-true}
 use Rattle.places.specs.Places.{fill, tabulate}
 use Rattle.places.proofs.Laws.{fill-ext, fill-all, length-tabulate, tabulate-at}
@@ -102,10 +102,10 @@ module _ (b : List ℕ) where
       (sym
       (span-cons at 3 (omega arith)
       ∙ ap (λ (r : List ℕ). getD b at 0 ∷ r)
-        (span-cons (suc at) 2 (omega arith)
-        ∙ ap (λ (r : List ℕ). getD b (suc at) 0 ∷ r)
-          (span-cons (suc (suc at)) 1 (omega arith)
-          ∙ ap (λ (r : List ℕ). getD b (suc (suc at)) 0 ∷ r) (span-cons (suc (suc (suc at))) 0 (omega arith))))))
+      (span-cons (suc at) 2 (omega arith)
+      ∙ ap (λ (r : List ℕ). getD b (suc at) 0 ∷ r)
+      (span-cons (suc (suc at)) 1 (omega arith)
+      ∙ ap (λ (r : List ℕ). getD b (suc (suc at)) 0 ∷ r) (span-cons (suc (suc (suc at))) 0 (omega arith))))))
 
   pub word-span : AllBytes b → (at : ℕ) → at + 4 ≤ length b → wordBytes (wordAt b at) ≡ span at 4 b
   unfolding wordAt
@@ -162,12 +162,6 @@ module _ {A : Type 0} where
   pub filled : (n : ℕ) (f : ℕ → A) (l : List A) (d : A) → length l ≡ n → fill n f l ≡ tabulate n f
   filled n f l d long =
       fill-ext n f (λ k. getD (tabulate n f) k d) l (λ k m. sym (tabulate-at n f k d m)) ∙ fill-all n (tabulate n f) l d (length-tabulate n f) long
-
--- so many bytes from a place on, read one by one
-pub tabulate-span : (b : List ℕ) (at n : ℕ) → at + n ≤ length b → tabulate n (λ i. getD b (at + i) 0) ≡ span at n b
-tabulate-span b at n room =
-    tabulate-is n (λ i. getD b (at + i) 0) (span at n b) 0 (omega (arith, length-take n (drop at b), length-drop at b))
-    (λ k l. sym (getD-take n (drop at b) k 0 l ∙ getD-drop at b k 0))
 
 -- writes one behind the other
 pub writes-meet :

@@ -54,8 +54,8 @@ group-encoded l bytes h =
     let long : length l ≡ groupWidth = eqb-true _ _ (tests .0) in
     joined-ext 16 (λ k. encodeStation (stationAt (tabulate 16 (λ j. decodeStation l (stationWidth * j))) k)) (λ k. span (0 + stationWidth * k) stationWidth l)
     (λ k m.
-      ap encodeStation (tabulate-at 16 (λ j. decodeStation l (stationWidth * j)) k noStation m)
-      ∙ encoded-at l bytes (stationWidth * k) (omega arith) (allBelow-at 16 (λ j. isStationAt l (stationWidth * j)) (tests .1) k m)
-      ∙ ap (λ (at : ℕ). span at stationWidth l) (sym (zero-add (stationWidth * k))))
+    ap encodeStation (tabulate-at 16 (λ j. decodeStation l (stationWidth * j)) k noStation m)
+    ∙ encoded-at l bytes (stationWidth * k) (omega arith) (allBelow-at 16 (λ j. isStationAt l (stationWidth * j)) (tests .1) k m)
+    ∙ ap (λ (at : ℕ). span at stationWidth l) (sym (zero-add (stationWidth * k))))
     ∙ spans-joined l 0 16 stationWidth
     ∙ take-all groupWidth l (omega arith)

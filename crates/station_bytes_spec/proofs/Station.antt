@@ -171,7 +171,7 @@ module _ (w : Waiting) where
                 len = count-there i;
                 slots =
                     tabulate-is 32 (λ j. record { body = decodeBody l (at + 4 + 12 * j) }) (w .queue .slots) noSlot (f .sized .slots)
-                        (λ j m. (λ k. record { body = edit-there j m k })) i;
+                    (λ j m. (λ k. record { body = edit-there j m k })) i;
               };
         }
 
@@ -200,8 +200,8 @@ module _ (l : List ℕ) (bytes : AllBytes l) (at : ℕ) (room : at + waitingWidt
       let edits =
       joined-ext 32 (λ i. encodeBody (waitingAt (decodeWaiting l at) i)) (λ i. span (at + 4 + 12 * i) 12 l)
       (λ i m.
-        ap encodeBody (edit-read i m)
-        ∙ body-encoded l bytes (at + 4 + 12 * i) (omega arith) (allBelow-at 32 (λ j. isBody l (at + 4 + 12 * j)) (tests .1) i m))
+      ap encodeBody (edit-read i m)
+      ∙ body-encoded l bytes (at + 4 + 12 * i) (omega arith) (allBelow-at 32 (λ j. isBody l (at + 4 + 12 * j)) (tests .1) i m))
       ∙ spans-joined l (at + 4) 32 12 in
       (λ i. count i ++ edits i) ∙ span-join l at 4 384 388 refl
 
@@ -323,12 +323,12 @@ module _ (l : List ℕ) (bytes : AllBytes l) (at : ℕ) (room : at + stationWidt
       let body = body-encoded l bytes (at + 4) (omega arith) right in
       let zero-there : 0 ≡ byteAt l (at + 3) = sym (eqb-true _ _ mark) in
       (λ i.
-        (byte-same (byteAt l at) (bytes .small at) i
-        ∷ byte-same (byteAt l (at + 1)) (bytes .small (at + 1)) i
-        ∷ byteAt l (at + 2)
-        ∷ zero-there i
-        ∷ [])
-        ++ body i)
+      (byte-same (byteAt l at) (bytes .small at) i
+      ∷ byte-same (byteAt l (at + 1)) (bytes .small (at + 1)) i
+      ∷ byteAt l (at + 2)
+      ∷ zero-there i
+      ∷ [])
+      ++ body i)
       ∙ ap (λ (r : List ℕ). r ++ span (at + 4) 12 l) (four-span l at (omega arith))
       ∙ span-join l at 4 12 16 refl
 
@@ -350,8 +350,8 @@ module _ (l : List ℕ) (bytes : AllBytes l) (at : ℕ) (room : at + stationWidt
       let cells =
       joined-ext 16 (λ k. encodeCell (cellOf (decodeStation l at) k)) (λ k. span (at + 16 + cellWidth * k) cellWidth l)
       (λ k m.
-        ap encodeCell (cell-read k m)
-        ∙ cell-encoded l bytes (at + 16 + cellWidth * k) (omega arith) (allBelow-at 16 (λ j. isCell l (at + 16 + cellWidth * j)) (h₃ .1) k m))
+      ap encodeCell (cell-read k m)
+      ∙ cell-encoded l bytes (at + 16 + cellWidth * k) (omega arith) (allBelow-at 16 (λ j. isCell l (at + 16 + cellWidth * j)) (h₃ .1) k m))
       ∙ spans-joined l (at + 16) 16 cellWidth in
       let waiting = ap encodeWaiting waiting-read ∙ waiting-encoded l bytes (at + waitingPlace) (omega arith) (h₄ .1) in
       (λ i. head i ++ cells i ++ waiting i)

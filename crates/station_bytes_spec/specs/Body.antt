@@ -4,12 +4,10 @@ use Prim.Native.Nat.{ℕ, _+_}
 use mathlib.Core.Bool.{Bool, _&&_}
 use mathlib.Core.List.{List, [], _∷_, _++_}
 use lib.Dec.{eqb}
-use lib.ListN.{getD}
 use Rattle.kinds.specs.declared.Body.{Body}
 use Rattle.kinds.specs.Body.{kindOf, eventOf, argumentOf, bodyOf}
 use Rattle.frame_rules.specs.Words.{wordAt, wordBytes, signed, unsigned}
 use Rattle.frame_rules.specs.declared.Record.{Record}
-use Rattle.places.specs.Places.{tabulate}
 use Rattle.station_bytes_spec.specs.Bytes.{byteAt}
 
 abbrev pub bodyWidth : ℕ
@@ -36,25 +34,15 @@ decodeBody b at = bodyOfWords (wordAt b at) (wordAt b (at + 4)) (wordAt b (at + 
 unfoldable pub isBody : List ℕ → ℕ → Bool
 isBody b at = wordsRight (wordAt b at) (wordAt b (at + 4)) (wordAt b (at + 8))
 
--- the labels of a record: a byte each
-abbrev pub labelsWidth : ℕ
-labelsWidth = 16
-
-abbrev pub encodeLabels : List ℕ → List ℕ
-encodeLabels labels = tabulate labelsWidth (λ i. getD labels i 0)
-
-abbrev pub decodeLabels : List ℕ → ℕ → List ℕ
-decodeLabels b at = tabulate labelsWidth (λ i. byteAt b (at + i))
-
 abbrev pub recordWidth : ℕ
-recordWidth = 12 + labelsWidth
+recordWidth = 16
 
 unfoldable pub encodeRecord : Record → List ℕ
 encodeRecord r =
     (r .station ∷ r .count ∷ kindOf (r .body) ∷ 0 ∷ [])
     ++ wordBytes (eventOf (r .body))
     ++ wordBytes (unsigned (argumentOf (r .body)))
-    ++ encodeLabels (r .labels)
+    ++ wordBytes (r .labels)
 
 unfoldable pub decodeRecord : List ℕ → ℕ → Record
 decodeRecord b at =
@@ -62,7 +50,7 @@ decodeRecord b at =
       station = byteAt b at;
       count = byteAt b (at + 1);
       body = bodyOfWords (byteAt b (at + 2)) (wordAt b (at + 4)) (wordAt b (at + 8));
-      labels = decodeLabels b (at + 12);
+      labels = wordAt b (at + 12);
     }
 
 unfoldable pub isRecord : List ℕ → ℕ → Bool

@@ -20,7 +20,7 @@ use Rattle.places.proofs.Laws.{allBelow-fails, allBelow-ext}
 use Rattle.frame_rules.specs.Words.{wordAt, signed, unsigned}
 use Rattle.station_bytes_spec.specs.Bytes.{byteAt, flagAt}
 use Rattle.frame_rules.specs.declared.Record.{Record}
-use Rattle.frame_rules.specs.Record.{noRecord, zeroRecord}
+use Rattle.frame_rules.specs.Record.{noRecord}
 use Rattle.lanes.specs.declared.Lane.{Lane}
 use Rattle.lanes.specs.declared.Slot.{Slot}
 use Rattle.lanes.specs.declared.Waiting.{Waiting}
@@ -28,7 +28,7 @@ use Rattle.lanes.specs.Lane.{noLane}
 use Rattle.lanes.specs.Queue.{noSlot}
 use Rattle.station_rules.specs.declared.Station.{Station}
 use Rattle.station_rules.specs.State.{noStation}
-use Rattle.station_bytes_spec.specs.Body.{bodyOfWords, wordsRight, decodeBody, isBody, decodeLabels, decodeRecord, isRecord}
+use Rattle.station_bytes_spec.specs.Body.{bodyOfWords, wordsRight, decodeBody, isBody, decodeRecord, isRecord}
 use Rattle.station_bytes_spec.specs.Station.{cellWidth, decodeLane, decodeCell, isCell, decodeWaiting, isWaiting, cellIn, waitingPlace, decodeStation, isStationAt, stationWidth, isStation}
 use Rattle.station_bytes_spec.specs.Group.{groupWidth, decodeGroup, isGroup}
 use Rattle.station_bytes_spec.proofs.Bytes.{filled}
@@ -75,7 +75,7 @@ module _ (b : List ℕ) (at : ℕ) where
   unfolding isRecord
   by-words h = rw (eq-eqb _ _ h)
 
--- ---- a cell
+  -- ---- a cell
 
   pub no-flag : 1 < byteAt b at → false ≡ isCell b at
   unfolding isCell
@@ -100,7 +100,7 @@ module _ (b : List ℕ) (at : ℕ) where
         unfolding isCell
         by-record h = rw (le-leb _ _ h₁, le-leb _ _ h₂, h₃, h)
 
--- ---- the waiting edits
+  -- ---- the waiting edits
 
   abbrev edits : ℕ → Bool
   edits i = isBody b (at + 4 + 12 * i)
@@ -118,7 +118,7 @@ module _ (b : List ℕ) (at : ℕ) where
     unfolding isWaiting
     all-edits i e h = rw (lt-ltb _ _ few) (rw e at (sym h))
 
--- ---- a station
+  -- ---- a station
 
   pub no-zero : (byteAt b (at + 3) ≡ 0 → ⊥) → false ≡ isStationAt b at
   unfolding isStationAt
@@ -189,11 +189,6 @@ module _ {A : Type 0} where
 
 -- ---- arrays that a loop has filled
 
-pub labels-read :
-    (b : List ℕ) (at : ℕ) (labels : List ℕ) (i : ℕ) → i ≡ 16 → labels ≡ fill i (λ j. byteAt b (at + j)) (replicate 16 0) →
-    labels ≡ decodeLabels b at
-labels-read b at labels i e h = all-filled 16 i (λ j. byteAt b (at + j)) labels (replicate 16 0) 0 refl e h
-
 abbrev pub editIn : List ℕ → ℕ → ℕ → Slot
 editIn b at i = record { body = decodeBody b (at + 4 + 12 * i) }
 
@@ -210,10 +205,10 @@ pub record CellsRead (b : List ℕ) (at k : ℕ) (acked held : List Bool) (label
   pub acked-read : acked ≡ fill k (λ j. (cellIn b at j) .acked) (replicate 16 false)
   pub held-read : held ≡ fill k (λ j. (cellIn b at j) .held) (replicate 16 false)
   pub labels-are : labels ≡ fill k (λ j. (cellIn b at j) .label) (replicate 16 0)
-  pub table-read : table ≡ fill k (λ j. (cellIn b at j) .entry) (replicate 16 zeroRecord)
+  pub table-read : table ≡ fill k (λ j. (cellIn b at j) .entry) (replicate 16 noRecord)
   pub lanes-read : lanes ≡ fill k (λ j. (cellIn b at j) .lane) (replicate 16 noLane)
 
-pub cells-none : (b : List ℕ) (at : ℕ) → CellsRead b at 0 (replicate 16 false) (replicate 16 false) (replicate 16 0) (replicate 16 zeroRecord) (replicate 16 noLane)
+pub cells-none : (b : List ℕ) (at : ℕ) → CellsRead b at 0 (replicate 16 false) (replicate 16 false) (replicate 16 0) (replicate 16 noRecord) (replicate 16 noLane)
 cells-none b at =
     record {
       acked-read = fill-none _ _;
@@ -236,16 +231,16 @@ module _ (b : List ℕ) (at k : ℕ) (acked held : List Bool) (labels : List ℕ
         acked-read = fill-next k (λ j. (cellIn b at j) .acked) (replicate 16 false) acked _ (h .acked-read) refl;
         held-read = fill-next k (λ j. (cellIn b at j) .held) (replicate 16 false) held _ (h .held-read) refl;
         labels-are = fill-next k (λ j. (cellIn b at j) .label) (replicate 16 0) labels _ (h .labels-are) refl;
-        table-read = fill-next k (λ j. (cellIn b at j) .entry) (replicate 16 zeroRecord) table r (h .table-read) er;
+        table-read = fill-next k (λ j. (cellIn b at j) .entry) (replicate 16 noRecord) table r (h .table-read) er;
         lanes-read = fill-next k (λ j. (cellIn b at j) .lane) (replicate 16 noLane) lanes l (h .lanes-read) el;
       }
 
   pub station-read :
-      k ≡ 16 → (body : Body) (waiting : Waiting) → body ≡ decodeBody b (at + 4) → waiting ≡ decodeWaiting b (at + waitingPlace) →
+      k ≡ 16 → (n own : ℕ) (body : Body) (waiting : Waiting) → n ≡ byteAt b at → own ≡ byteAt b (at + 1) → body ≡ decodeBody b (at + 4) → waiting ≡ decodeWaiting b (at + waitingPlace) →
       _≡_ {A = Station}
       (record {
-        n = byteAt b at;
-        own = byteAt b (at + 1);
+        n = n;
+        own = own;
         waiting = waiting;
         acked = acked;
         body = body;
@@ -257,17 +252,17 @@ module _ (b : List ℕ) (at k : ℕ) (acked held : List Bool) (labels : List ℕ
       })
       (decodeStation b at)
   unfolding decodeStation
-  station-read e body waiting eb ew =
+  station-read e n own body waiting en eo eb ew =
       λ i. record {
-        n = byteAt b at;
-        own = byteAt b (at + 1);
+        n = en i;
+        own = eo i;
         waiting = ew i;
         acked = all-filled 16 k (λ j. (cellIn b at j) .acked) acked (replicate 16 false) false refl e (h .acked-read) i;
         body = eb i;
         count = byteAt b (at + 2);
         labels = all-filled 16 k (λ j. (cellIn b at j) .label) labels (replicate 16 0) 0 refl e (h .labels-are) i;
         held = all-filled 16 k (λ j. (cellIn b at j) .held) held (replicate 16 false) false refl e (h .held-read) i;
-        table = all-filled 16 k (λ j. (cellIn b at j) .entry) table (replicate 16 zeroRecord) noRecord refl e (h .table-read) i;
+        table = all-filled 16 k (λ j. (cellIn b at j) .entry) table (replicate 16 noRecord) noRecord refl e (h .table-read) i;
         lanes = all-filled 16 k (λ j. (cellIn b at j) .lane) lanes (replicate 16 noLane) noLane refl e (h .lanes-read) i;
       }
 

@@ -4,7 +4,7 @@ ghost use mathlib.Core.Path.{_≡_};
 ghost use Prim.Native.Nat.{_+_, _≤_};
 ghost use lib.ListN.{length};
 ghost use Rattle.places.specs.Places.{allBelow};
-ghost use Rattle.station_bytes_spec.specs.Body.{bodyOfWords, wordsRight, decodeBody, isBody, decodeLabels, recordWidth, decodeRecord, isRecord};
+ghost use Rattle.station_bytes_spec.specs.Body.{bodyOfWords, wordsRight, decodeBody, isBody, recordWidth, decodeRecord, isRecord};
 ghost use Rattle.station_bytes_spec.specs.Station.{cellWidth, decodeLane, isCell, waitingWidth, decodeWaiting, isWaiting, cellsWidth, stationWidth, decodeStation, isStationAt, isStation};
 ghost use Rattle.station_bytes_spec.specs.Group.{groupWidth, decodeGroup, isGroup};
 ghost use Prim.Native.Nat.{_*_};
@@ -19,13 +19,13 @@ use station_rules::Station;
 
 const BODY_WIDTH: usize = 12;
 
-const CELL_WIDTH: usize = 56;
+const CELL_WIDTH: usize = 44;
 
-const WAITING_PLACE: usize = 912;
+const WAITING_PLACE: usize = 720;
 
-const STATION_WIDTH: usize = 1300;
+const STATION_WIDTH: usize = 1108;
 
-const GROUP_WIDTH: usize = 20800;
+const GROUP_WIDTH: usize = 17728;
 
 // The body of three numbers, the third as a word.
 fn body_of_words(kind: u32, event: u32, word: u32) -> Body
@@ -70,20 +70,6 @@ fn body_right(bytes: &[u8], at: usize) -> bool
     words_right(kind, event, word)
 }
 
-// The labels of a record.
-fn read_labels(bytes: &[u8], at: usize) -> [u8; 16]
-    requires { ⌜ at + 16 ≤ length (now bytes) ⌝ }
-    ensures { λ r. ⌜ r ≡ decodeLabels (now (bytes .entry)) at ⌝ }
-{
-    let mut labels = [0u8; 16];
-    let mut i: usize = 0;
-    while i < 16 {
-        labels[i] = bytes[at + i];
-        i += 1;
-    }
-    labels
-}
-
 // The record at a place.
 fn read_record(bytes: &[u8], at: usize) -> Record
     requires { ⌜ at + recordWidth ≤ length (now bytes) ⌝ }
@@ -92,10 +78,12 @@ fn read_record(bytes: &[u8], at: usize) -> Record
     let event = word_at(bytes, at + 4);
     let word = word_at(bytes, at + 8);
     let body = body_of_words(bytes[at + 2] as u32, event, word);
-    let labels = read_labels(bytes, at + 12);
+    let labels = word_at(bytes, at + 12);
+    let station = bytes[at];
+    let count = bytes[at + 1];
     Record {
-        station: bytes[at],
-        count: bytes[at + 1],
+        station: station,
+        count: count,
         body: body,
         labels: labels,
     }
@@ -121,8 +109,9 @@ fn read_lane(bytes: &[u8], at: usize) -> Lane
 {
     let first = read_body(bytes, at + 4);
     let second = read_body(bytes, at + 16);
+    let len = bytes[at + 3];
     Lane {
-        len: bytes[at + 3],
+        len: len,
         first: first,
         second: second,
     }
@@ -176,9 +165,9 @@ fn read_waiting(bytes: &[u8], at: usize) -> Waiting
         slots[i] = Slot { body: body };
         i += 1;
     }
-    let len = word_at(bytes, at);
+    let len = word_at(bytes, at) as usize;
     let queue = Queue {
-        len: len as usize,
+        len: len,
         slots: slots,
     };
     Waiting { queue: queue }
@@ -211,7 +200,7 @@ fn station_at(bytes: &[u8], at: usize) -> Station
         station: 0,
         count: 0,
         body: Body::Empty,
-        labels: [0u8; 16],
+        labels: 0,
     };
     let empty = Lane {
         len: 0,
@@ -235,13 +224,16 @@ fn station_at(bytes: &[u8], at: usize) -> Station
     }
     let body = read_body(bytes, at + 4);
     let waiting = read_waiting(bytes, at + WAITING_PLACE);
+    let n = record_reader::wide(bytes[at]);
+    let own = record_reader::wide(bytes[at + 1]);
+    let count = bytes[at + 2];
     Station {
-        n: bytes[at] as usize,
-        own: bytes[at + 1] as usize,
+        n: n,
+        own: own,
         waiting: waiting,
         acked: acked,
         body: body,
-        count: bytes[at + 2],
+        count: count,
         labels: labels,
         held: held,
         table: table,

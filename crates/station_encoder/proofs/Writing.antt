@@ -26,7 +26,7 @@ use Rattle.lanes.specs.Waiting.{waitingCount, waitingAt}
 use Rattle.station_rules.specs.declared.Station.{Station}
 use Rattle.station_rules.specs.State.{Cell, cellOf}
 use Rattle.station_bytes_spec.specs.Bytes.{flagByte, asByte, joinedBelow}
-use Rattle.station_bytes_spec.specs.Body.{encodeBody, encodeLabels, encodeRecord}
+use Rattle.station_bytes_spec.specs.Body.{encodeBody, encodeRecord}
 use Rattle.station_bytes_spec.specs.Station.{cellWidth, encodeCell, encodeWaiting, cellsWidth, waitingPlace, encodeHead, encodeStation}
 use Rattle.station_bytes_spec.proofs.Bytes.{writes-meet, length-word, joined-long}
 use Rattle.station_bytes_spec.proofs.Body.{length-body}
@@ -106,13 +106,13 @@ module _ (l : List ℕ) (at : ℕ) where
   pub record-written :
       (r : Record) (k e : ℕ) (z : ℤ) (u : ℕ) (l₁ l₂ l₃ l₄ : List ℕ) → k ≡ kindOf (r .body) → e ≡ eventOf (r .body) → SFits w32 z → z ≡ argumentOf (r .body) →
       u ≡ unsigned (toZ w32 (ofZ w32 z)) → l₁ ≡ sets l at (r .station ∷ r .count ∷ k ∷ 0 ∷ []) → l₂ ≡ sets l₁ (at + 4) (wordBytes e) →
-      l₃ ≡ sets l₂ (at + 8) (wordBytes u) → l₄ ≡ sets l₃ (at + 12) (encodeLabels (r .labels)) → l₄ ≡ sets l at (encodeRecord r)
+      l₃ ≡ sets l₂ (at + 8) (wordBytes u) → l₄ ≡ sets l₃ (at + 12) (wordBytes (r .labels)) → l₄ ≡ sets l at (encodeRecord r)
   unfolding encodeRecord
   record-written r k e z u l₁ l₂ l₃ l₄ kind event f argument number s₁ s₂ s₃ s₄ =
       let u-is : u ≡ unsigned (argumentOf (r .body)) = number ∙ ap unsigned (toZ-ofZ w32 z f ∙ argument) in
-      four-written l l₁ l₂ l₃ l₄ at (r .station ∷ r .count ∷ k ∷ 0 ∷ []) (wordBytes e) (wordBytes u) (encodeLabels (r .labels)) 4 8 12 4 4 refl (length-word e) (length-word u)
+      four-written l l₁ l₂ l₃ l₄ at (r .station ∷ r .count ∷ k ∷ 0 ∷ []) (wordBytes e) (wordBytes u) (wordBytes (r .labels)) 4 8 12 4 4 refl (length-word e) (length-word u)
       refl refl s₁ s₂ s₃ s₄
-      ∙ (λ i. sets l at ((r .station ∷ r .count ∷ kind i ∷ 0 ∷ []) ++ wordBytes (event i) ++ wordBytes (u-is i) ++ encodeLabels (r .labels)))
+      ∙ (λ i. sets l at ((r .station ∷ r .count ∷ kind i ∷ 0 ∷ []) ++ wordBytes (event i) ++ wordBytes (u-is i) ++ wordBytes (r .labels)))
 
   pub cell-written :
       (c : Cell) (a h : ℕ) (l₁ l₂ l₃ l₄ : List ℕ) → a ≡ flagByte (c .acked) → h ≡ flagByte (c .held) → l₁ ≡ sets l at (a ∷ h ∷ c .label ∷ c .lane .len ∷ []) →

@@ -7,7 +7,7 @@ ghost use lib.ListN.{length};
 ghost use lib.Seq.{sets};
 ghost use Rattle.station_rules.specs.State.{cellOf};
 ghost use Rattle.station_bytes_spec.specs.Bytes.{flagByte, asByte, joinedBelow};
-ghost use Rattle.station_bytes_spec.specs.Body.{encodeBody, encodeLabels, recordWidth, encodeRecord};
+ghost use Rattle.station_bytes_spec.specs.Body.{encodeBody, recordWidth, encodeRecord};
 ghost use Rattle.station_bytes_spec.specs.Station.{cellWidth, encodeCell, waitingWidth, encodeWaiting, cellsWidth, stationWidth, encodeHead, encodeStation};
 ghost use Rattle.station_bytes_spec.specs.Group.{groupWidth, encodeGroup};
 use frame_rules::Record;
@@ -19,11 +19,11 @@ use station_rules::Station;
 
 const BODY_WIDTH: usize = 12;
 
-const CELL_WIDTH: usize = 56;
+const CELL_WIDTH: usize = 44;
 
-const WAITING_PLACE: usize = 912;
+const WAITING_PLACE: usize = 720;
 
-const STATION_WIDTH: usize = 1300;
+const STATION_WIDTH: usize = 1108;
 
 // A flag as a byte.
 pub fn flag_byte(flag: bool) -> u8
@@ -36,11 +36,7 @@ pub fn flag_byte(flag: bool) -> u8
 pub fn as_byte(number: usize) -> u8
     ensures { λ r. ⌜ r ≡ asByte number ⌝ }
 {
-    if number < 256 {
-        number as u8
-    } else {
-        255
-    }
+    if number < 256 { number as u8 } else { 255 }
 }
 
 // Four bytes, put at a place.
@@ -61,19 +57,11 @@ pub fn put_body(bytes: &mut [u8], at: usize, body: Body)
 {
     put_word(bytes, at, kinds::kind_of(body));
     put_word(bytes, at + 4, kinds::event_of(body));
-    put_word(bytes, at + 8, record_writer::unsigned(kinds::argument_of(body)));
-}
-
-// The labels of a record, put at a place.
-fn put_labels(bytes: &mut [u8], at: usize, labels: [u8; 16])
-    requires { ⌜ at + 16 ≤ length (now bytes) ⌝ }
-    ensures { λ _. ⌜ now (bytes .exit) ≡ sets (now (bytes .entry)) at (encodeLabels labels) ⌝ }
-{
-    let mut i: usize = 0;
-    while i < 16 {
-        bytes[at + i] = labels[i];
-        i += 1;
-    }
+    put_word(
+        bytes,
+        at + 8,
+        record_writer::unsigned(kinds::argument_of(body)),
+    );
 }
 
 // A record, put at a place.
@@ -82,11 +70,14 @@ fn put_record(bytes: &mut [u8], at: usize, r: Record)
     ensures { λ _. ⌜ now (bytes .exit) ≡ sets (now (bytes .entry)) at (encodeRecord r) ⌝ }
 {
     let body = r.body;
-    let labels = r.labels;
     put_four(bytes, at, r.station, r.count, kinds::kind_of(body) as u8, 0);
     put_word(bytes, at + 4, kinds::event_of(body));
-    put_word(bytes, at + 8, record_writer::unsigned(kinds::argument_of(body)));
-    put_labels(bytes, at + 12, labels);
+    put_word(
+        bytes,
+        at + 8,
+        record_writer::unsigned(kinds::argument_of(body)),
+    );
+    put_word(bytes, at + 12, r.labels);
 }
 
 // What a station has of one station, put at a place.
@@ -105,7 +96,14 @@ fn put_cell(
 {
     let first = lane.first;
     let second = lane.second;
-    put_four(bytes, at, flag_byte(acked), flag_byte(held), label, lane.len);
+    put_four(
+        bytes,
+        at,
+        flag_byte(acked),
+        flag_byte(held),
+        label,
+        lane.len,
+    );
     put_body(bytes, at + 4, first);
     put_body(bytes, at + 16, second);
     put_record(bytes, at + 28, entry);

@@ -10,6 +10,7 @@ use lib.ListN.{set, replicate}
 use Rattle.kinds.specs.declared.Body.{Body}
 use Rattle.kinds.specs.declared.Body.the-variants.{Empty, Neutral, Insert, Drop}
 use Rattle.kinds.specs.Refusals.{done, queueFull}
+use Rattle.label_words.specs.Packing.{packed}
 use Rattle.frame_rules.specs.declared.Record.{Record}
 use Rattle.lanes.specs.Lane.{bodies}
 use Rattle.lanes.specs.Queue.{queueCapacity, noSlot}
@@ -62,7 +63,7 @@ pub record Frame : Type 0 where
 
 -- a record of station 1 with a count, a body, and its labels for station 0 and for itself
 abbrev of-one : ℕ → Body → ℕ → ℕ → Record
-of-one count b zero-label own-label = record { station = 1; count = count; body = b; labels = zero-label ∷ own-label ∷ replicate 14 0 }
+of-one count b zero-label own-label = record { station = 1; count = count; body = b; labels = packed (zero-label ∷ own-label ∷ []) }
 
 -- station 0 of two, with two edits posted, once it has heard the fresh station 1
 abbrev first : Hearing

@@ -5,14 +5,16 @@ use mathlib.Core.List.{List, [], _∷_, _++_}
 use lib.Dec.{leb, ltb, eqb}
 use Rattle.kinds.specs.declared.Body.the-variants.{Empty}
 use Rattle.kinds.specs.Body.{isEmpty}
+use Rattle.kinds.specs.Refusals.{done, laneFull, refuse}
 use Rattle.labels.specs.Label.{successor}
 use Rattle.labels.specs.Newer.{isNewer}
+use Rattle.label_words.specs.Packing.{labelsOver}
 use Rattle.frame_rules.specs.declared.Record.{Record}
-use Rattle.places.specs.Places.{fill}
+use Rattle.frame_rules.specs.Record.{recordLabel}
 use Rattle.station_rules.specs.declared.Station.{Station}
 use Rattle.station_rules.specs.declared.Taking.{Taking}
 use Rattle.lanes.specs.Lane.{pushed}
-use Rattle.station_rules.specs.State.{labelOf, ackedOf, heldOf, recordOf, laneAt, recordLabel, ownLabel, withBroadcast, withCell}
+use Rattle.station_rules.specs.State.{labelOf, ackedOf, heldOf, recordOf, laneAt, ownLabel, withBroadcast, withCell}
 
 -- the station heeds the record: it is of another station, and newer than the one held of it (source document 001, Algorithm 2, lines 6 to 8)
 abbrev pub heeds : Station → Record → Bool
@@ -36,7 +38,12 @@ takes s r = advances s r && not (isEmpty (r .body))
 -- the seen record in the place of the held one, whose labels from n up stay (lines 9 to 11)
 unfoldable pub replaced : ℕ → Record → Record → Record
 replaced n old r =
-    record { station = r .station; count = r .count; body = r .body; labels = fill n (recordLabel r) (old .labels) }
+    record {
+      station = r .station;
+      count = r .count;
+      body = r .body;
+      labels = labelsOver n (recordLabel r) (old .labels);
+    }
 
 -- one more, and 255 stays 255
 abbrev pub raised : ℕ → ℕ
@@ -60,14 +67,18 @@ heardNewer s r =
 abbrev pub noTaking : Taking
 noTaking = record { source = 0; body = Empty }
 
--- a station while it hears: what it took so far, in the order heard, and whether a lane that held two would have got a third
+-- its body is to be taken, and the lane of its station has two already
+abbrev pub overfills : Station → Record → Bool
+overfills s r = takes s r && leb 2 ((laneAt s (r .station)) .len)
+
+-- a station while it hears: what it took so far, in the order heard, and the refusal of the first refused frame
 pub record Hearing : Type 0 where
   pub station : Station
   pub takings : List Taking
-  pub overfull : Bool
+  pub refusal : ℕ
 
 abbrev pub silent : Station → Hearing
-silent s = record { station = s; takings = []; overfull = false }
+silent s = record { station = s; takings = []; refusal = done }
 
 -- what one record does
 unfoldable pub hearRecord : Hearing → Record → Hearing
@@ -77,7 +88,7 @@ hearRecord h r =
     (record {
       station = heardNewer s r;
       takings = h .takings ++ cond (takes s r) (record { source = r .station; body = r .body } ∷ []) [];
-      overfull = h .overfull || (takes s r && leb 2 ((laneAt s (r .station)) .len));
+      refusal = refuse (overfills s r) laneFull (h .refusal);
     })
     h
 
@@ -85,3 +96,7 @@ hearRecord h r =
 unfoldable pub hearRecords : Hearing → List Record → Hearing
 hearRecords h [] = h
 hearRecords h (r ∷ rs) = hearRecords (hearRecord h r) rs
+
+-- one more frame; after a refused one none is heard, so that the first refused frame decides
+unfoldable pub hearFrame : Hearing → List Record → Hearing
+hearFrame h rs = cond (eqb (h .refusal) done) (hearRecords h rs) h

@@ -40,7 +40,7 @@ loop-less : tie.Need-loop-less Inv-loop μ-loop
 loop-less c = omega arith
 
 loop-again : tie.Need-loop-again Inv-loop μ-loop
-loop-again c = 
+loop-again c =
     let l = c .before .before .loop in
     let s = c .before .before .before .before .args in
     (omega arith, simp length-set (l .inv .1), flag-next (s .bytes .now) (l .bytes) (s .t2) _ (l .k) (c .flag-byte .ensures) (l .inv .2))

@@ -64,7 +64,7 @@ loop-less : tie.Need-loop-less Inv-loop μ-loop
 loop-less c = omega arith
 
 loop-again : tie.Need-loop-again Inv-loop μ-loop
-loop-again c = 
+loop-again c =
     let z = c .before .before in
     let l = z .before .before .before .before .loop in
     let s = z .before .before .before .before .before .before .before .before .before .before .before .before .before .args in
@@ -80,7 +80,7 @@ same-length : tie.Need-same-length Inv-loop μ-loop
 same-length c = c .before .before .put-turn .kept .0 ∙ c .before .before .before .before .before .loop .inv .1 ∙ c .before .before .before .before .before .before .before .before .put-word .kept .0
 
 returns : tie.Need-returns Inv-loop μ-loop
-returns c = 
+returns c =
     let l = c .before .before .before .before .before in
     let z = l .before .before .before in
     let s = z .before .before .before .before .before .before .args in

@@ -24,7 +24,7 @@ same-length : tie.Need-same-length
 same-length c = search needs
 
 returns : tie.Need-returns
-returns c = 
+returns c =
     let z = c .before .before in
     let s = z .before .before .before .before .before .before .before .before .args in
     taking-written (s .bytes .now) (s .at) (s .taking) _ _ (z .before .before .before .before .put-word .ensures) (z .put-body .ensures)

@@ -75,19 +75,19 @@ loop-less : tie.Need-loop-less Inv-loop μ-loop
 loop-less c = omega arith
 
 loop-again : tie.Need-loop-again Inv-loop μ-loop
-loop-again c = 
+loop-again c =
     let z = c .before .before in
     let l = z .before .before .before .before .loop in
     let s = z .before .before .before .before .before .before .before .before .before .before .before .before .before .before .before .before .before .before .before .before .before .args in
     (omega arith, z .put-body3 .kept .0 ∙ l .inv .1, part-written _ (l .bytes) _ (s .at + 28) 12 (l .k) (rowOf (s .turn)) (λ j. length-body _) (l .inv .2) (z .put-body3 .ensures))
 
 same-length : tie.Need-same-length Inv-loop μ-loop
-same-length c = 
+same-length c =
     let z = c .before .before .before .before in
     c .before .loop .inv .1 ∙ z .put-body2 .kept .0 ∙ z .before .before .before .before .put-body .kept .0 ∙ z .before .before .before .before .before .before .before .before .put-four .kept .0
 
 returns : tie.Need-returns Inv-loop μ-loop
-returns c = 
+returns c =
     let z₃ = c .before .before .before .before in
     let z₂ = z₃ .before .before .before .before in
     let z₁ = z₂ .before .before .before .before in

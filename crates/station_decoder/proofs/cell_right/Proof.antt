@@ -41,7 +41,7 @@ body-right-requires-2 : tie.Need-body-right-requires-2
 body-right-requires-2 c κs = search needs
 
 returns-4 : tie.Need-returns-4
-returns-4 c = 
+returns-4 c =
     no-second-body _ _ (c .before .before .before .before .before .before .if1 .left) (c .before .before .before .before .if2 .left)
     (sym (c .before .before .before .body-right .ensures) ∙ not-false _ (c .before .before .if3 .left)) (sym (c .before .body-right2 .ensures) ∙ not-true _ (c .if4 .taken))
 
@@ -52,11 +52,11 @@ record-right-requires : tie.Need-record-right-requires
 record-right-requires c κs = search needs
 
 returns-5 : tie.Need-returns-5
-returns-5 c = 
+returns-5 c =
     let z = c .before .before .before in
     c .record-right .ensures
     ∙ by-record _ _ (z .before .before .before .before .if1 .left) (z .before .before .if2 .left) (sym (z .before .body-right .ensures) ∙ not-false _ (z .if3 .left))
-      (sym (c .before .before .body-right2 .ensures) ∙ not-false _ (c .before .if4 .left))
+    (sym (c .before .before .body-right2 .ensures) ∙ not-false _ (c .before .if4 .left))
 
 pub cell-right-spec : {M : Type 1} → statement M
 cell-right-spec =

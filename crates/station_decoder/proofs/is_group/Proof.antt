@@ -33,7 +33,7 @@ station-right-requires : tie.Need-station-right-requires Inv-loop μ-loop
 station-right-requires c κs = omega arith
 
 returns-2 : tie.Need-returns-2 Inv-loop μ-loop
-returns-2 c = 
+returns-2 c =
     let z = c .before .before .before in
     no-member _ (z .before .if1 .left) (z .loop .k) (omega arith) (sym (c .before .station-right .ensures) ∙ not-true _ (c .if2 .taken))
 

@@ -42,7 +42,7 @@ loop-less : tie.Need-loop-less Inv-loop μ-loop
 loop-less c = omega arith
 
 loop-again : tie.Need-loop-again Inv-loop μ-loop
-loop-again c = 
+loop-again c =
     let l = c .before .before .loop in
     let b = c .before .before .before .before .before .args .bytes .now in
     (omega arith, fill-next (l .k) (λ j. decodeStation b (stationWidth * j)) _ (l .group) _ (l .inv .1) (c .station-at2 .ensures))

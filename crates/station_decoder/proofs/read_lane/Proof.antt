@@ -20,11 +20,11 @@ add-read-body-2 c = search needs
 read-body-requires-2 : tie.Need-read-body-requires-2
 read-body-requires-2 c κs = search needs
 
-add-t5 : tie.Need-add-t5
-add-t5 c = search needs
+add-len : tie.Need-add-len
+add-len c = search needs
 
-shared-slice-read-t7 : tie.Need-shared-slice-read-t7
-shared-slice-read-t7 c = search needs
+shared-slice-read-len : tie.Need-shared-slice-read-len
+shared-slice-read-len c = search needs
 
 returns : tie.Need-returns
 unfolding decodeLane
@@ -38,6 +38,6 @@ read-lane-spec =
     read-body-requires
     add-read-body-2
     read-body-requires-2
-    add-t5
-    shared-slice-read-t7
+    add-len
+    shared-slice-read-len
     returns)

@@ -11,7 +11,6 @@ use Rattle.station_decoder.proofs.read_record.Reads as reads
 use Rattle.station_decoder.proofs.read_record.Lts as lts
 use Rattle.record_reader.proofs.word_at.Reads as word-at-reads
 use Rattle.station_decoder.proofs.body_of_words.Reads as body-of-words-reads
-use Rattle.station_decoder.proofs.read_labels.Reads as read-labels-reads
 
 add-word-at : tie.Need-add-word-at
 add-word-at c = search needs
@@ -37,28 +36,28 @@ cast-body-of-words c = omega (arith, c .shared-slice-known2 .given (c .before .b
 body-of-words-requires : tie.Need-body-of-words-requires
 body-of-words-requires c κs = search needs
 
-add-read-labels : tie.Need-add-read-labels
-add-read-labels c = search needs
+add-word-at-3 : tie.Need-add-word-at-3
+add-word-at-3 c = search needs
 
-read-labels-requires : tie.Need-read-labels-requires
-read-labels-requires c κs = search needs
+word-at-requires-3 : tie.Need-word-at-requires-3
+word-at-requires-3 c κs = search needs
 
-shared-slice-read-t9 : tie.Need-shared-slice-read-t9
-shared-slice-read-t9 c = search needs
+shared-slice-read-station : tie.Need-shared-slice-read-station
+shared-slice-read-station c = search needs
 
-add-t7 : tie.Need-add-t7
-add-t7 c = search needs
+add-count : tie.Need-add-count
+add-count c = search needs
 
-shared-slice-read-t13 : tie.Need-shared-slice-read-t13
-shared-slice-read-t13 c = search needs
+shared-slice-read-count : tie.Need-shared-slice-read-count
+shared-slice-read-count c = search needs
 
 returns : tie.Need-returns
 unfolding decodeRecord
-returns c = 
+returns c =
     let s = c .before .before .before .before .before .before .before .before .args in
     let z = c .before .before .before in
     let body = z .body-of-words .ensures ∙ (λ j. bodyOfWords (byteAt (s .bytes .now) (s .at + 2)) (z .before .before .before .word-at .ensures j) (z .before .before .word-at2 .ensures j)) in
-    (λ i. record { station = byteAt (s .bytes .now) (s .at); count = byteAt (s .bytes .now) (s .at + 1); body = body i; labels = c .before .before .read-labels .ensures i })
+    (λ i. record { station = byteAt (s .bytes .now) (s .at); count = byteAt (s .bytes .now) (s .at + 1); body = body i; labels = c .before .before .word-at3 .ensures i })
 
 pub read-record-spec : {M : Type 1} → statement M
 read-record-spec =
@@ -72,9 +71,9 @@ read-record-spec =
     shared-slice-read-body-of-words
     cast-body-of-words
     body-of-words-requires
-    add-read-labels
-    read-labels-requires
-    shared-slice-read-t9
-    add-t7
-    shared-slice-read-t13
+    add-word-at-3
+    word-at-requires-3
+    shared-slice-read-station
+    add-count
+    shared-slice-read-count
     returns)

@@ -47,7 +47,7 @@ loop-less : tie.Need-loop-less Inv-loop μ-loop
 loop-less c = omega arith
 
 loop-again : tie.Need-loop-again Inv-loop μ-loop
-loop-again c = 
+loop-again c =
     let l = c .before .before .loop in
     let s = c .before .before .before .before .args in
     (omega arith, fill-next (l .i) (editIn (s .bytes .now) (s .at)) (replicate 32 noSlot) (l .slots) _ (l .inv .1) (λ j. record { body = c .read-body .ensures j }))
@@ -55,8 +55,8 @@ loop-again c =
 word-at-requires : tie.Need-word-at-requires Inv-loop μ-loop
 word-at-requires c κs = omega arith
 
-cast-t17 : tie.Need-cast-t17 Inv-loop μ-loop
-cast-t17 c = omega arith
+cast-len : tie.Need-cast-len Inv-loop μ-loop
+cast-len c = omega arith
 
 returns : tie.Need-returns Inv-loop μ-loop
 returns c = waiting-read _ _ _ _ _ (c .word-at .ensures) (omega arith) (c .before .before .loop .inv .1)
@@ -78,5 +78,5 @@ read-waiting-spec =
     loop-less
     loop-again
     word-at-requires
-    cast-t17
+    cast-len
     returns)

@@ -47,7 +47,7 @@ words-right-requires : tie.Need-words-right-requires
 words-right-requires c κs = search needs
 
 returns-2 : tie.Need-returns-2
-returns-2 c = 
+returns-2 c =
     let s = c .before .before .before .before .before .before .before .args in
     c .words-right .ensures ∙ (λ i. wordsRight (byteAt (s .bytes .now) (s .at + 2)) (c .before .before .before .word-at .ensures i) (c .before .before .word-at2 .ensures i))
     ∙ by-words _ _ (c .before .before .before .before .if1 .left)

@@ -2,11 +2,13 @@
 use mathlib.Core.Path.{_≡_, refl}
 use Prim.Native.Nat.{_≤_, _-_, _+_}
 use native.Mathlib.Omega.{arith}
+use borrow.Author.Needs.{needs}
 use Rattle.station_decoder.proofs.Reading.{CellsRead, cells-none, cells-next, station-read}
 use Rattle.station_decoder.proofs.station_at.Statement.{statement}
 use Rattle.station_decoder.proofs.station_at.Tie as tie
 use Rattle.station_decoder.proofs.station_at.Reads as reads
 use Rattle.station_decoder.proofs.station_at.Lts as lts
+use Rattle.record_reader.proofs.wide.Reads as wide-reads
 use Rattle.station_decoder.proofs.read_body.Reads as read-body-reads
 use Rattle.station_decoder.proofs.read_lane.Reads as read-lane-reads
 use Rattle.station_decoder.proofs.read_record.Reads as read-record-reads
@@ -82,7 +84,7 @@ loop-less : tie.Need-loop-less Inv-loop μ-loop
 loop-less c = omega arith
 
 loop-again : tie.Need-loop-again Inv-loop μ-loop
-loop-again c = 
+loop-again c =
     let l = c .before .before .before .before .before .before .loop in
     let s = c .before .before .before .before .before .before .before .before .args in
     (omega arith, cells-next (s .bytes .now) (s .at) (l .k) (l .acked) (l .held) (l .labels) (l .table) (l .lanes) (l .inv .1) _ _ (c .before .read-record .ensures) (c .read-lane .ensures))
@@ -99,33 +101,34 @@ add-read-waiting c = omega arith
 read-waiting-requires : tie.Need-read-waiting-requires Inv-loop μ-loop
 read-waiting-requires c κs = omega arith
 
-shared-slice-read-t38 : tie.Need-shared-slice-read-t38 Inv-loop μ-loop
-shared-slice-read-t38 c = omega arith
+shared-slice-read-wide : tie.Need-shared-slice-read-wide Inv-loop μ-loop
+shared-slice-read-wide c = omega arith
 
-cast-t36 : tie.Need-cast-t36 Inv-loop μ-loop
-cast-t36 c = omega (arith, c .shared-slice-known5 .given (c .before .before .before .before .before .before .args .at))
+wide-requires : tie.Need-wide-requires Inv-loop μ-loop
+wide-requires c κs = search needs
 
-add-t39 : tie.Need-add-t39 Inv-loop μ-loop
-add-t39 c = omega arith
+add-wide : tie.Need-add-wide Inv-loop μ-loop
+add-wide c = omega arith
 
-shared-slice-read-t41 : tie.Need-shared-slice-read-t41 Inv-loop μ-loop
-shared-slice-read-t41 c = omega arith
+shared-slice-read-wide-2 : tie.Need-shared-slice-read-wide-2 Inv-loop μ-loop
+shared-slice-read-wide-2 c = omega arith
 
-cast-t42 : tie.Need-cast-t42 Inv-loop μ-loop
-cast-t42 c = omega (arith, c .shared-slice-known6 .given (c .before .before .before .before .before .before .before .args .at + 1))
+wide-requires-2 : tie.Need-wide-requires-2 Inv-loop μ-loop
+wide-requires-2 c κs = search needs
 
-add-t44 : tie.Need-add-t44 Inv-loop μ-loop
-add-t44 c = omega arith
+add-count : tie.Need-add-count Inv-loop μ-loop
+add-count c = omega arith
 
-shared-slice-read-t46 : tie.Need-shared-slice-read-t46 Inv-loop μ-loop
-shared-slice-read-t46 c = omega arith
+shared-slice-read-count : tie.Need-shared-slice-read-count Inv-loop μ-loop
+shared-slice-read-count c = omega arith
 
 returns : tie.Need-returns Inv-loop μ-loop
-returns c = 
-    let l = c .before .before .before .before .before .before .loop in
-    let s = c .before .before .before .before .before .before .before .before .args in
-    station-read (s .bytes .now) (s .at) (l .k) (l .acked) (l .held) (l .labels) (l .table) (l .lanes) (l .inv .1) (omega arith) _ _ (c .before .before .before .before .read-body .ensures)
-    (c .before .before .before .read-waiting .ensures)
+returns c =
+    let w = c .before .before .before .before .before in
+    let l = w .before .before .before .loop in
+    let s = w .before .before .before .before .before .args in
+    station-read (s .bytes .now) (s .at) (l .k) (l .acked) (l .held) (l .labels) (l .table) (l .lanes) (l .inv .1) (omega arith) _ _ _ _ (c .before .before .before .wide .ensures) (c .before .wide2 .ensures)
+    (w .before .read-body .ensures) (w .read-waiting .ensures)
 
 pub station-at-spec : {M : Type 1} → statement M
 station-at-spec =
@@ -159,11 +162,11 @@ station-at-spec =
     read-body-requires
     add-read-waiting
     read-waiting-requires
-    shared-slice-read-t38
-    cast-t36
-    add-t39
-    shared-slice-read-t41
-    cast-t42
-    add-t44
-    shared-slice-read-t46
+    shared-slice-read-wide
+    wide-requires
+    add-wide
+    shared-slice-read-wide-2
+    wide-requires-2
+    add-count
+    shared-slice-read-count
     returns)

@@ -36,7 +36,7 @@ cells-right-requires : tie.Need-cells-right-requires
 cells-right-requires c κs = search needs
 
 returns-3 : tie.Need-returns-3
-returns-3 c = 
+returns-3 c =
     no-cells _ _ (c .before .before .before .before .if1 .left) (sym (c .before .before .before .body-right .ensures) ∙ not-false _ (c .before .before .if2 .left))
     (sym (c .before .cells-right .ensures) ∙ not-true _ (c .if3 .taken))
 
@@ -47,7 +47,7 @@ waiting-right-requires : tie.Need-waiting-right-requires
 waiting-right-requires c κs = search needs
 
 returns-4 : tie.Need-returns-4
-returns-4 c = 
+returns-4 c =
     let z = c .before .before .before in
     c .waiting-right .ensures
     ∙ by-waiting _ _ (z .before .before .if1 .left) (sym (z .before .body-right .ensures) ∙ not-false _ (z .if2 .left)) (sym (c .before .before .cells-right .ensures) ∙ not-false _ (c .before .if3 .left))

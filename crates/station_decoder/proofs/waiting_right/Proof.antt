@@ -43,7 +43,7 @@ body-right-requires : tie.Need-body-right-requires Inv-loop μ-loop
 body-right-requires c κs = omega arith
 
 returns-2 : tie.Need-returns-2 Inv-loop μ-loop
-returns-2 c = 
+returns-2 c =
     let z = c .before .before .before in
     no-edit _ _ (omega (arith, z .before .before .word-at .ensures, z .before .if1 .left)) (z .loop .i) (omega arith) (sym (c .before .body-right .ensures) ∙ not-true _ (c .if2 .taken))
 

@@ -24,7 +24,7 @@ event-of-requires : tie.Need-event-of-requires
 event-of-requires c κs = search needs
 
 returns-2 : tie.Need-returns-2
-returns-2 c = 
+returns-2 c =
     other-event _ _ _ _ (c .before .before .before .before .body-of-words .ensures) _ (c .before .before .before .kind-of .ensures) (c .before .before .if1 .left) _
     (c .before .event-of .ensures) (c .if2 .taken)
 
@@ -35,7 +35,7 @@ unsigned-requires : tie.Need-unsigned-requires
 unsigned-requires c κs = search needs
 
 returns-3 : tie.Need-returns-3
-returns-3 c = 
+returns-3 c =
     let z = c .before .before .before .before .before in
     by-argument _ _ _ _ (z .before .body-of-words .ensures) _ (z .kind-of .ensures) (c .before .before .before .before .if1 .left) _ (c .before .before .before .event-of .ensures)
     (c .before .before .if2 .left) (c .before .argument-of .result) _ (record { sfits = c .before .argument-of .ok }) (c .before .argument-of .ensures) (c .unsigned .ensures)

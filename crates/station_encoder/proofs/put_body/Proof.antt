@@ -42,7 +42,7 @@ same-length : tie.Need-same-length
 same-length c = search needs
 
 returns : tie.Need-returns
-returns c = 
+returns c =
     let z₃ = c .before .before in
     let z₂ = z₃ .before .before .before .before .before .before in
     let z₁ = z₂ .before .before .before .before .before in

@@ -63,7 +63,7 @@ loop-less c = omega arith
 
 loop-again : tie.Need-loop-again Inv-loop μ-loop
 unfolding cellOf
-loop-again c = 
+loop-again c =
     let z = c .before .before in
     let l = z .before .before .before .before .before .before .before .before .loop in
     let s = z .before .before .before .before .before .before .before .before .before .before .args in
@@ -73,7 +73,7 @@ same-length : tie.Need-same-length Inv-loop μ-loop
 same-length c = c .before .loop .inv .1
 
 returns : tie.Need-returns Inv-loop μ-loop
-returns c = 
+returns c =
     let s = c .before .before .before .args in
     all-written _ _ (s .at) 16 (c .before .loop .k) (λ k. encodeCell (cellOf (s .t3) k)) (omega arith) (c .before .loop .inv .2)
 

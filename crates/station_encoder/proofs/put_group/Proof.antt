@@ -45,7 +45,7 @@ loop-less : tie.Need-loop-less Inv-loop μ-loop
 loop-less c = omega arith
 
 loop-again : tie.Need-loop-again Inv-loop μ-loop
-loop-again c = 
+loop-again c =
     let z = c .before .before in
     let l = z .before .before .before .before .loop in
     let s = z .before .before .before .before .before .before .args in
@@ -56,7 +56,7 @@ same-length c = c .before .loop .inv .1
 
 returns : tie.Need-returns Inv-loop μ-loop
 unfolding encodeGroup
-returns c = 
+returns c =
     let s = c .before .before .before .args in
     all-written _ _ 0 16 (c .before .loop .k) (λ k. encodeStation (stationAt (s .t2) k)) (omega arith) (c .before .loop .inv .2)
 

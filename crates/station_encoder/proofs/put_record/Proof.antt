@@ -13,13 +13,12 @@ use Rattle.kinds.proofs.kind_of.Reads as kind-of-reads
 use Rattle.record_writer.proofs.put_word.Reads as put-word-reads
 use Rattle.record_writer.proofs.unsigned.Reads as unsigned-reads
 use Rattle.station_encoder.proofs.put_four.Reads as put-four-reads
-use Rattle.station_encoder.proofs.put_labels.Reads as put-labels-reads
 
 kind-of-requires : tie.Need-kind-of-requires
 kind-of-requires c κs = search needs
 
 cast-put-four : tie.Need-cast-put-four
-cast-put-four c = omega (arith, c .kind-of .ensures, kind-small (c .before .before .before .before .args .r .body))
+cast-put-four c = omega (arith, c .kind-of .ensures, kind-small (c .before .before .before .args .r .body))
 
 put-four-requires : tie.Need-put-four-requires
 put-four-requires c κs = search needs
@@ -45,25 +44,25 @@ unsigned-requires c κs = search needs
 put-word-requires-2 : tie.Need-put-word-requires-2
 put-word-requires-2 c κs = search needs
 
-add-put-labels : tie.Need-add-put-labels
-add-put-labels c = search needs
+add-put-word-3 : tie.Need-add-put-word-3
+add-put-word-3 c = search needs
 
-put-labels-requires : tie.Need-put-labels-requires
-put-labels-requires c κs = search needs
+put-word-requires-3 : tie.Need-put-word-requires-3
+put-word-requires-3 c κs = search needs
 
 same-length : tie.Need-same-length
 same-length c = search needs
 
 returns : tie.Need-returns
-returns c = 
+returns c =
     let z₄ = c .before .before in
     let z₃ = z₄ .before .before .before .before in
     let z₂ = z₃ .before .before .before .before .before .before in
     let z₁ = z₂ .before .before .before .before .before in
-    let s = z₁ .before .before .before .before .before .args in
+    let s = z₁ .before .before .before .before .args in
     record-written (s .bytes .now) (s .at) (s .r) (z₁ .before .kind-of .result) (z₂ .before .event-of .result) (z₃ .before .before .argument-of .result) (z₃ .before .unsigned .result) _ _ _ _
     (z₁ .before .kind-of .ensures) (z₂ .before .event-of .ensures) (record { sfits = z₃ .before .before .argument-of .ok }) (z₃ .before .before .argument-of .ensures) (z₃ .before .unsigned .ensures)
-    (z₁ .put-four .ensures) (z₂ .put-word .ensures) (z₃ .put-word2 .ensures) (z₄ .put-labels .ensures)
+    (z₁ .put-four .ensures) (z₂ .put-word .ensures) (z₃ .put-word2 .ensures) (z₄ .put-word3 .ensures)
 
 pub put-record-spec : {M : Type 1} → statement M
 put-record-spec =
@@ -79,7 +78,7 @@ put-record-spec =
     argument-of-requires
     unsigned-requires
     put-word-requires-2
-    add-put-labels
-    put-labels-requires
+    add-put-word-3
+    put-word-requires-3
     same-length
     returns)

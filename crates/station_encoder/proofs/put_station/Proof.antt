@@ -42,7 +42,7 @@ same-length : tie.Need-same-length
 same-length c = search needs
 
 returns : tie.Need-returns
-returns c = 
+returns c =
     let z₄ = c .before .before in
     let z₃ = z₄ .before .before .before .before in
     let z₂ = z₃ .before .before .before .before in

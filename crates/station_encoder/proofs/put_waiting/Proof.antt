@@ -65,7 +65,7 @@ loop-less : tie.Need-loop-less Inv-loop μ-loop
 loop-less c = omega arith
 
 loop-again : tie.Need-loop-again Inv-loop μ-loop
-loop-again c = 
+loop-again c =
     let z = c .before .before in
     let l = z .before .before .before .before .loop in
     let s = z .before .before .before .before .before .before .before .before .before .before .before .before .before .args in
@@ -75,7 +75,7 @@ same-length : tie.Need-same-length Inv-loop μ-loop
 same-length c = c .before .loop .inv .1 ∙ c .before .before .before .before .put-word .kept .0
 
 returns : tie.Need-returns Inv-loop μ-loop
-returns c = 
+returns c =
     let z = c .before .before .before .before in
     let s = z .before .before .before .before .before .before .args in
     waiting-written (s .bytes .now) (s .at) (s .waiting) (z .before .as-byte .result) _ _ _ (z .before .as-byte .ensures) (omega arith) (z .put-word .ensures) (c .before .loop .inv .2)

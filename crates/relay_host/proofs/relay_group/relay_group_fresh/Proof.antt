@@ -1,3 +1,8 @@
+-- Each return is a case of the definition: the group's refusal, no room, or the group at the front.
+use mathlib.Core.Path.{_≡_, sym, _∙_}
+use native.Mathlib.Omega.{arith}
+use borrow.Author.Tests.{not-true, not-false}
+use Rattle.relay_host.proofs.Group.{fresh-refused, fresh-short, fresh-done}
 use borrow.Author.Needs.{needs}
 use Rattle.relay_host.proofs.relay_group.relay_group_fresh.Statement.{statement}
 use Rattle.relay_host.proofs.relay_group.relay_group_fresh.Tie as tie
@@ -6,29 +11,25 @@ use Rattle.relay_host.proofs.relay_group.relay_group_fresh.Lts as lts
 use Rattle.group.proofs.fresh.Reads as fresh-reads
 use Rattle.station_encoder.proofs.put_group.Reads as put-group-reads
 
--- src/relay_group.rt:25:9
 fresh-requires : tie.Need-fresh-requires
 fresh-requires c κs = search needs
 
--- src/relay_group.rt:27:9
 returns : tie.Need-returns
-returns c = ?
+returns c = fresh-refused _ _ _ (c .before .before .fresh .ensures) (c .if1 .taken)
 
--- src/relay_group.rt:30:9
 returns-2 : tie.Need-returns-2
-returns-2 c = ?
+returns-2 c = fresh-short _ _ _ (c .before .before .before .fresh .ensures) (c .before .if1 .left) (c .if2 .taken)
 
--- src/relay_group.rt:33:5
 put-group-requires : tie.Need-put-group-requires
 put-group-requires c κs = search needs
 
--- src/relay_group.rt:20:1
 same-length : tie.Need-same-length
 same-length c = search needs
 
--- src/relay_group.rt:20:1
 returns-3 : tie.Need-returns-3
-returns-3 c = ?
+returns-3 c =
+    let z = c .before .before .before .before .before in
+    fresh-done _ _ _ (z .before .before .before .fresh .ensures) (z .before .if1 .left) (z .if2 .left) _ (c .before .before .put-group .ensures)
 
 pub relay-group-fresh-spec : {M : Type 1} → statement M
 relay-group-fresh-spec =

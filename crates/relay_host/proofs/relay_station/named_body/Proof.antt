@@ -20,14 +20,14 @@ body-of-requires : tie.Need-body-of-requires
 body-of-requires c κs = search needs
 
 returns : tie.Need-returns
-returns c = 
+returns c =
     let a = c .before .before .before in
     let argument = toZ-ofZ w32 (a .args .argument) (a .fits .argument) in
     c .body-of .ensures ∙ ap (bodyOf (a .args .kind) (a .args .event)) argument
     ∙ body-named (a .args .kind) (a .args .event) (a .args .argument) (ap (numbersInside (a .args .kind) (a .args .event)) (sym argument) ∙ sym (c .before .before .numbers-inside .ensures) ∙ c .before .if1 .taken)
 
 returns-2 : tie.Need-returns-2
-returns-2 c = 
+returns-2 c =
     let a = c .before .before in
     let argument = toZ-ofZ w32 (a .args .argument) (a .fits .argument) in
     body-none (a .args .kind) (a .args .event) (a .args .argument) (ap (numbersInside (a .args .kind) (a .args .event)) (sym argument) ∙ sym (c .before .numbers-inside .ensures) ∙ c .if1 .left)

@@ -27,7 +27,7 @@ same-length : tie.Need-same-length
 same-length c = search needs
 
 returns-3 : tie.Need-returns-3
-returns-3 c = 
+returns-3 c =
     let z = c .before .before .before .before .before in
     fresh-done _ _ _ _ (z .before .before .before .fresh .ensures) (z .before .if1 .left) (z .if2 .left) _ (c .before .before .put-station .ensures)
 

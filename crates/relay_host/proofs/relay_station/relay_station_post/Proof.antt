@@ -41,7 +41,7 @@ same-length-2 : tie.Need-same-length-2
 same-length-2 c = search needs
 
 returns-2 : tie.Need-returns-2
-returns-2 c = 
+returns-2 c =
     let z = c .before .before in
     let r = z .before .before in
     let a = r .before .before .before .before .before .before in
@@ -50,7 +50,7 @@ returns-2 c =
     (z .post .ensures ∙ ap (postCall (r .read-station .result)) body) (c .if2 .taken)
 
 put-station-requires : tie.Need-put-station-requires
-put-station-requires c κs = 
+put-station-requires c κs =
     let r = c .before .before .before .before .before .before in
     omega (arith, station-long _ (sym (r .before .before .before .is-station .ensures) ∙ not-false _ (r .before .before .if1 .left)))
 
@@ -58,7 +58,7 @@ same-length-3 : tie.Need-same-length-3
 same-length-3 c = search needs
 
 returns-3 : tie.Need-returns-3
-returns-3 c = 
+returns-3 c =
     let z = c .before .before .before .before .before .before .before in
     let r = z .before .before in
     let a = r .before .before .before .before .before .before in

@@ -33,7 +33,7 @@ same-length-2 : tie.Need-same-length-2
 same-length-2 c = search needs
 
 returns-2 : tie.Need-returns-2
-returns-2 c = 
+returns-2 c =
     let r = c .before .before .before in
     turn-refused _ (sym (r .before .before .before .is-station .ensures) ∙ not-false _ (r .before .before .if1 .left)) _ (r .read-station .ensures) _ _ (c .before .before .turn .ensures) (c .if2 .taken)
 
@@ -41,12 +41,12 @@ same-length-3 : tie.Need-same-length-3
 same-length-3 c = search needs
 
 returns-3 : tie.Need-returns-3
-returns-3 c = 
+returns-3 c =
     let r = c .before .before .before .before in
     turn-short _ (sym (r .before .before .before .is-station .ensures) ∙ not-false _ (r .before .before .if1 .left)) _ (r .read-station .ensures) _ _ (c .before .before .before .turn .ensures) (c .before .if2 .left) (c .if3 .taken)
 
 put-station-requires : tie.Need-put-station-requires
-put-station-requires c κs = 
+put-station-requires c κs =
     let r = c .before .before .before .before .before .before .before in
     omega (arith, station-long _ (sym (r .before .before .before .is-station .ensures) ∙ not-false _ (r .before .before .if1 .left)))
 
@@ -60,7 +60,7 @@ same-length-5 : tie.Need-same-length-5
 same-length-5 c = search needs
 
 returns-4 : tie.Need-returns-4
-returns-4 c = 
+returns-4 c =
     let z = c .before .before .before .before .before .before .before .before .before .before in
     let r = z .before .before .before .before in
     turn-done _ (sym (r .before .before .before .is-station .ensures) ∙ not-false _ (r .before .before .if1 .left)) _ (r .read-station .ensures) _ _ (z .before .before .before .turn .ensures) (z .before .if2 .left)

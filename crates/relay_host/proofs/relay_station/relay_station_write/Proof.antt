@@ -29,12 +29,12 @@ write-requires : tie.Need-write-requires
 write-requires c κs = search needs
 
 returns-2 : tie.Need-returns-2
-returns-2 c = 
+returns-2 c =
     let r = c .before .before .before .before .before .before in
     write-none-refused _ _ _ (sym (r .before .before .is-station .ensures) ∙ not-false _ (r .before .if1 .left)) _ (r .read-station .ensures) (omega (arith, c .before .before .before .before .before .if2 .taken)) _ _ (c .before .before .before .write .ensures .0) (c .if3 .taken)
 
 returns-3 : tie.Need-returns-3
-returns-3 c = 
+returns-3 c =
     let r = c .before .before .before .before .before .before in
     write-none _ _ _ (sym (r .before .before .is-station .ensures) ∙ not-false _ (r .before .if1 .left)) _ (r .read-station .ensures) (omega (arith, c .before .before .before .before .before .if2 .taken)) _ _ (c .before .before .before .write .ensures .0) (c .if3 .left)
 
@@ -45,13 +45,13 @@ same-length : tie.Need-same-length
 same-length c = search needs
 
 returns-4 : tie.Need-returns-4
-returns-4 c = 
+returns-4 c =
     let w = c .before .before .before .before in
     let r = w .before .before .before in
     write-refused _ _ _ (sym (r .before .before .is-station .ensures) ∙ not-false _ (r .before .if1 .left)) _ (r .read-station .ensures) _ (w .write2 .ensures .0) _ (w .write2 .ensures .1) (c .if4 .taken)
 
 cast-lengths : tie.Need-cast-lengths
-cast-lengths c = 
+cast-lengths c =
     let w = c .before .before .before .before .before in
     let r = w .before .before .before in
     let s = r .before .before .before .before .before .before in
@@ -74,7 +74,7 @@ same-length-3 : tie.Need-same-length-3
 same-length-3 c = search needs
 
 returns-5 : tie.Need-returns-5
-returns-5 c = 
+returns-5 c =
     let w = c .before .before .before .before .before in
     let r = w .before .before .before in
     write-done _ _ _ (sym (r .before .before .is-station .ensures) ∙ not-false _ (r .before .if1 .left)) _ (r .read-station .ensures) _ (w .write2 .ensures .0) _ (w .write2 .ensures .1)
