@@ -4,7 +4,6 @@ Bytes that are no station are read as None. The library's call judges them befor
 """
 
 import functools
-import os
 import pathlib
 import re
 import struct
@@ -16,8 +15,8 @@ from model.records import PLACES, Record, pack, unpack
 from model.station import Station
 
 ROOT = pathlib.Path(__file__).resolve().parents[2]
-HEADER = pathlib.Path(os.environ.get("RELAY_HEADER") or ROOT / "include" / "relay.h")
-SIZES = {name: int(size) for name, size in re.findall(r"(?m)^#define RELAY_(\w+) (\d+)$", HEADER.read_text(encoding="utf-8"))}
+HEADER = (ROOT / "include" / "relay.h").read_text(encoding="utf-8")
+SIZES = {name: int(size) for name, size in re.findall(r"(?m)^#define RELAY_(\w+) (\d+)$", HEADER)}
 
 BODY, RECORD = SIZES["BODY_BYTES"], SIZES["RECORD_BYTES"]
 STATION, GROUP = SIZES["STATION_BYTES"], SIZES["GROUP_BYTES"]
@@ -27,15 +26,12 @@ HEAD, PLACE_HEAD, WAITING_HEAD = 4 + BODY, 4, 4
 RECORD_AT = PLACE_HEAD + LANE_LIMIT * BODY
 PLACE = RECORD_AT + RECORD
 WAITING_AT = HEAD + PLACES * PLACE
-LABELS_AT = 12                       # in a record
-PACKED = RECORD == LABELS_AT + 4     # a record's labels are one number; else a byte each
 
 assert STATION == WAITING_AT + WAITING_HEAD + QUEUE_LIMIT * BODY
 assert GROUP == PLACES * STATION and ROUND == PLACES * REPORT
-assert RECORD in (LABELS_AT + 4, LABELS_AT + PLACES)
 
 BODY_FORM = struct.Struct("<IIi")    # kind and three zero bytes, event, argument
-RECORD_FORM = struct.Struct("<BBBBIi")
+RECORD_FORM = struct.Struct("<BBBBIiI")
 
 
 # Bodies and records.
@@ -52,19 +48,14 @@ def read_bodies(data):
 
 
 def read_table_record(part):
-    station, count, kind, zero, event, argument = RECORD_FORM.unpack(part[:LABELS_AT])
+    station, count, kind, zero, event, argument, labels = RECORD_FORM.unpack(part)
     body = read_body(kind, event, argument)
-    if zero or body is None:
-        return None
-    labels = part[LABELS_AT:]
-    return Record(station, count, body, unpack(int.from_bytes(labels, "little")) if PACKED else tuple(labels))
+    return None if zero or body is None else Record(station, count, body, unpack(labels))
 
 
 def table_record_bytes(record):
-    """Of a packed label there are two bits."""
-    labels = pack([label & 3 for label in record.labels]).to_bytes(4, "little") if PACKED else bytes(record.labels)
-    kind, event, argument = record.body
-    return RECORD_FORM.pack(record.station, record.count, kind, 0, event, argument) + labels
+    """Of an entry that is no label there are two bits."""
+    return RECORD_FORM.pack(record.station, record.count, record.body.kind, 0, *record.body[1:], pack([label & 3 for label in record.labels]))
 
 
 def bodies_bytes(bodies):
