@@ -1,4 +1,4 @@
-// The work of one measurement of rounds: `relay_bench_rounds` of bench/README.md.
+// The work of measurements: `relay_bench_rounds` and `relay_bench_codec` of bench/README.md.
 
 ghost use Prim.Native.Nat.{_+_, _≤_, _<_};
 ghost use lib.ListN.{length};
@@ -14,6 +14,9 @@ const MASKS_SIZE: usize = 32;
 
 // A post comes before every eighth round, the first among them, at one station after the other.
 const POST_EVERY: u32 = 8;
+
+// The bytes of a station: RELAY_STATION_BYTES of include/relay.h.
+const STATION_WIDTH: usize = 1108;
 
 const LOW: u64 = 4_294_967_296;
 
@@ -162,4 +165,25 @@ pub extern "C" fn relay_bench_rounds(schedule: &[u8], n: u32, rounds: u32) -> u3
         return 0;
     }
     run(schedule, n as usize, rounds)
+}
+
+// A station's bytes, read and written again so many times, and judged each time before where a number that is not 0 says so. Gives how often that
+// was done: fewer times where the bytes are no station, and never where they are too few.
+#[no_mangle]
+pub extern "C" fn relay_bench_codec(state: &mut [u8], times: u32, judged: u32) -> u32 {
+    if state.len() < STATION_WIDTH {
+        return 0;
+    }
+    let mut done: u32 = 0;
+    while done < times {
+        if judged != 0 {
+            if !station_decoder::is_station(state) {
+                return done;
+            }
+        }
+        let station = station_decoder::read_station(state);
+        station_encoder::put_station(state, 0, station);
+        done += 1;
+    }
+    done
 }
