@@ -68,9 +68,9 @@ unfolding wordBytes
 length-words v w = refl
 
 module _ (l : List ℕ) (at : ℕ) (b : Body) (f : BodyFits b) (h : Stands l at (encodeBody b)) where
-  words : (wordAt l at ≡ kindOf b) × (wordAt l (at + 4) ≡ eventOf b) × (wordAt l (at + 8) ≡ unsigned (argumentOf b))
+  pub body-words : (wordAt l at ≡ kindOf b) × (wordAt l (at + 4) ≡ eventOf b) × (wordAt l (at + 8) ≡ unsigned (argumentOf b))
   unfolding encodeBody
-  words =
+  body-words =
       let k = wordBytes (kindOf b) in
       let e = wordBytes (eventOf b) in
       let a = wordBytes (unsigned (argumentOf b)) in
@@ -83,11 +83,11 @@ module _ (l : List ℕ) (at : ℕ) (b : Body) (f : BodyFits b) (h : Stands l at 
 
   pub body-decoded : decodeBody l at ≡ b
   unfolding decodeBody
-  body-decoded = (λ i. bodyOfWords (words .0 i) (words .1 i) (words .2 i)) ∙ numbers-there b f
+  body-decoded = (λ i. bodyOfWords (body-words .0 i) (body-words .1 i) (body-words .2 i)) ∙ numbers-there b f
 
   pub body-accepted : isBody l at ≡ true
   unfolding isBody
-  body-accepted = (λ i. wordsRight (words .0 i) (words .1 i) (words .2 i)) ∙ numbers-right b f
+  body-accepted = (λ i. wordsRight (body-words .0 i) (body-words .1 i) (body-words .2 i)) ∙ numbers-right b f
 
 module _ (l : List ℕ) (bytes : AllBytes l) (at : ℕ) (room : at + 12 ≤ length l) where
   pub body-encoded : isBody l at ≡ true → encodeBody (decodeBody l at) ≡ span at 12 l
@@ -128,12 +128,12 @@ module _ (l : List ℕ) (at : ℕ) (r : Record) (f : RecordFits r) (h : Stands l
   unfolding encodeRecord
   stands-front = stands-left l at (front r) (wordBytes (r .labels)) h
 
-  labels-there : wordAt l (at + 12) ≡ r .labels
+  pub labels-there : wordAt l (at + 12) ≡ r .labels
   unfolding encodeRecord
   labels-there =
       stands-word l (at + 12) (r .labels) (f .labels-fit) (stands-right l at (front r) (wordBytes (r .labels)) 12 (length-front r) h)
 
-  event-there : wordAt l (at + 4) ≡ eventOf (r .body)
+  pub event-there : wordAt l (at + 4) ≡ eventOf (r .body)
   event-there =
       stands-word l (at + 4) (eventOf (r .body)) (f .body-fits .event-fits)
       (stands-right l at head (wordBytes (eventOf (r .body))) 4 refl
@@ -143,13 +143,13 @@ module _ (l : List ℕ) (at : ℕ) (r : Record) (f : RecordFits r) (h : Stands l
   unfolding wordBytes
   eight = refl
 
-  argument-there : wordAt l (at + 8) ≡ unsigned (argumentOf (r .body))
+  pub argument-there : wordAt l (at + 8) ≡ unsigned (argumentOf (r .body))
   argument-there =
       stands-word l (at + 8) (unsigned (argumentOf (r .body))) (unsigned-small (argumentOf (r .body)) (f .body-fits .argument-fits))
       (stands-right l at (head ++ wordBytes (eventOf (r .body))) (wordBytes (unsigned (argumentOf (r .body)))) 8 eight
       stands-front)
 
-  four-there : (byteAt l at ≡ r .station) × (byteAt l (at + 1) ≡ r .count) × (byteAt l (at + 2) ≡ kindOf (r .body)) × (byteAt l (at + 3) ≡ 0)
+  pub four-there : (byteAt l at ≡ r .station) × (byteAt l (at + 1) ≡ r .count) × (byteAt l (at + 2) ≡ kindOf (r .body)) × (byteAt l (at + 3) ≡ 0)
   four-there =
       let four =
       stands-left l at head (wordBytes (eventOf (r .body)))

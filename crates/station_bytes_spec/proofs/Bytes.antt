@@ -148,6 +148,15 @@ byte-small x = go (ltb x 256) refl
     go true e = rw e (omega (arith, ltb-true x 256 e))
     go false e = rw e (omega arith)
 
+-- a number that no limit lets through stays one
+pub byte-outside : (x : ℕ) → 32 < x → 32 < asByte x
+unfolding asByte
+byte-outside x h = go (ltb x 256) refl
+  where
+    go : (t : Bool) → ltb x 256 ≡ t → 32 < asByte x
+    go true e = rw e h
+    go false e = rw e (omega arith)
+
 -- a list by its places
 module _ {A : Type 0} where
   pub tabulate-is :

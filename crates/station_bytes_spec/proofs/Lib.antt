@@ -4,3 +4,4 @@ pub mod Station
 pub mod Group
 pub mod Inside
 pub mod Reports
+pub mod Documented

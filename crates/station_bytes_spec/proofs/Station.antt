@@ -55,7 +55,7 @@ module _ (c : Cell) where
   length-cell = length-append before (encodeRecord (c .entry)) ∙ ap₂ _+_ length-before (length-record (c .entry))
 
   module _ (l : List ℕ) (at : ℕ) (f : CellFits c) (h : Stands l at (encodeCell c)) where
-    stands-entry : Stands l (at + 28) (encodeRecord (c .entry))
+    pub stands-entry : Stands l (at + 28) (encodeRecord (c .entry))
     unfolding encodeCell
     stands-entry = stands-right l at before (encodeRecord (c .entry)) 28 length-before h
 
@@ -63,16 +63,16 @@ module _ (c : Cell) where
     unfolding encodeCell
     stands-before = stands-left l at before (encodeRecord (c .entry)) h
 
-    stands-second : Stands l (at + 16) (encodeBody (c .lane .second))
+    pub stands-second : Stands l (at + 16) (encodeBody (c .lane .second))
     stands-second = stands-right l at sixteen (encodeBody (c .lane .second)) 16 length-sixteen stands-before
 
     stands-sixteen : Stands l at sixteen
     stands-sixteen = stands-left l at sixteen (encodeBody (c .lane .second)) stands-before
 
-    stands-first : Stands l (at + 4) (encodeBody (c .lane .first))
+    pub stands-first : Stands l (at + 4) (encodeBody (c .lane .first))
     stands-first = stands-right l at four (encodeBody (c .lane .first)) 4 refl stands-sixteen
 
-    stands-four : Stands l at four
+    pub stands-four : Stands l at four
     stands-four = stands-left l at four (encodeBody (c .lane .first)) stands-sixteen
 
     pub cell-decoded : decodeCell l at ≡ c
@@ -146,14 +146,14 @@ module _ (w : Waiting) where
   length-waiting = length-append (wordBytes (asByte (waitingCount w))) edits ∙ ap₂ _+_ (length-word (asByte (waitingCount w))) length-edits
 
   module _ (l : List ℕ) (at : ℕ) (f : WaitingFits w) (h : Stands l at (encodeWaiting w)) where
-    count-there : wordAt l at ≡ waitingCount w
+    pub count-there : wordAt l at ≡ waitingCount w
     unfolding encodeWaiting
     count-there =
         stands-word l at (asByte (waitingCount w)) (omega (arith, byte-small (waitingCount w)))
         (stands-left l at (wordBytes (asByte (waitingCount w))) edits h)
         ∙ byte-same (waitingCount w) (f .count-byte)
 
-    stands-edit : (i : ℕ) → i < 32 → Stands l (at + 4 + 12 * i) (encodeBody (waitingAt w i))
+    pub stands-edit : (i : ℕ) → i < 32 → Stands l (at + 4 + 12 * i) (encodeBody (waitingAt w i))
     unfolding encodeWaiting
     stands-edit i m =
         stands-joined l (at + 4) 32 12 (λ j. encodeBody (waitingAt w j)) (λ j q. length-body (waitingAt w j))
@@ -241,7 +241,7 @@ module _ (s : Station) where
   length-station = length-append rest (encodeWaiting (s .waiting)) ∙ ap₂ _+_ length-rest (length-waiting (s .waiting))
 
   module _ (f : StationFits s) (l : List ℕ) (at : ℕ) (h : Stands l at (encodeStation s)) where
-    stands-waiting : Stands l (at + waitingPlace) (encodeWaiting (s .waiting))
+    pub stands-waiting : Stands l (at + waitingPlace) (encodeWaiting (s .waiting))
     unfolding encodeStation
     stands-waiting = stands-right l at rest (encodeWaiting (s .waiting)) waitingPlace length-rest h
 
@@ -249,7 +249,7 @@ module _ (s : Station) where
     unfolding encodeStation
     stands-rest = stands-left l at rest (encodeWaiting (s .waiting)) h
 
-    stands-cell : (k : ℕ) → k < 16 → Stands l (at + 16 + cellWidth * k) (encodeCell (cellOf s k))
+    pub stands-cell : (k : ℕ) → k < 16 → Stands l (at + 16 + cellWidth * k) (encodeCell (cellOf s k))
     stands-cell k m =
         stands-joined l (at + 16) 16 cellWidth (λ j. encodeCell (cellOf s j)) (λ j q. length-cell (cellOf s j))
         (stands-right l at (encodeHead s) cells 16 length-head stands-rest) k m
@@ -260,11 +260,11 @@ module _ (s : Station) where
     abbrev numbers : List ℕ
     numbers = asByte (s .n) ∷ asByte (s .own) ∷ s .count ∷ 0 ∷ []
 
-    stands-numbers : Stands l at numbers
+    pub stands-numbers : Stands l at numbers
     unfolding encodeHead
     stands-numbers = stands-left l at numbers (encodeBody (s .body)) stands-head
 
-    stands-body : Stands l (at + 4) (encodeBody (s .body))
+    pub stands-body : Stands l (at + 4) (encodeBody (s .body))
     unfolding encodeHead
     stands-body = stands-right l at numbers (encodeBody (s .body)) 4 refl stands-head
 
