@@ -7,7 +7,7 @@
        what it must return
 
    Each case is called three times: with each buffer in a heap block of its length, for a checker of memory; right behind a page that cannot be touched; and
-   right before one. */
+   right before one. A signal ends the program where a call does not end. */
 #define _DEFAULT_SOURCE
 #include <stdio.h>
 #include <stdlib.h>
@@ -17,7 +17,7 @@
 
 #include "relay.h"
 
-enum { ROOM = 1 << 17, MOST = 8, BUFFERS = 3, CALLS = 8 };
+enum { ROOM = 1 << 17, MOST = 8, BUFFERS = 3, CALLS = 8, SECONDS = 30 };
 
 struct buffer {
     uint32_t width, entries;
@@ -146,9 +146,11 @@ int main(void)
     struct call c;
     while (read_call(&c)) {
         uint32_t answer;
+        alarm(SECONDS);
         if (!tried(&c, rooms, &answer) && wrong++ < 10)
             fprintf(stderr, "case %lu, %s: returns %u, the model's is %u%s\n", cases, names[c.name % CALLS], answer, c.right,
                     answer == c.right ? "; a buffer differs" : "");
+        alarm(0);
         done += c.right == 0;
         cases++;
         for (uint32_t i = 0; i < c.buffers; i++) {

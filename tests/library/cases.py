@@ -8,6 +8,7 @@ from model.bodies import DROP, SHIFT
 
 from . import compare, formats
 
+SECONDS = 1_200  # after which a signal ends the test: a call that does not end is a failure too
 MOST_NUMBER = 2 ** 32 - 1
 NUMBERS = (*range(19), 31, 32, 33, 127, 128, 255, 256, 257, 2 ** 16, 2 ** 16 + 1, 2 ** 31 - 1, 2 ** 31, MOST_NUMBER)
 EDGES = (0, 1, 2, 3, 4, 5, 15, 16, 17, 31, 32, 33, 64, 127, 128, 254, 255)
