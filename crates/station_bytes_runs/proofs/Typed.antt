@@ -70,7 +70,7 @@ module _ (s : Station) (f : Fitting s) where
             elim (ℕ-discrete j k) [
               | yes e ↦
                   subst (λ (i : ℕ). CellFits (cellOf (withCell s k c) i)) (sym e)
-                      (subst CellFits (sym (cell-here s k c shape (omega arith))) g)
+                  (subst CellFits (sym (cell-here s k c shape (omega arith))) g)
               | no d ↦ subst CellFits (sym (cell-other s k c j d)) (f .cells j l)
             ];
         edits = subst EditsFit (sym (cell-self s k c .waiting)) (f .edits);
@@ -119,7 +119,7 @@ fresh-fitting setup own l =
         record {
           labels-fit =
               subst (λ (w : ℕ). w < 4_294_967_296) (sym (fresh-word own))
-                  (over-less 16 16 (λ k. getD (freshLabels own) k 0) 0 (λ j m. omega (arith, fresh-at own j m)) (omega arith) (omega arith));
+              (over-less 16 16 (λ k. getD (freshLabels own) k 0) 0 (λ j m. omega (arith, fresh-at own j m)) (omega arith) (omega arith));
           body-fits = empty-fits;
         }
 
@@ -128,14 +128,14 @@ fresh-fitting setup own l =
         elim (ℕ-discrete k own) [
           | yes e ↦
               subst (λ (i : ℕ). CellFits (cellOf (freshStation setup own) i)) (sym e)
-                  (subst CellFits (sym (fresh-own setup own l)) (record { entry-fits = own-fits; first-fits = empty-fits; second-fits = empty-fits }))
+              (subst CellFits (sym (fresh-own setup own l)) (record { entry-fits = own-fits; first-fits = empty-fits; second-fits = empty-fits }))
           | no d ↦
               subst CellFits (sym (fresh-other setup own k m d))
-                  (record {
-                    entry-fits = record { labels-fit = omega arith; body-fits = empty-fits };
-                    first-fits = empty-fits;
-                    second-fits = empty-fits;
-                  })
+              (record {
+                entry-fits = record { labels-fit = omega arith; body-fits = empty-fits };
+                first-fits = empty-fits;
+                second-fits = empty-fits;
+              })
         ]
 
 -- ---- post
@@ -247,9 +247,10 @@ module _ (s : Station) (shape : Shaped s) (f : Fitting s) (high : s .n ≤ 16) (
           (t : Bool) →
           ((cond t (withWaiting (takesOwn (begins a (startedBody s)) (startedBody s)) (cond (startsEdit s) (withoutNext (s .waiting)) (s .waiting))) a) .n ≡ s .n)
           × ((cond t (withWaiting (takesOwn (begins a (startedBody s)) (startedBody s)) (cond (startsEdit s) (withoutNext (s .waiting)) (s .waiting))) a) .own ≡ s .own)
-      go true =
-          (takesOwn-self (begins a (startedBody s)) (startedBody s) .0 ∙ begins-self a (startedBody s) .0 ∙ aired-self s .n,
-          takesOwn-self (begins a (startedBody s)) (startedBody s) .1 ∙ begins-self a (startedBody s) .1 ∙ aired-self s .own)
+      go true = (
+        takesOwn-self (begins a (startedBody s)) (startedBody s) .0 ∙ begins-self a (startedBody s) .0 ∙ aired-self s .n,
+        takesOwn-self (begins a (startedBody s)) (startedBody s) .1 ∙ begins-self a (startedBody s) .1 ∙ aired-self s .own,
+      )
       go false = (aired-self s .n, aired-self s .own)
 
 -- the own record rewritten: its labels are labels, for the station after its turn is inside its limits
@@ -260,7 +261,7 @@ label-kept t shape k l =
     elim (ℕ-discrete k (t .own)) [
       | yes e ↦
           subst (λ (i : ℕ). labelOf (withCell t (t .own) c) i ≡ labelOf t i) (sym e)
-              (ap (λ (x : Cell). x .label) (cell-here t (t .own) c shape (omega arith)))
+          (ap (λ (x : Cell). x .label) (cell-here t (t .own) c shape (omega arith)))
       | no d ↦ ap (λ (x : Cell). x .label) (cell-other t (t .own) c k d)
     ]
 
@@ -307,7 +308,7 @@ module _ (s : Station) (shape : Shaped s) (f : Fitting s) (inside : stationInsid
       record {
         labels-fit =
             over-less (t .n) 16 (labelOf t) ((recordOf t (t .own)) .labels) label-small (omega (arith, t-size, high))
-                (t-fitting .cells (t .own) t-own .entry-fits .labels-fit);
+            (t-fitting .cells (t .own) t-own .entry-fits .labels-fit);
         body-fits = t-fitting .body;
       }
 
