@@ -60,9 +60,9 @@ module _ (b : List ℕ) (bytes : AllBytes b) where
   edits-typed at =
       slots-fit (tabulate 32 (λ i. record { body = decodeBody b (at + 4 + 12 * i) }))
       (λ i l.
-        subst (λ (s : Slot). BodyFits (s .body))
-        (sym (tabulate-at 32 (λ j. record { body = decodeBody b (at + 4 + 12 * j) }) i noSlot (omega (arith, length-tabulate {A = Slot} 32 (λ j. record { body = decodeBody b (at + 4 + 12 * j) })))))
-        (body-typed (at + 4 + 12 * i)))
+      subst (λ (s : Slot). BodyFits (s .body))
+      (sym (tabulate-at 32 (λ j. record { body = decodeBody b (at + 4 + 12 * j) }) i noSlot (omega (arith, length-tabulate {A = Slot} 32 (λ j. record { body = decodeBody b (at + 4 + 12 * j) })))))
+      (body-typed (at + 4 + 12 * i)))
 
   waiting-sized : (at : ℕ) → WaitingSized (decodeWaiting b at)
   unfolding decodeWaiting
@@ -132,7 +132,7 @@ pub data AllWords : List Record → Type 0 where
   no-words : AllWords []
   more-words : {r : Record} {rs : List Record} → RecordFits r → AllWords rs → AllWords (r ∷ rs)
 
-words-append : (rs : List Record) (r : Record) → AllWords rs → RecordFits r → AllWords (rs ++ (r ∷ []))
+pub words-append : (rs : List Record) (r : Record) → AllWords rs → RecordFits r → AllWords (rs ++ (r ∷ []))
 words-append [] r no-words g = more-words g no-words
 words-append (x ∷ rs) r (more-words f all) g = more-words f (words-append rs r all g)
 
