@@ -3,3 +3,4 @@ pub mod Refusals
 pub mod Station
 pub mod Write
 pub mod Group
+pub mod RoundRefusals

@@ -1,6 +1,8 @@
 -- Each return is a case of the definition: no group, the group's refusal, too few masks, no room, or both buffers written.
-use mathlib.Core.Path.{_≡_, sym, _∙_}
+use mathlib.Core.Path.{_≡_, sym, ap, _∙_}
 use native.Mathlib.Omega.{arith}
+use Rattle.group_rules.specs.declared.RoundDone.{RoundDone}
+use Rattle.relay_host.proofs.RoundRefusals.{round-small}
 use borrow.Author.Tests.{not-true, not-false}
 use Rattle.relay_host.proofs.Group.{group-long, round-no-group, round-refused, round-few, round-short, round-done}
 use borrow.Author.Needs.{needs}
@@ -32,6 +34,17 @@ sixteen-masks-requires c κs = search needs
 
 round-requires : tie.Need-round-requires
 round-requires c κs = search needs
+
+cast-refusal : tie.Need-cast-refusal
+cast-refusal c =
+    record {
+      fits =
+          omega (
+            arith,
+            round-small (c .before .before .before .read-group .result) (c .before .before .sixteen-masks .result),
+            ap (λ (x : RoundDone). x .refusal) (c .before .round .ensures),
+          );
+    }
 
 same-length-2 : tie.Need-same-length-2
 same-length-2 c = search needs
@@ -96,6 +109,7 @@ relay-group-round-spec =
     read-group-requires
     sixteen-masks-requires
     round-requires
+    cast-refusal
     same-length-2
     returns-2
     same-length-3
