@@ -53,6 +53,10 @@ malformedLine = 11
 abbrev pub badLinkLog : ℕ
 badLinkLog = 12
 
+-- a record of another station conflicts with the one held of it (document 02, A4)
+abbrev pub conflict : ℕ
+conflict = 14
+
 -- a question names a station that is not among N, has a number below 1, is not whole, or is past the 64th (document 02, A11)
 abbrev pub badQuestion : ℕ
 badQuestion = 18

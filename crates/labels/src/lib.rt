@@ -6,12 +6,14 @@ ghost use Prim.Native.Nat.{_≤_};
 ghost use lib.ListN.{take, getD};
 ghost use Rattle.places.specs.Places.{fill};
 ghost use Rattle.labels.specs.Label.{successor, allLabels};
-ghost use Rattle.labels.specs.Newer.{isNewer, ageOf};
+ghost use Rattle.labels.specs.Newer.{ageOf};
 
 // What is decided of a seen record beside the held one.
 pub enum Age {
     Newer,
-    NotNewer,
+    Same,
+    Conflicting,
+    Older,
 }
 
 // The label after this one.
@@ -21,9 +23,17 @@ pub fn successor(label: u8) -> u8
     (((label as u32) + 1) % 3) as u8
 }
 
-// Is a seen record with this own label and count newer than the held one, if one is held?
-pub fn newer(held: bool, held_label: u8, held_count: u8, seen_label: u8, seen_count: u8) -> Age
-    ensures { λ r. ⌜ r ≡ ageOf (isNewer held «held_label» «held_count» «seen_label» «seen_count») ⌝ }
+// What a seen record with this own label and count is beside the held one, if one is held; `equal` says whether all
+// else is equal.
+pub fn age_beside(
+    held: bool,
+    held_label: u8,
+    held_count: u8,
+    seen_label: u8,
+    seen_count: u8,
+    equal: bool,
+) -> Age
+    ensures { λ r. ⌜ r ≡ ageOf held «held_label» «held_count» «seen_label» «seen_count» equal ⌝ }
 {
     if !held {
         return Age::Newer;
@@ -33,12 +43,18 @@ pub fn newer(held: bool, held_label: u8, held_count: u8, seen_label: u8, seen_co
         return Age::Newer;
     }
     if seen_label != held_label {
-        return Age::NotNewer;
+        return Age::Older;
     }
     if held_count < seen_count {
         return Age::Newer;
     }
-    Age::NotNewer
+    if seen_count < held_count {
+        return Age::Older;
+    }
+    if equal {
+        return Age::Same;
+    }
+    Age::Conflicting
 }
 
 // Are all sixteen labels? A loop of a fixed length without an early end is unrolled.
