@@ -9,7 +9,7 @@ use lib.IntN.{pos}
 use lib.ListN.{set, replicate}
 use Rattle.kinds.specs.declared.Body.{Body}
 use Rattle.kinds.specs.declared.Body.the-variants.{Empty, Neutral, Insert, Drop}
-use Rattle.kinds.specs.Refusals.{done, queueFull}
+use Rattle.kinds.specs.Refusals.{done, conflict, queueFull}
 use Rattle.label_words.specs.Packing.{packed}
 use Rattle.frame_rules.specs.declared.Record.{Record}
 use Rattle.lanes.specs.Lane.{bodies}
@@ -92,9 +92,11 @@ fifth = hearRecord (silent (afterTurn (afterTurn (fourth .station)))) (of-one 0 
 pub record Pair : Type 0 where
   -- the first record advances, counts and is held; it does not acknowledge, and its Empty is not taken
   pub heard : (heldOf (first .station) 1 ≡ true) × (labelOf (first .station) 1 ≡ 1) × (first .station .count ≡ 1) × (ackedOf (first .station) 1 ≡ false) × (first .takings ≡ [])
-  -- the same again, or one with no larger count that acknowledges, does nothing
+  -- the same again, or an older one that acknowledges, does nothing
   pub again : hearRecord first (of-one 0 Empty 0 1) ≡ first
-  pub stale : hearRecord first (of-one 0 Empty 1 1) ≡ first
+  pub stale : hearRecord first (of-one 2 Empty 1 0) ≡ first
+  -- one with the same label and count that acknowledges conflicts: the frame is refused, and nothing else comes of it
+  pub conflicts : hearRecord first (of-one 0 Empty 1 1) ≡ record { station = first .station; takings = first .takings; refusal = conflict }
   -- a larger count acknowledges, and counts nothing where the label stays
   pub acknowledges : (ackedOf (second .station) 1 ≡ true) × (second .station .count ≡ 1) × (labelOf (second .station) 1 ≡ 1)
   -- all are acknowledged: the turn starts the first edit, and the other waits
@@ -138,6 +140,7 @@ pair-runs =
       heard = (refl, refl, refl, refl, refl);
       again = refl;
       stale = refl;
+      conflicts = refl;
       acknowledges = (refl, refl, refl);
       starts = refl;
       waits = refl;
