@@ -139,7 +139,8 @@ module _ (R : Run) where
             subst (λ z. Standing R u p first z (upTo (suc k)))
             (sym
             (hearRecord-skips x (framed (s .n) (recordOf s k))
-            (Cells.heeds-own (x .station) (framed (s .n) (recordOf s k)) (t .station ∙ i ∙ sym (c .formed .own)))))
+            (Cells.heeds-own (x .station) (framed (s .n) (recordOf s k)) (t .station ∙ i ∙ sym (c .formed .own)))
+            (Cells.conflicts-own (x .station) (framed (s .n) (recordOf s k)) (t .station ∙ i ∙ sym (c .formed .own)))))
             (same-versions k x lk c
             (let y : vs k ≡ suc u = sym (upTo-above k k (le-refl k)) ∙ ap (upTo k) i ∙ c .own-version in
             omega (arith, news-limit L u j k)))
