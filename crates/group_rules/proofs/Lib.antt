@@ -37,6 +37,7 @@ pub mod HistoryRun
 pub mod HistoryLists
 pub mod FromRun
 pub mod DemandThree
+pub mod Conflicts
 -- examples
 pub mod Computing
 pub mod MarkedStatement

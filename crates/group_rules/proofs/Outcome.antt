@@ -27,7 +27,7 @@ use Rattle.frame_rules.specs.Record.{recordLabel}
 use Rattle.station_rules.specs.declared.Station.{Station}
 use Rattle.station_rules.specs.State.{labelOf, heldOf, recordOf}
 use Rattle.station_rules.specs.Hearing.{agree, advances}
-use Rattle.station_rules.proofs.HearRecord.{heeds, level, conflicts}
+use Rattle.station_rules.proofs.HearRecord.{heeds, level, conflicts, heeded-calm}
 use Rattle.station_rules.proofs.Cells.{heeds-newer}
 use Rattle.group_rules.proofs.Run.{Run, linksOf}
 use Rattle.group_rules.proofs.Version.{Stands, CellAt, Alike, shown-same, got-alike}
@@ -198,3 +198,9 @@ module _ (R : Run) where
                       (omega arith)
                 ])
           ]
+
+  -- in none of the three cases does the record conflict
+  pub outcome-calm : (s : Station) (r : Record) (v w : ℕ) → Outcome s r (r .station) v w → conflicts s r ≡ false
+  outcome-calm s r v w (skipped e f a) = f
+  outcome-calm s r v w (renewed e a l n) = heeded-calm s r e
+  outcome-calm s r v w (advanced e a l n) = heeded-calm s r e

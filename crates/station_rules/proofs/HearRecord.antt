@@ -1,18 +1,21 @@
 -- What one record does to a hearing: a newer one is heeded, a conflicting one refuses the frame, and any other leaves the hearing as it is.
 use Prim.Native.Nat.{ℕ, max}
-use mathlib.Core.Bool.{Bool, true, false, cond, not, _&&_, false≢true}
+use mathlib.Core.Bool.{Bool, true, false, cond, not, _&&_, and-false, false≢true}
 use mathlib.Core.List.{List, [], _∷_, _++_}
-use mathlib.Core.Path.{_≡_, refl}
+use mathlib.Core.Path.{_≡_, refl, sym, ap, _∙_}
 use native.Mathlib.Omega.{arith}
 use lib.Dec.{eqb}
+use borrow.Author.Tests.{ne-eqb}
 use Rattle.kinds.specs.Refusals.{done, laneFull, conflict, refuse}
+use Rattle.labels.specs.declared.Age.{Age}
 use Rattle.labels.specs.declared.Age.the-variants.{Newer, Same, Conflicting, Older}
 use Rattle.labels.specs.Newer.{isNewer, ageOf}
+use Rattle.places.proofs.Laws.{and-right}
 use Rattle.frame_rules.specs.declared.Record.{Record}
 use Rattle.frame_rules.specs.Record.{recordLabel}
 use Rattle.station_rules.specs.declared.Station.{Station}
 use Rattle.station_rules.specs.State.{heldOf, recordOf, ownLabel}
-use Rattle.station_rules.specs.Hearing.{Hearing, agree, takes, overfills, heardNewer, heardAs, hearRecord, hearRecords}
+use Rattle.station_rules.specs.Hearing.{Hearing, agree, ageIn, takes, overfills, heardNewer, heardAs, hearRecord, hearRecords}
 
 -- the station heeds the record: it is of another station, and newer than the one held of it
 abbrev pub heeds : Station → Record → Bool
@@ -110,3 +113,35 @@ pub records-not-refused : (h : Hearing) (rs : List Record) → (hearRecords h rs
 unfolding hearRecords
 records-not-refused h [] e = e
 records-not-refused h (r ∷ rs) e = record-not-refused h r (records-not-refused (hearRecord h r) rs e)
+
+isConflicting : Age → Bool
+isConflicting Newer = false
+isConflicting Same = false
+isConflicting Conflicting = true
+isConflicting Older = false
+
+-- a record of another station that does not conflict is not of that age
+pub conflicts-not :
+    (s : Station) (r : Record) → (r .station ≡ s .own → ⊥) → conflicts s r ≡ false → ageIn s r ≡ Conflicting → ⊥
+unfolding isConflicting ageOf
+conflicts-not s r other calm e =
+    let k = r .station in
+    let newer = isNewer (heldOf s k) (recordLabel (recordOf s k) k) ((recordOf s k) .count) (ownLabel r) (r .count) in
+    let agreed = agree (s .n) (recordOf s k) r in
+    let quiet : (not newer && (level s r && not agreed)) ≡ false = rw (ne-eqb k (s .own) other) at calm in
+    false≢true (sym quiet ∙ sym (go newer (level s r) agreed) ∙ ap isConflicting e)
+  where
+    go :
+        (newer even agreed : Bool) →
+        isConflicting (cond newer Newer (cond even (cond agreed Same Conflicting) Older)) ≡ (not newer && (even && not agreed))
+    go true even agreed = refl
+    go false true true = refl
+    go false true false = refl
+    go false false agreed = refl
+
+-- a newer record does not conflict
+pub heeded-calm : (s : Station) (r : Record) → heeds s r ≡ true → conflicts s r ≡ false
+heeded-calm s r e =
+    let k = r .station in
+    let newer = isNewer (heldOf s k) (recordLabel (recordOf s k) k) ((recordOf s k) .count) (ownLabel r) (r .count) in
+    rw (and-right (not (eqb k (s .own))) newer e) (and-false (not (eqb k (s .own))))
