@@ -1,0 +1,68 @@
+-- The ways of one record as the code goes them: the sixteen bytes of a record are its own part of the bytes, and a newer record's place is put down.
+use Prim.Native.Nat.{ℕ, _+_, _-_, _<_, _≤_}
+use mathlib.Core.Bool.{not}
+use mathlib.Core.List.{List}
+use mathlib.Core.Path.{_≡_, sym, ap, subst, _∙_}
+use native.Mathlib.Omega.{arith}
+use lib.Dec.{eqb}
+use lib.ListN.{getD, set, take, drop, length, length-drop}
+use lib.Seq.{length-take-le}
+use Rattle.labels.specs.declared.Age.the-variants.{Newer, NotNewer}
+use Rattle.frame_rules.specs.Record.{recordFrom}
+use Rattle.hearing_spec.specs.declared.Ear.{Ear}
+use Rattle.hearing_spec.specs.Buffer.{sizeIn, recordAt}
+use Rattle.hearing_spec.specs.StandsFor.{Notes, notes, holdsAt}
+use Rattle.hearing_spec.specs.Heeding.{ageBeside, earAfter, lensAfter, takenAfter}
+use Rattle.hearing_spec.specs.Room.{RecordRoom, Room}
+use Rattle.hearing_spec.specs.Promises.{HearsRecord}
+use Rattle.hearing_spec.proofs.Heeding.{noted}
+use Rattle.hearing_spec.proofs.FrameLoop.{station-at}
+use Rattle.hearing_spec.proofs.RecordSteps.{case-old, case-newer, case-newer-room}
+use Rattle.hearing.proofs.HeedCases.{Heeded, station-carried}
+
+-- the sixteen bytes from a place on
+abbrev pub partAt : List ℕ → ℕ → List ℕ
+partAt bytes at = take (at + 16 - at) (drop at bytes)
+
+pub part-is : (bytes : List ℕ) (at : ℕ) → partAt bytes at ≡ take 16 (drop at bytes)
+part-is bytes at = ap (λ (m : ℕ). take m (drop at bytes)) (let z : at + 16 - at ≡ 16 = omega arith in z)
+
+pub part-long : (bytes : List ℕ) (at : ℕ) → at + 16 ≤ length bytes → length (partAt bytes at) ≡ 16
+part-long bytes at l = ap length (part-is bytes at) ∙ length-take-le 16 (drop at bytes) (omega (arith, length-drop at bytes))
+
+pub part-station : (bytes : List ℕ) (at : ℕ) → getD (partAt bytes at) 0 0 ≡ getD bytes at 0
+part-station bytes at =
+    sym (station-carried (partAt bytes at)) ∙ ap (λ (p : List ℕ). (recordFrom p) .station) (part-is bytes at) ∙ station-at bytes at
+
+module _ (own : ℕ) (bytes : List ℕ) (at k : ℕ) (places lens taken : List ℕ) (e : Ear) (room : Room own bytes (notes places lens taken e))
+    (here : RecordRoom bytes at) (k-is : k ≡ getD bytes at 0) (other : k ≡ own → ⊥) where
+  abbrev x : Notes
+  x = notes places lens taken e
+
+  age-is :
+      ageBeside (holdsAt places k) (recordFrom (partAt bytes (getD places k 0))) (recordFrom (partAt bytes at)) k
+      ≡ ageBeside (holdsAt places k) (recordAt bytes (getD places k 0)) (recordAt bytes at) k
+  age-is = λ i. ageBeside (holdsAt places k) (recordFrom (part-is bytes (getD places k 0) i)) (recordFrom (part-is bytes at i)) k
+
+  pub ends-old :
+      ageBeside (holdsAt places k) (recordFrom (partAt bytes (getD places k 0))) (recordFrom (partAt bytes at)) k ≡ NotNewer →
+      HearsRecord own bytes at x x
+  ends-old a = case-old own bytes at x room here k k-is other (sym age-is ∙ a)
+
+  pub ends-newer :
+      (lens' taken' : List ℕ) (e' : Ear) → 0 < at →
+      ageBeside (holdsAt places k) (recordFrom (partAt bytes (getD places k 0))) (recordFrom (partAt bytes at)) k ≡ Newer →
+      (e' ≡ earAfter own lens e (recordFrom (partAt bytes at))) × (lens' ≡ lensAfter lens e (recordFrom (partAt bytes at)))
+      × (taken' ≡ takenAfter lens taken e (recordFrom (partAt bytes at)) at) →
+      HearsRecord own bytes at x (notes (set places k at) lens' taken' e') × Room own bytes (notes (set places k at) lens' taken' e')
+  ends-newer lens' taken' e' some a does =
+      let q = recordAt bytes at in
+      let station : k ≡ q .station = k-is ∙ sym (station-at bytes at) in
+      let seen = part-is bytes at in
+      let is : notes (set places k at) lens' taken' e' ≡ noted own at q x =
+      (λ i. notes (set places (station i) at) (does .1 i) (does .2 i) (does .0 i))
+      ∙ (λ i. notes (set places (q .station) at) (lensAfter lens e (recordFrom (seen i))) (takenAfter lens taken e (recordFrom (seen i)) at)
+      (earAfter own lens e (recordFrom (seen i)))) in (
+        subst (HearsRecord own bytes at x) (sym is) (case-newer own bytes at x room here k k-is other some (sym age-is ∙ a)),
+        subst (Room own bytes) (sym is) (case-newer-room own bytes at x room here k k-is other),
+      )

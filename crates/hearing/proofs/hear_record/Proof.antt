@@ -1,0 +1,99 @@
+-- `hearing::hear_record` meets its contract: the hearer's own record and one that is not newer leave the notes, a newer one is acted on.
+use mathlib.Core.Path.{_≡_, sym, _∙_}
+use native.Mathlib.Omega.{arith}
+use borrow.Author.Needs.{needs}
+use Rattle.hearing_spec.specs.StandsFor.{notes}
+use Rattle.hearing_spec.proofs.RecordSteps.{case-own, case-room}
+use Rattle.hearing.proofs.RecordCases.{part-long, part-station, ends-old, ends-newer}
+use Rattle.hearing.proofs.hear_record.Statement.{statement}
+use Rattle.hearing.proofs.hear_record.Tie as tie
+
+returns : tie.Need-returns
+returns c =
+    let s = c .before .before .before .before .before in
+    let a = s .args in
+    (case-own (a .own) (a .bytes .now) (a .at) (notes (a .places .now) (a .lens .now) (a .taken .now) (a .e)) (s .pre .0) (s .pre .1 .0) (a .k) (s .pre .1 .1 .0) (c .if1 .taken), s .pre .0)
+
+cast-held : tie.Need-cast-held
+cast-held c =
+    let s = c .before .before .before .before .before .before in
+    let below = s .pre .1 .0 .station in
+    let k-is = s .pre .1 .1 .0 in
+    omega (arith, s .pre .0 .inside (s .args .k) (omega (arith, k-is, below)), s .pre .0 .short)
+
+add-age-of : tie.Need-add-age-of
+add-age-of c =
+    let s = c .before .before .before .before .before .before in
+    let below = s .pre .1 .0 .station in
+    let k-is = s .pre .1 .1 .0 in
+    omega (arith, s .pre .0 .inside (s .args .k) (omega (arith, k-is, below)), s .pre .0 .short)
+
+part-age-of-end : tie.Need-part-age-of-end
+part-age-of-end c =
+    let s = c .before .before .before .before .before .before in
+    let below = s .pre .1 .0 .station in
+    let k-is = s .pre .1 .1 .0 in
+    omega (arith, s .pre .0 .inside (s .args .k) (omega (arith, k-is, below)), s .pre .0 .short)
+
+heed-requires : tie.Need-heed-requires
+heed-requires c κs =
+    let s = c .before .before .before .before .before .before .before .before .before .before .before .before .before .before in
+    let a = s .args in
+    let room = s .pre .0 in
+    let here = s .pre .1 .0 in
+    let k-is = s .pre .1 .1 .0 in (
+      (part-long (a .bytes .now) (a .at) (here .room), k-is ∙ sym (part-station (a .bytes .now) (a .at)), omega (arith, k-is, here .station, room .high), omega (arith, room .own-below, room .high), omega (arith, here .room, room .short)),
+      (
+        (room .lanes .lens-long, room .lanes .taken-long),
+        case-room (a .own) (a .bytes .now) (a .at) (notes (a .places .now) (a .lens .now) (a .taken .now) (a .e)) room here (a .k) k-is (c .before .before .before .before .before .before .before .before .before .if1 .left),
+      ),
+    )
+
+returns-2 : tie.Need-returns-2
+returns-2 c =
+    let s = c .before .before .before .before .before .before .before .before .before .before .before .before .before .before .before .before .before .before .before in
+    let a = s .args in
+    ends-newer (a .own) (a .bytes .now) (a .at) (a .k) (a .places .now) (a .lens .now) (a .taken .now) (a .e) (s .pre .0) (s .pre .1 .0) (s .pre .1 .1 .0)
+    (c .before .before .before .before .before .before .before .before .before .before .before .before .before .before .if1 .left) _ _ _ (s .pre .1 .1 .1) (sym (c .before .before .before .before .before .before .before .before .before .before .age-of .ensures) ∙ c .before .before .before .before .before .before .before .before .enum-told .given .1) (c .before .before .before .before .heed .ensures)
+
+returns-3 : tie.Need-returns-3
+returns-3 c =
+    let s = c .before .before .before .before .before .before .before .before .before .before .before in
+    let a = s .args in (
+      ends-old (a .own) (a .bytes .now) (a .at) (a .k) (a .places .now) (a .lens .now) (a .taken .now) (a .e) (s .pre .0) (s .pre .1 .0) (s .pre .1 .1 .0)
+          (c .before .before .before .before .before .before .if1 .left) (sym (c .before .before .age-of .ensures) ∙ c .enum-told2 .given .1),
+      s .pre .0,
+    )
+
+pub hear-record-spec : {M : Type 1} → statement M
+hear-record-spec =
+    tie.close
+    (tie.spec
+    returns
+    (λ c. search needs)
+    (λ c. search needs)
+    cast-held
+    add-age-of
+    (λ c. search needs)
+    (λ c. search needs)
+    part-age-of-end
+    (λ c. search needs)
+    (λ c. search needs)
+    (λ c. search needs)
+    (λ c. search needs)
+    (λ c κs. search needs)
+    (λ c. search needs)
+    (λ c. search needs)
+    (λ c. search needs)
+    (λ c. search needs)
+    (λ c. search needs)
+    (λ c. search needs)
+    (λ c. search needs)
+    (λ c. search needs)
+    heed-requires
+    (λ c. search needs)
+    (λ c. search needs)
+    (λ c. search needs)
+    (λ c. search needs)
+    returns-2
+    returns-3)
