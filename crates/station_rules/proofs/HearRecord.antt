@@ -5,7 +5,7 @@ use mathlib.Core.List.{List, [], _∷_, _++_}
 use mathlib.Core.Path.{_≡_, refl, sym, ap, _∙_}
 use native.Mathlib.Omega.{arith}
 use lib.Dec.{eqb}
-use borrow.Author.Tests.{ne-eqb}
+use borrow.Author.Tests.{eq-eqb, ne-eqb}
 use Rattle.kinds.specs.Refusals.{done, laneFull, conflict, refuse}
 use Rattle.labels.specs.declared.Age.{Age}
 use Rattle.labels.specs.declared.Age.the-variants.{Newer, Same, Conflicting, Older}
@@ -146,3 +146,30 @@ heeded-calm s r e =
     let k = r .station in
     let newer = isNewer (heldOf s k) (recordLabel (recordOf s k) k) ((recordOf s k) .count) (ownLabel r) (r .count) in
     rw (and-right (not (eqb k (s .own))) newer e) (and-false (not (eqb k (s .own))))
+
+-- what a record of another station does, by its age
+module _ (h : Hearing) (r : Record) (other : r .station ≡ h .station .own → ⊥) where
+  as-aged : hearRecord h r ≡ heardAs h r (ageIn (h .station) r)
+  unfolding hearRecord
+  as-aged = rw (ne-eqb (r .station) (h .station .own) other)
+
+  pub hear-newer : ageIn (h .station) r ≡ Newer → hearRecord h r ≡ heardOne h r
+  unfolding heardAs heardOne
+  hear-newer e = as-aged ∙ ap (heardAs h r) e
+
+  pub hear-same : ageIn (h .station) r ≡ Same → hearRecord h r ≡ h
+  unfolding heardAs
+  hear-same e = as-aged ∙ ap (heardAs h r) e
+
+  pub hear-older : ageIn (h .station) r ≡ Older → hearRecord h r ≡ h
+  unfolding heardAs
+  hear-older e = as-aged ∙ ap (heardAs h r) e
+
+  pub hear-conflicting : ageIn (h .station) r ≡ Conflicting → hearRecord h r ≡ stopped h
+  unfolding heardAs
+  hear-conflicting e = as-aged ∙ ap (heardAs h r) e
+
+-- a record of the hearer itself
+pub hear-own : (h : Hearing) (r : Record) → r .station ≡ h .station .own → hearRecord h r ≡ h
+unfolding hearRecord
+hear-own h r e = rw (eq-eqb (r .station) (h .station .own) e)
