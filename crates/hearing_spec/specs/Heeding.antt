@@ -8,15 +8,20 @@ use Rattle.kinds.specs.Body.{isEmpty}
 use Rattle.kinds.specs.Refusals.{laneFull, refuse}
 use Rattle.labels.specs.Label.{successor}
 use Rattle.labels.specs.declared.Age.{Age}
-use Rattle.labels.specs.Newer.{isNewer, ageOf}
+use Rattle.labels.specs.Newer.{ageOf}
+use Rattle.places.specs.Places.{allBelow}
 use Rattle.frame_rules.specs.declared.Record.{Record}
 use Rattle.frame_rules.specs.Record.{recordLabel}
 use Rattle.station_rules.specs.Hearing.{follows, raised}
 use Rattle.hearing_spec.specs.declared.Ear.{Ear}
 
--- what is decided of the record r of station k, beside `old`, where one is held
-abbrev pub ageBeside : Bool → Record → Record → ℕ → Age
-ageBeside held old r k = ageOf (isNewer held (recordLabel old k) (old .count) (recordLabel r k) (r .count))
+-- sixteen bytes are the same
+unfoldable pub sameBytes : List ℕ → List ℕ → Bool
+sameBytes p q = allBelow 16 (λ i. eqb (getD p i 0) (getD q i 0))
+
+-- what is decided of the record r of station k, beside `old`, where one is held; `equal` says whether all else is equal
+abbrev pub ageBeside : Bool → Record → Record → ℕ → Bool → Age
+ageBeside held old r k equal = ageOf held (recordLabel old k) (old .count) (recordLabel r k) (r .count) equal
 
 -- the label for the record's station advances
 abbrev pub earAdvances : Ear → Record → Bool

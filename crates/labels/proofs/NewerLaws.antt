@@ -8,7 +8,7 @@ use native.Mathlib.Omega.{arith}
 use borrow.Author.Tests.{eq-eqb, ne-eqb, le-ltb}
 use lib.Dec.{eqb, ltb}
 use Rattle.labels.specs.Label.{successor}
-use Rattle.labels.specs.declared.Age.the-variants.{Newer, Same, Conflicting, Older}
+use Rattle.labels.specs.declared.Age.the-variants.{Newer}
 use Rattle.labels.specs.Newer.{isNewer, ageOf}
 
 pub newer-next : (a b c d : ℕ) → b ≡ suc a → isNewer true (a % 3) c (b % 3) d ≡ true
@@ -49,3 +49,8 @@ age-level h l c m d e f same =
   where
     apart : (eqb m l && eqb d c) ≡ false → ageOf h l c m d e ≡ ageOf h l c m d f
     apart z = rw z
+
+-- where none is held, every record is newer
+pub age-none : (h : Bool) (l c m d : ℕ) (e : Bool) → h ≡ false → ageOf h l c m d e ≡ Newer
+unfolding ageOf isNewer
+age-none h l c m d e z = rw z

@@ -22,7 +22,7 @@ use Rattle.station_rules.proofs.Cells.{heard-n, heard-own, heard-other}
 pub record-most : (h : Hearing) (r : Record) → h .refusal ≤ conflict → (hearRecord h r) .refusal ≤ conflict
 unfolding heardOne
 record-most h r p =
-    hearRecord-cases (λ x. x .refusal ≤ conflict) h r (λ e. newer (overfills (h .station) r)) (λ e. omega arith) (λ e. p)
+    hearRecord-cases (λ x. x .refusal ≤ conflict) h r (λ e. newer (overfills (h .station) r)) (λ e. omega arith) (λ e f. p)
   where
     newer : (full : Bool) → max (h .refusal) (refuse full laneFull done) ≤ conflict
     newer true = omega arith
@@ -37,7 +37,7 @@ record-stops h r p =
     hearRecord-cases (λ x. eqb (x .refusal) conflict ≡ (eqb (h .refusal) conflict || conflicts (h .station) r)) h r
     (λ e. rw (heeded-calm (h .station) r e) (newer (overfills (h .station) r) ∙ sym (or-false (eqb (h .refusal) conflict))))
     (λ e. rw e (sym (or-true (eqb (h .refusal) conflict))))
-    (λ e. rw e (sym (or-false (eqb (h .refusal) conflict))))
+    (λ e f. rw f (sym (or-false (eqb (h .refusal) conflict))))
   where
     newer : (full : Bool) → eqb (max (h .refusal) (refuse full laneFull done)) conflict ≡ eqb (h .refusal) conflict
     newer full =
@@ -66,7 +66,7 @@ unfolding heardOne
 record-calm h r p =
     hearRecord-cases (λ x. (x .refusal ≡ conflict → ⊥) → x .refusal ≤ laneFull) h r (λ e d. newer (overfills (h .station) r))
     (λ e d. absurd (d refl))
-    (λ e d. p)
+    (λ e f d. p)
   where
     newer : (full : Bool) → max (h .refusal) (refuse full laneFull done) ≤ laneFull
     newer true = omega arith
@@ -98,21 +98,23 @@ conflicts-cell : (s : Station) (r : Record) → conflicts s r ≡ cell-conflicts
 unfolding cell-conflicts
 conflicts-cell s r = refl
 
+-- so a newer record of one station changes nothing for a record of another
+pub newer-leaves :
+    (s : Station) (r q : Record) → (q .station ≡ r .station → ⊥) → conflicts (heardNewer s r) q ≡ conflicts s q
+newer-leaves s r q d =
+    let t = heardNewer s r in
+    conflicts-cell t q
+    ∙ ap (λ (n : ℕ). cell-conflicts n (t .own) (cellOf t (q .station)) q) (heard-n s r)
+    ∙ ap (λ (own : ℕ). cell-conflicts (s .n) own (cellOf t (q .station)) q) (heard-own s r)
+    ∙ ap (λ (c : Cell). cell-conflicts (s .n) (s .own) c q) (heard-other s r (q .station) d)
+    ∙ sym (conflicts-cell s q)
+
 conflicts-other :
     (h : Hearing) (r q : Record) → (q .station ≡ r .station → ⊥) → conflicts ((hearRecord h r) .station) q ≡ conflicts (h .station) q
 unfolding heardOne
 conflicts-other h r q d =
-    hearRecord-cases (λ x. conflicts (x .station) q ≡ conflicts (h .station) q) h r (λ e. newer) (λ e. refl) (λ e. refl)
-  where
-    newer : conflicts (heardNewer (h .station) r) q ≡ conflicts (h .station) q
-    newer =
-        let s = h .station in
-        let t = heardNewer s r in
-        conflicts-cell t q
-        ∙ ap (λ (n : ℕ). cell-conflicts n (t .own) (cellOf t (q .station)) q) (heard-n s r)
-        ∙ ap (λ (own : ℕ). cell-conflicts (s .n) own (cellOf t (q .station)) q) (heard-own s r)
-        ∙ ap (λ (c : Cell). cell-conflicts (s .n) (s .own) c q) (heard-other s r (q .station) d)
-        ∙ sym (conflicts-cell s q)
+    hearRecord-cases (λ x. conflicts (x .station) q ≡ conflicts (h .station) q) h r (λ e. newer-leaves (h .station) r q d) (λ e. refl)
+    (λ e f. refl)
 
 any-other :
     (h : Hearing) (r : Record) (rs : List Record) → Without (r .station) rs →

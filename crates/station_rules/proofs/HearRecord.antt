@@ -93,13 +93,13 @@ not-refused false refusal e = (refl, omega (arith, e))
 pub hearRecord-cases :
     (P : Hearing → Type 0) (h : Hearing) (r : Record) →
     (heeds (h .station) r ≡ true → P (heardOne h r)) → (conflicts (h .station) r ≡ true → P (stopped h)) →
-    (conflicts (h .station) r ≡ false → P h) → P (hearRecord h r)
+    (heeds (h .station) r ≡ false → conflicts (h .station) r ≡ false → P h) → P (hearRecord h r)
 hearRecord-cases P h r newer conflicting other = go (heeds (h .station) r) (conflicts (h .station) r) refl refl
   where
     go : (t u : Bool) → heeds (h .station) r ≡ t → conflicts (h .station) r ≡ u → P (hearRecord h r)
     go true u e f = rw (hearRecord-heeds h r e) (newer e)
     go false true e f = rw (hearRecord-conflicts h r e f) (conflicting f)
-    go false false e f = rw (hearRecord-skips h r e f) (other f)
+    go false false e f = rw (hearRecord-skips h r e f) (other e f)
 
 record-not-refused : (h : Hearing) (r : Record) → (hearRecord h r) .refusal ≡ done → h .refusal ≡ done
 unfolding heardOne
@@ -107,7 +107,7 @@ record-not-refused h r =
     hearRecord-cases (λ x. x .refusal ≡ done → h .refusal ≡ done) h r
     (λ e q. not-refused (overfills (h .station) r) (h .refusal) q .1)
     (λ e q. absurd (omega (arith, q)))
-    (λ e q. q)
+    (λ e f q. q)
 
 -- a hearing that is not refused after some records was not refused before them
 pub records-not-refused : (h : Hearing) (rs : List Record) → (hearRecords h rs) .refusal ≡ done → h .refusal ≡ done
