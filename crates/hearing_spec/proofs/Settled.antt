@@ -22,6 +22,12 @@ use Rattle.station_rules.proofs.Cells.{heard-n, heard-own, heard-here, heard-ot
 use Rattle.frame_rules.proofs.Labels.{framed-label}
 use Rattle.hearing_spec.specs.Settled.{Settled, AllSettled}
 
+none : (a b c : Bool) → (a && (b && (c && false))) ≡ false
+none true true true = refl
+none true true false = refl
+none true false c = refl
+none false b c = refl
+
 module _ (s : Station) (r : Record) where
   -- a record that has the own label and the count of the held one, and agrees with it
   pub settled-equal :
@@ -45,12 +51,6 @@ module _ (s : Station) (r : Record) where
           e₄
           ∙ none (not (eqb k (s .own)))
           (not (isNewer (heldOf s k) (recordLabel (recordOf s k) k) ((recordOf s k) .count) (ownLabel r) (r .count))) (level s r)
-
-      none : (a b c : Bool) → (a && (b && (c && false))) ≡ false
-      none true true true = refl
-      none true true false = refl
-      none true false c = refl
-      none false b c = refl
 
 module _ (s : Station) (r : Record) where
   -- (i) for a newer record
@@ -81,7 +81,7 @@ module _ (h : Hearing) (r : Record) where
   pub record-n : ((hearRecord h r) .station) .n ≡ h .station .n
   unfolding heardOne
   record-n =
-      hearRecord-cases (λ x. (x .station) .n ≡ h .station .n) h r (λ e. heard-n (h .station) r) (λ e. refl) (λ e. refl)
+      hearRecord-cases (λ x. (x .station) .n ≡ h .station .n) h r (λ e. heard-n (h .station) r) (λ e. refl) (λ e f. refl)
 
   -- (i) a record that was heard without a conflict is settled
   pub heard-settled :
