@@ -7,17 +7,19 @@ use native.Mathlib.Omega.{arith}
 use lib.Dec.{eqb}
 use lib.ListN.{getD, set, take, drop, length, length-drop}
 use lib.Seq.{length-take-le}
-use Rattle.labels.specs.declared.Age.the-variants.{Newer, NotNewer}
+use Rattle.labels.specs.declared.Age.{Age}
+use Rattle.labels.specs.declared.Age.the-variants.{Newer, Same, Conflicting, Older}
 use Rattle.frame_rules.specs.Record.{recordFrom}
 use Rattle.hearing_spec.specs.declared.Ear.{Ear}
 use Rattle.hearing_spec.specs.Buffer.{sizeIn, recordAt}
 use Rattle.hearing_spec.specs.StandsFor.{Notes, notes, holdsAt}
-use Rattle.hearing_spec.specs.Heeding.{ageBeside, earAfter, lensAfter, takenAfter}
+use Rattle.hearing_spec.specs.Heeding.{sameBytes, ageBeside, earAfter, lensAfter, takenAfter}
 use Rattle.hearing_spec.specs.Room.{RecordRoom, Room}
 use Rattle.hearing_spec.specs.Promises.{HearsRecord}
 use Rattle.hearing_spec.proofs.Heeding.{noted}
 use Rattle.hearing_spec.proofs.FrameLoop.{station-at}
-use Rattle.hearing_spec.proofs.RecordSteps.{case-old, case-newer, case-newer-room}
+use Rattle.hearing_spec.proofs.Standing.{stoppedEar}
+use Rattle.hearing_spec.proofs.RecordSteps.{case-same, case-older, case-conflicting, case-conflicting-room, case-newer, case-newer-room}
 use Rattle.hearing.proofs.HeedCases.{Heeded, station-carried}
 
 -- the sixteen bytes from a place on
@@ -39,19 +41,30 @@ module _ (own : ℕ) (bytes : List ℕ) (at k : ℕ) (places lens taken : List �
   abbrev x : Notes
   x = notes places lens taken e
 
-  age-is :
-      ageBeside (holdsAt places k) (recordFrom (partAt bytes (getD places k 0))) (recordFrom (partAt bytes at)) k
-      ≡ ageBeside (holdsAt places k) (recordAt bytes (getD places k 0)) (recordAt bytes at) k
-  age-is = λ i. ageBeside (holdsAt places k) (recordFrom (part-is bytes (getD places k 0) i)) (recordFrom (part-is bytes at i)) k
+  -- what the code decides of two parts of the bytes
+  abbrev decided : List ℕ → List ℕ → Age
+  decided old seen = ageBeside (holdsAt places k) (recordFrom old) (recordFrom seen) k (sameBytes old seen)
 
-  pub ends-old :
-      ageBeside (holdsAt places k) (recordFrom (partAt bytes (getD places k 0))) (recordFrom (partAt bytes at)) k ≡ NotNewer →
-      HearsRecord own bytes at x x
-  ends-old a = case-old own bytes at x room here k k-is other (sym age-is ∙ a)
+  age-is : decided (partAt bytes (getD places k 0)) (partAt bytes at) ≡ decided (take 16 (drop (getD places k 0) bytes)) (take 16 (drop at bytes))
+  age-is = λ i. decided (part-is bytes (getD places k 0) i) (part-is bytes at i)
+
+  pub ends-same : decided (partAt bytes (getD places k 0)) (partAt bytes at) ≡ Same → HearsRecord own bytes at x x
+  ends-same a = case-same own bytes at x room here k k-is other (sym age-is ∙ a)
+
+  pub ends-older : decided (partAt bytes (getD places k 0)) (partAt bytes at) ≡ Older → HearsRecord own bytes at x x
+  ends-older a = case-older own bytes at x room here k k-is other (sym age-is ∙ a)
+
+  pub ends-conflicting :
+      decided (partAt bytes (getD places k 0)) (partAt bytes at) ≡ Conflicting →
+      HearsRecord own bytes at x (notes places lens taken (stoppedEar e)) × Room own bytes (notes places lens taken (stoppedEar e))
+  ends-conflicting a = (
+    case-conflicting own bytes at x room here k k-is other (sym age-is ∙ a),
+    case-conflicting-room own bytes at x room here k k-is other,
+  )
 
   pub ends-newer :
       (lens' taken' : List ℕ) (e' : Ear) → 0 < at →
-      ageBeside (holdsAt places k) (recordFrom (partAt bytes (getD places k 0))) (recordFrom (partAt bytes at)) k ≡ Newer →
+      decided (partAt bytes (getD places k 0)) (partAt bytes at) ≡ Newer →
       (e' ≡ earAfter own lens e (recordFrom (partAt bytes at))) × (lens' ≡ lensAfter lens e (recordFrom (partAt bytes at)))
       × (taken' ≡ takenAfter lens taken e (recordFrom (partAt bytes at)) at) →
       HearsRecord own bytes at x (notes (set places k at) lens' taken' e') × Room own bytes (notes (set places k at) lens' taken' e')

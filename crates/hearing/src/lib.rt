@@ -6,7 +6,6 @@
 //   taken       the places of the records whose bodies are taken, in the order heard
 
 ghost use mathlib.Core.Path.{_≡_};
-ghost use mathlib.Core.Bool.{true};
 ghost use Prim.Native.Nat.{ℕ, _+_, _*_, _≤_, _<_};
 ghost use lib.ListN.{getD, length};
 ghost use Rattle.kinds.specs.Body.{isEmpty};
@@ -16,11 +15,12 @@ ghost use Rattle.frame_rules.specs.Record.{recordFrom, recordLabel};
 ghost use Rattle.station_rules.specs.Hearing.{raised};
 ghost use Rattle.hearing_spec.specs.Buffer.{sizeIn, frameStart, hearsSender};
 ghost use Rattle.hearing_spec.specs.StandsFor.{notes};
-ghost use Rattle.hearing_spec.specs.Heeding.{ageBeside, earAfter, lensAfter, takenAfter};
+ghost use Rattle.hearing_spec.specs.Heeding.{sameBytes, ageBeside, earAfter, lensAfter, takenAfter};
 ghost use Rattle.hearing_spec.specs.Room.{takingsRoom, mostBytes, RecordRoom, Room, LastRoom, FrameRoom};
 ghost use Rattle.hearing_spec.specs.Promises.{HearsRecord, HearsFrame, HearsMask};
 use hearing_spec::Ear;
 use hearing_spec::FRAME_ROOM;
+use kinds::refusals::CONFLICT;
 use kinds::refusals::DONE;
 use kinds::refusals::LANE_FULL;
 use labels::Age;
@@ -37,8 +37,7 @@ fn long_at(part: &[u8], at: usize) -> u64
 // Have two records the same sixteen bytes? They are compared as two numbers of eight.
 fn same(a: &[u8], b: &[u8]) -> bool
     requires { ⌜ (length (now a) ≡ 16) × (length (now b) ≡ 16) ⌝ }
-    ensures sound { λ r. ⌜ (r ≡ true → now (a .entry) ≡ now (b .entry)) ⌝ }
-    ensures whole { λ r. ⌜ (now (a .entry) ≡ now (b .entry) → r ≡ true) ⌝ }
+    ensures { λ r. ⌜ r ≡ sameBytes (now (a .entry)) (now (b .entry)) ⌝ }
 {
     let first = long_at(a, 0) == long_at(b, 0);
     let second = long_at(a, 8) == long_at(b, 8);
@@ -63,12 +62,22 @@ fn holds_empty(part: &[u8]) -> bool
     kinds::is_empty(body)
 }
 
-// What is decided of a seen record of station k beside the old one, if that is held.
+// What is decided of a seen record of station k beside the old one, if that is held. Their bytes tell whether all else is equal.
 fn age_of(held: bool, old: &[u8], seen: &[u8], k: usize) -> Age
     requires { ⌜ (length (now old) ≡ 16) × (length (now seen) ≡ 16) × (k < 16) ⌝ }
-    ensures { λ r. ⌜ r ≡ ageBeside held (recordFrom (now (old .entry))) (recordFrom (now (seen .entry))) k ⌝ }
+    ensures { λ r.
+        ⌜ r ≡ ageBeside held (recordFrom (now (old .entry))) (recordFrom (now (seen .entry))) k
+        (sameBytes (now (old .entry)) (now (seen .entry))) ⌝ }
 {
-    labels::newer(held, label_of(old, k), old[1], label_of(seen, k), seen[1])
+    let equal = same(old, seen);
+    labels::age_beside(
+        held,
+        label_of(old, k),
+        old[1],
+        label_of(seen, k),
+        seen[1],
+        equal,
+    )
 }
 
 // One more, and 255 stays 255.
@@ -122,7 +131,7 @@ fn heed(
     ear
 }
 
-// One record, at a place, of station k. The hearer's own is skipped, and one that is not newer does nothing.
+// One record, at a place, of station k. The hearer's own is skipped, one that conflicts refuses the frame, and any other that is not newer does nothing.
 fn hear_record(
     e: Ear,
     bytes: &[u8],
@@ -150,11 +159,18 @@ fn hear_record(
             places[k] = at as u16;
             heed(e, &bytes[at..at + 16], at, k, own, lens, taken)
         }
-        Age::NotNewer => e,
+        Age::Same => e,
+        Age::Conflicting => {
+            let mut ear = e;
+            ear.refusal = CONFLICT;
+            ear
+        }
+        Age::Older => e,
     }
 }
 
-// The frame that begins at `start`, where none was refused before. A record with the bytes of the one of its station heard last is passed over.
+// The frame that begins at `start`, where none was refused before. A record with the bytes of the one of its station heard last is passed over, and one that conflicts
+// ends the frame.
 pub fn hear_frame(
     e: Ear,
     bytes: &[u8],
@@ -186,6 +202,9 @@ pub fn hear_frame(
         }
         last[k] = at as u16;
         ear = hear_record(ear, bytes, at, k, own, places, lens, taken);
+        if ear.refusal == CONFLICT {
+            return ear;
+        }
         at += 16;
     }
     ear

@@ -5,7 +5,8 @@ use native.Mathlib.Omega.{arith}
 use borrow.Author.Needs.{needs}
 use lib.ListN.{getD}
 use Rattle.hearing_spec.specs.StandsFor.{notes}
-use Rattle.hearing_spec.proofs.FrameLoop.{FrameInv, frame-first, frame-end, frame-step, frame-passed, frame-heard}
+use Rattle.hearing_spec.proofs.EqualRecords.{same-open}
+use Rattle.hearing_spec.proofs.FrameLoop.{FrameInv, frame-first, frame-end, frame-step, frame-passed, frame-last, frame-conflicts, frame-heard}
 use Rattle.hearing.proofs.RecordCases.{part-is, part-long}
 use Rattle.hearing.proofs.hear_frame.Statement.{statement}
 use Rattle.hearing.proofs.hear_frame.Tie as tie
@@ -110,8 +111,12 @@ loop-again : tie.Need-loop-again Inv-loop μ-loop
 loop-again c =
     let bytes = c .before .before .before .before .before .before .before .before .before .before .before .before .before .before .args .bytes .now in
     let loop = c .before .before .before .before .before .before .before .loop in
-    frame-passed _ _ _ _ _ _ _ _ _ (loop .inv) (c .before .before .before .before .before .before .loop-test .taken)
-    (sym (part-is bytes (getD (loop .last) (getD bytes (loop .at) 0) 0)) ∙ c .before .same .ensures .0 (c .if1 .taken) ∙ part-is bytes (loop .at))
+    let inside = c .before .before .before .before .before .before .loop-test .taken in
+    let z = frame-step _ _ _ _ _ _ _ _ _ (loop .inv) inside in
+    frame-passed _ _ _ _ _ _ _ _ _ (loop .inv) inside
+    (sym (part-is bytes (getD (loop .last) (getD bytes (loop .at) 0) 0))
+    ∙ same-open _ _ (part-long _ _ (z .before)) (part-long _ _ (z .here .room)) (sym (c .before .same .ensures) ∙ c .if1 .taken)
+    ∙ part-is bytes (loop .at))
 
 cast-last : tie.Need-cast-last Inv-loop μ-loop
 cast-last c =
@@ -130,37 +135,61 @@ hear-record-requires c κs =
     let z = frame-step _ _ _ _ _ _ _ _ _ (c .before .before .before .before .before .before .before .before .before .before .loop .inv) (c .before .before .before .before .before .before .before .before .before .loop-test .taken) in
     (c .before .before .before .before .before .before .before .before .before .before .loop .inv .room, (z .here, (refl, z .some)))
 
-add-at-3 : tie.Need-add-at-3 Inv-loop μ-loop
-add-at-3 c =
-    omega (arith, frame-step _ _ _ _ _ _ _ _ _ (c .before .before .before .before .before .before .before .before .before .before .before .before .before .before .before .before .before .loop .inv) (c .before .before .before .before .before .before .before .before .before .before .before .before .before .before .before .before .loop-test .taken))
-
-loop-less-2 : tie.Need-loop-less-2 Inv-loop μ-loop
-loop-less-2 c =
-    omega (arith, frame-step _ _ _ _ _ _ _ _ _ (c .before .before .before .before .before .before .before .before .before .before .before .before .before .before .before .before .before .loop .inv) (c .before .before .before .before .before .before .before .before .before .before .before .before .before .before .before .before .loop-test .taken))
-
-loop-again-2 : tie.Need-loop-again-2 Inv-loop μ-loop
-loop-again-2 c =
-    let done = c .before .before .before .before .before .before .hear-record .ensures in
-    frame-heard _ _ _ _ _ _ _ _ _ (c .before .before .before .before .before .before .before .before .before .before .before .before .before .before .before .before .before .loop .inv) (c .before .before .before .before .before .before .before .before .before .before .before .before .before .before .before .before .loop-test .taken) _ (done .0) (done .1)
-
 same-length : tie.Need-same-length Inv-loop μ-loop
 same-length c =
-    c .before .loop .inv .last-room .long ∙ sym (c .before .before .before .before .before .before .before .before .pre .1 .0 .long)
+    let d = c .before .before .before .before .before .before .before .before .hear-record .ensures in
+    frame-last _ _ _ _ _ _ _ _ _ (c .before .before .before .before .before .before .before .before .before .before .before .before .before .before .before .before .before .before .before .loop .inv) (c .before .before .before .before .before .before .before .before .before .before .before .before .before .before .before .before .before .before .loop-test .taken) _ (d .0) .long ∙ sym (c .before .before .before .before .before .before .before .before .before .before .before .before .before .before .before .before .before .before .before .before .before .before .before .before .before .before .pre .1 .0 .long)
 
 same-length-2 : tie.Need-same-length-2 Inv-loop μ-loop
 same-length-2 c =
-    c .before .loop .inv .room .places-long ∙ sym (c .before .before .before .before .before .before .before .before .pre .0 .places-long)
+    c .before .before .before .before .before .before .before .before .hear-record .ensures .1 .places-long ∙ sym (c .before .before .before .before .before .before .before .before .before .before .before .before .before .before .before .before .before .before .before .before .before .before .before .before .before .before .pre .0 .places-long)
 
 same-length-3 : tie.Need-same-length-3 Inv-loop μ-loop
 same-length-3 c =
-    c .before .loop .inv .room .lanes .lens-long ∙ sym (c .before .before .before .before .before .before .before .before .pre .0 .lanes .lens-long)
+    c .before .before .before .before .before .before .before .before .hear-record .ensures .1 .lanes .lens-long ∙ sym (c .before .before .before .before .before .before .before .before .before .before .before .before .before .before .before .before .before .before .before .before .before .before .before .before .before .before .pre .0 .lanes .lens-long)
 
 same-length-4 : tie.Need-same-length-4 Inv-loop μ-loop
 same-length-4 c =
-    c .before .loop .inv .room .lanes .taken-long ∙ sym (c .before .before .before .before .before .before .before .before .pre .0 .lanes .taken-long)
+    c .before .before .before .before .before .before .before .before .hear-record .ensures .1 .lanes .taken-long ∙ sym (c .before .before .before .before .before .before .before .before .before .before .before .before .before .before .before .before .before .before .before .before .before .before .before .before .before .before .pre .0 .lanes .taken-long)
 
 returns : tie.Need-returns Inv-loop μ-loop
 returns c =
+    let d = c .before .before .before .before .before .before .before .before .hear-record .ensures in
+    let inv = c .before .before .before .before .before .before .before .before .before .before .before .before .before .before .before .before .before .before .before .loop .inv in
+    let inside = c .before .before .before .before .before .before .before .before .before .before .before .before .before .before .before .before .before .before .loop-test .taken in (
+      frame-conflicts _ _ _ _ _ _ _ _ _ inv inside _ (d .0) (c .if2 .taken),
+      (d .1, frame-last _ _ _ _ _ _ _ _ _ inv inside _ (d .0)),
+    )
+
+add-at-3 : tie.Need-add-at-3 Inv-loop μ-loop
+add-at-3 c = omega (arith, frame-step _ _ _ _ _ _ _ _ _ (c .before .before .before .before .before .before .before .before .before .before .before .before .before .before .before .before .before .before .before .loop .inv) (c .before .before .before .before .before .before .before .before .before .before .before .before .before .before .before .before .before .before .loop-test .taken))
+
+loop-less-2 : tie.Need-loop-less-2 Inv-loop μ-loop
+loop-less-2 c = omega (arith, frame-step _ _ _ _ _ _ _ _ _ (c .before .before .before .before .before .before .before .before .before .before .before .before .before .before .before .before .before .before .before .loop .inv) (c .before .before .before .before .before .before .before .before .before .before .before .before .before .before .before .before .before .before .loop-test .taken))
+
+loop-again-2 : tie.Need-loop-again-2 Inv-loop μ-loop
+loop-again-2 c =
+    let d = c .before .before .before .before .before .before .before .before .hear-record .ensures in
+    frame-heard _ _ _ _ _ _ _ _ _ (c .before .before .before .before .before .before .before .before .before .before .before .before .before .before .before .before .before .before .before .loop .inv) (c .before .before .before .before .before .before .before .before .before .before .before .before .before .before .before .before .before .before .loop-test .taken) _ (d .0) (d .1) (c .if2 .left)
+
+same-length-5 : tie.Need-same-length-5 Inv-loop μ-loop
+same-length-5 c =
+    c .before .loop .inv .last-room .long ∙ sym (c .before .before .before .before .before .before .before .before .pre .1 .0 .long)
+
+same-length-6 : tie.Need-same-length-6 Inv-loop μ-loop
+same-length-6 c =
+    c .before .loop .inv .room .places-long ∙ sym (c .before .before .before .before .before .before .before .before .pre .0 .places-long)
+
+same-length-7 : tie.Need-same-length-7 Inv-loop μ-loop
+same-length-7 c =
+    c .before .loop .inv .room .lanes .lens-long ∙ sym (c .before .before .before .before .before .before .before .before .pre .0 .lanes .lens-long)
+
+same-length-8 : tie.Need-same-length-8 Inv-loop μ-loop
+same-length-8 c =
+    c .before .loop .inv .room .lanes .taken-long ∙ sym (c .before .before .before .before .before .before .before .before .pre .0 .lanes .taken-long)
+
+returns-2 : tie.Need-returns-2 Inv-loop μ-loop
+returns-2 c =
     let inv = c .before .loop .inv in
     (frame-end _ _ _ _ _ _ _ _ _ inv (omega (arith, c .loop-test .left)), (inv .room, inv .last-room))
 
@@ -199,11 +228,16 @@ hear-frame-spec =
     mul-last
     slice-write-last
     hear-record-requires
-    add-at-3
-    loop-less-2
-    loop-again-2
     same-length
     same-length-2
     same-length-3
     same-length-4
-    returns)
+    returns
+    add-at-3
+    loop-less-2
+    loop-again-2
+    same-length-5
+    same-length-6
+    same-length-7
+    same-length-8
+    returns-2)

@@ -1,10 +1,11 @@
--- `hearing::hear_record` meets its contract: the hearer's own record and one that is not newer leave the notes, a newer one is acted on.
+-- `hearing::hear_record` meets its contract: the hearer's own record, the same one and an older one leave the notes, a newer one is acted on, and of a conflicting one
+-- the refusal is put down.
 use mathlib.Core.Path.{_≡_, sym, _∙_}
 use native.Mathlib.Omega.{arith}
 use borrow.Author.Needs.{needs}
 use Rattle.hearing_spec.specs.StandsFor.{notes}
 use Rattle.hearing_spec.proofs.RecordSteps.{case-own, case-room}
-use Rattle.hearing.proofs.RecordCases.{part-long, part-station, ends-old, ends-newer}
+use Rattle.hearing.proofs.RecordCases.{part-long, part-station, ends-same, ends-older, ends-conflicting, ends-newer}
 use Rattle.hearing.proofs.hear_record.Statement.{statement}
 use Rattle.hearing.proofs.hear_record.Tie as tie
 
@@ -60,8 +61,24 @@ returns-3 : tie.Need-returns-3
 returns-3 c =
     let s = c .before .before .before .before .before .before .before .before .before .before .before in
     let a = s .args in (
-      ends-old (a .own) (a .bytes .now) (a .at) (a .k) (a .places .now) (a .lens .now) (a .taken .now) (a .e) (s .pre .0) (s .pre .1 .0) (s .pre .1 .1 .0)
+      ends-same (a .own) (a .bytes .now) (a .at) (a .k) (a .places .now) (a .lens .now) (a .taken .now) (a .e) (s .pre .0) (s .pre .1 .0) (s .pre .1 .1 .0)
           (c .before .before .before .before .before .before .if1 .left) (sym (c .before .before .age-of .ensures) ∙ c .enum-told2 .given .1),
+      s .pre .0,
+    )
+
+returns-4 : tie.Need-returns-4
+returns-4 c =
+    let s = c .before .before .before .before .before .before .before .before .before .before .before in
+    let a = s .args in
+    ends-conflicting (a .own) (a .bytes .now) (a .at) (a .k) (a .places .now) (a .lens .now) (a .taken .now) (a .e) (s .pre .0) (s .pre .1 .0) (s .pre .1 .1 .0)
+    (c .before .before .before .before .before .before .if1 .left) (sym (c .before .before .age-of .ensures) ∙ c .enum-told3 .given .1)
+
+returns-5 : tie.Need-returns-5
+returns-5 c =
+    let s = c .before .before .before .before .before .before .before .before .before .before .before in
+    let a = s .args in (
+      ends-older (a .own) (a .bytes .now) (a .at) (a .k) (a .places .now) (a .lens .now) (a .taken .now) (a .e) (s .pre .0) (s .pre .1 .0) (s .pre .1 .1 .0)
+          (c .before .before .before .before .before .before .if1 .left) (sym (c .before .before .age-of .ensures) ∙ c .enum-told4 .given .1),
       s .pre .0,
     )
 
@@ -95,5 +112,9 @@ hear-record-spec =
     (λ c. search needs)
     (λ c. search needs)
     (λ c. search needs)
+    (λ c. search needs)
+    (λ c. search needs)
     returns-2
-    returns-3)
+    returns-3
+    returns-4
+    returns-5)
