@@ -133,6 +133,11 @@ records-stop h (r ∷ rs) w p =
     ∙ ap₂ _||_ (record-stops h r p) (any-other h r rs (w .0))
     ∙ or-assoc (eqb (h .refusal) conflict) (conflicts (h .station) r) (anyConflict (h .station) rs)
 
+-- the first refused frame decides: after it none is heard
+pub refused-stays : (h : Hearing) (rs : List Record) → (h .refusal ≡ done → ⊥) → hearFrame h rs ≡ h
+unfolding hearFrame
+refused-stays h rs d = rw (ne-eqb (h .refusal) done d)
+
 -- a frame heard while nothing was refused gives 14 exactly if one of its records conflicts with what is held as it comes
 pub frame-conflicts :
     (h : Hearing) (rs : List Record) → Different rs → h .refusal ≡ done →
