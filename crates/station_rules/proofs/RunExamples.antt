@@ -17,7 +17,7 @@ use Rattle.lanes.specs.Queue.{queueCapacity, noSlot}
 use Rattle.lanes.specs.Waiting.{waitingEdits}
 use Rattle.station_rules.specs.declared.Station.{Station}
 use Rattle.station_rules.specs.declared.TurnReport.{TurnReport}
-use Rattle.station_rules.specs.State.{aloneSetup, freshStation, cellOf, labelOf, ackedOf, heldOf, recordOf, laneAt, withEntry, withCell}
+use Rattle.station_rules.specs.State.{aloneSetup, freshStation, cellOf, labelOf, ackedOf, heldOf, laneAt, withEntry, withCell}
 use Rattle.station_rules.specs.Hearing.{Hearing, silent, hearRecord, hearRecords, hearFrame}
 use Rattle.station_rules.specs.Turn.{afterTurn, turnReport}
 use Rattle.station_rules.specs.Calls.{postCall, frameOf, hearCall}
