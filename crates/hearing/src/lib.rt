@@ -70,14 +70,9 @@ fn age_of(held: bool, old: &[u8], seen: &[u8], k: usize) -> Age
         (sameBytes (now (old .entry)) (now (seen .entry))) ⌝ }
 {
     let equal = same(old, seen);
-    labels::age_beside(
-        held,
-        label_of(old, k),
-        old[1],
-        label_of(seen, k),
-        seen[1],
-        equal,
-    )
+    let old_label = label_of(old, k);
+    let seen_label = label_of(seen, k);
+    labels::age_beside(held, old_label, old[1], seen_label, seen[1], equal)
 }
 
 // One more, and 255 stays 255.

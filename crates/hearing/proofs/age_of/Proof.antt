@@ -20,7 +20,7 @@ returns c =
     c .age-beside .ensures
     ∙ (λ i.
     ageOf (a .held) (c .before .before .before .before .label-of .ensures i) (count-is (a .old .now) i)
-    (c .before .before .label-of2 .ensures i) (count-is (a .seen .now) i) (c .before .before .before .before .before .same .ensures i))
+    (c .before .before .before .label-of2 .ensures i) (count-is (a .seen .now) i) (c .before .before .before .before .before .same .ensures i))
 
 pub age-of-spec : {M : Type 1} → statement M
 age-of-spec =
@@ -28,8 +28,8 @@ age-of-spec =
     (tie.spec
     (λ c κs. search needs)
     (λ c κs. search needs)
-    (λ c. search needs)
     (λ c κs. search needs)
+    (λ c. search needs)
     (λ c. search needs)
     (λ c κs. search needs)
     returns)
