@@ -113,6 +113,11 @@ extern "C" fn rounds_rust(schedule: *const u8, len: usize, n: u32, rounds: u32) 
     measured::rounds(unsafe { std::slice::from_raw_parts(schedule, len) }, n, rounds)
 }
 
+extern "C" fn rounds_by_value(schedule: *const u8, len: usize, n: u32, rounds: u32) -> u32 {
+    // SAFETY: as above.
+    measured::rounds_by_value(unsafe { std::slice::from_raw_parts(schedule, len) }, n, rounds)
+}
+
 extern "C" fn forecast_rust(log: *const u16, len: usize, n: u32, ends: *mut u16, _: usize, last: *mut u16, _: usize) -> u32 {
     // SAFETY: the measures below hand in a whole slice, and two buffers of sixteen entries.
     let log = unsafe { std::slice::from_raw_parts(log, len) };
@@ -368,8 +373,10 @@ fn main() -> ExitCode {
             let schedule = schedule(n as usize);
             let rounds = STATION_ROUNDS / n;
             let work = |function| call(function, &schedule, n, rounds);
-            let name = format!("{links} round, N = {n}");
-            agree &= Measure { name, units: rounds, work: &work }.print(PROJECT_ROUNDS, rounds_rust, span);
+            for (peer, function) in [("", rounds_rust as Function), (", peer by value", rounds_by_value)] {
+                let name = format!("{links} round, N = {n}{peer}");
+                agree &= Measure { name, units: rounds, work: &work }.print(PROJECT_ROUNDS, function, span);
+            }
         }
     }
     for (links, rounds, n) in [

@@ -38,7 +38,7 @@ fn run(n: u32, rounds: u32)
             n,
             round,
             kept.refusal,
-            done.refusal,
+            station_sums::low(done.refusal as u64),
             group_sums::of_reports(reports),
             group_sums::of_group(g),
         );

@@ -240,7 +240,7 @@ module _ (own : ℕ) where
   fresh-long : length (freshLabels own) ≡ 16
   fresh-long = length-set (replicate 16 0) own 1
 
-  pub fresh-all : allLabels (freshLabels own) ≡ true
+  fresh-all : allLabels (freshLabels own) ≡ true
   fresh-all = at-all (freshLabels own) (λ k l. fresh-at k (rw fresh-long at l))
 
   pub fresh-word : (freshRecord own) .labels ≡ labelsOver 16 (λ k. getD (freshLabels own) k 0) 0
