@@ -60,15 +60,16 @@ module _ (s : Station) (c : Inside s) where
         and-left (bytesInside (s .n) (part (frameOf s) k)) _ (allBelow-at (getD (frameOf s) 2 0) _ (and-left _ _ ok) k (rw amount l))
 
     -- each part is what is written of its record
+    part-read : (k : ℕ) → k < length records → recordFrom (part (frameOf s) k) ≡ getD records k noRecord
+    unfolding cellOf sentRecords tableRecords recordsOf
+    part-read k l =
+        sym (tabulate-at (getD (frameOf s) 2 0) (λ k. recordFrom (part (frameOf s) k)) k noRecord (rw amount l))
+        ∙ ap (λ (rs : List Record). getD rs k noRecord) (sent-read s c fits)
+
     written-part : (k : ℕ) → k < length records → recordBytes (s .n) (recordFrom (part (frameOf s) k)) ≡ part (frameOf s) k
     written-part k l =
-        ap (recordBytes (s .n)) read ∙ sym (part-of-frame (s .n) (s .own) records k l) ∙ ap (λ (f : List ℕ). part f k) (sym frame-is)
-      where
-        read : recordFrom (part (frameOf s) k) ≡ getD records k noRecord
-        unfolding cellOf sentRecords tableRecords recordsOf
-        read =
-            sym (tabulate-at (getD (frameOf s) 2 0) (λ k. recordFrom (part (frameOf s) k)) k noRecord (rw amount l))
-            ∙ ap (λ (rs : List Record). getD rs k noRecord) (sent-read s c fits)
+        ap (recordBytes (s .n)) (part-read k l) ∙ sym (part-of-frame (s .n) (s .own) records k l)
+        ∙ ap (λ (f : List ℕ). part f k) (sym frame-is)
 
     -- where the frame stands
     module _ (bytes : List ℕ) (start : ℕ) (here : take (length (frameOf s)) (drop start bytes) ≡ frameOf s) where
