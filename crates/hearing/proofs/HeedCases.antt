@@ -1,4 +1,5 @@
--- The four ways of a newer record of station k, on numbers: its label is known already; its body is Empty; the lane of its station has two; or its body is taken.
+-- The four ways of a newer record of station k, on numbers: its label is known already; its body is
+-- Empty; the lane of its station has two; or its body is taken.
 use Prim.Native.Nat.{ℕ, _+_, _<_, _≤_}
 use mathlib.Core.Bool.{Bool, true, false, _||_}
 use mathlib.Core.List.{List}
@@ -10,16 +11,17 @@ use borrow.Author.Tests.{eq-eqb, ne-eqb, le-leb, lt-leb}
 use Rattle.kinds.specs.Body.{isEmpty}
 use Rattle.kinds.specs.Refusals.{laneFull}
 use Rattle.labels.specs.Label.{successor}
+use Rattle.label_words.specs.Packing.{labelIn}
 use Rattle.frame_rules.specs.declared.Record.{Record}
-use Rattle.frame_rules.specs.Record.{recordFrom, recordLabel}
+use Rattle.frame_rules.specs.Record.{recordLabel}
 use Rattle.station_rules.specs.Hearing.{raised}
 use Rattle.hearing_spec.specs.declared.Ear.{Ear}
 use Rattle.hearing_spec.specs.Heeding.{earAdvances, laneHasTwo, earAfter, lensAfter, takenAfter}
 
--- the station of a record is byte 0
-pub station-carried : (part : List ℕ) → (recordFrom part) .station ≡ getD part 0 0
-unfolding recordFrom
-station-carried part = refl
+-- the label of a record for station k is the one in its word
+pub label-is : (r : Record) (k : ℕ) → labelIn (r .labels) k ≡ recordLabel r k
+unfolding recordLabel
+label-is r k = refl
 
 module _ (own : ℕ) (lens taken : List ℕ) (e : Ear) (r : Record) (at k : ℕ) (k-is : k ≡ r .station) where
   -- what is promised

@@ -1,17 +1,18 @@
--- The ways of one record as the code goes them: the sixteen bytes of a record are its own part of the bytes, and a newer record's place is put down.
+-- The ways of one record as the code goes them: it is read from its own part of the bytes, beside
+-- the one held of its station; where it is newer, its place is put down.
 use Prim.Native.Nat.{ℕ, _+_, _-_, _<_, _≤_}
-use mathlib.Core.Bool.{not}
+use mathlib.Core.Bool.{Bool}
 use mathlib.Core.List.{List}
 use mathlib.Core.Path.{_≡_, sym, ap, subst, _∙_}
 use native.Mathlib.Omega.{arith}
-use lib.Dec.{eqb}
 use lib.ListN.{getD, set, take, drop, length, length-drop}
 use lib.Seq.{length-take-le}
 use Rattle.labels.specs.declared.Age.{Age}
 use Rattle.labels.specs.declared.Age.the-variants.{Newer, Same, Conflicting, Older}
+use Rattle.frame_rules.specs.declared.Record.{Record}
 use Rattle.frame_rules.specs.Record.{recordFrom}
 use Rattle.hearing_spec.specs.declared.Ear.{Ear}
-use Rattle.hearing_spec.specs.Buffer.{sizeIn, recordAt}
+use Rattle.hearing_spec.specs.Buffer.{recordAt}
 use Rattle.hearing_spec.specs.StandsFor.{Notes, notes, holdsAt}
 use Rattle.hearing_spec.specs.Heeding.{sameBytes, ageBeside, earAfter, lensAfter, takenAfter}
 use Rattle.hearing_spec.specs.Room.{RecordRoom, Room}
@@ -20,7 +21,6 @@ use Rattle.hearing_spec.proofs.Heeding.{noted}
 use Rattle.hearing_spec.proofs.FrameLoop.{station-at}
 use Rattle.hearing_spec.proofs.Standing.{stoppedEar}
 use Rattle.hearing_spec.proofs.RecordSteps.{case-same, case-older, case-conflicting, case-conflicting-room, case-newer, case-newer-room}
-use Rattle.hearing.proofs.HeedCases.{Heeded, station-carried}
 
 -- the sixteen bytes from a place on
 abbrev pub partAt : List ℕ → ℕ → List ℕ
@@ -32,30 +32,48 @@ part-is bytes at = ap (λ (m : ℕ). take m (drop at bytes)) (let z : at + 16 - 
 pub part-long : (bytes : List ℕ) (at : ℕ) → at + 16 ≤ length bytes → length (partAt bytes at) ≡ 16
 part-long bytes at l = ap length (part-is bytes at) ∙ length-take-le 16 (drop at bytes) (omega (arith, length-drop at bytes))
 
-pub part-station : (bytes : List ℕ) (at : ℕ) → getD (partAt bytes at) 0 0 ≡ getD bytes at 0
-part-station bytes at =
-    sym (station-carried (partAt bytes at)) ∙ ap (λ (p : List ℕ). (recordFrom p) .station) (part-is bytes at) ∙ station-at bytes at
+-- the record that is read from them
+module _ (bytes : List ℕ) (at : ℕ) (r : Record) (read : r ≡ recordFrom (partAt bytes at)) where
+  pub read-is : r ≡ recordAt bytes at
+  read-is = read ∙ ap recordFrom (part-is bytes at)
+
+  pub read-station : r .station ≡ getD bytes at 0
+  read-station = ap (λ (q : Record). q .station) read-is ∙ station-at bytes at
 
 module _ (own : ℕ) (bytes : List ℕ) (at k : ℕ) (places lens taken : List ℕ) (e : Ear) (room : Room own bytes (notes places lens taken e))
-    (here : RecordRoom bytes at) (k-is : k ≡ getD bytes at 0) (other : k ≡ own → ⊥) where
+    (here : RecordRoom bytes at) (k-is : k ≡ getD bytes at 0) (other : k ≡ own → ⊥) (old seen : Record)
+    (old-read : old ≡ recordFrom (partAt bytes (getD places k 0))) (seen-read : seen ≡ recordFrom (partAt bytes at)) (equal : Bool)
+    (told : equal ≡ sameBytes (partAt bytes (getD places k 0)) (partAt bytes at)) where
   abbrev x : Notes
   x = notes places lens taken e
 
-  -- what the code decides of two parts of the bytes
-  abbrev decided : List ℕ → List ℕ → Age
-  decided old seen = ageBeside (holdsAt places k) (recordFrom old) (recordFrom seen) k (sameBytes old seen)
+  old-is : old ≡ recordAt bytes (getD places k 0)
+  old-is = read-is bytes (getD places k 0) old old-read
 
-  age-is : decided (partAt bytes (getD places k 0)) (partAt bytes at) ≡ decided (take 16 (drop (getD places k 0) bytes)) (take 16 (drop at bytes))
-  age-is = λ i. decided (part-is bytes (getD places k 0) i) (part-is bytes at i)
+  seen-is : seen ≡ recordAt bytes at
+  seen-is = read-is bytes at seen seen-read
 
-  pub ends-same : decided (partAt bytes (getD places k 0)) (partAt bytes at) ≡ Same → HearsRecord own bytes at x x
+  equal-is : equal ≡ sameBytes (take 16 (drop (getD places k 0) bytes)) (take 16 (drop at bytes))
+  equal-is = told ∙ (λ i. sameBytes (part-is bytes (getD places k 0) i) (part-is bytes at i))
+
+  -- what the code decides
+  abbrev decided : Age
+  decided = ageBeside (holdsAt places k) old seen k equal
+
+  age-is :
+      decided
+      ≡ ageBeside (holdsAt places k) (recordAt bytes (getD places k 0)) (recordAt bytes at) k
+      (sameBytes (take 16 (drop (getD places k 0) bytes)) (take 16 (drop at bytes)))
+  age-is = λ i. ageBeside (holdsAt places k) (old-is i) (seen-is i) k (equal-is i)
+
+  pub ends-same : decided ≡ Same → HearsRecord own bytes at x x
   ends-same a = case-same own bytes at x room here k k-is other (sym age-is ∙ a)
 
-  pub ends-older : decided (partAt bytes (getD places k 0)) (partAt bytes at) ≡ Older → HearsRecord own bytes at x x
+  pub ends-older : decided ≡ Older → HearsRecord own bytes at x x
   ends-older a = case-older own bytes at x room here k k-is other (sym age-is ∙ a)
 
   pub ends-conflicting :
-      decided (partAt bytes (getD places k 0)) (partAt bytes at) ≡ Conflicting →
+      decided ≡ Conflicting →
       HearsRecord own bytes at x (notes places lens taken (stoppedEar e)) × Room own bytes (notes places lens taken (stoppedEar e))
   ends-conflicting a = (
     case-conflicting own bytes at x room here k k-is other (sym age-is ∙ a),
@@ -63,19 +81,14 @@ module _ (own : ℕ) (bytes : List ℕ) (at k : ℕ) (places lens taken : List �
   )
 
   pub ends-newer :
-      (lens' taken' : List ℕ) (e' : Ear) → 0 < at →
-      decided (partAt bytes (getD places k 0)) (partAt bytes at) ≡ Newer →
-      (e' ≡ earAfter own lens e (recordFrom (partAt bytes at))) × (lens' ≡ lensAfter lens e (recordFrom (partAt bytes at)))
-      × (taken' ≡ takenAfter lens taken e (recordFrom (partAt bytes at)) at) →
+      (lens' taken' : List ℕ) (e' : Ear) → 0 < at → decided ≡ Newer →
+      (e' ≡ earAfter own lens e seen) × (lens' ≡ lensAfter lens e seen) × (taken' ≡ takenAfter lens taken e seen at) →
       HearsRecord own bytes at x (notes (set places k at) lens' taken' e') × Room own bytes (notes (set places k at) lens' taken' e')
   ends-newer lens' taken' e' some a does =
       let q = recordAt bytes at in
       let station : k ≡ q .station = k-is ∙ sym (station-at bytes at) in
-      let seen = part-is bytes at in
       let is : notes (set places k at) lens' taken' e' ≡ noted own at q x =
-      (λ i. notes (set places (station i) at) (does .1 i) (does .2 i) (does .0 i))
-      ∙ (λ i. notes (set places (q .station) at) (lensAfter lens e (recordFrom (seen i))) (takenAfter lens taken e (recordFrom (seen i)) at)
-      (earAfter own lens e (recordFrom (seen i)))) in (
+      (λ i. notes (set places (station i) at) (does .1 i) (does .2 i) (does .0 i)) ∙ (λ i. notes (set places (q .station) at) (lensAfter lens e (seen-is i)) (takenAfter lens taken e (seen-is i) at) (earAfter own lens e (seen-is i))) in (
         subst (HearsRecord own bytes at x) (sym is) (case-newer own bytes at x room here k k-is other some (sym age-is ∙ a)),
         subst (Room own bytes) (sym is) (case-newer-room own bytes at x room here k k-is other),
       )

@@ -1,5 +1,6 @@
--- Sixteen bytes are the same where their two numbers of eight bytes are: a number of eight bytes is two words, a word four bytes, and each tells its parts.
-use Prim.Native.Nat.{ℕ, zero, suc, _+_, _-_, _*_, _<_, _≤_}
+-- Sixteen bytes are the same where their two numbers of eight bytes are: a number of eight bytes is
+-- two words, a word four bytes, and each tells its parts.
+use Prim.Native.Nat.{ℕ, zero, suc, _+_, _-_, _*_, _<_}
 use mathlib.Core.Bool.{Bool, true, false, _&&_, false≢true}
 use mathlib.Core.List.{List}
 use mathlib.Core.Path.{_≡_, refl, sym, ap, _∙_}

@@ -1,4 +1,5 @@
-// Hearing, on the bytes of frames and on numbers alone: no station is touched. A record is told by its place, where its sixteen bytes begin; no record begins at 0.
+// Hearing, on the bytes of frames and on numbers alone: no station is touched. A record is told by
+// its place, where its sixteen bytes begin; no record begins at 0.
 //
 //   places[k]   the place of the record that the hearer holds of station k; 0 where it holds none
 //   last[k]     the place of the record of k heard last
@@ -8,16 +9,15 @@
 ghost use mathlib.Core.Path.{_≡_};
 ghost use Prim.Native.Nat.{ℕ, _+_, _*_, _≤_, _<_};
 ghost use lib.ListN.{getD, length};
-ghost use Rattle.kinds.specs.Body.{isEmpty};
 ghost use Rattle.kinds.specs.Refusals.{done};
 ghost use Rattle.frame_rules.specs.Words.{wordAt};
-ghost use Rattle.frame_rules.specs.Record.{recordFrom, recordLabel};
 ghost use Rattle.station_rules.specs.Hearing.{raised};
 ghost use Rattle.hearing_spec.specs.Buffer.{sizeIn, frameStart, hearsSender};
 ghost use Rattle.hearing_spec.specs.StandsFor.{notes};
 ghost use Rattle.hearing_spec.specs.Heeding.{sameBytes, ageBeside, earAfter, lensAfter, takenAfter};
 ghost use Rattle.hearing_spec.specs.Room.{takingsRoom, mostBytes, RecordRoom, Room, LastRoom, FrameRoom};
 ghost use Rattle.hearing_spec.specs.Promises.{HearsRecord, HearsFrame, HearsMask};
+use frame_rules::Record;
 use hearing_spec::Ear;
 use hearing_spec::FRAME_ROOM;
 use kinds::refusals::CONFLICT;
@@ -44,35 +44,15 @@ fn same(a: &[u8], b: &[u8]) -> bool
     first & second
 }
 
-// The label of station k in the sixteen bytes of a record.
-fn label_of(part: &[u8], k: usize) -> u8
-    requires { ⌜ (length (now part) ≡ 16) × (k < 16) ⌝ }
-    ensures { λ r. ⌜ r ≡ recordLabel (recordFrom (now (part .entry))) k ⌝ }
+// What is decided of a seen record of station k beside the old one, if that is held; `equal` says
+// whether their bytes are the same.
+fn age_of(held: bool, old: Record, seen: Record, k: usize, equal: bool) -> Age
+    requires { ⌜ k < 16 ⌝ }
+    ensures { λ r. ⌜ r ≡ ageBeside held old seen k equal ⌝ }
 {
-    ((record_reader::word_at(part, 12) >> (2 * k)) % 4) as u8
-}
-
-// Is the body Empty that the sixteen bytes of a record hold?
-fn holds_empty(part: &[u8]) -> bool
-    requires { ⌜ length (now part) ≡ 16 ⌝ }
-    ensures { λ r. ⌜ r ≡ isEmpty ((recordFrom (now (part .entry))) .body) ⌝ }
-{
-    let seen = record_reader::read_record(part);
-    let body = seen.body;
-    kinds::is_empty(body)
-}
-
-// What is decided of a seen record of station k beside the old one, if that is held. Their bytes tell whether all else is equal.
-fn age_of(held: bool, old: &[u8], seen: &[u8], k: usize) -> Age
-    requires { ⌜ (length (now old) ≡ 16) × (length (now seen) ≡ 16) × (k < 16) ⌝ }
-    ensures { λ r.
-        ⌜ r ≡ ageBeside held (recordFrom (now (old .entry))) (recordFrom (now (seen .entry))) k
-        (sameBytes (now (old .entry)) (now (seen .entry))) ⌝ }
-{
-    let equal = same(old, seen);
-    let old_label = label_of(old, k);
-    let seen_label = label_of(seen, k);
-    labels::age_beside(held, old_label, old[1], seen_label, seen[1], equal)
+    let old_label = label_words::label_in(old.labels, k);
+    let seen_label = label_words::label_in(seen.labels, k);
+    labels::age_beside(held, old_label, old.count, seen_label, seen.count, equal)
 }
 
 // One more, and 255 stays 255.
@@ -85,34 +65,36 @@ fn raised(count: u8) -> u8
     255
 }
 
-// A newer record of station k, at a place: its station may be acknowledged, its label advances, the count rises, its body is taken. A lane that has two refuses the
-// frame, and the rest of it is heard all the same.
+// A newer record of station k, at a place: its station may be acknowledged, its label advances, the
+// count rises, its body is taken. A lane that has two refuses the frame, and the rest of it is
+// heard all the same.
 fn heed(
     e: Ear,
-    seen: &[u8],
+    seen: Record,
     at: usize,
     k: usize,
     own: usize,
     lens: &mut [u8],
     taken: &mut [u16],
 ) -> Ear
-    requires { ⌜ (length (now seen) ≡ 16) × (k ≡ getD (now seen) 0 0) × (k < 16) × (own < 16) × (at ≤ mostBytes) ⌝ ∗
-        ⌜ (length (now lens) ≡ 16) × (length (now taken) ≡ takingsRoom) ⌝ ∗ ⌜ (getD (now lens) k 0 < 2 → e .len < takingsRoom) ⌝ }
+    requires { ⌜ (k ≡ seen .station) × (k < 16) × (own < 16) × (at ≤ mostBytes) ⌝ ∗
+        ⌜ (length (now lens) ≡ 16) × (length (now taken) ≡ takingsRoom) ⌝ ∗
+        ⌜ (getD (now lens) k 0 < 2 → e .len < takingsRoom) ⌝ }
     ensures { λ r.
-        ⌜ (r ≡ earAfter own (now (lens .entry)) e (recordFrom (now (seen .entry))))
-        × (now (lens .exit) ≡ lensAfter (now (lens .entry)) e (recordFrom (now (seen .entry))))
-        × (now (taken .exit) ≡ takenAfter (now (lens .entry)) (now (taken .entry)) e (recordFrom (now (seen .entry))) at) ⌝ }
+        ⌜ (r ≡ earAfter own (now (lens .entry)) e seen) × (now (lens .exit) ≡ lensAfter (now (lens .entry)) e seen)
+        × (now (taken .exit) ≡ takenAfter (now (lens .entry)) (now (taken .entry)) e seen at) ⌝ }
 {
     let mut ear = e;
-    let acknowledges = label_of(seen, own) == ear.labels[own];
+    let acknowledges = label_words::label_in(seen.labels, own) == ear.labels[own];
     ear.acked[k] = ear.acked[k] | acknowledges;
     let next = labels::successor(ear.labels[k]);
-    if label_of(seen, k) != next {
+    if label_words::label_in(seen.labels, k) != next {
         return ear;
     }
     ear.labels[k] = next;
     ear.count = raised(ear.count);
-    if holds_empty(seen) {
+    let body = seen.body;
+    if kinds::is_empty(body) {
         return ear;
     }
     if 2 <= lens[k] {
@@ -126,7 +108,8 @@ fn heed(
     ear
 }
 
-// One record, at a place, of station k. The hearer's own is skipped, one that conflicts refuses the frame, and any other that is not newer does nothing.
+// One record, at a place, of station k. The hearer's own is skipped, one that conflicts refuses the
+// frame, and any other that is not newer does nothing.
 fn hear_record(
     e: Ear,
     bytes: &[u8],
@@ -140,7 +123,8 @@ fn hear_record(
     requires { ⌜ Room own (now bytes) (notes (now places) (now lens) (now taken) e) ⌝ ∗ ⌜ RecordRoom (now bytes) at ⌝ ∗
         ⌜ (k ≡ getD (now bytes) at 0) × (0 < at) ⌝ }
     ensures { λ r.
-        ⌜ HearsRecord own (now (bytes .entry)) at (notes (now (places .entry)) (now (lens .entry)) (now (taken .entry)) e)
+        ⌜ HearsRecord own (now (bytes .entry)) at
+        (notes (now (places .entry)) (now (lens .entry)) (now (taken .entry)) e)
         (notes (now (places .exit)) (now (lens .exit)) (now (taken .exit)) r) ⌝ ∗
         ⌜ Room own (now (bytes .entry)) (notes (now (places .exit)) (now (lens .exit)) (now (taken .exit)) r) ⌝ }
 {
@@ -148,11 +132,14 @@ fn hear_record(
         return e;
     }
     let held = places[k] as usize;
-    let found = age_of(held != 0, &bytes[held..held + 16], &bytes[at..at + 16], k);
+    let old = record_reader::read_record(&bytes[held..held + 16]);
+    let seen = record_reader::read_record(&bytes[at..at + 16]);
+    let equal = same(&bytes[held..held + 16], &bytes[at..at + 16]);
+    let found = age_of(held != 0, old, seen, k, equal);
     match found {
         Age::Newer => {
             places[k] = at as u16;
-            heed(e, &bytes[at..at + 16], at, k, own, lens, taken)
+            heed(e, seen, at, k, own, lens, taken)
         }
         Age::Same => e,
         Age::Conflicting => {
@@ -164,8 +151,8 @@ fn hear_record(
     }
 }
 
-// The frame that begins at `start`, where none was refused before. A record with the bytes of the one of its station heard last is passed over, and one that conflicts
-// ends the frame.
+// The frame that begins at `start`, where none was refused before. A record with the bytes of the
+// one of its station heard last is passed over, and one that conflicts ends the frame.
 pub fn hear_frame(
     e: Ear,
     bytes: &[u8],
@@ -176,7 +163,8 @@ pub fn hear_frame(
     lens: &mut [u8],
     taken: &mut [u16],
 ) -> Ear
-    requires { ⌜ Room own (now bytes) (notes (now places) (now lens) (now taken) e) ⌝ ∗ ⌜ LastRoom (now bytes) (now last) ⌝ ∗
+    requires { ⌜ Room own (now bytes) (notes (now places) (now lens) (now taken) e) ⌝ ∗
+        ⌜ LastRoom (now bytes) (now last) ⌝ ∗
         ⌜ FrameRoom (now bytes) start ⌝ }
     ensures { λ r.
         ⌜ HearsFrame own (now (bytes .entry)) start (now (last .entry))
@@ -215,7 +203,8 @@ fn hears(mask: u16, own: usize, j: usize) -> bool
     links::set_at(mask, j)
 }
 
-// The frames of a mask, of those of n stations that stand in the bytes, by ascending sender, until one is refused.
+// The frames of a mask, of those of n stations that stand in the bytes, by ascending sender, until
+// one is refused.
 pub fn hear_mask(
     e: Ear,
     bytes: &[u8],
@@ -227,8 +216,10 @@ pub fn hear_mask(
     lens: &mut [u8],
     taken: &mut [u16],
 ) -> Ear
-    requires { ⌜ Room own (now bytes) (notes (now places) (now lens) (now taken) e) ⌝ ∗ ⌜ LastRoom (now bytes) (now last) ⌝ ∗
-        ⌜ ((j : ℕ) → j < n → FrameRoom (now bytes) (frameStart j)) ⌝ ∗ ⌜ (n ≡ sizeIn (now bytes)) × (e .refusal ≡ done) ⌝ }
+    requires { ⌜ Room own (now bytes) (notes (now places) (now lens) (now taken) e) ⌝ ∗
+        ⌜ LastRoom (now bytes) (now last) ⌝ ∗
+        ⌜ ((j : ℕ) → j < n → FrameRoom (now bytes) (frameStart j)) ⌝ ∗
+        ⌜ (n ≡ sizeIn (now bytes)) × (e .refusal ≡ done) ⌝ }
     ensures { λ r.
         ⌜ HearsMask own (now (bytes .entry)) mask (now (last .entry))
         (notes (now (places .entry)) (now (lens .entry)) (now (taken .entry)) e) (now (last .exit))

@@ -1,6 +1,7 @@
--- What a caller of hearing uses: how the notes begin, and that what was heard, taken into the station that began, is the station that has heard.
+-- What a caller of hearing uses: how the notes begin, and that what was heard, taken into the
+-- station that began, is the station that has heard.
 use Prim.Native.Nat.{ℕ, _<_, _≤_}
-use mathlib.Core.Bool.{Bool, true, false, not}
+use mathlib.Core.Bool.{Bool, true, false}
 use mathlib.Core.List.{List}
 use mathlib.Core.Path.{_≡_, refl, sym, ap, _∙_}
 use native.Mathlib.Omega.{arith}
@@ -8,7 +9,6 @@ use lib.Dec.{eqb}
 use lib.ListN.{getD}
 use borrow.Author.Tests.{eqb-true, not-false}
 use Rattle.kinds.specs.Refusals.{done}
-use Rattle.frame_rules.specs.declared.Record.{Record}
 use Rattle.frame_rules.specs.Record.{framed}
 use Rattle.station_rules.specs.declared.Station.{Station}
 use Rattle.station_rules.specs.State.{heldOf, recordOf}
@@ -22,7 +22,8 @@ use Rattle.hearing_spec.proofs.Settled.{held-settled}
 use Rattle.hearing_spec.proofs.Gathering.{acted-is}
 use Rattle.hearing_spec.proofs.FrameLoop.{station-at}
 
--- where `last` has the places of the own frame, what it names is settled. Byte 0 is N, which is no record's station, so place 0 names nothing
+-- where `last` has the places of the own frame, what it names is settled. Byte 0 is N, which is no
+-- record's station, so place 0 names nothing
 pub settled-first :
     (s : Station) (bytes places : List ℕ) → s .n ≤ 16 → s .n ≡ sizeIn bytes →
     ((k : ℕ) → k < s .n → heldOf s k ≡ holdsAt places k) →
@@ -51,7 +52,8 @@ acted-stands s bytes x h c shape₀ shape fine =
     sym (acted-is s (h .station) (h .takings) (topAt s bytes (x .places)) (holdsAt (x .places)) shape₀ shape (c .gathered) (c .held)
     ∙ rw (c .takings fine, c .count, c .acked, c .labels))
 
--- all of it: notes that stand for silence give, after hearing, the refusal; and where there is none, the station
+-- all of it: notes that stand for silence give, after hearing, the refusal; and where there is
+-- none, the station
 pub heard-and-acted :
     (s : Station) (bytes : List ℕ) (f : Hearing → Hearing) (x y : Notes) (last : List ℕ) → s .n ≤ 16 → s .n ≡ sizeIn bytes → Shaped s →
     ((k : ℕ) → k < s .n → heldOf s k ≡ holdsAt (x .places) k) →

@@ -1,9 +1,10 @@
--- The loop over a frame. Its invariant at a place: the notes stand for the hearing of the first r records, none of which conflicted, and the record of each station
--- heard last is settled. A record that has the bytes of the last one of its station is passed over; any other is heard, and is then the last. One that conflicts ends the
--- frame, for its refusal stays whatever follows.
+-- The loop over a frame. Its invariant at a place: the notes stand for the hearing of the first r
+-- records, none of which conflicted, and the record of each station heard last is settled. A record
+-- that has the bytes of the last one of its station is passed over; any other is heard, and is then
+-- the last. One that conflicts ends the frame, for its refusal stays whatever follows.
 use Prim.Native.Nat.{ℕ, zero, suc, _+_, _-_, _*_, _<_, _≤_}
-use mathlib.Core.List.{List, [], _∷_, _++_}
-use mathlib.Core.Path.{_≡_, refl, sym, ap, subst, _∙_}
+use mathlib.Core.List.{List, [], _∷_}
+use mathlib.Core.Path.{_≡_, sym, ap, subst, _∙_}
 use native.Mathlib.Decide.{ℕ-discrete}
 use native.Mathlib.Omega.{arith}
 use lib.ListN.{getD, set, take, drop, length, length-set}
@@ -24,7 +25,7 @@ use Rattle.station_rules.proofs.FrameConflicts.{conflict-stays, record-calm}
 use Rattle.hearing_spec.specs.Buffer.{sizeIn, recordAt, recordsAt, firstRecords}
 use Rattle.hearing_spec.specs.StandsFor.{Notes, StandsFor, Stands}
 use Rattle.hearing_spec.specs.Room.{mostBytes, Written, RecordRoom, Room, LastRoom, FrameRoom}
-use Rattle.hearing_spec.specs.Promises.{Named, HearsRecord, Hears, HearsFrame}
+use Rattle.hearing_spec.specs.Promises.{Named, HearsRecord, HearsFrame}
 use Rattle.hearing_spec.proofs.Settled.{repeated, settled-again}
 
 -- the station of the record at a place is its first byte
@@ -71,7 +72,8 @@ pub frame-heard-is : (h : Hearing) (rs : List Record) → h .refusal ≡ done �
 unfolding hearFrame
 frame-heard-is h rs e = rw (eq-eqb (h .refusal) done e)
 
--- the invariant at `at`, r records being heard, since the notes were x₀ and the places of the last records last₀
+-- the invariant at `at`, r records being heard, since the notes were x₀ and the places of the last
+-- records last₀
 pub record FrameInv
     (own : ℕ) (bytes : List ℕ) (start end : ℕ) (last₀ : List ℕ) (x₀ : Notes) (last : List ℕ) (x : Notes) (at : ℕ) : Type 0 where
   pub r : ℕ

@@ -1,42 +1,28 @@
--- Hearing records one after the other leaves in the table the newest record of each station, and in the lanes the takings in order. A newer record replaces
--- one that replaced another, so the last of them decides; each taking is put behind those before it.
+-- Hearing records one after the other leaves in the table the newest record of each station, and in
+-- the lanes the takings in order. A newer record replaces one that replaced another, so the last of
+-- them decides; each taking is put behind those before it.
 use Prim.Native.Nat.{ℕ, _<_, _≤_}
-use mathlib.Core.Bool.{Bool, true, false, cond, _||_}
+use mathlib.Core.Bool.{Bool, true, false, cond}
 use mathlib.Core.List.{List, [], _∷_, _++_}
 use mathlib.Core.Path.{_≡_, refl, sym, ap, _∙_}
-use native.Mathlib.Decide.{ℕ-discrete, decLt}
+use native.Mathlib.Decide.{ℕ-discrete}
 use native.Mathlib.Omega.{arith}
 use lib.Dec.{eqb}
-use lib.ListN.{getD, set, length}
-use lib.Seq.{set-getD, ext-getD}
+use lib.ListN.{getD, set}
+use lib.Seq.{set-getD}
 use borrow.Author.Tests.{eq-eqb, ne-eqb}
-use Rattle.labels.specs.Label.{successor}
 use Rattle.places.specs.Places.{fill}
-use Rattle.places.proofs.Laws.{length-fill, fill-below, fill-above}
 use Rattle.frame_rules.specs.declared.Record.{Record}
-use Rattle.frame_rules.specs.Record.{noRecord, framed, recordLabel}
+use Rattle.frame_rules.specs.Record.{framed}
 use Rattle.lanes.specs.declared.Lane.{Lane}
 use Rattle.lanes.specs.Lane.{noLane, pushed}
 use Rattle.station_rules.specs.declared.Station.{Station}
 use Rattle.station_rules.specs.declared.Taking.{Taking}
-use Rattle.station_rules.specs.State.{Cell, cellOf, labelOf, ackedOf, heldOf, recordOf, laneAt, withCell}
-use Rattle.station_rules.specs.Hearing.{advances, takes, replaced, heardNewer}
-use Rattle.station_rules.proofs.Setters.{Shaped}
-use Rattle.station_rules.proofs.Cells.{heard-n, heard-own, heard-waiting, heard-body, heard-here, heard-other, replaced-twice, replaced-framed}
+use Rattle.station_rules.specs.State.{Cell, heldOf, recordOf}
+use Rattle.station_rules.specs.Hearing.{takes, replaced, heardNewer}
+use Rattle.station_rules.proofs.Setters.{Shaped, lane-at, table-made, held-made, station-made}
+use Rattle.station_rules.proofs.Cells.{heard-n, heard-own, heard-waiting, heard-body, heard-here, heard-other, heard-lanes, replaced-twice, replaced-framed}
 use Rattle.hearing_spec.specs.Gathered.{pushedAll, actedOn, Gathered}
-
--- a list that is f below n, and as another from n up
-fill-made :
-    {A : Type 0} (n : ℕ) (f : ℕ → A) (l m : List A) (d : A) → length m ≡ length l → ((k : ℕ) → k < n → getD m k d ≡ f k) →
-    ((k : ℕ) → n ≤ k → getD m k d ≡ getD l k d) → m ≡ fill n f l
-fill-made n f l m d e below above = ext-getD d m (fill n f l) (e ∙ sym (length-fill n f l)) each
-  where
-    each : (i : ℕ) → i < length m → getD m i d ≡ getD (fill n f l) i d
-    each i b =
-        elim (decLt i n) [
-          | yes c ↦ below i c ∙ sym (fill-below n f l i d c (omega arith))
-          | no up ↦ above i (omega arith) ∙ sym (fill-above n f l i d (omega arith))
-        ]
 
 pub pushedAll-append : (l : List Lane) (xs ys : List Taking) → pushedAll l (xs ++ ys) ≡ pushedAll (pushedAll l xs) ys
 unfolding pushedAll
@@ -47,33 +33,20 @@ pushedAll-append l (x ∷ xs) ys = pushedAll-append (set l (x .source) (pushed (
 abbrev pub takingOf : Station → Record → List Taking
 takingOf st r = cond (takes st r) (record { source = r .station; body = r .body } ∷ []) []
 
--- the arrays after a newer record
-module _ (s : Station) (r : Record) where
-  pub heard-acked :
-      (heardNewer s r) .acked
-      ≡ set (s .acked) (r .station) (getD (s .acked) (r .station) false || eqb (recordLabel r (s .own)) (getD (s .labels) (s .own) 0))
-  unfolding heardNewer withCell cellOf
-  heard-acked = refl
+-- the lanes after a newer record
+lanes-heard : (s : Station) (r : Record) → (heardNewer s r) .lanes ≡ pushedAll (s .lanes) (takingOf s r)
+unfolding pushedAll
+lanes-heard s r = heard-lanes s r ∙ rw (← lane-at s (r .station)) (go (takes s r))
+  where
+    lane : Lane
+    lane = getD (s .lanes) (r .station) noLane
 
-  pub heard-labels :
-      (heardNewer s r) .labels
-      ≡ set (s .labels) (r .station) (cond (advances s r) (successor (getD (s .labels) (r .station) 0)) (getD (s .labels) (r .station) 0))
-  unfolding heardNewer withCell cellOf
-  heard-labels = refl
-
-  pub heard-lanes : (heardNewer s r) .lanes ≡ pushedAll (s .lanes) (takingOf s r)
-  unfolding heardNewer withCell cellOf pushedAll
-  heard-lanes = go (takes s r)
-    where
-      lane : Lane
-      lane = getD (s .lanes) (r .station) noLane
-
-      go :
-          (t : Bool) →
-          set (s .lanes) (r .station) (cond t (pushed lane (r .body)) lane)
-          ≡ pushedAll (s .lanes) (cond t (record { source = r .station; body = r .body } ∷ []) [])
-      go true = refl
-      go false = set-getD (s .lanes) (r .station) noLane
+    go :
+        (t : Bool) →
+        set (s .lanes) (r .station) (cond t (pushed lane (r .body)) lane)
+        ≡ pushedAll (s .lanes) (cond t (record { source = r .station; body = r .body } ∷ []) [])
+    go true = refl
+    go false = set-getD (s .lanes) (r .station) noLane
 
 pub gathered-ext :
     (s st : Station) (ts : List Taking) (f g : ℕ → Record) → ((k : ℕ) → k < s .n → f k ≡ g k) → Gathered s st ts f → Gathered s st ts g
@@ -119,7 +92,7 @@ module _ (s : Station) (most : s .n ≤ 16) where
         table-above = λ k l. ap (λ (z : Cell). z .entry) (heard-other st r k (λ e. absurd (omega arith))) ∙ c .table-above k l;
         held-above = λ k l. ap (λ (z : Cell). z .held) (heard-other st r k (λ e. absurd (omega arith))) ∙ c .held-above k l;
         lanes =
-            heard-lanes st r ∙ ap (λ (l : List Lane). pushedAll l (takingOf st r)) (c .lanes)
+            lanes-heard st r ∙ ap (λ (l : List Lane). pushedAll l (takingOf st r)) (c .lanes)
             ∙ sym (pushedAll-append (s .lanes) ts (takingOf st r));
       }
     where
@@ -140,23 +113,11 @@ module _ (s : Station) (most : s .n ≤ 16) where
 pub acted-is :
     (s st : Station) (ts : List Taking) (tops : ℕ → Record) (holds : ℕ → Bool) → Shaped s → Shaped st → Gathered s st ts tops →
     ((k : ℕ) → k < s .n → heldOf st k ≡ holds k) → st ≡ actedOn s tops holds ts (st .count) (st .acked) (st .labels)
-unfolding actedOn cellOf
+unfolding actedOn
 acted-is s st ts tops holds shape₀ shape c held =
-    let table : st .table ≡ fill (s .n) (λ k. replaced (s .n) (recordOf s k) (tops k)) (s .table) =
-    fill-made (s .n) (λ k. replaced (s .n) (recordOf s k) (tops k)) (s .table) (st .table) noRecord
-    (shape .table ∙ sym (shape₀ .table)) (c .table) (c .table-above) in
-    let helds : st .held ≡ fill (s .n) holds (s .held) =
-    fill-made (s .n) holds (s .held) (st .held) false (shape .held ∙ sym (shape₀ .held)) held (c .held-above) in
-    λ i.
-    record {
-      n = c .n i;
-      own = c .own i;
-      waiting = c .waiting i;
-      acked = st .acked;
-      body = c .body i;
-      count = st .count;
-      labels = st .labels;
-      held = helds i;
-      table = table i;
-      lanes = c .lanes i;
-    }
+    station-made s st (fill (s .n) holds (s .held)) (fill (s .n) (λ k. replaced (s .n) (recordOf s k) (tops k)) (s .table))
+    (pushedAll (s .lanes) ts)
+    (record { n = c .n; own = c .own; waiting = c .waiting; body = c .body; count = refl })
+    (held-made s st shape₀ shape (s .n) holds held (c .held-above))
+    (table-made s st shape₀ shape (s .n) (λ k. replaced (s .n) (recordOf s k) (tops k)) (c .table) (c .table-above))
+    (c .lanes)

@@ -1,10 +1,11 @@
--- A newer record: what it does to the numbers stands for what it does to the station, and the notes keep their room. Its body is taken, put into a lane with fewer than
--- two; or nothing is taken; or the lane has two, and the frame is refused.
+-- A newer record: what it does to the numbers stands for what it does to the station, and the notes
+-- keep their room. Its body is taken, put into a lane with fewer than two; or nothing is taken; or
+-- the lane has two, and the frame is refused.
 use Prim.Native.Nat.{ℕ, suc, max, _+_, _*_, _<_, _≤_}
 use mathlib.Core.Bool.{Bool, true, false, cond, not, _&&_, _||_, true≢false}
 use mathlib.Core.List.{List, [], _∷_, _++_, append-nil, map, map-append}
 use mathlib.Core.Path.{_≡_, refl, sym, ap, subst, _∙_}
-use native.Mathlib.Decide.{ℕ-discrete, decLt}
+use native.Mathlib.Decide.{ℕ-discrete}
 use native.Mathlib.Numerals.{add-one}
 use native.Mathlib.Omega.{arith}
 use lib.Dec.{eqb, leb}
@@ -14,7 +15,7 @@ use borrow.Author.Tests.{eq-eqb, ne-eqb, leb-true, leb-false}
 use Rattle.kinds.specs.Refusals.{done, laneFull, refuse}
 use Rattle.labels.specs.Label.{successor}
 use Rattle.places.specs.Places.{total}
-use Rattle.places.proofs.Total.{total-gap, total-raised, total-ext}
+use Rattle.places.proofs.Total.{total-gap, total-raised}
 use Rattle.frame_rules.specs.declared.Record.{Record}
 use Rattle.lanes.specs.declared.Lane.{Lane}
 use Rattle.lanes.specs.Lane.{pushed}
@@ -22,20 +23,19 @@ use Rattle.lanes.proofs.LaneLaws.{len-pushed}
 use Rattle.lanes.proofs.LaneSteps.{push-two}
 use Rattle.station_rules.specs.declared.Station.{Station}
 use Rattle.station_rules.specs.declared.Taking.{Taking}
-use Rattle.station_rules.specs.State.{Cell, cellOf, labelOf, heldOf, laneAt}
+use Rattle.station_rules.specs.State.{Cell, labelOf, ackedOf, heldOf, laneAt}
 use Rattle.frame_rules.specs.Record.{recordLabel}
 use Rattle.labels.specs.declared.Age.the-variants.{Newer}
 use Rattle.station_rules.specs.Hearing.{Hearing, ageIn, advances, takes, overfills, raised, heardNewer, hearRecord}
 use Rattle.station_rules.proofs.HearRecord.{heardOne, hear-newer, not-refused}
-use Rattle.station_rules.proofs.Setters.{Shaped}
-use Rattle.station_rules.proofs.Cells.{heard-count, heard-here, heard-other}
-use Rattle.hearing_spec.specs.declared.Ear.{Ear}
+use Rattle.station_rules.proofs.Setters.{Shaped, acked-at, label-at}
+use Rattle.station_rules.proofs.Cells.{heard-count, heard-here, heard-other, heard-acked, heard-labels}
 use Rattle.hearing_spec.specs.Buffer.{sizeIn, recordAt, takingAt}
 use Rattle.hearing_spec.specs.Gathered.{Gathered}
 use Rattle.hearing_spec.specs.StandsFor.{Notes, notes, holdsAt, topAt, StandsFor}
 use Rattle.hearing_spec.specs.Heeding.{earAdvances, earTakes, earPuts, laneHasTwo, earAfter, lensAfter, takenAfter}
 use Rattle.hearing_spec.specs.Room.{takingsRoom, Written, LanesRoom, RecordRoom, Room}
-use Rattle.hearing_spec.proofs.Gathering.{takingOf, heard-acked, heard-labels, gathered-newer, gathered-ext}
+use Rattle.hearing_spec.proofs.Gathering.{takingOf, gathered-newer, gathered-ext}
 
 -- the notes after a newer record r at a place
 abbrev pub noted : ℕ → ℕ → Record → Notes → Notes
@@ -121,9 +121,11 @@ module _ (s : Station) (most : s .n ≤ 16) (own : ℕ) (mine : s .own ≡ own) 
   y = noted own at r x
 
   -- the tests on numbers are those on the station
+  label-is : (j : ℕ) → getD (x .ear .labels) j 0 ≡ labelOf st j
+  label-is j = ap (λ (l : List ℕ). getD l j 0) (c .labels) ∙ label-at st j
+
   advances-is : earAdvances (x .ear) r ≡ advances st r
-  unfolding cellOf
-  advances-is = ap (λ (l : List ℕ). eqb (recordLabel r k) (successor (getD l k 0))) (c .labels)
+  advances-is = ap (λ (l : ℕ). eqb (recordLabel r k) (successor l)) (label-is k)
 
   takes-is : earTakes (x .ear) r ≡ takes st r
   takes-is = rw advances-is
@@ -171,17 +173,21 @@ module _ (s : Station) (most : s .n ≤ 16) (own : ℕ) (mine : s .own ≡ own) 
   own-is : own ≡ st .own
   own-is = sym (c .gathered .own ∙ mine)
 
+  acked-is : getD (x .ear .acked) k false ≡ ackedOf st k
+  acked-is = ap (λ (l : List Bool). getD l k false) (c .acked) ∙ acked-at st k
+
+  own-label-is : getD (x .ear .labels) own 0 ≡ labelOf st (st .own)
+  own-label-is = label-is own ∙ ap (labelOf st) own-is
+
   acked' : (y .ear) .acked ≡ (heardNewer st r) .acked
   unfolding earAfter
   acked' =
-      (λ i. set (c .acked i) k (getD (c .acked i) k false || eqb (recordLabel r (own-is i)) (getD (c .labels i) (own-is i) 0)))
-      ∙ sym (heard-acked st r)
+      (λ i. set (c .acked i) k (acked-is i || eqb (recordLabel r (own-is i)) (own-label-is i))) ∙ sym (heard-acked st r)
 
   labels' : (y .ear) .labels ≡ (heardNewer st r) .labels
   unfolding earAfter
   labels' =
-      (λ i. set (c .labels i) k (cond (advances-is i) (successor (getD (c .labels i) k 0)) (getD (c .labels i) k 0)))
-      ∙ sym (heard-labels st r)
+      (λ i. set (c .labels i) k (cond (advances-is i) (successor (label-is k i)) (label-is k i))) ∙ sym (heard-labels st r)
 
   -- the lanes
   bodies' : (j : ℕ) → j < s .n → getD (y .lens) j 0 ≡ (laneAt (heardNewer st r) j) .len

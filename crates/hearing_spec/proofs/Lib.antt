@@ -1,5 +1,3 @@
--- what hearing needs of a record's labels, whatever they are kept in
-pub mod RecordLabels
 -- when two records are equal
 pub mod EqualRecords
 -- the three laws of a settled record

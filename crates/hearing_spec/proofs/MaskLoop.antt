@@ -1,9 +1,9 @@
--- The loop over a mask. Its invariant at j: the frames of the senders below j are heard, and none of them was refused. A refused frame decides, for none is heard after
--- it.
+-- The loop over a mask. Its invariant at j: the frames of the senders below j are heard, and none
+-- of them was refused. A refused frame decides, for none is heard after it.
 use Prim.Native.Nat.{ℕ, zero, suc, _+_, _-_, _<_, _≤_}
 use mathlib.Core.Bool.{Bool, true, false, cond}
 use mathlib.Core.List.{List}
-use mathlib.Core.Path.{_≡_, refl, sym, ap, subst, _∙_}
+use mathlib.Core.Path.{_≡_, sym, ap, subst, _∙_}
 use native.Mathlib.Nat.{zero-add, suc-add}
 use native.Mathlib.Omega.{arith}
 use borrow.Author.Tests.{lt-ltb}
@@ -16,7 +16,7 @@ use Rattle.station_rules.proofs.FrameConflicts.{refused-stays}
 use Rattle.hearing_spec.specs.Buffer.{sizeIn, frameStart, recordsAt, hearsSender, hearSenders}
 use Rattle.hearing_spec.specs.StandsFor.{Notes, Stands}
 use Rattle.hearing_spec.specs.Room.{Room, LastRoom}
-use Rattle.hearing_spec.specs.Promises.{Named, Hears, HearsFrame, HearsMask}
+use Rattle.hearing_spec.specs.Promises.{Named, HearsFrame, HearsMask}
 
 -- the sender is heard where the round's masks say so
 pub sender-heard :

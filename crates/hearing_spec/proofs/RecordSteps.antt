@@ -1,20 +1,20 @@
--- The ways of one record at a place: it is the hearer's own; it is the same as the held one, older, newer, or conflicting. By each, notes that stand for a hearing
--- stand for it once the record is heard. The decision looks at bytes, and the bytes are equal exactly where the records agree.
+-- The ways of one record at a place: it is the hearer's own; it is the same as the held one, older,
+-- newer, or conflicting. By each, notes that stand for a hearing stand for it once the record is
+-- heard. The decision looks at bytes, and they are equal exactly where the records agree.
 use Prim.Native.Nat.{ℕ, _+_, _<_, _≤_}
-use mathlib.Core.Bool.{Bool, true, false, cond}
+use mathlib.Core.Bool.{Bool, true, false}
 use mathlib.Core.List.{List}
 use mathlib.Core.Path.{_≡_, refl, sym, ap, subst, _∙_}
 use native.Mathlib.Omega.{arith}
 use lib.ListN.{getD, take, drop, length, length-drop}
 use lib.Seq.{length-take-le}
-use Rattle.kinds.specs.Refusals.{laneFull}
 use Rattle.labels.specs.declared.Age.{Age}
 use Rattle.labels.specs.declared.Age.the-variants.{Newer, Same, Conflicting, Older}
 use Rattle.labels.proofs.NewerLaws.{age-none, age-level}
 use Rattle.frame_rules.specs.declared.Record.{Record}
 use Rattle.station_rules.specs.declared.Station.{Station}
 use Rattle.frame_rules.specs.Record.{recordLabel}
-use Rattle.station_rules.specs.Hearing.{Hearing, agree, ageIn, hearRecord}
+use Rattle.station_rules.specs.Hearing.{Hearing, agree, ageIn}
 use Rattle.station_rules.proofs.Setters.{Shaped}
 use Rattle.hearing_spec.specs.Buffer.{sizeIn, recordAt}
 use Rattle.hearing_spec.specs.StandsFor.{Notes, holdsAt, StandsFor}

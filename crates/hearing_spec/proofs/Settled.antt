@@ -1,7 +1,9 @@
--- A record that was heard without a conflict is settled: the station does not heed it any more, and it conflicts with nothing. Hearing a record of another station leaves it settled, and hearing a settled
--- record does nothing. So a record that equals the one of its station heard last may be passed over.
+-- A record that was heard without a conflict is settled: the station does not heed it any more, and
+-- it conflicts with nothing. Hearing a record of another station leaves it settled, and hearing a
+-- settled record does nothing. So a record that equals the one of its station heard last may be
+-- passed over.
 use Prim.Native.Nat.{ℕ, _<_, _≤_}
-use mathlib.Core.Bool.{Bool, true, false, cond, not, _&&_, and-false}
+use mathlib.Core.Bool.{Bool, true, false, not, _&&_, and-false}
 use mathlib.Core.Path.{_≡_, refl, sym, ap, subst, _∙_}
 use native.Mathlib.Decide.{ℕ-discrete}
 use native.Mathlib.Omega.{arith}
@@ -115,8 +117,8 @@ held-settled s k below most held e =
     (ap (λ (j : ℕ). agree (s .n) (recordOf s j) q) at
     ∙ agree-make (s .n) (recordOf s k) q (sym (framed-body (s .n) (recordOf s k))) (λ j l. sym (framed-label (s .n) (recordOf s k) j l)))
 
--- what the loop over a frame uses: a record that equals the last of its station does nothing; any other is settled once it is heard, and is then the last of
--- its station
+-- what the loop over a frame uses: a record that equals the last of its station does nothing; any
+-- other is settled once it is heard, and is then the last of its station
 module _ (h : Hearing) (last : ℕ → Record) (c : AllSettled (h .station) last) (r : Record) (below : r .station < h .station .n) where
   pub repeated : last (r .station) ≡ r → hearRecord h r ≡ h
   repeated e =

@@ -1,5 +1,6 @@
--- Document 01, "Frame bytes" and "A group and its rounds": the frames that a station may hear stand in one list of bytes. A record is told by its place,
--- which is where its sixteen bytes begin; no record begins at 0.
+-- Document 01, "Frame bytes" and "A group and its rounds": the frames that a station may hear stand
+-- in one list of bytes. A record is told by its place, which is where its sixteen bytes begin; no
+-- record begins at 0.
 use Prim.Native.Nat.{ℕ, zero, suc, _+_, _*_}
 use mathlib.Core.Bool.{Bool, cond, not, _&&_}
 use mathlib.Core.List.{List}

@@ -1,4 +1,5 @@
--- Document 01, "A station and its calls", Hear: what a newer record does, on numbers. The hearer's labels, acknowledgements and count stand in an `Ear`.
+-- Document 01, "A station and its calls", Hear: what a newer record does, on numbers. The hearer's
+-- labels, acknowledgements and count stand in an `Ear`.
 use Prim.Native.Nat.{ℕ, _+_}
 use mathlib.Core.Bool.{Bool, false, cond, not, _&&_, _||_}
 use mathlib.Core.List.{List}
@@ -39,7 +40,8 @@ laneHasTwo lens r = leb 2 (getD lens (r .station) 0)
 abbrev pub earPuts : List ℕ → Ear → Record → Bool
 earPuts lens e r = earTakes e r && not (laneHasTwo lens r)
 
--- the numbers after a newer record of another station: acknowledged, advanced, counted, taken; a lane that has two refuses the frame
+-- the numbers after a newer record of another station: acknowledged, advanced, counted, taken; a
+-- lane that has two refuses the frame
 unfoldable pub earAfter : ℕ → List ℕ → Ear → Record → Ear
 earAfter own lens e r =
     let k = r .station in

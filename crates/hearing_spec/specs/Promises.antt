@@ -1,4 +1,5 @@
--- What the functions of hearing promise. Each holds for every station and every hearing that its notes stand for, for the functions see notes alone.
+-- What the functions of hearing promise. Each holds for every station and every hearing that its
+-- notes stand for, for the functions see notes alone.
 use Prim.Native.Nat.{ℕ, _≤_}
 use mathlib.Core.Path.{_≡_}
 use mathlib.Core.List.{List}
@@ -20,9 +21,11 @@ pub record HearsRecord (own : ℕ) (bytes : List ℕ) (at : ℕ) (x y : Notes) :
       (s : Station) (h : Hearing) → Named s (sizeIn bytes) own → StandsFor s bytes x h → Shaped (h .station) →
       h .refusal ≤ laneFull → StandsFor s bytes y (hearRecord h (recordAt bytes at))
 
--- one step or several, said as what becomes of a hearing of which no frame was refused: the refusal afterwards is that of the hearing, and where there is none, the
--- notes stand for it
-pub record Hears (own : ℕ) (bytes : List ℕ) (f : Hearing → Hearing) (last : List ℕ) (x : Notes) (last' : List ℕ) (y : Notes) : Type 0 where
+-- one step or several, said as what becomes of a hearing of which no frame was refused: the refusal
+-- afterwards is that of the hearing, and where there is none, the notes stand for it
+pub record Hears
+    (own : ℕ) (bytes : List ℕ) (f : Hearing → Hearing) (last : List ℕ) (x : Notes) (last' : List ℕ) (y : Notes) :
+    Type 0 where
   pub refusal :
       (s : Station) (h : Hearing) → Named s (sizeIn bytes) own → Stands s bytes last x h → h .refusal ≡ done →
       y .ear .refusal ≡ (f h) .refusal

@@ -18,7 +18,8 @@ takingsRoom = 30
 abbrev pub mostBytes : ℕ
 mostBytes = 65_535
 
--- the lanes of n stations have at most two bodies each, and every taking stands in a lane of another station
+-- the lanes of n stations have at most two bodies each, and every taking stands in a lane of
+-- another station
 pub record LanesRoom (n own : ℕ) (lens taken : List ℕ) (len : ℕ) : Type 0 where
   pub lens-long : length lens ≡ 16
   pub taken-long : length taken ≡ takingsRoom

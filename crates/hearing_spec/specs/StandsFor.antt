@@ -17,8 +17,8 @@ use Rattle.hearing_spec.specs.Buffer.{recordAt, takingAt}
 use Rattle.hearing_spec.specs.Gathered.{Gathered, actedOn}
 use Rattle.hearing_spec.specs.Settled.{AllSettled}
 
--- `places` has where the record begins that the hearer holds of k, 0 where it holds none; `lens` how many bodies lane k has; `taken` where the records
--- begin whose bodies are taken, in the order heard
+-- `places` has where the record begins that the hearer holds of k, 0 where it holds none; `lens`
+-- how many bodies lane k has; `taken` where the records begin whose bodies are taken, as heard
 pub record Notes : Type 0 where
   pub places : List ℕ
   pub lens : List ℕ
@@ -32,11 +32,12 @@ notes places lens taken ear = record { places = places; lens = lens; taken = tak
 abbrev pub holdsAt : List ℕ → ℕ → Bool
 holdsAt places k = not (eqb (getD places k 0) 0)
 
--- the newest record of k: the one at its place, and where none is held, what stands in the table of s
+-- the newest record of k: the one at its place; where none is held, what the table of s has there
 abbrev pub topAt : Station → List ℕ → List ℕ → ℕ → Record
 topAt s bytes places k = cond (holdsAt places k) (recordAt bytes (getD places k 0)) (framed (s .n) (recordOf s k))
 
--- the notes stand for the hearing h, which began at the station s. Once a frame is refused nobody asks for the takings any more
+-- the notes stand for the hearing h, which began at the station s. Once a frame is refused nobody
+-- asks for the takings any more
 pub record StandsFor (s : Station) (bytes : List ℕ) (x : Notes) (h : Hearing) : Type 0 where
   pub gathered : Gathered s (h .station) (h .takings) (topAt s bytes (x .places))
   pub held : (k : ℕ) → k < s .n → heldOf (h .station) k ≡ holdsAt (x .places) k
@@ -47,7 +48,8 @@ pub record StandsFor (s : Station) (bytes : List ℕ) (x : Notes) (h : Hearing) 
   pub bodies : (k : ℕ) → k < s .n → getD (x .lens) k 0 ≡ (laneAt (h .station) k) .len
   pub takings : h .refusal ≡ done → h .takings ≡ map (takingAt bytes) (take (x .ear .len) (x .taken))
 
--- `last` has where the record of k heard last begins: it is settled, and may be passed over where it comes again
+-- `last` has where the record of k heard last begins: it is settled, and may be passed over where
+-- it comes again
 pub record Stands (s : Station) (bytes last : List ℕ) (x : Notes) (h : Hearing) : Type 0 where
   pub numbers : StandsFor s bytes x h
   pub settled : AllSettled (h .station) (λ k. recordAt bytes (getD last k 0))
@@ -56,5 +58,6 @@ pub record Stands (s : Station) (bytes last : List ℕ) (x : Notes) (h : Hearing
 -- what was heard, taken into the station that began
 abbrev pub actsOn : Station → List ℕ → Notes → Station
 actsOn s bytes x =
-    actedOn s (topAt s bytes (x .places)) (holdsAt (x .places)) (map (takingAt bytes) (take (x .ear .len) (x .taken))) (x .ear .count)
-    (x .ear .acked) (x .ear .labels)
+    actedOn s (topAt s bytes (x .places)) (holdsAt (x .places))
+    (map (takingAt bytes) (take (x .ear .len) (x .taken)))
+    (x .ear .count) (x .ear .acked) (x .ear .labels)

@@ -1,6 +1,7 @@
--- `hearing::hear_frame` meets its contract. The loop's invariant is that of `FrameLoop`: the notes stand for the hearing of the records before `at`.
-use Prim.Native.Nat.{ℕ, _+_, _-_}
-use mathlib.Core.Path.{_≡_, refl, sym, _∙_}
+-- `hearing::hear_frame` meets its contract. The loop's invariant is that of `FrameLoop`: the notes
+-- stand for the hearing of the records before `at`.
+use Prim.Native.Nat.{_+_, _-_}
+use mathlib.Core.Path.{refl, sym, _∙_}
 use native.Mathlib.Omega.{arith}
 use borrow.Author.Needs.{needs}
 use lib.ListN.{getD}

@@ -1,6 +1,7 @@
--- `hearing::hear_mask` meets its contract. The loop's invariant is that of `MaskLoop`: the frames of the senders below j are heard, and none of them was refused.
-use Prim.Native.Nat.{ℕ, _-_, _<_}
-use mathlib.Core.Path.{_≡_, sym, subst, _∙_}
+-- `hearing::hear_mask` meets its contract. The loop's invariant is that of `MaskLoop`: the frames
+-- of the senders below j are heard, and none of them was refused.
+use Prim.Native.Nat.{_-_}
+use mathlib.Core.Path.{_≡_, sym, _∙_}
 use native.Mathlib.Numerals.{add-one}
 use native.Mathlib.Omega.{arith}
 use borrow.Author.Needs.{needs}

@@ -1,5 +1,5 @@
 -- `hearing::hears` meets its contract.
-use mathlib.Core.Path.{_≡_, _∙_}
+use mathlib.Core.Path.{_∙_}
 use borrow.Author.Tests.{eq-eqb, ne-eqb}
 use borrow.Author.Needs.{needs}
 use Rattle.hearing.proofs.hears.Statement.{statement}
