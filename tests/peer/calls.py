@@ -70,7 +70,7 @@ def compare_rounds():
             ("group", visible_group(given, expected), visible_group(given, expected._replace(group=after.group()))),
             ("reports", expected.reports, after.several(after.report, PLACES))])
         agree(f"post to group {seed}", [group_post(given, rng.randrange(18), states.random_edit(rng))])
-    agree("rounds", [("refusals met", {0, 2, 8, 10}, refusals)])
+    agree("rounds", [("refusals met", {0, 2, 8, 10, 14}, refusals)])
 
 
 def group_post(given, place, body):
