@@ -1,26 +1,23 @@
 -- The ways of one record as the code goes them: it is read from its own part of the bytes, beside
 -- the one held of its station; where it is newer, its place is put down.
 use Prim.Native.Nat.{ℕ, _+_, _-_, _<_, _≤_}
-use mathlib.Core.Bool.{Bool}
 use mathlib.Core.List.{List}
 use mathlib.Core.Path.{_≡_, sym, ap, subst, _∙_}
 use native.Mathlib.Omega.{arith}
 use lib.ListN.{getD, set, take, drop, length, length-drop}
 use lib.Seq.{length-take-le}
-use Rattle.labels.specs.declared.Age.{Age}
-use Rattle.labels.specs.declared.Age.the-variants.{Newer, Same, Conflicting, Older}
+use Rattle.labels.specs.declared.Age.the-variants.{Newer}
 use Rattle.frame_rules.specs.declared.Record.{Record}
 use Rattle.frame_rules.specs.Record.{recordFrom}
 use Rattle.hearing_spec.specs.declared.Ear.{Ear}
 use Rattle.hearing_spec.specs.Buffer.{recordAt}
-use Rattle.hearing_spec.specs.StandsFor.{Notes, notes, holdsAt}
-use Rattle.hearing_spec.specs.Heeding.{sameBytes, ageBeside, earAfter, lensAfter, takenAfter}
+use Rattle.hearing_spec.specs.StandsFor.{notes}
+use Rattle.hearing_spec.specs.Heeding.{ageAt, earAfter, lensAfter, takenAfter}
 use Rattle.hearing_spec.specs.Room.{RecordRoom, Room}
 use Rattle.hearing_spec.specs.Promises.{HearsRecord}
 use Rattle.hearing_spec.proofs.Heeding.{noted}
 use Rattle.hearing_spec.proofs.FrameLoop.{station-at}
-use Rattle.hearing_spec.proofs.Standing.{stoppedEar}
-use Rattle.hearing_spec.proofs.RecordSteps.{case-same, case-older, case-conflicting, case-conflicting-room, case-newer, case-newer-room}
+use Rattle.hearing_spec.proofs.RecordSteps.{heeded}
 
 -- the sixteen bytes from a place on
 abbrev pub partAt : List ℕ → ℕ → List ℕ
@@ -40,55 +37,26 @@ module _ (bytes : List ℕ) (at : ℕ) (r : Record) (read : r ≡ recordFrom (pa
   pub read-station : r .station ≡ getD bytes at 0
   read-station = ap (λ (q : Record). q .station) read-is ∙ station-at bytes at
 
+-- a newer record: its place is put down, and it is acted on
 module _ (own : ℕ) (bytes : List ℕ) (at k : ℕ) (places lens taken : List ℕ) (e : Ear) (room : Room own bytes (notes places lens taken e))
-    (here : RecordRoom bytes at) (k-is : k ≡ getD bytes at 0) (other : k ≡ own → ⊥) (old seen : Record)
-    (old-read : old ≡ recordFrom (partAt bytes (getD places k 0))) (seen-read : seen ≡ recordFrom (partAt bytes at)) (equal : Bool)
-    (told : equal ≡ sameBytes (partAt bytes (getD places k 0)) (partAt bytes at)) where
-  abbrev x : Notes
-  x = notes places lens taken e
-
-  old-is : old ≡ recordAt bytes (getD places k 0)
-  old-is = read-is bytes (getD places k 0) old old-read
-
+    (here : RecordRoom bytes at) (k-is : k ≡ getD bytes at 0) (newer : ageAt own bytes (getD places k 0) at k ≡ Newer) (seen : Record)
+    (seen-read : seen ≡ recordFrom (partAt bytes at)) where
   seen-is : seen ≡ recordAt bytes at
   seen-is = read-is bytes at seen seen-read
 
-  equal-is : equal ≡ sameBytes (take 16 (drop (getD places k 0) bytes)) (take 16 (drop at bytes))
-  equal-is = told ∙ (λ i. sameBytes (part-is bytes (getD places k 0) i) (part-is bytes at i))
-
-  -- what the code decides
-  abbrev decided : Age
-  decided = ageBeside (holdsAt places k) old seen k equal
-
-  age-is :
-      decided
-      ≡ ageBeside (holdsAt places k) (recordAt bytes (getD places k 0)) (recordAt bytes at) k
-      (sameBytes (take 16 (drop (getD places k 0) bytes)) (take 16 (drop at bytes)))
-  age-is = λ i. ageBeside (holdsAt places k) (old-is i) (seen-is i) k (equal-is i)
-
-  pub ends-same : decided ≡ Same → HearsRecord own bytes at x x
-  ends-same a = case-same own bytes at x room here k k-is other (sym age-is ∙ a)
-
-  pub ends-older : decided ≡ Older → HearsRecord own bytes at x x
-  ends-older a = case-older own bytes at x room here k k-is other (sym age-is ∙ a)
-
-  pub ends-conflicting :
-      decided ≡ Conflicting →
-      HearsRecord own bytes at x (notes places lens taken (stoppedEar e)) × Room own bytes (notes places lens taken (stoppedEar e))
-  ends-conflicting a = (
-    case-conflicting own bytes at x room here k k-is other (sym age-is ∙ a),
-    case-conflicting-room own bytes at x room here k k-is other,
-  )
-
-  pub ends-newer :
-      (lens' taken' : List ℕ) (e' : Ear) → 0 < at → decided ≡ Newer →
+  pub ends-heeded :
+      (lens' taken' : List ℕ) (e' : Ear) → 0 < at →
       (e' ≡ earAfter own lens e seen) × (lens' ≡ lensAfter lens e seen) × (taken' ≡ takenAfter lens taken e seen at) →
-      HearsRecord own bytes at x (notes (set places k at) lens' taken' e') × Room own bytes (notes (set places k at) lens' taken' e')
-  ends-newer lens' taken' e' some a does =
+      HearsRecord own bytes at (notes places lens taken e) (notes (set places k at) lens' taken' e')
+      × Room own bytes (notes (set places k at) lens' taken' e')
+  ends-heeded lens' taken' e' some does =
       let q = recordAt bytes at in
+      let x = notes places lens taken e in
       let station : k ≡ q .station = k-is ∙ sym (station-at bytes at) in
       let is : notes (set places k at) lens' taken' e' ≡ noted own at q x =
-      (λ i. notes (set places (station i) at) (does .1 i) (does .2 i) (does .0 i)) ∙ (λ i. notes (set places (q .station) at) (lensAfter lens e (seen-is i)) (takenAfter lens taken e (seen-is i) at) (earAfter own lens e (seen-is i))) in (
-        subst (HearsRecord own bytes at x) (sym is) (case-newer own bytes at x room here k k-is other some (sym age-is ∙ a)),
-        subst (Room own bytes) (sym is) (case-newer-room own bytes at x room here k k-is other),
-      )
+      (λ i. notes (set places (station i) at) (does .1 i) (does .2 i) (does .0 i))
+      ∙ (λ i.
+      notes (set places (q .station) at) (lensAfter lens e (seen-is i)) (takenAfter lens taken e (seen-is i) at)
+      (earAfter own lens e (seen-is i))) in
+      let h = heeded own bytes at x room here k k-is newer some in
+      (subst (HearsRecord own bytes at x) (sym is) (h .0), subst (Room own bytes) (sym is) (h .1))

@@ -14,9 +14,9 @@ ghost use Rattle.frame_rules.specs.Words.{wordAt};
 ghost use Rattle.station_rules.specs.Hearing.{raised};
 ghost use Rattle.hearing_spec.specs.Buffer.{sizeIn, frameStart, hearsSender};
 ghost use Rattle.hearing_spec.specs.StandsFor.{notes};
-ghost use Rattle.hearing_spec.specs.Heeding.{sameBytes, ageBeside, earAfter, lensAfter, takenAfter};
-ghost use Rattle.hearing_spec.specs.Room.{takingsRoom, mostBytes, RecordRoom, Room, LastRoom, FrameRoom};
-ghost use Rattle.hearing_spec.specs.Promises.{HearsRecord, HearsFrame, HearsMask};
+ghost use Rattle.hearing_spec.specs.Heeding.{sameBytes, ageBeside, ageAt, earAfter, lensAfter, takenAfter};
+ghost use Rattle.hearing_spec.specs.Room.{takingsRoom, mostBytes, Room, LastRoom, FrameRoom};
+ghost use Rattle.hearing_spec.specs.Promises.{HearsFrame, HearsMask};
 use frame_rules::Record;
 use hearing_spec::Ear;
 use hearing_spec::FRAME_ROOM;
@@ -108,51 +108,24 @@ fn heed(
     ear
 }
 
-// One record, at a place, of station k. The hearer's own is skipped, one that conflicts refuses the
-// frame, and any other that is not newer does nothing.
-fn hear_record(
-    e: Ear,
-    bytes: &[u8],
-    at: usize,
-    k: usize,
-    own: usize,
-    places: &mut [u16],
-    lens: &mut [u8],
-    taken: &mut [u16],
-) -> Ear
-    requires { ⌜ Room own (now bytes) (notes (now places) (now lens) (now taken) e) ⌝ ∗ ⌜ RecordRoom (now bytes) at ⌝ ∗
-        ⌜ (k ≡ getD (now bytes) at 0) × (0 < at) ⌝ }
-    ensures { λ r.
-        ⌜ HearsRecord own (now (bytes .entry)) at
-        (notes (now (places .entry)) (now (lens .entry)) (now (taken .entry)) e)
-        (notes (now (places .exit)) (now (lens .exit)) (now (taken .exit)) r) ⌝ ∗
-        ⌜ Room own (now (bytes .entry)) (notes (now (places .exit)) (now (lens .exit)) (now (taken .exit)) r) ⌝ }
+// What is decided of the record of station k at a place, beside the one that the hearer holds at
+// another. The hearer's own counts as the same, for it does nothing.
+fn age_at(bytes: &[u8], held: usize, at: usize, k: usize, own: usize) -> Age
+    requires { ⌜ (held + 16 ≤ length (now bytes)) × (at + 16 ≤ length (now bytes)) × (length (now bytes) ≤ mostBytes) × (k < 16) ⌝ }
+    ensures { λ r. ⌜ r ≡ ageAt own (now (bytes .entry)) held at k ⌝ }
 {
     if k == own {
-        return e;
+        return Age::Same;
     }
-    let held = places[k] as usize;
     let old = record_reader::read_record(&bytes[held..held + 16]);
     let seen = record_reader::read_record(&bytes[at..at + 16]);
     let equal = same(&bytes[held..held + 16], &bytes[at..at + 16]);
-    let found = age_of(held != 0, old, seen, k, equal);
-    match found {
-        Age::Newer => {
-            places[k] = at as u16;
-            heed(e, seen, at, k, own, lens, taken)
-        }
-        Age::Same => e,
-        Age::Conflicting => {
-            let mut ear = e;
-            ear.refusal = CONFLICT;
-            ear
-        }
-        Age::Older => e,
-    }
+    age_of(held != 0, old, seen, k, equal)
 }
 
 // The frame that begins at `start`, where none was refused before. A record with the bytes of the
-// one of its station heard last is passed over, and one that conflicts ends the frame.
+// one of its station heard last is passed over, one that conflicts ends the frame, and any other that
+// is not newer does nothing.
 pub fn hear_frame(
     e: Ear,
     bytes: &[u8],
@@ -184,11 +157,29 @@ pub fn hear_frame(
             continue;
         }
         last[k] = at as u16;
-        ear = hear_record(ear, bytes, at, k, own, places, lens, taken);
-        if ear.refusal == CONFLICT {
-            return ear;
+        let held = places[k] as usize;
+        let found = age_at(bytes, held, at, k, own);
+        match found {
+            Age::Newer => {
+                places[k] = at as u16;
+                let seen = record_reader::read_record(&bytes[at..at + 16]);
+                ear = heed(ear, seen, at, k, own, lens, taken);
+                at += 16;
+                continue;
+            }
+            Age::Same => {
+                at += 16;
+                continue;
+            }
+            Age::Conflicting => {
+                ear.refusal = CONFLICT;
+                return ear;
+            }
+            Age::Older => {
+                at += 16;
+                continue;
+            }
         }
-        at += 16;
     }
     ear
 }

@@ -21,7 +21,7 @@ use Rattle.station_rules.specs.declared.Station.{Station}
 use Rattle.station_rules.specs.Hearing.{Hearing, hearRecord, hearRecords, hearFrame}
 use Rattle.station_rules.proofs.Cells.{hearRecords-append, hearRecords-one, hearRecords-none}
 use Rattle.station_rules.proofs.LimitsHearing.{hearRecord-shaped}
-use Rattle.station_rules.proofs.FrameConflicts.{conflict-stays, record-calm}
+use Rattle.station_rules.proofs.FrameConflicts.{conflict-stays}
 use Rattle.hearing_spec.specs.Buffer.{sizeIn, recordAt, recordsAt, firstRecords}
 use Rattle.hearing_spec.specs.StandsFor.{Notes, StandsFor, Stands}
 use Rattle.hearing_spec.specs.Room.{mostBytes, Written, RecordRoom, Room, LastRoom, FrameRoom}
@@ -241,7 +241,7 @@ module _ (own : ℕ) (bytes : List ℕ) (start end : ℕ) (last₀ : List ℕ) (
 
         -- it does not
         pub frame-heard :
-            Room own bytes y → (y .ear .refusal ≡ conflict → ⊥) →
+            Room own bytes y → (x .ear .refusal ≤ laneFull → y .ear .refusal ≤ laneFull) →
             FrameInv own bytes start end last₀ x₀ last' y (at + 16)
         frame-heard room' fine =
             record {
@@ -256,17 +256,18 @@ module _ (own : ℕ) (bytes : List ℕ) (start end : ℕ) (last₀ : List ℕ) (
               calm = calm;
             }
           where
-            calm-here :
-                (s : Station) (h : Hearing) → Named s (sizeIn bytes) own → Stands s bytes last₀ x₀ h → h .refusal ≡ done →
-                (hearRecord (hearRecords h (firstRecords bytes start (inv .r))) (recordAt bytes at)) .refusal ≡ conflict → ⊥
-            calm-here s h i c f z = fine (numbers s h i c f .refusal ∙ ap (λ (g : Hearing). g .refusal) (heard-more h) ∙ z)
-
             calm :
                 (s : Station) (h : Hearing) → Named s (sizeIn bytes) own → Stands s bytes last₀ x₀ h → h .refusal ≡ done →
                 (hearRecords h (firstRecords bytes start (suc (inv .r)))) .refusal ≤ laneFull
             calm s h i c f =
-                subst (λ (g : Hearing). g .refusal ≤ laneFull) (sym (heard-more h))
-                (record-calm (hearRecords h (firstRecords bytes start (inv .r))) (recordAt bytes at) (inv .calm s h i c f) (calm-here s h i c f))
+                let before : x .ear .refusal ≤ laneFull = omega (arith, inv .stands s h i c f .numbers .refusal, inv .calm s h i c f) in
+                omega (arith, fine before, numbers s h i c f .refusal)
+
+            calm-here :
+                (s : Station) (h : Hearing) → Named s (sizeIn bytes) own → Stands s bytes last₀ x₀ h → h .refusal ≡ done →
+                (hearRecord (hearRecords h (firstRecords bytes start (inv .r))) (recordAt bytes at)) .refusal ≡ conflict → ⊥
+            calm-here s h i c f z =
+                absurd (omega (arith, z, calm s h i c f, ap (λ (g : Hearing). g .refusal) (heard-more h)))
 
             stands :
                 (s : Station) (h : Hearing) → Named s (sizeIn bytes) own → Stands s bytes last₀ x₀ h → h .refusal ≡ done →

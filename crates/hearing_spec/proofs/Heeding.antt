@@ -30,6 +30,7 @@ use Rattle.station_rules.specs.Hearing.{Hearing, ageIn, advances, takes, overfi
 use Rattle.station_rules.proofs.HearRecord.{heardOne, hear-newer, not-refused}
 use Rattle.station_rules.proofs.Setters.{Shaped, acked-at, label-at}
 use Rattle.station_rules.proofs.Cells.{heard-count, heard-here, heard-other, heard-acked, heard-labels}
+use Rattle.hearing_spec.specs.declared.Ear.{Ear}
 use Rattle.hearing_spec.specs.Buffer.{sizeIn, recordAt, takingAt}
 use Rattle.hearing_spec.specs.Gathered.{Gathered}
 use Rattle.hearing_spec.specs.StandsFor.{Notes, notes, holdsAt, topAt, StandsFor}
@@ -99,6 +100,14 @@ takings-most n own lens taken len high o c =
 full-larger : (full : Bool) (refusal : ℕ) → refusal ≤ laneFull → refuse full laneFull refusal ≡ max refusal (refuse full laneFull done)
 full-larger true refusal l = omega arith
 full-larger false refusal l = omega arith
+
+pub after-calm : (own : ℕ) (lens : List ℕ) (e : Ear) (r : Record) → e .refusal ≤ laneFull → (earAfter own lens e r) .refusal ≤ laneFull
+unfolding earAfter
+after-calm own lens e r l = go (earTakes e r && laneHasTwo lens r)
+  where
+    go : (full : Bool) → refuse full laneFull (e .refusal) ≤ laneFull
+    go true = omega arith
+    go false = l
 
 -- a lane of two that gets a third has two
 len-full : (l : Lane) (b : _) → 2 ≤ l .len → (pushed l b) .len ≡ 2

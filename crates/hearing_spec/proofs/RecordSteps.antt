@@ -2,11 +2,13 @@
 -- newer, or conflicting. By each, notes that stand for a hearing stand for it once the record is
 -- heard. The decision looks at bytes, and they are equal exactly where the records agree.
 use Prim.Native.Nat.{ℕ, _+_, _<_, _≤_}
-use mathlib.Core.Bool.{Bool, true, false}
+use mathlib.Core.Bool.{Bool, true, false, false≢true}
 use mathlib.Core.List.{List}
 use mathlib.Core.Path.{_≡_, refl, sym, ap, subst, _∙_}
+use native.Mathlib.Decide.{ℕ-discrete}
 use native.Mathlib.Omega.{arith}
-use lib.ListN.{getD, take, drop, length, length-drop}
+use borrow.Author.Tests.{eq-eqb, ne-eqb}
+use lib.ListN.{getD, drop, length, length-drop}
 use lib.Seq.{length-take-le}
 use Rattle.labels.specs.declared.Age.{Age}
 use Rattle.labels.specs.declared.Age.the-variants.{Newer, Same, Conflicting, Older}
@@ -16,9 +18,9 @@ use Rattle.station_rules.specs.declared.Station.{Station}
 use Rattle.frame_rules.specs.Record.{recordLabel}
 use Rattle.station_rules.specs.Hearing.{Hearing, agree, ageIn}
 use Rattle.station_rules.proofs.Setters.{Shaped}
-use Rattle.hearing_spec.specs.Buffer.{sizeIn, recordAt}
+use Rattle.hearing_spec.specs.Buffer.{sizeIn, bytesAt, recordAt}
 use Rattle.hearing_spec.specs.StandsFor.{Notes, holdsAt, StandsFor}
-use Rattle.hearing_spec.specs.Heeding.{sameBytes, ageBeside}
+use Rattle.hearing_spec.specs.Heeding.{sameBytes, ageBeside, ageAt}
 use Rattle.hearing_spec.specs.Room.{takingsRoom, RecordRoom, Room}
 use Rattle.hearing_spec.specs.Promises.{Named, HearsRecord}
 use Rattle.hearing_spec.proofs.EqualRecords.{same-agree}
@@ -26,9 +28,20 @@ use Rattle.hearing_spec.proofs.Standing.{age-stands, stands-own, stands
 use Rattle.hearing_spec.proofs.Heeding.{noted, taking-room, stands-newer, newer-room}
 use Rattle.hearing_spec.proofs.FrameLoop.{station-at}
 
--- the sixteen bytes at a place
-abbrev pub bytesAt : List ℕ → ℕ → List ℕ
-bytesAt bytes at = take 16 (drop at bytes)
+-- which ages are the same
+isSame : Age → Bool
+isSame Newer = false
+isSame Same = true
+isSame Conflicting = false
+isSame Older = false
+
+conflicting-apart : Conflicting ≡ Same → ⊥
+unfolding isSame
+conflicting-apart e = false≢true (ap isSame e)
+
+newer-apart : Newer ≡ Same → ⊥
+unfolding isSame
+newer-apart e = false≢true (ap isSame e)
 
 bytes-long : (bytes : List ℕ) (at : ℕ) → at + 16 ≤ length bytes → length (bytesAt bytes at) ≡ 16
 bytes-long bytes at l = length-take-le 16 (drop at bytes) (omega (arith, length-drop at bytes))
@@ -95,7 +108,7 @@ module _ (own : ℕ) (bytes : List ℕ) (at : ℕ) (x : Notes) (room : Room own 
             age-none false (recordLabel o k) (o .count) (recordLabel r k) (r .count) (agree (sizeIn bytes) o r) refl
             ∙ sym (age-none false (recordLabel o k) (o .count) (recordLabel r k) (r .count) equal refl)
 
-  pub case-own : k ≡ own → HearsRecord own bytes at x x
+  case-own : k ≡ own → HearsRecord own bytes at x x
   case-own i =
       record {
         hears =
@@ -105,7 +118,7 @@ module _ (own : ℕ) (bytes : List ℕ) (at : ℕ) (x : Notes) (room : Room own 
       }
 
   module _ (other : k ≡ own → ⊥) where
-    pub case-same : age ≡ Same → HearsRecord own bytes at x x
+    case-same : age ≡ Same → HearsRecord own bytes at x x
     case-same e =
         record {
           hears =
@@ -114,7 +127,7 @@ module _ (own : ℕ) (bytes : List ℕ) (at : ℕ) (x : Notes) (room : Room own 
               (not-own s h name c shape other) (age-is s h name c shape ∙ e);
         }
 
-    pub case-older : age ≡ Older → HearsRecord own bytes at x x
+    case-older : age ≡ Older → HearsRecord own bytes at x x
     case-older e =
         record {
           hears =
@@ -123,7 +136,7 @@ module _ (own : ℕ) (bytes : List ℕ) (at : ℕ) (x : Notes) (room : Room own 
               (not-own s h name c shape other) (age-is s h name c shape ∙ e);
         }
 
-    pub case-conflicting : age ≡ Conflicting → HearsRecord own bytes at x (stoppedNotes x)
+    case-conflicting : age ≡ Conflicting → HearsRecord own bytes at x (stoppedNotes x)
     case-conflicting e =
         record {
           hears =
@@ -132,7 +145,7 @@ module _ (own : ℕ) (bytes : List ℕ) (at : ℕ) (x : Notes) (room : Room own 
               (not-own s h name c shape other) (age-is s h name c shape ∙ e);
         }
 
-    pub case-conflicting-room : Room own bytes (stoppedNotes x)
+    case-conflicting-room : Room own bytes (stoppedNotes x)
     case-conflicting-room =
         record {
           high = room .high;
@@ -147,10 +160,10 @@ module _ (own : ℕ) (bytes : List ℕ) (at : ℕ) (x : Notes) (room : Room own 
         }
 
     -- where the lane has fewer than two there is room for a taking
-    pub case-room : getD (x .lens) k 0 < 2 → x .ear .len < takingsRoom
+    case-room : getD (x .lens) k 0 < 2 → x .ear .len < takingsRoom
     case-room = taking-room (sizeIn bytes) own (x .lens) (x .taken) (x .ear .len) (room .high) (room .own-below) (room .lanes) k below other
 
-    pub case-newer : 0 < at → age ≡ Newer → HearsRecord own bytes at x (noted own at (recordAt bytes at) x)
+    case-newer : 0 < at → age ≡ Newer → HearsRecord own bytes at x (noted own at (recordAt bytes at) x)
     case-newer some e =
         record {
           hears =
@@ -163,6 +176,50 @@ module _ (own : ℕ) (bytes : List ℕ) (at : ℕ) (x : Notes) (room : Room own 
               calm (not-own s h name c shape other) (age-is s h name c shape ∙ e);
         }
 
-    pub case-newer-room : Room own bytes (noted own at (recordAt bytes at) x)
+    case-newer-room : Room own bytes (noted own at (recordAt bytes at) x)
     case-newer-room =
         newer-room own bytes x room at here (recordAt bytes at) (station-at bytes at) (λ z. other (sym station-is ∙ z))
+
+  -- what the code decides, the own record among it
+  own-same : k ≡ own → ageAt own bytes place at k ≡ Same
+  unfolding ageAt
+  own-same i = rw (eq-eqb k own i)
+
+  other-aged : (k ≡ own → ⊥) → ageAt own bytes place at k ≡ age
+  unfolding ageAt
+  other-aged d = rw (ne-eqb k own d)
+
+  -- where it is not the same, the record is of another station
+  not-same : (a : Age) → (a ≡ Same → ⊥) → ageAt own bytes place at k ≡ a → k ≡ own → ⊥
+  not-same a d e i = d (sym e ∙ own-same i)
+
+  pub passed-same : ageAt own bytes place at k ≡ Same → HearsRecord own bytes at x x
+  passed-same e =
+      elim (ℕ-discrete k own) [
+        | yes i ↦ case-own i
+        | no d ↦ case-same d (sym (other-aged d) ∙ e)
+      ]
+
+  pub passed-older : ageAt own bytes place at k ≡ Older → HearsRecord own bytes at x x
+  passed-older e =
+      elim (ℕ-discrete k own) [
+        | yes i ↦ case-own i
+        | no d ↦ case-older d (sym (other-aged d) ∙ e)
+      ]
+
+  pub conflicted :
+      ageAt own bytes place at k ≡ Conflicting → HearsRecord own bytes at x (stoppedNotes x) × Room own bytes (stoppedNotes x)
+  conflicted e =
+      let d = not-same Conflicting conflicting-apart e in
+      (case-conflicting d (sym (other-aged d) ∙ e), case-conflicting-room d)
+
+  module _ (newer : ageAt own bytes place at k ≡ Newer) where
+    other : k ≡ own → ⊥
+    other = not-same Newer newer-apart newer
+
+    pub heeded-room : getD (x .lens) k 0 < 2 → x .ear .len < takingsRoom
+    heeded-room = case-room other
+
+    pub heeded :
+        0 < at → HearsRecord own bytes at x (noted own at (recordAt bytes at) x) × Room own bytes (noted own at (recordAt bytes at) x)
+    heeded some = (case-newer other some (sym (other-aged other) ∙ newer), case-newer-room other)

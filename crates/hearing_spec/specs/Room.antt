@@ -3,11 +3,11 @@ use Prim.Native.Nat.{ℕ, _+_, _*_, _≤_, _<_}
 use mathlib.Core.Path.{_≡_}
 use mathlib.Core.Bool.{true, cond}
 use mathlib.Core.List.{List}
-use lib.ListN.{getD, take, drop, length}
+use lib.ListN.{getD, length}
 use lib.Dec.{eqb}
 use Rattle.places.specs.Places.{total}
 use Rattle.frame_rules.specs.Record.{recordBytes}
-use Rattle.hearing_spec.specs.Buffer.{sizeIn, recordAt}
+use Rattle.hearing_spec.specs.Buffer.{sizeIn, bytesAt, recordAt}
 use Rattle.hearing_spec.specs.StandsFor.{Notes, holdsAt}
 
 -- the room for takings: each of fifteen other stations has a lane of at most two
@@ -28,7 +28,7 @@ pub record LanesRoom (n own : ℕ) (lens taken : List ℕ) (len : ℕ) : Type 0 
 
 -- the sixteen bytes at a place are those that are written of their record, as all bytes are that a frame check accepts
 abbrev pub Written : List ℕ → ℕ → Type 0
-Written bytes at = recordBytes (sizeIn bytes) (recordAt bytes at) ≡ take 16 (drop at bytes)
+Written bytes at = recordBytes (sizeIn bytes) (recordAt bytes at) ≡ bytesAt bytes at
 
 -- a record stands at a place, and is of one of the stations
 pub record RecordRoom (bytes : List ℕ) (at : ℕ) : Type 0 where

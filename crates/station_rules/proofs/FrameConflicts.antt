@@ -59,19 +59,6 @@ pub conflict-stays : (h : Hearing) (r : Record) → h .refusal ≡ conflict → 
 conflict-stays h r e =
     eqb-true ((hearRecord h r) .refusal) conflict (record-stops h r (omega (arith, e)) ∙ rw (eq-eqb (h .refusal) conflict e))
 
--- while it is not 14 it is at most 8
-pub record-calm :
-    (h : Hearing) (r : Record) → h .refusal ≤ laneFull → ((hearRecord h r) .refusal ≡ conflict → ⊥) → (hearRecord h r) .refusal ≤ laneFull
-unfolding heardOne
-record-calm h r p =
-    hearRecord-cases (λ x. (x .refusal ≡ conflict → ⊥) → x .refusal ≤ laneFull) h r (λ e d. newer (overfills (h .station) r))
-    (λ e d. absurd (d refl))
-    (λ e f d. p)
-  where
-    newer : (full : Bool) → max (h .refusal) (refuse full laneFull done) ≤ laneFull
-    newer true = omega arith
-    newer false = omega arith
-
 -- some record of the list conflicts with what the station holds
 unfoldable pub anyConflict : Station → List Record → Bool
 anyConflict s [] = false

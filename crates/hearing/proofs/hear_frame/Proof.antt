@@ -1,14 +1,24 @@
 -- `hearing::hear_frame` meets its contract. The loop's invariant is that of `FrameLoop`: the notes
 -- stand for the hearing of the records before `at`.
-use Prim.Native.Nat.{_+_, _-_}
-use mathlib.Core.Path.{refl, sym, _∙_}
+use Prim.Native.Nat.{ℕ, _+_, _-_, _*_, _≤_, _<_}
+use mathlib.Core.List.{List}
+use mathlib.Core.Path.{_≡_, refl, sym, ap, subst, _∙_}
 use native.Mathlib.Omega.{arith}
 use borrow.Author.Needs.{needs}
-use lib.ListN.{getD}
-use Rattle.hearing_spec.specs.StandsFor.{notes}
+use lib.ListN.{getD, length}
+use Rattle.hearing_spec.specs.declared.Ear.{Ear}
+use Rattle.hearing_spec.specs.StandsFor.{Notes, notes}
+use Rattle.hearing_spec.specs.Promises.{HearsRecord}
+use Rattle.hearing_spec.proofs.Standing.{stoppedNotes}
+use Rattle.labels.specs.declared.Age.the-variants.{Newer}
+use Rattle.hearing_spec.specs.Heeding.{ageAt}
+use Rattle.hearing_spec.specs.Room.{Room}
+use Rattle.hearing_spec.proofs.FrameLoop.{FrameInv, FrameStep, frame-first, frame-end, frame-step, frame-passed, frame-last, frame-conflicts, frame-heard}
+use Rattle.kinds.specs.Refusals.{laneFull}
 use Rattle.hearing_spec.proofs.EqualRecords.{same-open}
-use Rattle.hearing_spec.proofs.FrameLoop.{FrameInv, frame-first, frame-end, frame-step, frame-passed, frame-last, frame-conflicts, frame-heard}
-use Rattle.hearing.proofs.RecordCases.{part-is, part-long}
+use Rattle.hearing_spec.proofs.Heeding.{after-calm}
+use Rattle.hearing_spec.proofs.RecordSteps.{passed-same, passed-older, conflicted, heeded-room}
+use Rattle.hearing.proofs.RecordCases.{part-is, part-long, read-station, ends-heeded}
 use Rattle.hearing.proofs.hear_frame.Statement.{statement}
 use Rattle.hearing.proofs.hear_frame.Tie as tie
 
@@ -59,119 +69,137 @@ loop-holds c =
     let s = c .before .before .before .before .before .before in
     frame-first _ _ _ _ _ _ refl (s .pre .1 .1) (s .pre .0) (s .pre .1 .0)
 
-shared-slice-read-k : tie.Need-shared-slice-read-k Inv-loop μ-loop
-shared-slice-read-k c =
-    omega (arith, frame-step _ _ _ _ _ _ _ _ _ (c .before .before .loop .inv) (c .before .loop-test .taken))
+-- a record
+module _ (c : tie.In-loop Inv-loop μ-loop) where
+  abbrev bytes : List ℕ
+  bytes = c .before .before .before .before .before .before .before .before .args .bytes .now
 
-cast-k : tie.Need-cast-k Inv-loop μ-loop
-cast-k c =
-    omega (arith, frame-step _ _ _ _ _ _ _ _ _ (c .before .before .loop .inv) (c .before .loop-test .taken))
+  abbrev own : ℕ
+  own = c .before .before .before .before .before .before .before .before .args .own
 
-mul-before : tie.Need-mul-before Inv-loop μ-loop
-mul-before c =
-    omega (arith, frame-step _ _ _ _ _ _ _ _ _ (c .before .before .loop .inv) (c .before .loop-test .taken))
+  abbrev at : ℕ
+  at = c .before .loop .at
 
-slice-read-before : tie.Need-slice-read-before Inv-loop μ-loop
-slice-read-before c =
-    omega (arith, frame-step _ _ _ _ _ _ _ _ _ (c .before .before .before .loop .inv) (c .before .before .loop-test .taken))
+  abbrev k : ℕ
+  k = getD bytes at 0
 
-cast-before : tie.Need-cast-before Inv-loop μ-loop
-cast-before c =
-    omega (arith, frame-step _ _ _ _ _ _ _ _ _ (c .before .before .before .loop .inv) (c .before .before .loop-test .taken))
+  abbrev x : Notes
+  x = notes (c .before .loop .places) (c .before .loop .lens) (c .before .loop .taken) (c .before .loop .ear)
 
-add-same : tie.Need-add-same Inv-loop μ-loop
-add-same c =
-    omega (arith, frame-step _ _ _ _ _ _ _ _ _ (c .before .before .before .loop .inv) (c .before .before .loop-test .taken))
+  room : Room own bytes x
+  room = c .before .loop .inv .room
 
-part-same-end : tie.Need-part-same-end Inv-loop μ-loop
-part-same-end c =
-    omega (arith, frame-step _ _ _ _ _ _ _ _ _ (c .before .before .before .loop .inv) (c .before .before .loop-test .taken))
+  step : FrameStep bytes (c .before .before .before .before .before .before .before .before .args .start + 4 + 16 * getD bytes (c .before .before .before .before .before .before .before .before .args .start + 2) 0) (c .before .loop .last) at
+  step = frame-step _ _ _ _ _ _ _ _ _ (c .before .loop .inv) (c .loop-test .taken)
 
-add-same-2 : tie.Need-add-same-2 Inv-loop μ-loop
-add-same-2 c =
-    omega (arith, frame-step _ _ _ _ _ _ _ _ _ (c .before .before .before .before .loop .inv) (c .before .before .before .loop-test .taken))
-
-part-same-end-2 : tie.Need-part-same-end-2 Inv-loop μ-loop
-part-same-end-2 c =
-    omega (arith, frame-step _ _ _ _ _ _ _ _ _ (c .before .before .before .before .loop .inv) (c .before .before .before .loop-test .taken))
-
-same-requires : tie.Need-same-requires Inv-loop μ-loop
-same-requires c κs =
-    let z = frame-step _ _ _ _ _ _ _ _ _ (c .before .before .before .before .before .loop .inv) (c .before .before .before .before .loop-test .taken) in
-    (part-long _ _ (z .before), part-long _ _ (z .here .room))
-
-add-at-2 : tie.Need-add-at-2 Inv-loop μ-loop
-add-at-2 c =
-    omega (arith, frame-step _ _ _ _ _ _ _ _ _ (c .before .before .before .before .before .before .before .loop .inv) (c .before .before .before .before .before .before .loop-test .taken))
-
-loop-less : tie.Need-loop-less Inv-loop μ-loop
-loop-less c =
-    omega (arith, frame-step _ _ _ _ _ _ _ _ _ (c .before .before .before .before .before .before .before .loop .inv) (c .before .before .before .before .before .before .loop-test .taken))
+  low :
+      (at + 16 ≤ length bytes)
+      × (length bytes ≤ 65535)
+      × (k < 16)
+      × (own < 16)
+      × (getD (c .before .loop .last) k 0 + 16 ≤ length bytes)
+      × (getD (c .before .loop .places) k 0 + 16 ≤ length bytes)
+      × (length (c .before .loop .last) ≡ 16)
+      × (length (c .before .loop .places) ≡ 16)
+  low =
+      let s = step in (
+        s .here .room,
+        s .short,
+        s .station,
+        omega (arith, room .own-below, room .high),
+        s .before,
+        room .inside k (s .here .station),
+        s .long,
+        room .places-long,
+      )
 
 loop-again : tie.Need-loop-again Inv-loop μ-loop
 loop-again c =
-    let bytes = c .before .before .before .before .before .before .before .before .before .before .before .before .before .before .args .bytes .now in
-    let loop = c .before .before .before .before .before .before .before .loop in
-    let inside = c .before .before .before .before .before .before .loop-test .taken in
-    let z = frame-step _ _ _ _ _ _ _ _ _ (loop .inv) inside in
-    frame-passed _ _ _ _ _ _ _ _ _ (loop .inv) inside
-    (sym (part-is bytes (getD (loop .last) (getD bytes (loop .at) 0) 0))
-    ∙ same-open _ _ (part-long _ _ (z .before)) (part-long _ _ (z .here .room)) (sym (c .before .same .ensures) ∙ c .if1 .taken)
-    ∙ part-is bytes (loop .at))
+    let d = c .before .before .before .before .before .before in
+    let loop = d .before .loop in
+    let l = low d in
+    frame-passed _ _ _ _ _ _ _ _ _ (loop .inv) (d .loop-test .taken)
+    (sym (part-is (bytes d) (getD (loop .last) (k d) 0))
+    ∙ same-open _ _ (part-long _ _ (l .4)) (part-long _ _ (l .0)) (sym (c .before .same .ensures) ∙ c .if1 .taken)
+    ∙ part-is (bytes d) (at d))
 
-cast-last : tie.Need-cast-last Inv-loop μ-loop
-cast-last c =
-    omega (arith, frame-step _ _ _ _ _ _ _ _ _ (c .before .before .before .before .before .before .before .loop .inv) (c .before .before .before .before .before .before .loop-test .taken))
+-- a newer record
+module _ (c : tie.After-enum-told Inv-loop μ-loop) where
+  abbrev turn : tie.In-loop Inv-loop μ-loop
+  turn = c .before .before .before .before .before .before .before .before .before .before
 
-mul-last : tie.Need-mul-last Inv-loop μ-loop
-mul-last c =
-    omega (arith, frame-step _ _ _ _ _ _ _ _ _ (c .before .before .before .before .before .before .before .loop .inv) (c .before .before .before .before .before .before .loop-test .taken))
+  newer : ageAt (own turn) (bytes turn) (getD (turn .before .loop .places) (k turn) 0) (at turn) (k turn) ≡ Newer
+  newer = sym (c .before .before .age-at .ensures) ∙ c .enum-told .given .1
 
-slice-write-last : tie.Need-slice-write-last Inv-loop μ-loop
-slice-write-last c =
-    omega (arith, frame-step _ _ _ _ _ _ _ _ _ (c .before .before .before .before .before .before .before .loop .inv) (c .before .before .before .before .before .before .loop-test .taken))
-
-hear-record-requires : tie.Need-hear-record-requires Inv-loop μ-loop
-hear-record-requires c κs =
-    let z = frame-step _ _ _ _ _ _ _ _ _ (c .before .before .before .before .before .before .before .before .before .before .loop .inv) (c .before .before .before .before .before .before .before .before .before .loop-test .taken) in
-    (c .before .before .before .before .before .before .before .before .before .before .loop .inv .room, (z .here, (refl, z .some)))
-
-same-length : tie.Need-same-length Inv-loop μ-loop
-same-length c =
-    let d = c .before .before .before .before .before .before .before .before .hear-record .ensures in
-    frame-last _ _ _ _ _ _ _ _ _ (c .before .before .before .before .before .before .before .before .before .before .before .before .before .before .before .before .before .before .before .loop .inv) (c .before .before .before .before .before .before .before .before .before .before .before .before .before .before .before .before .before .before .loop-test .taken) _ (d .0) .long ∙ sym (c .before .before .before .before .before .before .before .before .before .before .before .before .before .before .before .before .before .before .before .before .before .before .before .before .before .before .pre .1 .0 .long)
-
-same-length-2 : tie.Need-same-length-2 Inv-loop μ-loop
-same-length-2 c =
-    c .before .before .before .before .before .before .before .before .hear-record .ensures .1 .places-long ∙ sym (c .before .before .before .before .before .before .before .before .before .before .before .before .before .before .before .before .before .before .before .before .before .before .before .before .before .before .pre .0 .places-long)
-
-same-length-3 : tie.Need-same-length-3 Inv-loop μ-loop
-same-length-3 c =
-    c .before .before .before .before .before .before .before .before .hear-record .ensures .1 .lanes .lens-long ∙ sym (c .before .before .before .before .before .before .before .before .before .before .before .before .before .before .before .before .before .before .before .before .before .before .before .before .before .before .pre .0 .lanes .lens-long)
-
-same-length-4 : tie.Need-same-length-4 Inv-loop μ-loop
-same-length-4 c =
-    c .before .before .before .before .before .before .before .before .hear-record .ensures .1 .lanes .taken-long ∙ sym (c .before .before .before .before .before .before .before .before .before .before .before .before .before .before .before .before .before .before .before .before .before .before .before .before .before .before .pre .0 .lanes .taken-long)
-
-returns : tie.Need-returns Inv-loop μ-loop
-returns c =
-    let d = c .before .before .before .before .before .before .before .before .hear-record .ensures in
-    let inv = c .before .before .before .before .before .before .before .before .before .before .before .before .before .before .before .before .before .before .before .loop .inv in
-    let inside = c .before .before .before .before .before .before .before .before .before .before .before .before .before .before .before .before .before .before .loop-test .taken in (
-      frame-conflicts _ _ _ _ _ _ _ _ _ inv inside _ (d .0) (c .if2 .taken),
-      (d .1, frame-last _ _ _ _ _ _ _ _ _ inv inside _ (d .0)),
+heed-requires : tie.Need-heed-requires Inv-loop μ-loop
+heed-requires c κs =
+    let e = c .before .before .before .before in
+    let d = turn e in
+    let l = low d in (
+      (sym (read-station (bytes d) (at d) _ (c .before .before .read-record .ensures)), l .2, l .3, omega (arith, l .0, l .1)),
+      (
+        (room d .lanes .lens-long, room d .lanes .taken-long),
+        heeded-room (own d) (bytes d) (at d) (x d) (room d) (step d .here) (k d) refl (newer e),
+      ),
     )
-
-add-at-3 : tie.Need-add-at-3 Inv-loop μ-loop
-add-at-3 c = omega (arith, frame-step _ _ _ _ _ _ _ _ _ (c .before .before .before .before .before .before .before .before .before .before .before .before .before .before .before .before .before .before .before .loop .inv) (c .before .before .before .before .before .before .before .before .before .before .before .before .before .before .before .before .before .before .loop-test .taken))
-
-loop-less-2 : tie.Need-loop-less-2 Inv-loop μ-loop
-loop-less-2 c = omega (arith, frame-step _ _ _ _ _ _ _ _ _ (c .before .before .before .before .before .before .before .before .before .before .before .before .before .before .before .before .before .before .before .loop .inv) (c .before .before .before .before .before .before .before .before .before .before .before .before .before .before .before .before .before .before .loop-test .taken))
 
 loop-again-2 : tie.Need-loop-again-2 Inv-loop μ-loop
 loop-again-2 c =
-    let d = c .before .before .before .before .before .before .before .before .hear-record .ensures in
-    frame-heard _ _ _ _ _ _ _ _ _ (c .before .before .before .before .before .before .before .before .before .before .before .before .before .before .before .before .before .before .before .loop .inv) (c .before .before .before .before .before .before .before .before .before .before .before .before .before .before .before .before .before .before .loop-test .taken) _ (d .0) (d .1) (c .if2 .left)
+    let e = c .before .before .before .before .before .before .before .before .before in
+    let d = turn e in
+    let l = d .before .loop in
+    let heed = c .before .before .before .before .heed .ensures in
+    let seen = c .before .before .before .before .before .before .before .read-record .result in
+    let done =
+    ends-heeded (own d) (bytes d) (at d) (k d) (l .places) (l .lens) (l .taken) (l .ear) (room d) (step d .here) refl (newer e) _
+    (c .before .before .before .before .before .before .before .read-record .ensures) _ _ _ (step d .some) heed in
+    frame-heard _ _ _ _ _ _ _ _ _ (l .inv) (d .loop-test .taken) _ (done .0) (done .1)
+    (λ low. subst (λ (z : Ear). z .refusal ≤ laneFull) (sym (heed .0)) (after-calm (own d) (l .lens) (l .ear) seen low))
+
+-- one that does nothing
+loop-again-3 : tie.Need-loop-again-3 Inv-loop μ-loop
+loop-again-3 c =
+    let d = c .before .before .before .before .before .before .before .before .before .before in
+    frame-heard _ _ _ _ _ _ _ _ _ (d .before .loop .inv) (d .loop-test .taken) _
+    (passed-same (own d) (bytes d) (at d) (x d) (room d) (step d .here) (k d) refl (sym (c .before .before .age-at .ensures) ∙ c .enum-told2 .given .1)) (room d) (λ low. low)
+
+loop-again-4 : tie.Need-loop-again-4 Inv-loop μ-loop
+loop-again-4 c =
+    let d = c .before .before .before .before .before .before .before .before .before .before in
+    frame-heard _ _ _ _ _ _ _ _ _ (d .before .loop .inv) (d .loop-test .taken) _
+    (passed-older (own d) (bytes d) (at d) (x d) (room d) (step d .here) (k d) refl (sym (c .before .before .age-at .ensures) ∙ c .enum-told4 .given .1)) (room d) (λ low. low)
+
+-- one that conflicts
+module _ (c : tie.After-enum-told3 Inv-loop μ-loop) where
+  abbrev stop : tie.In-loop Inv-loop μ-loop
+  stop = c .before .before .before .before .before .before .before .before .before .before
+
+  ends : HearsRecord (own stop) (bytes stop) (at stop) (x stop) (stoppedNotes (x stop)) × Room (own stop) (bytes stop) (stoppedNotes (x stop))
+  ends =
+      conflicted (own stop) (bytes stop) (at stop) (x stop) (room stop) (step stop .here) (k stop) refl
+      (sym (c .before .before .age-at .ensures) ∙ c .enum-told3 .given .1)
+
+returns : tie.Need-returns Inv-loop μ-loop
+returns c =
+    let d = stop c in
+    let inv = d .before .loop .inv in (
+      frame-conflicts _ _ _ _ _ _ _ _ _ inv (d .loop-test .taken) _ (ends c .0) refl,
+      (ends c .1, frame-last _ _ _ _ _ _ _ _ _ inv (d .loop-test .taken) _ (ends c .0)),
+    )
+
+same-length : tie.Need-same-length Inv-loop μ-loop
+same-length c =
+    let d = stop c in
+    frame-last _ _ _ _ _ _ _ _ _ (d .before .loop .inv) (d .loop-test .taken) _ (ends c .0) .long ∙ sym (c .before .before .before .before .before .before .before .before .before .before .before .before .before .before .before .before .before .before .pre .1 .0 .long)
+
+same-length-2 : tie.Need-same-length-2 Inv-loop μ-loop
+same-length-2 c = room (stop c) .places-long ∙ sym (c .before .before .before .before .before .before .before .before .before .before .before .before .before .before .before .before .before .before .pre .0 .places-long)
+
+same-length-3 : tie.Need-same-length-3 Inv-loop μ-loop
+same-length-3 c = room (stop c) .lanes .lens-long ∙ sym (c .before .before .before .before .before .before .before .before .before .before .before .before .before .before .before .before .before .before .pre .0 .lanes .lens-long)
+
+same-length-4 : tie.Need-same-length-4 Inv-loop μ-loop
+same-length-4 c = room (stop c) .lanes .taken-long ∙ sym (c .before .before .before .before .before .before .before .before .before .before .before .before .before .before .before .before .before .before .pre .0 .lanes .taken-long)
 
 same-length-5 : tie.Need-same-length-5 Inv-loop μ-loop
 same-length-5 c =
@@ -208,35 +236,57 @@ hear-frame-spec =
     add-end-3
     add-at
     loop-holds
-    shared-slice-read-k
-    cast-k
-    mul-before
-    slice-read-before
-    cast-before
-    add-same
+    (λ c. omega (arith, low (c .before)))
+    (λ c. omega (arith, low (c .before)))
+    (λ c. omega (arith, low (c .before)))
+    (λ c. omega (arith, low (c .before .before)))
+    (λ c. omega (arith, low (c .before .before)))
+    (λ c. omega (arith, low (c .before .before)))
     (λ c. search needs)
     (λ c. search needs)
-    part-same-end
-    add-same-2
+    (λ c. omega (arith, low (c .before .before)))
+    (λ c. omega (arith, low (c .before .before .before)))
     (λ c. search needs)
     (λ c. search needs)
-    part-same-end-2
-    same-requires
-    add-at-2
-    loop-less
+    (λ c. omega (arith, low (c .before .before .before)))
+    (λ c κs. let l = low (c .before .before .before .before) in (part-long _ _ (l .4), part-long _ _ (l .0)))
+    (λ c. omega (arith, low (c .before .before .before .before .before .before)))
+    (λ c. omega (arith, step (c .before .before .before .before .before .before)))
     loop-again
-    cast-last
-    mul-last
-    slice-write-last
-    hear-record-requires
+    (λ c. omega (arith, low (c .before .before .before .before .before .before)))
+    (λ c. omega (arith, low (c .before .before .before .before .before .before)))
+    (λ c. omega (arith, low (c .before .before .before .before .before .before)))
+    (λ c. omega (arith, low (c .before .before .before .before .before .before)))
+    (λ c. omega (arith, low (c .before .before .before .before .before .before .before)))
+    (λ c. omega (arith, low (c .before .before .before .before .before .before .before)))
+    (λ c κs. let l = low (c .before .before .before .before .before .before .before) in (l .5, l .0, l .1, l .2))
+    (λ c. search needs)
+    (λ c. omega (arith, low (c .before .before .before .before .before .before .before .before .before .before)))
+    (λ c. omega (arith, low (c .before .before .before .before .before .before .before .before .before .before)))
+    (λ c. omega (arith, low (c .before .before .before .before .before .before .before .before .before .before)))
+    (λ c. omega (arith, low (c .before .before .before .before .before .before .before .before .before .before)))
+    (λ c. search needs)
+    (λ c. search needs)
+    (λ c. omega (arith, low (c .before .before .before .before .before .before .before .before .before .before)))
+    (λ c κs. part-long _ _ (low (c .before .before .before .before .before .before .before .before .before .before .before) .0))
+    heed-requires
+    (λ c. omega (arith, low (c .before .before .before .before .before .before .before .before .before .before .before .before .before .before .before .before .before .before .before)))
+    (λ c. omega (arith, step (c .before .before .before .before .before .before .before .before .before .before .before .before .before .before .before .before .before .before .before)))
+    loop-again-2
+    (λ c. search needs)
+    (λ c. omega (arith, low (c .before .before .before .before .before .before .before .before .before .before)))
+    (λ c. omega (arith, step (c .before .before .before .before .before .before .before .before .before .before)))
+    loop-again-3
+    (λ c. search needs)
     same-length
     same-length-2
     same-length-3
     same-length-4
     returns
-    add-at-3
-    loop-less-2
-    loop-again-2
+    (λ c. search needs)
+    (λ c. omega (arith, low (c .before .before .before .before .before .before .before .before .before .before)))
+    (λ c. omega (arith, step (c .before .before .before .before .before .before .before .before .before .before)))
+    loop-again-4
     same-length-5
     same-length-6
     same-length-7
