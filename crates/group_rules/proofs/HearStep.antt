@@ -30,8 +30,8 @@ use Rattle.station_rules.specs.declared.Taking.{Taking}
 use Rattle.lanes.specs.Lane.{pushed}
 use Rattle.kinds.specs.Refusals.{done, laneFull, refuse}
 use Rattle.station_rules.specs.State.{Cell, labelOf, ackedOf, recordOf, laneAt}
-use Rattle.station_rules.specs.Hearing.{Hearing, heeds, advances, takes, overfills, raised, heardNewer, hearRecord}
-use Rattle.station_rules.proofs.HearRecord.{heardOne, hearRecord-skips, hearRecord-heeds}
+use Rattle.station_rules.specs.Hearing.{Hearing, advances, takes, overfills, raised, heardNewer, hearRecord}
+use Rattle.station_rules.proofs.HearRecord.{heeds, heardOne, hearRecord-skips, hearRecord-heeds}
 use Rattle.station_rules.proofs.Cells
 use Rattle.group_rules.specs.History.{takingsOf}
 use Rattle.group_rules.proofs.Run.{Run, linksOf}
@@ -42,7 +42,7 @@ use Rattle.group_rules.proofs.HearParts.{acked-mod, label-step, raised-
 use Rattle.group_rules.proofs.Takings.{takingsOf-append, taking-other, taking-here}
 
 -- one refusal after another with the same number
-either : (a b : Bool) → refuse a laneFull (refuse b laneFull done) ≡ refuse (b || a) laneFull done
+either : (a b : Bool) → max (refuse b laneFull done) (refuse a laneFull done) ≡ refuse (b || a) laneFull done
 either true true = refl
 either true false = refl
 either false true = refl
@@ -254,7 +254,7 @@ module _ (R : Run) where
               caught = λ q l. caught-after q l (ℕ-discrete q k);
               count = count-after;
               refusal =
-                  ap (refuse (overfills s r) laneFull) (c .refusal)
+                  ap (λ (q : ℕ). max q (refuse (overfills s r) laneFull done)) (c .refusal)
                   ∙ either (overfills s r) (anyBelow (R .n) (λ q. gains R u p q (vs q) && leb 2 ((laneAt first q) .len)))
                   ∙ ap (λ (t : Bool). refuse t laneFull done) (overfull-after b refl);
             })
@@ -271,11 +271,11 @@ module _ (R : Run) where
       -- the step
       pub hear-step : vs′ k ≡ max (vs k) (suc w) → Standing R u p first (hearRecord h r) vs′
       hear-step here =
-          go (outcome R s r u p lp (c .formed .own) other lk (vs k) w j lj (c .cells k lk) t (c .low k lk) (c .high k lk) from)
+          go (outcome R s r u p lp (c .formed .own) other lk (vs k) w j lj (c .formed .size) (c .cells k lk) t (c .low k lk) (c .high k lk) from)
         where
           go : Outcome R s r k (vs k) w → Standing R u p first (hearRecord h r) vs′
-          go (skipped e a) =
-              subst (λ x. Standing R u p first x vs′) (sym (hearRecord-skips h r e))
+          go (skipped e f a) =
+              subst (λ x. Standing R u p first x vs′) (sym (hearRecord-skips h r e f))
               (standing-alike R u p first h vs vs′ lp (λ q l. alike q (ℕ-discrete q k))
               (λ q l. below q l (ℕ-discrete q k)) c)
             where

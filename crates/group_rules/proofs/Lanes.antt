@@ -356,7 +356,7 @@ module _ (R : Run) where
       )
 
   -- So no lane that holds two gets a third, and no frame is refused.
-  through-done : (u p : ℕ) → p < R .n → (hearingIn R u p) .refusal ≡ done
+  pub through-done : (u p : ℕ) → p < R .n → (hearingIn R u p) .refusal ≡ done
   through-done u p lp =
       simulated R .refusal u p lp
       ∙ ap (λ (t : Bool). refuse t laneFull done)

@@ -37,9 +37,11 @@ pub mod HistoryRun
 pub mod HistoryLists
 pub mod FromRun
 pub mod DemandThree
+pub mod Conflicts
 -- examples
 pub mod Computing
 pub mod MarkedStatement
 pub mod Marked
 pub mod RunLines
 pub mod RunExamples
+pub mod RoundExamples

@@ -1,6 +1,7 @@
 -- Hearing that goes on after a refusal. A round stops hearing at the first refused frame; the simulation follows this hearing instead, and shows that it is
 -- never refused. A hearing that is not refused has stopped nowhere, so the two are then the same.
-use Prim.Native.Nat.{ℕ, zero, suc, _<_}
+use Prim.Native.Nat.{ℕ, zero, suc, _+_, _<_}
+use native.Mathlib.Nat.{zero-add, suc-add}
 use mathlib.Core.Bool.{Bool, true, false, cond}
 use mathlib.Core.List.{List, [], _∷_}
 use mathlib.Core.Path.{_≡_, refl, sym, ap, _∙_}
@@ -64,6 +65,22 @@ below-through g masks i (suc j) e = go (hearsIn (sizeOf g) masks i j) (below-thr
         let before = records-not-refused (heardThrough g masks i j) (sentRecords (stationAt g j)) q in
         rw (same before) (frame-heard (heardThrough g masks i j) (sentRecords (stationAt g j)) before)
     go false same q = same q
+
+-- what is not refused in the end was not refused on the way
+pub through-before :
+    (g : List Station) (masks : List ℕ) (i j d : ℕ) → (heardThrough g masks i (d + j)) .refusal ≡ done → (heardThrough g masks i j) .refusal ≡ done
+unfolding heardThrough
+through-before g masks i j zero e = rw (zero-add j) at e
+through-before g masks i j (suc d) e =
+    through-before g masks i j d
+    (go (hearsIn (sizeOf g) masks i (d + j)) (rw (suc-add d j) at e))
+  where
+    go :
+        (t : Bool) →
+        (cond t (hearRecords (heardThrough g masks i (d + j)) (sentRecords (stationAt g (d + j)))) (heardThrough g masks i (d + j))) .refusal ≡ done →
+        (heardThrough g masks i (d + j)) .refusal ≡ done
+    go true q = records-not-refused (heardThrough g masks i (d + j)) (sentRecords (stationAt g (d + j))) q
+    go false q = q
 
 -- a round in which no hearing is refused is that of hearing on
 pub round-through :

@@ -1,13 +1,15 @@
-// Labels: the successor, and which of two records is newer.
+// Labels: the successor, and what a seen record is beside the held one.
 
 ghost use mathlib.Core.Path.{_≡_};
 ghost use Rattle.labels.specs.Label.{successor};
-ghost use Rattle.labels.specs.Newer.{isNewer, ageOf};
+ghost use Rattle.labels.specs.Newer.{ageOf};
 
 // What is decided of a seen record beside the held one.
 pub enum Age {
     Newer,
-    NotNewer,
+    Same,
+    Conflicting,
+    Older,
 }
 
 // The label after this one.
@@ -17,9 +19,17 @@ pub fn successor(label: u8) -> u8
     (((label as u32) + 1) % 3) as u8
 }
 
-// Is a seen record with this own label and count newer than the held one, if one is held?
-pub fn newer(held: bool, held_label: u8, held_count: u8, seen_label: u8, seen_count: u8) -> Age
-    ensures { λ r. ⌜ r ≡ ageOf (isNewer held «held_label» «held_count» «seen_label» «seen_count») ⌝ }
+// What a seen record with this own label and count is beside the held one, if one is held; `equal` says whether all
+// else is equal.
+pub fn age_beside(
+    held: bool,
+    held_label: u8,
+    held_count: u8,
+    seen_label: u8,
+    seen_count: u8,
+    equal: bool,
+) -> Age
+    ensures { λ r. ⌜ r ≡ ageOf held «held_label» «held_count» «seen_label» «seen_count» equal ⌝ }
 {
     if !held {
         return Age::Newer;
@@ -29,10 +39,16 @@ pub fn newer(held: bool, held_label: u8, held_count: u8, seen_label: u8, seen_co
         return Age::Newer;
     }
     if seen_label != held_label {
-        return Age::NotNewer;
+        return Age::Older;
     }
     if held_count < seen_count {
         return Age::Newer;
     }
-    Age::NotNewer
+    if seen_count < held_count {
+        return Age::Older;
+    }
+    if equal {
+        return Age::Same;
+    }
+    Age::Conflicting
 }

@@ -16,13 +16,17 @@ use Rattle.frame_rules.proofs.Labels.{label-fits, label-below, label-above, lab
 use Rattle.station_rules.specs.declared.Station.{Station}
 use Rattle.lanes.specs.Lane.{pushed}
 use Rattle.station_rules.specs.State.{cellOf, labelOf, ackedOf, heldOf, recordOf, laneAt, ownLabel, withBroadcast, withCell}
-use Rattle.station_rules.specs.Hearing.{Hearing, heeds, advances, takes, raised, replaced, heardNewer, hearRecord, hearRecords}
+use Rattle.station_rules.specs.Hearing.{Hearing, advances, takes, raised, replaced, heardNewer, hearRecord, hearRecords}
+use Rattle.station_rules.proofs.HearRecord.{heeds, conflicts}
 use Rattle.station_rules.proofs.Setters.{Shaped, broadcast-cell, broadcast-shaped, cell-self, cell-here, cell-other}
 
 -- a station never heeds a record of itself, and heeds one of another station where it is newer
 module _ (s : Station) (r : Record) where
   pub heeds-own : r .station ≡ s .own → heeds s r ≡ false
   heeds-own e = rw (eq-eqb (r .station) (s .own) e)
+
+  pub conflicts-own : r .station ≡ s .own → conflicts s r ≡ false
+  conflicts-own e = rw (eq-eqb (r .station) (s .own) e)
 
   pub heeds-newer :
       (r .station ≡ s .own → ⊥) →

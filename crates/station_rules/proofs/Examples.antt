@@ -15,7 +15,7 @@ use Rattle.station_rules.specs.declared.Station.{Station}
 use Rattle.station_rules.specs.declared.Kept.{Kept}
 use Rattle.station_rules.specs.State.{heldOf, recordOf, ownLabel}
 use Rattle.station_rules.specs.Limits.{stationInside}
-use Rattle.station_rules.specs.Hearing.{heeds}
+use Rattle.station_rules.proofs.HearRecord.{heeds}
 use Rattle.station_rules.specs.Calls.{posted, postCall}
 use Rattle.station_rules.proofs.CallSteps.{post-no-edit, post-full, post-done}
 use Rattle.lanes.specs.Queue.{queueCapacity}

@@ -19,7 +19,8 @@ use Rattle.station_rules.specs.declared.Station.{Station}
 use Rattle.lanes.specs.Lane.{pushed}
 use Rattle.station_rules.specs.State.{Cell, cellOf, labelOf, heldOf, recordOf, laneAt, ownLabel}
 use Rattle.station_rules.specs.Limits.{laneInside, takeable}
-use Rattle.station_rules.specs.Hearing.{heeds, advances, takes, replaced, heardNewer}
+use Rattle.station_rules.specs.Hearing.{advances, takes, replaced, heardNewer}
+use Rattle.station_rules.proofs.HearRecord.{heeds}
 use Rattle.station_rules.proofs.Setters.{Shaped}
 use Rattle.station_rules.proofs.LimitsLane.{pushed-inside}
 use Rattle.station_rules.proofs.StationLimits.{RecordHolds, CellHolds, Inside, inside-as}

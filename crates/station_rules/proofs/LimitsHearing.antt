@@ -1,6 +1,6 @@
 -- A station while it hears. One fold carries all of it: N, the own number, the waiting edits, the body and the own lane stay; the shape and the limits
 -- are kept as long as no frame is refused; and every taking stands in a lane of another station, so from silence on there are at most 30.
-use Prim.Native.Nat.{ℕ, suc, _+_, _*_, _≤_, _<_}
+use Prim.Native.Nat.{ℕ, suc, max, _+_, _*_, _≤_, _<_}
 use mathlib.Core.Bool.{Bool, true, false, cond}
 use mathlib.Core.List.{List, [], _∷_, _++_, append-nil}
 use mathlib.Core.Path.{_≡_, refl, sym, ap, subst, _∙_}
@@ -17,8 +17,8 @@ use Rattle.places.proofs.Total.{total-ext, total-gap, total-raised}
 use Rattle.station_rules.specs.declared.Station.{Station}
 use Rattle.station_rules.specs.State.{Cell, laneAt}
 use Rattle.station_rules.specs.Limits.{stationInside}
-use Rattle.station_rules.specs.Hearing.{Hearing, silent, heeds, takes, overfills, heardNewer, hearRecord, hearRecords, hearFrame}
-use Rattle.station_rules.proofs.HearRecord.{heardOne, hearRecord-heeds, hearRecord-skips, not-refused}
+use Rattle.station_rules.specs.Hearing.{Hearing, silent, takes, overfills, heardNewer, hearRecord, hearRecords, hearFrame}
+use Rattle.station_rules.proofs.HearRecord.{heeds, heardOne, stopped, hearRecord-cases, not-refused}
 use Rattle.station_rules.proofs.Setters.{Shaped}
 use Rattle.station_rules.proofs.Shape.{heardNewer-shaped}
 use Rattle.lanes.specs.Lane.{pushed}
@@ -122,7 +122,7 @@ module _ (a : Hearing) (c : Inside (a .station)) where
     below = omega (arith, c .high, carry .station)
 
     takings-most :
-        heeds (h .station) r ≡ true → refuse (overfills (h .station) r) laneFull (h .refusal) ≡ done →
+        heeds (h .station) r ≡ true → max (h .refusal) (refuse (overfills (h .station) r) laneFull done) ≡ done →
         length (h .takings ++ cond (takes (h .station) r) (record { source = r .station; body = r .body } ∷ []) [])
         ≤ length (a .takings) + otherLens (heardNewer (h .station) r)
     takings-most e f = go (takes (h .station) r) refl
@@ -162,12 +162,22 @@ module _ (a : Hearing) (c : Inside (a .station)) where
           takings = takings-most e;
         }
 
+    -- a refused hearing is as it was
+    hears-stopped : Hears a (stopped h)
+    hears-stopped =
+        record {
+          n = hs .n;
+          own = hs .own;
+          waiting = hs .waiting;
+          body = hs .body;
+          lane = hs .lane;
+          shaped = hs .shaped;
+          inside = λ f. absurd (omega (arith, f));
+          takings = λ f. absurd (omega (arith, f));
+        }
+
     pub hears-record : Hears a (hearRecord h r)
-    hears-record = go (heeds (h .station) r) refl
-      where
-        go : (t : Bool) → heeds (h .station) r ≡ t → Hears a (hearRecord h r)
-        go true e = rw (hearRecord-heeds h r e) (hears-newer e)
-        go false e = rw (hearRecord-skips h r e) hs
+    hears-record = hearRecord-cases (Hears a) h r hears-newer (λ e. hears-stopped) (λ e f. hs)
 
   pub hears-records : (h : Hearing) (rs : List Record) → Hears a h → AllCarried (a .station .n) rs → Hears a (hearRecords h rs)
   unfolding hearRecords
@@ -181,11 +191,7 @@ module _ (a : Hearing) (c : Inside (a .station)) where
 -- the shape is kept whether or not the station is inside its limits
 pub hearRecord-shaped : (h : Hearing) (r : Record) → Shaped (h .station) → Shaped ((hearRecord h r) .station)
 unfolding heardOne
-hearRecord-shaped h r c = go (heeds (h .station) r) refl
-  where
-    go : (t : Bool) → heeds (h .station) r ≡ t → Shaped ((hearRecord h r) .station)
-    go true e = rw (hearRecord-heeds h r e) (heardNewer-shaped (h .station) r c)
-    go false e = rw (hearRecord-skips h r e) c
+hearRecord-shaped h r c = hearRecord-cases (λ x. Shaped (x .station)) h r (λ e. heardNewer-shaped (h .station) r c) (λ e. c) (λ e f. c)
 
 pub hearRecords-shaped : (h : Hearing) (rs : List Record) → Shaped (h .station) → Shaped ((hearRecords h rs) .station)
 unfolding hearRecords

@@ -1,27 +1,33 @@
 -- Document 01, "A station and its calls", Hear: what one record does to the hearer, and a frame's records in order.
-use Prim.Native.Nat.{ℕ, _+_}
+use Prim.Native.Nat.{ℕ, max, _+_}
 use mathlib.Core.Bool.{Bool, true, false, cond, not, _&&_, _||_}
 use mathlib.Core.List.{List, [], _∷_, _++_}
 use lib.Dec.{leb, ltb, eqb}
 use Rattle.kinds.specs.declared.Body.the-variants.{Empty}
-use Rattle.kinds.specs.Body.{isEmpty}
-use Rattle.kinds.specs.Refusals.{done, laneFull, refuse}
+use Rattle.kinds.specs.Body.{isEmpty, sameBody}
+use Rattle.kinds.specs.Refusals.{done, laneFull, conflict, refuse}
 use Rattle.labels.specs.Label.{successor}
-use Rattle.labels.specs.Newer.{isNewer}
+use Rattle.labels.specs.declared.Age.{Age}
+use Rattle.labels.specs.declared.Age.the-variants.{Newer, Same, Conflicting, Older}
+use Rattle.labels.specs.Newer.{ageOf}
 use Rattle.label_words.specs.Packing.{labelsOver}
 use Rattle.frame_rules.specs.declared.Record.{Record}
 use Rattle.frame_rules.specs.Record.{recordLabel}
+use Rattle.places.specs.Places.{allBelow}
 use Rattle.station_rules.specs.declared.Station.{Station}
 use Rattle.station_rules.specs.declared.Taking.{Taking}
 use Rattle.lanes.specs.Lane.{pushed}
 use Rattle.station_rules.specs.State.{labelOf, ackedOf, heldOf, recordOf, laneAt, ownLabel, withBroadcast, withCell}
 
--- the station heeds the record: it is of another station, and newer than the one held of it (source document 001, Algorithm 2, lines 6 to 8)
-abbrev pub heeds : Station → Record → Bool
-heeds s r =
+-- two records of a station agree in all but own label and count: in the body, and in the labels of the n stations (document 02, A4)
+unfoldable pub agree : ℕ → Record → Record → Bool
+agree n a b = sameBody (a .body) (b .body) && allBelow n (λ j. eqb (recordLabel a j) (recordLabel b j))
+
+-- what a record is beside the one held of its station (source document 001, Algorithm 2, lines 6 to 8)
+abbrev pub ageIn : Station → Record → Age
+ageIn s r =
     let k = r .station in
-    not (eqb k (s .own))
-    && isNewer (heldOf s k) (recordLabel (recordOf s k) k) ((recordOf s k) .count) (ownLabel r) (r .count)
+    ageOf (heldOf s k) (recordLabel (recordOf s k) k) ((recordOf s k) .count) (ownLabel r) (r .count) (agree (s .n) (recordOf s k) r)
 
 -- the record's own label comes after this one
 abbrev pub follows : ℕ → Record → Bool
@@ -80,17 +86,22 @@ pub record Hearing : Type 0 where
 abbrev pub silent : Station → Hearing
 silent s = record { station = s; takings = []; refusal = done }
 
--- what one record does
-unfoldable pub hearRecord : Hearing → Record → Hearing
-hearRecord h r =
+-- what a record of another station does, by what it is. A conflicting one refuses the frame, and in one frame 14 goes before 8
+unfoldable pub heardAs : Hearing → Record → Age → Hearing
+heardAs h r Newer =
     let s = h .station in
-    cond (heeds s r)
-    (record {
+    record {
       station = heardNewer s r;
       takings = h .takings ++ cond (takes s r) (record { source = r .station; body = r .body } ∷ []) [];
-      refusal = refuse (overfills s r) laneFull (h .refusal);
-    })
-    h
+      refusal = max (h .refusal) (refuse (overfills s r) laneFull done);
+    }
+heardAs h r Same = h
+heardAs h r Conflicting = record { station = h .station; takings = h .takings; refusal = conflict }
+heardAs h r Older = h
+
+-- what one record does; one of the hearer itself does nothing
+unfoldable pub hearRecord : Hearing → Record → Hearing
+hearRecord h r = cond (eqb (r .station) (h .station .own)) h (heardAs h r (ageIn (h .station) r))
 
 -- a frame's records in order
 unfoldable pub hearRecords : Hearing → List Record → Hearing
