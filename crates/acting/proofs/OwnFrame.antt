@@ -21,6 +21,7 @@ use Rattle.station_rules.proofs.StationLimits.{Inside}
 use Rattle.hearing_spec.specs.Buffer.{recordAt, recordsAt}
 use Rattle.hearing_spec.specs.StandsFor.{holdsAt, topAt}
 use Rattle.hearing_spec.specs.Room.{Written, FrameRoom}
+use Rattle.hearing_spec.proofs.FrameLoop.{station-at}
 use Rattle.acting.specs.Places.{recordPlace, placesOf}
 use Rattle.acting.proofs.OwnPlaces.{gather-entry, Placed, placed-all}
 

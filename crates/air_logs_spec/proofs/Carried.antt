@@ -19,10 +19,10 @@ use Rattle.lanes.specs.Queue.{noSlot}
 use Rattle.station_rules.specs.declared.Station.{Station}
 use Rattle.station_rules.specs.declared.Taking.{Taking}
 use Rattle.station_rules.specs.State.{sentRecords, laneAt}
-use Rattle.station_rules.specs.Hearing.{Hearing, heeds, takes, hearRecord, hearRecords, hearFrame}
+use Rattle.station_rules.specs.Hearing.{Hearing, takes, hearRecord, hearRecords, hearFrame}
 use Rattle.station_rules.specs.Turn.{airs, rowOf, broadcastEnds, turnReport}
 use Rattle.station_rules.specs.Calls.{noTurn}
-use Rattle.station_rules.proofs.HearRecord.{heardOne, hearRecord-heeds, hearRecord-skips}
+use Rattle.station_rules.proofs.HearRecord.{heardOne, hearRecord-cases}
 use Rattle.station_rules.proofs.BodyLaws.{takeable-inside, empty-inside}
 use Rattle.station_rules.proofs.LimitsHear.{Carried}
 use Rattle.station_rules.proofs.LimitsHearing.{AllCarried}
@@ -56,15 +56,12 @@ taken-at n (x ∷ xs) a (suc k) l = taken-at n xs (a .1) k (omega arith)
 module _ (n : ℕ) where
   took-record : (h : Hearing) (r : Record) → Carried n r → AllTaken n (h .takings) → AllTaken n ((hearRecord h r) .takings)
   unfolding heardOne
-  took-record h r c a = go (heeds (h .station) r) refl
+  took-record h r c a =
+      hearRecord-cases (λ (x : Hearing). AllTaken n (x .takings)) h r (λ e. newer (takes (h .station) r)) (λ e. a) (λ e. a)
     where
       newer : (u : Bool) → AllTaken n (h .takings ++ cond u (record { source = r .station; body = r .body } ∷ []) [])
       newer true = taken-append n (h .takings) (record { source = r .station; body = r .body } ∷ []) a ((c .station, c .body), tt)
       newer false = taken-append n (h .takings) [] a tt
-
-      go : (t : Bool) → heeds (h .station) r ≡ t → AllTaken n ((hearRecord h r) .takings)
-      go true e = rw (hearRecord-heeds h r e) (newer (takes (h .station) r))
-      go false e = rw (hearRecord-skips h r e) a
 
   took-records : (h : Hearing) (rs : List Record) → AllCarried n rs → AllTaken n (h .takings) → AllTaken n ((hearRecords h rs) .takings)
   unfolding hearRecords
