@@ -111,8 +111,8 @@ fn heed(
 // What is decided of the record of station k at a place, beside the one that the hearer holds at
 // another. The hearer's own counts as the same, for it does nothing.
 fn age_at(bytes: &[u8], held: usize, at: usize, k: usize, own: usize) -> Age
-    requires { ⌜ (held + 16 ≤ length (now bytes)) × (at + 16 ≤ length (now bytes)) ×
-        (length (now bytes) ≤ mostBytes) × (k < 16) ⌝ }
+    requires { ⌜ (held + 16 ≤ length (now bytes)) × (at + 16 ≤ length (now bytes)) ⌝ ∗
+        ⌜ (length (now bytes) ≤ mostBytes) × (k < 16) ⌝ }
     ensures { λ r. ⌜ r ≡ ageAt own (now (bytes .entry)) held at k ⌝ }
 {
     if k == own {

@@ -25,7 +25,7 @@ use Rattle.hearing_spec.proofs.Standing.{stands-first}
 use Rattle.hearing_spec.proofs.Heeding.{takings-most}
 use Rattle.hearing_spec.proofs.Acting.{heard-and-acted}
 use Rattle.acting.specs.Places.{placesOf}
-use Rattle.acting.specs.Listened.{heardNotes, takingsAt, TakenRoom, Readable, Listens}
+use Rattle.acting.specs.Listened.{Listens}
 use Rattle.acting.proofs.OwnFrame.{own-long, own-held, own-top, own-room, own-station, own-written}
 use Rattle.listening.specs.Listening.{MayListen}
 

@@ -7,9 +7,9 @@ use native.Mathlib.Decide.{ℕ-discrete}
 use mathlib.Core.Bool.{Bool, true, false, cond}
 use mathlib.Core.List.{List, [], _∷_, _++_}
 use mathlib.Core.Path.{_≡_, refl, sym, ap, subst, _∙_}
-use lib.ListN.{getD, take, drop, length, replicate, length-append, length-drop, length-replicate, List·getD-append}
+use lib.ListN.{getD, take, drop, length, length-append, length-drop, List·getD-append}
 use lib.Seq.{getD-at, getD-take, getD-drop, drop-drop, take-append-le, drop-append-le, ext-getD}
-use borrow.Author.Tests.{lt-ltb, le-leb}
+use borrow.Author.Tests.{le-leb}
 use Rattle.kind_limits.specs.Limits.{bodyInside}
 use Rattle.places.specs.Places.{gather, tabulate}
 use Rattle.places.proofs.Laws.{tabulate-ext, tabulate-at, length-tabulate}
