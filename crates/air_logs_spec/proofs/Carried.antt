@@ -57,7 +57,7 @@ module _ (n : ℕ) where
   took-record : (h : Hearing) (r : Record) → Carried n r → AllTaken n (h .takings) → AllTaken n ((hearRecord h r) .takings)
   unfolding heardOne
   took-record h r c a =
-      hearRecord-cases (λ (x : Hearing). AllTaken n (x .takings)) h r (λ e. newer (takes (h .station) r)) (λ e. a) (λ e. a)
+      hearRecord-cases (λ (x : Hearing). AllTaken n (x .takings)) h r (λ e. newer (takes (h .station) r)) (λ e. a) (λ e f. a)
     where
       newer : (u : Bool) → AllTaken n (h .takings ++ cond u (record { source = r .station; body = r .body } ∷ []) [])
       newer true = taken-append n (h .takings) (record { source = r .station; body = r .body } ∷ []) a ((c .station, c .body), tt)
