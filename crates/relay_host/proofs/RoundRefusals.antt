@@ -2,7 +2,7 @@
 use mathlib.Core.Path.{_≡_, refl, sym}
 use mathlib.Core.Bool.{Bool, true, false, cond, not}
 use mathlib.Core.List.{List, [], _∷_, _++_}
-use Prim.Native.Nat.{ℕ, zero, suc, _<_}
+use Prim.Native.Nat.{ℕ, zero, suc, max, _<_}
 use native.Mathlib.Omega.{arith}
 use lib.Dec.{eqb}
 use Rattle.kinds.specs.Refusals.{done, outsideLimits, laneFull, countTooHigh, refuse}
@@ -12,7 +12,8 @@ use Rattle.frame_rules.specs.declared.Record.{Record}
 use Rattle.links.specs.Log.{hearsIn}
 use Rattle.station_rules.specs.declared.Station.{Station}
 use Rattle.station_rules.specs.State.{sentRecords}
-use Rattle.station_rules.specs.Hearing.{Hearing, heeds, takes, overfills, heardNewer, hearRecord, hearRecords, hearFrame}
+use Rattle.station_rules.specs.Hearing.{Hearing, overfills, hearRecord, hearRecords, hearFrame}
+use Rattle.station_rules.proofs.HearRecord.{heardOne, hearRecord-cases}
 use Rattle.station_rules.specs.Calls.{ownCountInside}
 use Rattle.group_rules.specs.State.{stationAt, sizeOf, groupInside}
 use Rattle.group_rules.specs.Calls.{heardBelow, heard, firstRefusal, roundRefusal, roundCall}
@@ -24,10 +25,13 @@ pub record SmallHearing (h : Hearing) : Type 0 where
   pub refusal : Small (h .refusal)
 
 record-small : (h : Hearing) (r : Record) → SmallHearing h → SmallHearing (hearRecord h r)
-unfolding hearRecord
+unfolding heardOne
 record-small h r s =
-    cond-keeps SmallHearing (heeds (h .station) r) _ h
-    (record { refusal = cond-keeps (λ (x : ℕ). x < 256) (overfills (h .station) r) laneFull (h .refusal) (omega arith) (s .refusal) }) s
+    hearRecord-cases SmallHearing h r (λ e. record { refusal = newer (overfills (h .station) r) }) (λ e. record { refusal = omega arith }) (λ e f. s)
+  where
+    newer : (full : Bool) → max (h .refusal) (refuse full laneFull done) < 256
+    newer true = omega (arith, s .refusal)
+    newer false = omega (arith, s .refusal)
 
 records-small : (rs : List Record) (h : Hearing) → SmallHearing h → SmallHearing (hearRecords h rs)
 unfolding hearRecords
