@@ -1,10 +1,10 @@
 -- `station_encoder::put_waiting` meets its contract: the number of edits is written, and then the edits before i.
-use mathlib.Core.Path.{_≡_, refl, ap, _∙_}
-use Prim.Native.Nat.{ℕ, _≤_, _-_, _+_, _*_}
+use mathlib.Core.Path.{_≡_, refl, _∙_}
+use Prim.Native.Nat.{ℕ, _≤_, _-_, _+_}
 use native.Mathlib.Omega.{arith}
 use mathlib.Core.List.{List}
 use lib.ListN.{getD, length}
-use lib.Seq.{sets, length-sets}
+use lib.Seq.{sets}
 use Rattle.lanes.specs.declared.Slot.{Slot}
 use Rattle.lanes.specs.Queue.{noSlot}
 use Rattle.station_bytes_spec.specs.Bytes.{joinedBelow}
@@ -13,11 +13,6 @@ use Rattle.station_bytes_spec.proofs.Body.{length-body}
 use Rattle.station_encoder.proofs.Writing.{none-written, part-written, waiting-written}
 use Rattle.station_encoder.proofs.put_waiting.Statement.{statement}
 use Rattle.station_encoder.proofs.put_waiting.Tie as tie
-use Rattle.station_encoder.proofs.put_waiting.Reads as reads
-use Rattle.station_encoder.proofs.put_waiting.Lts as lts
-use Rattle.record_writer.proofs.put_word.Reads as put-word-reads
-use Rattle.station_encoder.proofs.as_byte.Reads as as-byte-reads
-use Rattle.station_encoder.proofs.put_body.Reads as put-body-reads
 
 abbrev edits : List Slot → ℕ → List ℕ
 edits slots i = encodeBody ((getD slots i noSlot) .body)
@@ -28,41 +23,11 @@ Inv-loop bytes₀ at slots i₀ bytes i = (i ≤ 32) × (length bytes ≡ length
 abbrev μ-loop : tie.MeasureT-loop
 μ-loop bytes₀ at slots i₀ bytes i = 32 - i
 
-as-byte-requires : tie.Need-as-byte-requires Inv-loop μ-loop
-as-byte-requires c κs = omega arith
-
-cast-put-word : tie.Need-cast-put-word Inv-loop μ-loop
-cast-put-word c = omega arith
-
-put-word-requires : tie.Need-put-word-requires Inv-loop μ-loop
-put-word-requires c κs = omega arith
-
 loop-holds : tie.Need-loop-holds Inv-loop μ-loop
 loop-holds c = (omega arith, refl, none-written _ _ _)
 
-mul-slot : tie.Need-mul-slot Inv-loop μ-loop
-mul-slot c = omega arith
-
-array-copy-out-slot : tie.Need-array-copy-out-slot Inv-loop μ-loop
-array-copy-out-slot c = omega arith
-
-add-put-body : tie.Need-add-put-body Inv-loop μ-loop
-add-put-body c = omega arith
-
-mul-put-body : tie.Need-mul-put-body Inv-loop μ-loop
-mul-put-body c = omega arith
-
-add-put-body-2 : tie.Need-add-put-body-2 Inv-loop μ-loop
-add-put-body-2 c = omega arith
-
 put-body-requires : tie.Need-put-body-requires Inv-loop μ-loop
 put-body-requires c κs = omega (arith, c .before .before .before .loop .inv .1)
-
-add-i : tie.Need-add-i Inv-loop μ-loop
-add-i c = omega arith
-
-loop-less : tie.Need-loop-less Inv-loop μ-loop
-loop-less c = omega arith
 
 loop-again : tie.Need-loop-again Inv-loop μ-loop
 loop-again c =
@@ -86,18 +51,18 @@ put-waiting-spec =
     (tie.spec
     Inv-loop
     μ-loop
-    as-byte-requires
-    cast-put-word
-    put-word-requires
+    (λ c κs. omega arith)
+    (λ c. omega arith)
+    (λ c κs. omega arith)
     loop-holds
-    mul-slot
-    array-copy-out-slot
-    add-put-body
-    mul-put-body
-    add-put-body-2
+    (λ c. omega arith)
+    (λ c. omega arith)
+    (λ c. omega arith)
+    (λ c. omega arith)
+    (λ c. omega arith)
     put-body-requires
-    add-i
-    loop-less
+    (λ c. omega arith)
+    (λ c. omega arith)
     loop-again
     same-length
     returns)

@@ -1,15 +1,8 @@
 -- Each return is a case of the definition: the group's refusal, no room, or the group at the front.
-use mathlib.Core.Path.{_≡_, sym, _∙_}
-use native.Mathlib.Omega.{arith}
-use borrow.Author.Tests.{not-true, not-false}
 use Rattle.relay_host.proofs.Group.{fresh-refused, fresh-short, fresh-done}
 use borrow.Author.Needs.{needs}
 use Rattle.relay_host.proofs.relay_group.relay_group_fresh.Statement.{statement}
 use Rattle.relay_host.proofs.relay_group.relay_group_fresh.Tie as tie
-use Rattle.relay_host.proofs.relay_group.relay_group_fresh.Reads as reads
-use Rattle.relay_host.proofs.relay_group.relay_group_fresh.Lts as lts
-use Rattle.group.proofs.fresh.Reads as fresh-reads
-use Rattle.station_encoder.proofs.put_group.Reads as put-group-reads
 
 fresh-requires : tie.Need-fresh-requires
 fresh-requires c κs = search needs

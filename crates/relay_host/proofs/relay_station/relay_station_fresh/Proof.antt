@@ -1,15 +1,8 @@
 -- Each return is a case of the definition: the station's refusal, no room, or the station at the front.
-use mathlib.Core.Path.{_≡_, sym, _∙_}
-use native.Mathlib.Omega.{arith}
-use borrow.Author.Tests.{not-true, not-false}
 use Rattle.relay_host.proofs.Station.{fresh-refused, fresh-short, fresh-done}
 use borrow.Author.Needs.{needs}
 use Rattle.relay_host.proofs.relay_station.relay_station_fresh.Statement.{statement}
 use Rattle.relay_host.proofs.relay_station.relay_station_fresh.Tie as tie
-use Rattle.relay_host.proofs.relay_station.relay_station_fresh.Reads as reads
-use Rattle.relay_host.proofs.relay_station.relay_station_fresh.Lts as lts
-use Rattle.station.proofs.fresh.Reads as fresh-reads
-use Rattle.station_encoder.proofs.put_station.Reads as put-station-reads
 
 fresh-requires : tie.Need-fresh-requires
 fresh-requires c κs = search needs
