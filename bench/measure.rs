@@ -6,7 +6,7 @@ use std::hint::black_box;
 use std::process::ExitCode;
 use std::time::{Duration, Instant};
 
-use relay_peer::{air_logs, forecast, frames, load, measured, merge, questions, refusals};
+use relay_peer::{air_logs, forecast, frames, load, measured, merge, questions, recorded, refusals};
 
 /// A slice and two numbers in, a number out: the form of everything that is measured but the forecast, the merge, the questions and the comparison of air logs.
 type Function = unsafe extern "C" fn(*const u8, usize, u32, u32) -> u32;
@@ -28,6 +28,13 @@ type Compare = unsafe extern "C" fn(*const u8, usize, u32, *const u8, usize, u32
 const PROJECT_COMPARE: Option<Compare> = Some(relay_compare);
 #[cfg(not(relay_host))]
 const PROJECT_COMPARE: Option<Compare> = None;
+
+/// A station's rounds beside recorded frames, and N: a checksum.
+type StationRounds = fn(&[Vec<Vec<u8>>], usize) -> u32;
+
+/// The codec of a station: bytes, how often they are read and written, and whether they are judged before.
+#[cfg(all(relay_host, relay_bench))]
+type Codec = unsafe extern "C" fn(*mut u8, usize, u32, u32) -> u32;
 
 /// The frame check of crate relay_host.
 #[cfg(relay_host)]
@@ -58,6 +65,12 @@ const PROJECT_QUESTIONS: Option<Questions> = None;
 const PROJECT_ROUNDS: Option<Function> = Some(relay_bench_rounds);
 #[cfg(not(relay_bench))]
 const PROJECT_ROUNDS: Option<Function> = None;
+
+/// A station's rounds through the calls of crate relay_host.
+#[cfg(relay_host)]
+const PROJECT_STATION: Option<StationRounds> = Some(station_project);
+#[cfg(not(relay_host))]
+const PROJECT_STATION: Option<StationRounds> = None;
 
 /// The load generator of crate relay_host.
 #[cfg(relay_host)]
@@ -114,6 +127,18 @@ unsafe extern "C" {
         answer: *mut u64,
         answer_len: usize,
     ) -> u32;
+    #[cfg(relay_host)]
+    fn relay_station_fresh(state: *mut u8, state_len: usize, n: u32, own: u32) -> u32;
+    #[cfg(relay_host)]
+    fn relay_station_post(state: *mut u8, state_len: usize, kind: u32, event: u32, argument: i32) -> u32;
+    #[cfg(relay_host)]
+    fn relay_station_write(state: *const u8, state_len: usize, frame: *mut u8, frame_len: usize, length: *mut u32, length_len: usize) -> u32;
+    #[cfg(relay_host)]
+    fn relay_station_hear(state: *mut u8, state_len: usize, frame: *const u8, frame_len: usize, taken: *mut u8, taken_len: usize) -> u32;
+    #[cfg(relay_host)]
+    fn relay_station_turn(state: *mut u8, state_len: usize, report: *mut u8, report_len: usize) -> u32;
+    #[cfg(all(relay_host, relay_bench))]
+    fn relay_bench_codec(state: *mut u8, state_len: usize, times: u32, judged: u32) -> u32;
     #[cfg(relay_bench)]
     fn relay_bench_rounds(schedule: *const u8, len: usize, n: u32, rounds: u32) -> u32;
     #[cfg(gcc)]
@@ -131,6 +156,11 @@ extern "C" fn frame_check_rust(bytes: *const u8, len: usize, n: u32, own: u32) -
 extern "C" fn rounds_rust(schedule: *const u8, len: usize, n: u32, rounds: u32) -> u32 {
     // SAFETY: as above.
     measured::rounds(unsafe { std::slice::from_raw_parts(schedule, len) }, n, rounds)
+}
+
+extern "C" fn rounds_by_value(schedule: *const u8, len: usize, n: u32, rounds: u32) -> u32 {
+    // SAFETY: as above.
+    measured::rounds_by_value(unsafe { std::slice::from_raw_parts(schedule, len) }, n, rounds)
 }
 
 extern "C" fn forecast_rust(log: *const u16, len: usize, n: u32, ends: *mut u16, _: usize, last: *mut u16, _: usize) -> u32 {
@@ -167,6 +197,49 @@ extern "C" fn load_project(_bytes: *const u8, _len: usize, n: u32, rounds: u32) 
         // SAFETY: pointers and lengths are those of slices that live through the call.
         unsafe { relay_load(state, n, due, 0, buffer.as_mut_ptr(), buffer.len(), next.as_mut_ptr(), next.len()) }
     })
+}
+
+/// The bytes of a station's state and of a turn's report: RELAY_STATION_BYTES and RELAY_TURN_BYTES of include/relay.h.
+#[cfg(relay_host)]
+const STATION_BYTES: usize = 1108;
+#[cfg(relay_host)]
+const TURN_BYTES: usize = 220;
+
+/// What `recorded::rounds` does, through the calls for C: the state after it, and the sum; nothing where a call is refused.
+#[cfg(relay_host)]
+fn play(recorded: &[Vec<Vec<u8>>], n: usize) -> Option<([u8; STATION_BYTES], u32)> {
+    use recorded::{OWN, mix};
+    let (mut state, mut frame, mut taken, mut report) = ([0u8; STATION_BYTES], [0u8; frames::LARGEST_FRAME], [0u8; 16], [0u8; TURN_BYTES]);
+    let (mut length, mut sum) = ([0u32], 0u32);
+    let at = state.as_mut_ptr();
+    let done = |refusal: u32| (refusal == 0).then_some(());
+    let number = |bytes: &[u8], at: usize| u32::from_le_bytes([bytes[at], bytes[at + 1], bytes[at + 2], bytes[at + 3]]);
+    // SAFETY: pointers and lengths are those of arrays and slices that live through the calls.
+    unsafe {
+        done(relay_station_fresh(at, STATION_BYTES, n as u32, OWN as u32))?;
+        for (round, frames) in recorded.iter().enumerate() {
+            if let Some((event, start)) = recorded::due(round, OWN) {
+                sum = mix(sum, (relay_station_post(at, STATION_BYTES, 2, event, start) == 0).into());
+            }
+            done(relay_station_write(at, STATION_BYTES, frame.as_mut_ptr(), frame.len(), length.as_mut_ptr(), 1))?;
+            sum = mix(mix(sum, length[0]), frame[round % length[0] as usize].into());
+            for (_, heard) in frames.iter().enumerate().filter(|&(sender, _)| sender != OWN) {
+                done(relay_station_hear(at, STATION_BYTES, heard.as_ptr(), heard.len(), taken.as_mut_ptr(), taken.len()))?;
+                sum = mix(sum, taken.iter().rev().fold(0, |set, &one| 2 * set + u32::from(one)));
+            }
+            done(relay_station_turn(at, STATION_BYTES, report.as_mut_ptr(), report.len()))?;
+            sum = mix(sum, u32::from(report[0]) + 2 * u32::from(report[1]));
+            for body in [28 + 12 * (round % 16), 4, 16] {
+                sum = mix(mix(sum, report[body].into()), number(&report, body + 4));
+            }
+        }
+    }
+    Some((state, sum))
+}
+
+#[cfg(relay_host)]
+fn station_project(recorded: &[Vec<Vec<u8>>], n: usize) -> u32 {
+    play(recorded, n).map_or(0, |(_, sum)| sum)
 }
 
 #[allow(clippy::too_many_arguments)]
@@ -246,6 +319,9 @@ extern "C" fn compare_rust(
 const CHECKS: u32 = 25_600;
 const STATION_ROUNDS: u32 = 2_048;
 const LOAD_STATIONS: u32 = 65_536;
+const RECORDED_ROUNDS: usize = 64;
+#[cfg(all(relay_host, relay_bench))]
+const CODED: u32 = 2_048;
 
 fn call(function: Function, bytes: &[u8], first: u32, second: u32) -> u32 {
     // SAFETY: pointer and length are those of a slice that lives through the call.
@@ -386,6 +462,22 @@ impl<F: Copy> Measure<'_, F> {
     }
 }
 
+/// Prints the time of reading a station's bytes and writing them again, which the project alone does; false if the bytes change.
+#[cfg(all(relay_host, relay_bench))]
+fn print_codec(name: &str, codec: Codec, state: &[u8], judged: u32, span: Duration) -> bool {
+    let mut bytes = state.to_vec();
+    let mut best = Duration::MAX;
+    let begun = Instant::now();
+    while begun.elapsed() < span {
+        let from = processor_time();
+        // SAFETY: pointer and length are those of a vector that lives through the call.
+        black_box(unsafe { codec(bytes.as_mut_ptr(), bytes.len(), CODED, judged) });
+        best = best.min(processor_time() - from);
+    }
+    println!("{name}: project {:.1} ns", best.as_nanos() as f64 / f64::from(CODED));
+    bytes == state
+}
+
 /// The frame of station 1 among n, with a record of each station; every kind of body comes.
 fn frame(n: u8, seed: u32) -> Vec<u8> {
     let mut bytes = vec![n, 1, n, 0];
@@ -446,8 +538,10 @@ fn main() -> ExitCode {
             let schedule = schedule(n as usize);
             let rounds = STATION_ROUNDS / n;
             let work = |function| call(function, &schedule, n, rounds);
-            let name = format!("{links} round, N = {n}");
-            agree &= Measure { name, units: rounds, work: &work }.print(PROJECT_ROUNDS, rounds_rust, span);
+            for (peer, function) in [("", rounds_rust as Function), (", peer by value", rounds_by_value)] {
+                let name = format!("{links} round, N = {n}{peer}");
+                agree &= Measure { name, units: rounds, work: &work }.print(PROJECT_ROUNDS, function, span);
+            }
         }
     }
     for (links, rounds, n) in [
@@ -509,6 +603,20 @@ fn main() -> ExitCode {
         let name = format!("comparison of two listings, {megabytes:.0} MB together, stations {p} and {q}, a kilobyte");
         let units = (first.len() + second.len()) as u32 / 1_000;
         agree &= Measure { name, units, work: &work }.print(PROJECT_COMPARE, compare_rust as Compare, span);
+    }
+    for n in [16, 8, 2] {
+        let frames = recorded::record(n, RECORDED_ROUNDS);
+        let times = 1024 / (n * n);
+        let work = |function: StationRounds| (0..times).fold(0, |sum, _| recorded::mix(sum, function(black_box(&frames), n)));
+        let name = format!("a station's round from C, N = {n}: write, {} hears, turn", n - 1);
+        let units = (times * RECORDED_ROUNDS) as u32;
+        agree &= Measure { name, units, work: &work }.print(PROJECT_STATION, recorded::rounds as StationRounds, span);
+    }
+    #[cfg(all(relay_host, relay_bench))]
+    if let Some((state, _)) = play(&recorded::record(16, RECORDED_ROUNDS), 16) {
+        for (judged, name) in [(0, "a station read and written, N = 16"), (1, "a station judged, read and written, N = 16")] {
+            agree &= print_codec(name, relay_bench_codec, &state, judged, span);
+        }
     }
     if agree { ExitCode::SUCCESS } else { ExitCode::FAILURE }
 }

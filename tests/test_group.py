@@ -115,7 +115,7 @@ class Round(unittest.TestCase):
             self.assertTrue(group.group_in_limits(result.group))
             if result.refusal:
                 self.assertEqual(result, group.refused_round(result.refusal, one))
-        self.assertEqual(seen, {0, 8, 10})
+        self.assertEqual(seen, {0, 8, 10, 14})
 
     def test_news_crosses_one_link(self):
         """Station 1 hears 0 and station 2 hears 1: after one round 2 knows nothing of 0."""
@@ -157,6 +157,35 @@ class Round(unittest.TestCase):
         full = (outside.with_lane(zero, 2, NEUTRAL),) + tuple(others)
         self.assertEqual(group.round_of(full, masks(6)), group.refused_round(8, full))
         self.assertEqual(group.round_of(full, masks(2)).refusal, 0)
+
+    def conflicting(self):
+        """Station 0 of four; stations 1 and 2 hold records of 3 with one label and count, and other bodies."""
+        stations = list(group.fresh(4).group)
+        for place, body in ((1, NEUTRAL), (2, EDIT)):
+            stations[place] = outside.with_record(stations[place], 3, station=3, body=body,
+                                                  labels=labels(0, 0, 0, 1))
+        return tuple(stations)
+
+    def test_14(self):
+        """A record conflicts with one that came in the same round, and only there."""
+        one = self.conflicting()
+        self.assertEqual(group.round_of(one, masks(6)), group.refused_round(14, one))
+        for mask in (2, 4):
+            self.assertEqual(group.round_of(one, masks(mask)).refusal, 0)
+
+    def test_first_refused_frame(self):
+        """Frames that meet 8 and 14, in either order: the first decides, stations before senders."""
+        one = list(self.conflicting())
+        one[0] = outside.with_lane(one[0], 3, NEUTRAL, EDIT)
+        full = tuple(one)
+        self.assertEqual(group.round_of(full, masks(6)), group.refused_round(8, full))
+        one = list(self.conflicting())
+        one[3] = outside.with_record(one[3], 3, station=3, count=0, body=EDIT, labels=labels(0, 0, 0, 2))
+        one[0] = outside.with_lane(one[0], 3, NEUTRAL)
+        late = tuple(one)
+        self.assertEqual(group.round_of(late, masks(10)), group.refused_round(8, late))
+        self.assertEqual(group.round_of(late, masks(14)), group.refused_round(14, late))
+        self.assertEqual(group.round_of(late, masks(10, 0, 0, 6)), group.refused_round(8, late))
 
     def test_10_before_8(self):
         zero, one, two = self.relayed()[:3]

@@ -3,9 +3,9 @@
 import unittest
 
 from model import frames, hearing, outside, station
-from model.bodies import DROP, EMPTY, NEUTRAL, Body
+from model.bodies import DROP, EMPTY, INSERT, NEUTRAL, SHIFT, Body
 from model.queues import contents
-from model.records import Record, newer
+from model.records import CONFLICTING, NEWER, OLDER, SAME, Record, age
 from model.states import flags, labels, some_frame, some_stations
 
 EDIT = Body(DROP, 5, 0)
@@ -58,9 +58,11 @@ class Hear(unittest.TestCase):
         for rng, one in some_stations(400, least_n=2):
             data = some_frame(rng, one)
             records = frames.read_frame(data)
-            if not any(newer(record, hearing.held_record(one, record.station))
-                       for record in records if record.station != one.own):
-                self.assertEqual(hearing.hear(one, data), (0, one, 0))
+            ages = [age(record, hearing.held_record(one, record.station), one.n)
+                    for record in records if record.station != one.own]
+            if NEWER not in ages:
+                refusal = 14 if CONFLICTING in ages else 0
+                self.assertEqual(hearing.hear(one, data), (refusal, one, 0))
 
     def test_not_newer_acknowledges_nothing(self):
         """A record that would acknowledge, heard again by a station that has not acknowledged it."""
@@ -93,6 +95,69 @@ class Hear(unittest.TestCase):
         own = bytes([3, 0]) + broken[2:]
         self.assertEqual(hearing.hear(full, own), (6, full, 0))
         self.assertEqual(hearing.hear(full, own[:-1]), (5, full, 0))
+
+
+class Conflict(unittest.TestCase):
+    """Station 0 of three, which holds a record of station 1 (document 02, A4)."""
+
+    RECORD = Record(1, 2, EDIT, labels(0, 1, 2))
+
+    def setUp(self):
+        fresh = station.fresh(3, 0).station
+        self.one = outside.with_record(fresh._replace(labels=labels(1, 1)), 1, **self.RECORD._asdict())
+        self.one = self.one._replace(held=flags(True, True, False))
+
+    def hear(self, *records):
+        return hearing.hear(self.one, frames.frame_bytes(3, 1, records))
+
+    def test_same(self):
+        self.assertEqual(self.hear(self.RECORD), (0, self.one, 0))
+
+    def test_each_other_field(self):
+        for changed in (EMPTY, NEUTRAL, EDIT._replace(event=6), EDIT._replace(kind=SHIFT),
+                        Body(SHIFT, 5, -1), Body(INSERT, 5, 0)):
+            self.assertEqual(self.hear(self.RECORD._replace(body=changed)), (14, self.one, 0), changed)
+        for changed in (labels(1, 1, 2), labels(2, 1, 2), labels(0, 1, 0), labels(0, 1, 1)):
+            self.assertEqual(self.hear(self.RECORD._replace(labels=changed)), (14, self.one, 0), changed)
+
+    def test_label_and_count_come_first(self):
+        """With another own label or count a record is newer or older, whatever else it has."""
+        other = self.RECORD._replace(body=NEUTRAL)
+        self.assertEqual(age(other._replace(count=3), self.RECORD, 3), NEWER)
+        self.assertEqual(age(other._replace(labels=labels(0, 2, 2)), self.RECORD, 3), NEWER)
+        self.assertEqual(age(other._replace(count=1), self.RECORD, 3), OLDER)
+        self.assertEqual(age(other._replace(labels=labels(0, 0, 2)), self.RECORD, 3), OLDER)
+        self.assertEqual(self.hear(other._replace(count=1)), (0, self.one, 0))
+
+    def test_labels_from_n_up_are_no_part(self):
+        held = self.RECORD._replace(labels=labels(0, 1, 2, 1, 2, 3))
+        self.one = outside.with_record(self.one, 1, **held._asdict())
+        self.assertEqual(self.hear(self.RECORD), (0, self.one, 0))
+        self.assertEqual(age(self.RECORD, held, 3), SAME)
+        self.assertEqual(age(self.RECORD, held, 4), CONFLICTING)
+
+    def test_own_record(self):
+        own = self.one.table[0]._replace(body=NEUTRAL)
+        self.assertEqual(self.hear(own, self.RECORD), (0, self.one, 0))
+
+    def test_14_before_8(self):
+        """An overfull lane before the conflict in the frame, and behind it."""
+        overfull = outside.with_lane(self.one._replace(labels=labels(1, 1)), 2, NEUTRAL, EDIT)
+        third = Record(2, 0, EDIT, labels(0, 0, 1))
+        wrong = self.RECORD._replace(body=NEUTRAL)
+        self.one = overfull
+        self.assertEqual(self.hear(self.RECORD, third), (8, self.one, 0))
+        self.assertEqual(self.hear(wrong, third), (14, self.one, 0))
+        self.one = outside.with_lane(self.one, 1, NEUTRAL, EDIT)
+        self.one = outside.with_record(self.one, 2, station=2, count=0, body=NEUTRAL, labels=labels(0, 0, 1))
+        self.one = self.one._replace(held=flags(True, True, True))
+        newer = self.RECORD._replace(labels=labels(0, 2, 2))
+        self.assertEqual(self.hear(newer), (8, self.one, 0))
+        self.assertEqual(self.hear(newer, third), (14, self.one, 0))
+
+    def test_7_before_14(self):
+        wrong = self.RECORD._replace(body=NEUTRAL, count=5)
+        self.assertEqual(self.hear(wrong), (7, self.one, 0))
 
 
 if __name__ == "__main__":

@@ -172,7 +172,7 @@ class WrongStates(Broken):
     def test_count_does_not_rise(self):
         right = hearing.advance
         with broken("advance", lambda one, k: right(one, k)._replace(count=one.count)):
-            self.assert_runs_notice("end in rounds")
+            self.assert_runs_notice("is refused with 14")
 
     def test_count_rises_twice(self):
         right = hearing.advance
@@ -198,6 +198,24 @@ class WrongStates(Broken):
             return right(one._replace(waiting=one.waiting._replace(slots=slots)))
         with broken("choose_body", choose_body):
             self.assert_runs_notice("accepted posts")
+
+
+class WrongAges(Broken):
+    """Faults in what document 02, A4 adds."""
+
+    def test_conflicts_passed_over(self):
+        with broken("conflicts", lambda one, record: False):
+            self.assert_test_fails(test_hearing.Conflict, "test_each_other_field")
+
+    def test_labels_from_n_up_compared(self):
+        right = records.age
+        with broken("age", lambda seen, held, n: right(seen, held, records.PLACES)):
+            self.assert_test_fails(test_hearing.Conflict, "test_labels_from_n_up_are_no_part")
+
+    def test_same_taken_for_conflicting(self):
+        with broken("age", lambda seen, held, n: records.NEWER if records.newer(seen, held) else records.CONFLICTING):
+            self.assert_test_fails(test_hearing.Conflict, "test_same")
+            self.assert_runs_notice("is refused with 14")
 
 
 class WrongLines(Broken):

@@ -5,6 +5,7 @@
 
 pub mod air_logs;
 pub mod bodies;
+pub mod by_value;
 pub mod forecast;
 pub mod frames;
 pub mod group;
@@ -15,6 +16,7 @@ pub mod measured;
 pub mod merge;
 pub mod questions;
 pub mod queues;
+pub mod recorded;
 pub mod refusals;
 pub mod script;
 pub mod station;

@@ -8,10 +8,10 @@ from typing import NamedTuple
 
 from .bodies import EMPTY, Body
 from .frames import numbers_valid, read_frame
-from .hearing import LaneOverflow, Taking, hear_records
+from .hearing import FrameRefused, Taking, hear_records
 from .queues import replaced
 from .records import PLACES
-from .refusals import BAD_NUMBER, COUNT_TOO_LARGE, DONE, LANE_FULL, OUTSIDE_LIMITS
+from .refusals import BAD_NUMBER, COUNT_TOO_LARGE, DONE, OUTSIDE_LIMITS
 from .station import append_edit, count_writable, fresh_state, in_limits, written_frame
 from .turns import NO_ROW, close_round
 
@@ -126,8 +126,8 @@ def round_of(group, masks):
         return refused_round(COUNT_TOO_LARGE, group)
     try:
         heard, takings = hear_all(group[:n], masks)
-    except LaneOverflow:
-        return refused_round(LANE_FULL, group)
+    except FrameRefused as refused:
+        return refused_round(refused.refusal, group)
     turned = [close_round(station) for station in heard]
     stations = tuple(result.station for result in turned)
     reports = tuple(map(report_of, takings, turned))

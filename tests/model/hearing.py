@@ -1,12 +1,12 @@
-"""Hear: one frame's records at a station (document 01, "A station and its calls")."""
+"""Hear: one frame's records at a station (document 01, "A station and its calls"; document 02, A4)."""
 
 from typing import NamedTuple
 
 from .bodies import EMPTY, EMPTY_KIND, Body
 from .frames import frame_refusal, read_frame
 from .queues import LANE_LIMIT, lane_with, replaced
-from .records import newer, own_label, successor
-from .refusals import DONE, LANE_FULL, OUTSIDE_LIMITS
+from .records import CONFLICTING, NEWER, age, own_label, successor
+from .refusals import CONFLICT, DONE, LANE_FULL, OUTSIDE_LIMITS
 from .station import LARGEST_COUNT, Station, in_limits
 
 
@@ -21,8 +21,12 @@ class Taking(NamedTuple):
     body: Body
 
 
-class LaneOverflow(Exception):
-    """A lane that holds two bodies would get a third."""
+class FrameRefused(Exception):
+    """A frame that is refused while it is heard, with its number."""
+
+    def __init__(self, refusal):
+        super().__init__(refusal)
+        self.refusal = refusal
 
 
 def held_record(station, k):
@@ -54,14 +58,14 @@ def take(station, k, body):
     """A body put last in the lane of another station."""
     lane = station.lanes[k]
     if lane.length >= LANE_LIMIT:
-        raise LaneOverflow
+        raise FrameRefused(LANE_FULL)
     return station._replace(lanes=replaced(station.lanes, k, lane_with(lane, body)))
 
 
 def hear_record(station, record):
     """One record of another station: the station after it, and the body taken, Empty for none."""
     k = record.station
-    if not newer(record, held_record(station, k)):
+    if age(record, held_record(station, k), station.n) != NEWER:
         return station, EMPTY
     station = acknowledge(hold(station, record), record)
     if own_label(record) != successor(station.labels[k]):
@@ -72,12 +76,21 @@ def hear_record(station, record):
     return take(station, k, record.body), record.body
 
 
+def conflicts(station, record):
+    """Whether a record of another station conflicts with the held one."""
+    return age(record, held_record(station, record.station), station.n) == CONFLICTING
+
+
 def hear_records(station, records):
-    """The records of one frame in order: the station after them, and the takings as heard."""
+    """The records of one frame in order: the station after them, and the takings as heard.
+
+    Conflicts are judged against the table as it stands when the frame is heard, before any lane.
+    """
+    others = [record for record in records if record.station != station.own]
+    if any(conflicts(station, record) for record in others):
+        raise FrameRefused(CONFLICT)
     takings = []
-    for record in records:
-        if record.station == station.own:
-            continue
+    for record in others:
         station, body = hear_record(station, record)
         if body.kind != EMPTY_KIND:
             takings.append(Taking(record.station, body))
@@ -92,6 +105,6 @@ def hear(station, data):
         return Heard(refusal, station, 0)
     try:
         after, takings = hear_records(station, read_frame(data))
-    except LaneOverflow:
-        return Heard(LANE_FULL, station, 0)
+    except FrameRefused as refused:
+        return Heard(refused.refusal, station, 0)
     return Heard(DONE, after, sum(1 << taking.source for taking in takings))

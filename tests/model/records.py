@@ -44,6 +44,19 @@ def newer(seen, held):
     return own_label(seen) == own_label(held) and seen.count > held.count
 
 
+NEWER, SAME, CONFLICTING, OLDER = "newer", "same", "conflicting", "older"
+
+
+def age(seen, held, n):
+    """What a seen record is beside the held one of its station, among n stations (document 02, A4)."""
+    if newer(seen, held):
+        return NEWER
+    if (own_label(seen), seen.count) != (own_label(held), held.count):
+        return OLDER
+    alike = seen.body == held.body and seen.labels[:n] == held.labels[:n]
+    return SAME if alike else CONFLICTING
+
+
 def count_limit(n):
     """The largest count of a record in a frame, and of a held record of another station."""
     return 2 * (n - 1)

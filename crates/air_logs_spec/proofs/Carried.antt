@@ -2,25 +2,27 @@
 -- lane, what it ended was its body, and what it started is Empty or may stand in a lane.
 use Prim.Native.Nat.{ℕ, zero, suc, _<_, _≤_}
 use mathlib.Core.Path.{_≡_, refl, subst}
-use mathlib.Core.Bool.{Bool, true, false, cond, _&&_, _||_, false≢true}
+use mathlib.Core.Bool.{Bool, true, false, cond, _&&_, false≢true}
 use borrow.Author.Tests.{ltb-true}
 use mathlib.Core.List.{List, [], _∷_, _++_}
 use native.Mathlib.Omega.{arith}
-use lib.Dec.{leb, ltb, eqb}
+use lib.Dec.{ltb, eqb}
 use lib.ListN.{length, getD, replicate, List·getD-append, getD-replicate}
 use Rattle.kinds.specs.declared.Body.the-variants.{Empty}
 use Rattle.kinds.specs.Refusals.{done}
 use Rattle.kind_limits.specs.Limits.{bodyInside}
 use Rattle.links.specs.Log.{hearsIn}
+use Rattle.places.proofs.Keeps.{cond-keeps}
 use Rattle.places.proofs.Laws.{allBelow-at, fill-below}
 use Rattle.frame_rules.specs.declared.Record.{Record}
 use Rattle.lanes.specs.Queue.{noSlot}
 use Rattle.station_rules.specs.declared.Station.{Station}
 use Rattle.station_rules.specs.declared.Taking.{Taking}
 use Rattle.station_rules.specs.State.{sentRecords, laneAt}
-use Rattle.station_rules.specs.Hearing.{Hearing, heeds, takes, heardNewer, hearRecord, hearRecords}
+use Rattle.station_rules.specs.Hearing.{Hearing, takes, hearRecord, hearRecords, hearFrame}
 use Rattle.station_rules.specs.Turn.{airs, rowOf, broadcastEnds, turnReport}
 use Rattle.station_rules.specs.Calls.{noTurn}
+use Rattle.station_rules.proofs.HearRecord.{heardOne, hearRecord-cases}
 use Rattle.station_rules.proofs.BodyLaws.{takeable-inside, empty-inside}
 use Rattle.station_rules.proofs.LimitsHear.{Carried}
 use Rattle.station_rules.proofs.LimitsHearing.{AllCarried}
@@ -53,27 +55,23 @@ taken-at n (x ∷ xs) a (suc k) l = taken-at n xs (a .1) k (omega arith)
 
 module _ (n : ℕ) where
   took-record : (h : Hearing) (r : Record) → Carried n r → AllTaken n (h .takings) → AllTaken n ((hearRecord h r) .takings)
-  unfolding hearRecord
+  unfolding heardOne
   took-record h r c a =
-      go (heeds (h .station) r) (takes (h .station) r) (h .overfull || (takes (h .station) r && leb 2 ((laneAt (h .station) (r .station)) .len)))
+      hearRecord-cases (λ (x : Hearing). AllTaken n (x .takings)) h r (λ e. newer (takes (h .station) r)) (λ e. a) (λ e f. a)
     where
-      go : (t u o : Bool) →
-          AllTaken n
-          ((cond t
-          (record {
-            station = heardNewer (h .station) r;
-            takings = h .takings ++ cond u (record { source = r .station; body = r .body } ∷ []) [];
-            overfull = o;
-          })
-          h) .takings)
-      go true true o = taken-append n (h .takings) (record { source = r .station; body = r .body } ∷ []) a ((c .station, c .body), tt)
-      go true false o = taken-append n (h .takings) [] a tt
-      go false u o = a
+      newer : (u : Bool) → AllTaken n (h .takings ++ cond u (record { source = r .station; body = r .body } ∷ []) [])
+      newer true = taken-append n (h .takings) (record { source = r .station; body = r .body } ∷ []) a ((c .station, c .body), tt)
+      newer false = taken-append n (h .takings) [] a tt
 
   took-records : (h : Hearing) (rs : List Record) → AllCarried n rs → AllTaken n (h .takings) → AllTaken n ((hearRecords h rs) .takings)
   unfolding hearRecords
   took-records h [] c a = a
   took-records h (r ∷ rs) c a = took-records (hearRecord h r) rs (c .1) (took-record h r (c .0) a)
+
+  took-frame : (h : Hearing) (rs : List Record) → AllCarried n rs → AllTaken n (h .takings) → AllTaken n ((hearFrame h rs) .takings)
+  unfolding hearFrame
+  took-frame h rs c a =
+      cond-keeps (λ (x : Hearing). AllTaken n (x .takings)) (eqb (h .refusal) done) (hearRecords h rs) h (took-records h rs c a) a
 
   module _ (g : List Station) (c : Members n g) (masks : List ℕ) (run : Runs g masks) (i : ℕ) where
     took-below : (j : ℕ) → j ≤ n → AllTaken n ((heardBelow g masks i j) .takings)
@@ -87,8 +85,8 @@ module _ (n : ℕ) where
             (sent-carried (stationAt g j) (c .member j l .inside) (run .counts j (omega (arith, c .size))))
 
         go : (t : Bool) → AllTaken n ((heardBelow g masks i j) .takings) →
-            AllTaken n ((cond t (hearRecords (heardBelow g masks i j) (sentRecords (stationAt g j))) (heardBelow g masks i j)) .takings)
-        go true a = took-records (heardBelow g masks i j) (sentRecords (stationAt g j)) sent a
+            AllTaken n ((cond t (hearFrame (heardBelow g masks i j) (sentRecords (stationAt g j))) (heardBelow g masks i j)) .takings)
+        go true a = took-frame (heardBelow g masks i j) (sentRecords (stationAt g j)) sent a
         go false a = a
 
     took-all : AllTaken n ((heard g masks i) .takings)

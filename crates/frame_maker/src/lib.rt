@@ -26,8 +26,7 @@ fn place_fits(n: usize, k: usize, r: Record) -> bool
     if !kind_limits::body_inside(body) {
         return false;
     }
-    let labels = r.labels;
-    labels::all_labels(labels, n)
+    label_words::labels_inside(r.labels, n)
 }
 
 // The same, if one is held at all.

@@ -15,7 +15,7 @@ pub fn read_frame(bytes: &[u8], n: usize, own: usize) -> Reading
         station: 0,
         count: 0,
         body: Body::Empty,
-        labels: [0u8; 16],
+        labels: 0,
     };
     let mut records = [none; 16];
     let refusal = frames::check_frame(bytes, n, own);

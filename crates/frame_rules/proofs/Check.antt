@@ -5,7 +5,7 @@ use mathlib.Core.List.{List}
 use Prim.Native.Nat.{ℕ, _+_, _*_, _-_, _<_, _≤_}
 use native.Mathlib.Omega.{arith}
 use lib.Dec.{ltb, leb, eqb}
-use lib.ListN.{getD, drop, length}
+use lib.ListN.{getD, length}
 use lib.IntN.{ℤ}
 use mir.Syntax.{w32}
 use mir.Val.{SFits, toZ, ofZ}
@@ -13,11 +13,8 @@ use mir.ValLaws.{toZ-ofZ}
 use borrow.Author.Tests.{leb-true, ltb-true, ltb-false, eqb-true, eqb-false, not-false, lt-ltb, le-ltb, le-leb, lt-leb, eq-eqb, ne-eqb}
 use Rattle.kinds.specs.Refusals.{done, badNumber, badShape, badAddress, badRecord, refuse}
 use Rattle.kind_limits.specs.Limits.{numbersInside}
-use Rattle.places.specs.Places.{allBelow}
 use Rattle.places.proofs.Laws.{and-left, and-right, or-left, or-right}
-use Rattle.labels.specs.Label.{isLabel}
-use Rattle.labels.proofs.Laws.{all-below}
-use Rattle.label_words.specs.Packing.{unpacked, allZero, wordInside}
+use Rattle.label_words.specs.Packing.{labelsInside, zeroFrom, wordInside}
 use Rattle.frame_rules.specs.Words.{wordAt, signed}
 use Rattle.frame_rules.specs.Record.{bytesInside}
 use Rattle.frame_rules.specs.Frame.{shapeWrong, addressWrong, recordsInside, validNumber, frameRefusal, checkRefusal}
@@ -40,10 +37,10 @@ with-mark false zeros = refl
 
 module _ (n : ℕ) (p : List ℕ) where
   abbrev labels : Bool
-  labels = allBelow n (λ j. isLabel (getD (unpacked 16 (wordAt p 12)) j 0))
+  labels = labelsInside n (wordAt p 12)
 
   abbrev zeros : Bool
-  zeros = allZero (drop n (unpacked 16 (wordAt p 12)))
+  zeros = zeroFrom n (wordAt p 12)
 
   pub far : n ≤ getD p 0 0 → false ≡ bytesInside n p
   unfolding bytesInside
@@ -66,8 +63,7 @@ module _ (n : ℕ) (p : List ℕ) where
 
         pub by-labels : getD p 3 0 ≡ 0 → wordInside n (wordAt p 12) ≡ bytesInside n p
         unfolding bytesInside wordInside
-        by-labels d =
-            rw (all-below n (unpacked 16 (wordAt p 12)), lt-ltb _ _ a, le-leb _ _ b, c, eq-eqb _ _ d) (with-mark labels zeros)
+        by-labels d = rw (lt-ltb _ _ a, le-leb _ _ b, c, eq-eqb _ _ d) (with-mark labels zeros)
 
 -- the shape
 module _ (s : List ℕ) where

@@ -8,17 +8,16 @@ use borrow.Author.Tests.{eq-eqb, ne-eqb}
 use Rattle.kinds.specs.declared.Body.{Body}
 use Rattle.kinds.specs.Body.{bodyOf}
 use Rattle.kinds.specs.Refusals.{done}
-use Rattle.label_words.specs.Packing.{unpacked}
 use Rattle.places.specs.Places.{fill}
 use Rattle.frame_rules.specs.declared.Record.{Record}
 use Rattle.frame_rules.specs.declared.Reading.{Reading}
 use Rattle.frame_rules.specs.Words.{wordAt, signed}
-use Rattle.frame_rules.specs.Record.{recordFrom, zeroRecord}
+use Rattle.frame_rules.specs.Record.{recordFrom, noRecord}
 use Rattle.frame_rules.specs.Frame.{part, checkRefusal}
 use Rattle.frame_rules.specs.Calls.{entries, reading}
 
 pub record-is :
-    (p : List ℕ) {b : Body} {l : List ℕ} → b ≡ bodyOf (getD p 2 0) (wordAt p 4) (signed (wordAt p 8)) → l ≡ unpacked 16 (wordAt p 12) →
+    (p : List ℕ) {b : Body} {l : ℕ} → b ≡ bodyOf (getD p 2 0) (wordAt p 4) (signed (wordAt p 8)) → l ≡ wordAt p 12 →
     _≡_ {A = Record} (record { station = getD p 0 0; count = getD p 1 0; body = b; labels = l }) (recordFrom p)
 unfolding recordFrom
 record-is p h e = rw (h, e)
@@ -26,9 +25,9 @@ record-is p h e = rw (h, e)
 module _ (bytes : List ℕ) where
   -- the entries once k of the records are read
   abbrev pub entriesBelow : ℕ → List Record
-  entriesBelow k = fill k (λ j. recordFrom (part bytes j)) (replicate 16 zeroRecord)
+  entriesBelow k = fill k (λ j. recordFrom (part bytes j)) (replicate 16 noRecord)
 
-  pub entries-none : replicate 16 zeroRecord ≡ entriesBelow 0
+  pub entries-none : replicate 16 noRecord ≡ entriesBelow 0
   unfolding fill
   entries-none = refl
 
@@ -40,7 +39,7 @@ module _ (bytes : List ℕ) where
   module _ (n own : ℕ) where
     pub reading-refused :
         (r : ℕ) → r ≡ checkRefusal bytes n own → (r ≡ done → ⊥) →
-        _≡_ {A = Reading} (record { refusal = r; count = 0; records = replicate 16 zeroRecord }) (reading bytes n own)
+        _≡_ {A = Reading} (record { refusal = r; count = 0; records = replicate 16 noRecord }) (reading bytes n own)
     unfolding reading
     reading-refused r e h = rw (← e, ne-eqb r 0 h)
 

@@ -1,25 +1,22 @@
--- The records of a table that a frame may carry, test by test, and what follows: such a table can be written, and every other station accepts its frame.
+-- The records of a table that a frame may carry, test by test, and what follows: every other station accepts the frame of such a table.
 use mathlib.Core.Path.{_≡_, sym, ap, _∙_}
 use mathlib.Core.Bool.{Bool, true, false, not, _||_}
 use mathlib.Core.List.{List}
 use Prim.Native.Nat.{ℕ, _*_, _-_, _<_, _≤_}
 use native.Mathlib.Omega.{arith}
 use lib.Dec.{eqb}
-use lib.ListN.{getD, take}
+use lib.ListN.{getD}
 use borrow.Author.Tests.{lt-ltb, le-leb, lt-leb, eq-eqb, ne-eqb, eqb-true}
 use Rattle.kind_limits.specs.Limits.{bodyInside}
 use Rattle.kinds.specs.Refusals.{done, badNumber, badRecord}
-use Rattle.labels.specs.Label.{allLabels}
-use Rattle.labels.proofs.Laws.{all-below}
+use Rattle.label_words.specs.Packing.{labelsInside}
 use Rattle.places.specs.Places.{allBelow}
 use Rattle.places.proofs.Laws.{and-left, and-right, allBelow-at, allBelow-fails}
 use Rattle.frame_rules.specs.declared.Record.{Record}
 use Rattle.frame_rules.specs.Record.{noRecord, recordFits, placeFits}
 use Rattle.frame_rules.specs.Frame.{validNumber, frameRefusal, frameBytes}
 use Rattle.frame_rules.specs.Calls.{tableRecords, written, bufferWith, tableFits, frameWritten, frameBuffer}
-use Rattle.frame_rules.specs.Inner.Writing.{Writable}
 use Rattle.frame_rules.proofs.Check.{valid-few, valid-own}
-use Rattle.frame_rules.proofs.Limits.{fits-labels}
 use Rattle.frame_rules.proofs.TableTrip.{table-accepted}
 
 -- one record
@@ -41,9 +38,9 @@ module _ (n k : ℕ) (r : Record) where
       unfolding placeFits recordFits bodyInside
       other-body h = rw (eq-eqb (r .station) k e, lt-ltb (r .station) n below, le-leb (r .count) (2 * (n - 1)) c, h)
 
-      pub by-all-labels : bodyInside (r .body) ≡ true → allLabels (take n (r .labels)) ≡ placeFits n k r
+      pub by-labels : bodyInside (r .body) ≡ true → labelsInside n (r .labels) ≡ placeFits n k r
       unfolding placeFits recordFits bodyInside
-      by-all-labels h = rw (all-below n (r .labels), eq-eqb (r .station) k e, lt-ltb (r .station) n below, le-leb (r .count) (2 * (n - 1)) c, h)
+      by-labels h = rw (eq-eqb (r .station) k e, lt-ltb (r .station) n below, le-leb (r .count) (2 * (n - 1)) c, h)
 
 -- the table
 module _ (n sender : ℕ) (held : List Bool) (table : List Record) where
@@ -84,18 +81,7 @@ module _ (n sender : ℕ) (held : List Bool) (table : List Record) where
         let r = getD table k noRecord in
         and-right (eqb (r .station) k) (recordFits n r) (held-fits k l h)
 
-    labels-right : (k : ℕ) → k < n → getD held k false ≡ true → allLabels (take n ((getD table k noRecord) .labels)) ≡ true
-    labels-right k l h = fits-labels n (getD table k noRecord) (fits k l h)
-
     module _ (v : validNumber n sender ≡ true) where
-      pub writable : Writable n sender held table
-      writable =
-          record {
-            few = valid-few n sender v;
-            below = omega (arith, valid-few n sender v, valid-own n sender v);
-            labels = labels-right;
-          }
-
       -- every other station accepts the frame
       pub fitting-accepted :
           (own : ℕ) → (sender ≡ own → ⊥) → frameRefusal (frameBytes n sender (tableRecords n held table)) n own ≡ done

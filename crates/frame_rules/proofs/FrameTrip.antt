@@ -14,7 +14,7 @@ use Rattle.kinds.specs.Refusals.{done}
 use Rattle.places.specs.Places.{allBelow, anyBelow, tabulate}
 use Rattle.places.proofs.Laws.{or-left, and-both, and-left, and-right, allBelow-at, allBelow-make, anyBelow-ext, anyBelow-none, length-tabulate, tabulate-ext, tabulate-map}
 use Rattle.frame_rules.specs.declared.Record.{Record}
-use Rattle.frame_rules.specs.Record.{recordFrom, recordBytes, framed, noRecord, bytesInside, recordFits}
+use Rattle.frame_rules.specs.Record.{recordLabel, recordFrom, recordBytes, framed, noRecord, bytesInside, recordFits}
 use Rattle.frame_rules.specs.Frame.{part, recordStation, shapeWrong, addressWrong, recordsInside, frameRefusal, recordsOf, recordsBytes, frameBytes, recordsFit}
 use Rattle.frame_rules.proofs.Bytes.{length-record, length-frame, records-append}
 use Rattle.frame_rules.proofs.Check.{by-length, by-sender, accepted, Accepted, accepted-frame, Shape, shape}
@@ -164,7 +164,7 @@ module _ (bytes : List ℕ) (n own : ℕ) (h : frameRefusal bytes n own ≡ done
   pub accepted-fits : (k : ℕ) → k < count → recordFits n (recordFrom (part bytes k)) ≡ true
   accepted-fits k l = held-fits n (part bytes k) (part-inside k l)
 
-  pub accepted-zeros : (k : ℕ) → k < count → (j : ℕ) → n ≤ j → getD ((recordFrom (part bytes k)) .labels) j 0 ≡ 0
+  pub accepted-zeros : (k : ℕ) → k < count → (j : ℕ) → n ≤ j → j < 16 → recordLabel (recordFrom (part bytes k)) j ≡ 0
   accepted-zeros k l = held-zeros n (part bytes k) (part-inside k l)
 
   bytes-are : bytes ≡ getD bytes 0 0 ∷ getD bytes 1 0 ∷ getD bytes 2 0 ∷ getD bytes 3 0 ∷ drop 4 bytes
@@ -184,6 +184,10 @@ module _ (bytes : List ℕ) (n own : ℕ) (h : frameRefusal bytes n own ≡ done
           | no b ↦ rw (List·getD-eq-default (part bytes k) 0 {n = i} (omega (arith, part-length k l))) (omega arith)
         ]
 
+    -- each part is what is written of the record that it holds
+    pub part-written : (k : ℕ) → k < count → recordBytes n (recordFrom (part bytes k)) ≡ part bytes k
+    part-written k l = bytes-written (part bytes k) (part-small k l) n (part-length k l) (part-inside k l)
+
     -- the first c records are written as the first c parts
     parts-written : (c : ℕ) → c ≤ count → recordsBytes n (tabulate c (λ k. recordFrom (part bytes k))) ≡ take (16 * c) (drop 4 bytes)
     unfolding tabulate recordsBytes
@@ -191,8 +195,7 @@ module _ (bytes : List ℕ) (n own : ℕ) (h : frameRefusal bytes n own ≡ done
     parts-written (suc c) l =
         let f : ℕ → Record = λ k. recordFrom (part bytes k) in
         let one : recordBytes n (f c) ≡ take 16 (drop (16 * c) (drop 4 bytes)) =
-        bytes-written (part bytes c) (part-small c (omega arith)) n (part-length c (omega arith)) (part-inside c (omega arith))
-        ∙ ap (take 16) (sym (drop-drop (16 * c) 4 bytes)) in
+        part-written c (omega arith) ∙ ap (take 16) (sym (drop-drop (16 * c) 4 bytes)) in
         let e : 16 * c + 16 ≡ 16 * suc c = omega arith in
         records-append n (tabulate c f) (f c ∷ [])
         ∙ (λ i. parts-written c (omega arith) i ++ (append-nil (recordBytes n (f c)) ∙ one) i)

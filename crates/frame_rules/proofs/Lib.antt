@@ -1,5 +1,6 @@
 -- bytes, and the check test by test
 pub mod Spelled
+pub mod Labels
 pub mod Bytes
 pub mod Entries
 pub mod Limits

@@ -4,50 +4,22 @@ use mathlib.Core.Path.{_≡_, refl, sym, _∙_}
 use mathlib.Core.Bool.{Bool, true, false, cond, _&&_, _||_}
 use mathlib.Core.List.{List, [], _∷_, _++_, append-nil}
 use Prim.Native.Nat.{ℕ, zero, suc, pred, _+_, _≤_, _<_}
-use native.Mathlib.Decide.{ℕ-discrete, decLt}
+use native.Mathlib.Decide.{ℕ-discrete}
 use native.Mathlib.Omega.{arith}
 use lib.Dec.{ltb, eqb}
-use lib.ListN.{getD, length, replicate, length-append, length-replicate, getD-replicate, List·getD-append}
-use lib.Seq.{getD-at, ext-getD}
+use lib.ListN.{getD, length, length-append, List·getD-append}
+use lib.Seq.{getD-at}
 use borrow.Author.Tests.{lt-ltb, eq-eqb, ne-eqb}
 use Rattle.kinds.specs.Refusals.{done}
-use Rattle.places.specs.Places.{anyBelow, fill, gather}
-use Rattle.places.proofs.Laws.{and-both, allBelow-make, anyBelow-hit, length-fill, fill-below, fill-above, fill-ext, gather-ext, map-gather}
+use Rattle.places.specs.Places.{anyBelow, gather}
+use Rattle.places.proofs.Laws.{and-both, allBelow-make, anyBelow-hit, gather-ext, map-gather}
 use Rattle.frame_rules.specs.declared.Record.{Record}
 use Rattle.frame_rules.specs.Record.{framed, noRecord, recordFits}
 use Rattle.frame_rules.specs.Frame.{frameRefusal, recordsOf, frameBytes, recordsFit}
 use Rattle.frame_rules.specs.Calls.{tableRecords}
+use Rattle.frame_rules.proofs.Labels.{framed-twice}
 use Rattle.frame_rules.proofs.RecordTrip.{framed-fits}
 use Rattle.frame_rules.proofs.FrameTrip.{read-written, written-accepted}
-
--- what a frame carries of a record is what it carries of that
-pub framed-twice : (n : ℕ) (r : Record) → n ≤ 16 → framed n (framed n r) ≡ framed n r
-unfolding framed
-framed-twice n r few =
-    let zeros : List ℕ = replicate 16 0 in
-    let label : ℕ → ℕ = λ k. getD (r .labels) k 0 in
-    let again : fill n (λ k. getD (fill n label zeros) k 0) zeros ≡ fill n label zeros =
-    fill-ext n (λ k. getD (fill n label zeros) k 0) label zeros
-    (λ k h. fill-below n label zeros k 0 h (omega (arith, length-replicate {A = ℕ} 16 0))) in
-    (λ i. record { station = r .station; count = r .count; body = r .body; labels = again i })
-
--- it is the whole record where the labels from n up are 0
-pub framed-whole :
-    (n : ℕ) (r : Record) → length (r .labels) ≡ 16 → ((k : ℕ) → n ≤ k → getD (r .labels) k 0 ≡ 0) → framed n r ≡ r
-unfolding framed
-framed-whole n r long rest =
-    let label : ℕ → ℕ = λ k. getD (r .labels) k 0 in
-    let zeros : List ℕ = replicate 16 0 in
-    let filled : length (fill n label zeros) ≡ 16 = length-fill n label zeros in
-    let same : fill n label zeros ≡ r .labels =
-    ext-getD 0 (fill n label zeros) (r .labels) (filled ∙ sym long)
-    (λ k l.
-    elim (decLt k n) [
-      | yes b ↦ fill-below n label zeros k 0 b (omega (arith, filled))
-      | no b ↦
-          fill-above n label zeros k 0 (omega arith) ∙ getD-replicate 16 k 0 0 (omega (arith, filled)) ∙ sym (rest k (omega arith))
-    ]) in
-    (λ i. record { station = r .station; count = r .count; body = r .body; labels = same i })
 
 -- records in order: each inside its limits, of stations strictly ascending and below k
 record Sorted (n k : ℕ) (rs : List Record) : Type 0 where
@@ -128,7 +100,7 @@ module _ (n sender : ℕ) (held : List Bool) (table : List Record) (few : n ≤ 
           Sorted n (suc k) (below k ++ cond b (framed n (getD table k noRecord) ∷ []) [])
       go true e s =
           sorted-more n k (below k) s (framed n (getD table k noRecord))
-          (framed-fits n (getD table k noRecord) few (fits k (omega arith) e))
+          (framed-fits n (getD table k noRecord) (fits k (omega arith) e))
           (place k (omega arith) e)
       go false e s = rw (append-nil (below k)) (sorted-same n k (below k) s)
 
@@ -187,7 +159,7 @@ module _ (n sender : ℕ) (held : List Bool) (table : List Record) (few : n ≤ 
         ∙ gather-ext n (λ j. getD held j false) (λ j. getD held j false) (λ j. framed n (framed n (getD table j noRecord)))
         (λ j. framed n (getD table j noRecord))
         (λ k l. refl)
-        (λ k l. framed-twice n (getD table k noRecord) few)
+        (λ k l. framed-twice n (getD table k noRecord))
 
     -- and every other station accepts it
     pub table-accepted : (own : ℕ) → (sender ≡ own → ⊥) → frameRefusal (frameBytes n sender (tableRecords n held table)) n own ≡ done

@@ -9,19 +9,19 @@ use Rattle.places.specs.Places.{allBelow, fill, gather}
 use Rattle.frame_rules.specs.declared.Record.{Record}
 use Rattle.frame_rules.specs.declared.Reading.{Reading}
 use Rattle.frame_rules.specs.declared.Written.{Written}
-use Rattle.frame_rules.specs.Record.{recordFrom, framed, placeFits, noRecord, zeroRecord}
+use Rattle.frame_rules.specs.Record.{recordFrom, framed, placeFits, noRecord}
 use Rattle.frame_rules.specs.Frame.{validNumber, part, checkRefusal, frameBytes}
 
 -- the records of a frame in sixteen entries; those that it does not use are zero
 unfoldable pub entries : List ℕ → List Record
-entries bytes = fill (getD bytes 2 0) (λ k. recordFrom (part bytes k)) (replicate 16 zeroRecord)
+entries bytes = fill (getD bytes 2 0) (λ k. recordFrom (part bytes k)) (replicate 16 noRecord)
 
 -- the answer to reading a frame: its records, or the refusal of the frame check and no record
 unfoldable pub reading : List ℕ → ℕ → ℕ → Reading
 reading bytes n own =
     cond (eqb (checkRefusal bytes n own) done)
     (record { refusal = done; count = getD bytes 2 0; records = entries bytes })
-    (record { refusal = checkRefusal bytes n own; count = 0; records = replicate 16 zeroRecord })
+    (record { refusal = checkRefusal bytes n own; count = 0; records = replicate 16 noRecord })
 
 -- the records that a table holds of the first n stations, in their order, as a frame carries them
 unfoldable pub tableRecords : ℕ → List Bool → List Record → List Record

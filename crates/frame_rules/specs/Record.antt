@@ -1,22 +1,24 @@
 -- Document 01, "Frame bytes": the sixteen bytes of one record.
 use Prim.Native.Nat.{ℕ, _*_, _-_}
 use mathlib.Core.Bool.{Bool, false, _&&_, _||_}
-use mathlib.Core.List.{List, [], _∷_, _++_}
-use lib.ListN.{getD, take, drop, replicate}
+use mathlib.Core.List.{List, _∷_, _++_}
+use lib.ListN.{getD}
 use lib.Dec.{leb, ltb, eqb}
 use lib.IntN.{ℤ}
 use Rattle.kinds.specs.declared.Body.the-variants.{Empty}
 use Rattle.kinds.specs.Body.{kindOf, eventOf, argumentOf, bodyOf}
 use Rattle.kind_limits.specs.Limits.{numbersInside}
-use Rattle.labels.specs.Label.{isLabel}
-use Rattle.label_words.specs.Packing.{packed, unpacked, allZero}
-use Rattle.places.specs.Places.{allBelow, fill}
+use Rattle.label_words.specs.Packing.{labelIn, labelsOver, labelsInside, zeroFrom}
 use Rattle.frame_rules.specs.declared.Record.{Record}
 use Rattle.frame_rules.specs.Words.{wordAt, wordBytes, signed, unsigned}
 
 -- byte 3 of a record
 abbrev pub recordMark : ℕ
 recordMark = 0
+
+-- the label of a record for station k
+unfoldable pub recordLabel : Record → ℕ → ℕ
+recordLabel r k = labelIn (r .labels) k
 
 -- the record that sixteen bytes hold
 unfoldable pub recordFrom : List ℕ → Record
@@ -25,7 +27,7 @@ recordFrom bytes =
       station = getD bytes 0 0;
       count = getD bytes 1 0;
       body = bodyOf (getD bytes 2 0) (wordAt bytes 4) (signed (wordAt bytes 8));
-      labels = unpacked 16 (wordAt bytes 12);
+      labels = wordAt bytes 12;
     }
 
 -- the sixteen bytes of a record among n stations; its labels from n up are written 0
@@ -35,28 +37,26 @@ recordBytes n r =
     ∷ r .count
     ∷ kindOf (r .body)
     ∷ recordMark
-    ∷ wordBytes (eventOf (r .body)) ++ wordBytes (unsigned (argumentOf (r .body))) ++ wordBytes (packed (take n (r .labels)))
+    ∷ wordBytes (eventOf (r .body))
+    ++ wordBytes (unsigned (argumentOf (r .body)))
+    ++ wordBytes (labelsOver n (recordLabel r) 0)
 
 -- "count at most 2 × (N - 1)"
 abbrev pub countInside : ℕ → ℕ → Bool
 countInside n count = leb count (2 * (n - 1))
 
--- what is read past the end of a list of records
+-- an entry that no record uses, and what is read past the end of a list of records
 abbrev pub noRecord : Record
-noRecord = record { station = 0; count = 0; body = Empty; labels = [] }
-
--- an entry that no record uses
-abbrev pub zeroRecord : Record
-zeroRecord = record { station = 0; count = 0; body = Empty; labels = replicate 16 0 }
+noRecord = record { station = 0; count = 0; body = Empty; labels = 0 }
 
 -- "Record limits", of the fields of one record among n stations: the station below n, the count by its limit unless it is free, the body by the table of
 -- kinds, and the labels of the n stations 0 to 2
-abbrev pub fieldsInside : ℕ → Bool → ℕ → ℕ → ℕ → ℕ → ℤ → List ℕ → Bool
+abbrev pub fieldsInside : ℕ → Bool → ℕ → ℕ → ℕ → ℕ → ℤ → ℕ → Bool
 fieldsInside n free station count kind event argument labels =
     ltb station n
     && (free || countInside n count)
     && numbersInside kind event argument
-    && allBelow n (λ j. isLabel (getD labels j 0))
+    && labelsInside n labels
 
 -- the limits of a record
 abbrev pub recordLimits : ℕ → Bool → Record → Bool
@@ -66,10 +66,10 @@ recordLimits n free r =
 -- the limits of a record's sixteen bytes in a frame: byte 3 is zero too, and so are the labels from n up
 unfoldable pub bytesInside : ℕ → List ℕ → Bool
 bytesInside n bytes =
-    let labels = unpacked 16 (wordAt bytes 12) in
+    let labels = wordAt bytes 12 in
     fieldsInside n false (getD bytes 0 0) (getD bytes 1 0) (getD bytes 2 0) (wordAt bytes 4) (signed (wordAt bytes 8)) labels
     && eqb (getD bytes 3 0) recordMark
-    && allZero (drop n labels)
+    && zeroFrom n labels
 
 -- a record that a frame may carry
 unfoldable pub recordFits : ℕ → Record → Bool
@@ -82,4 +82,4 @@ placeFits n k r = eqb (r .station) k && recordFits n r
 -- the record as a frame carries it: its labels from n up are 0
 unfoldable pub framed : ℕ → Record → Record
 framed n r =
-    record { station = r .station; count = r .count; body = r .body; labels = fill n (λ k. getD (r .labels) k 0) (replicate 16 0) }
+    record { station = r .station; count = r .count; body = r .body; labels = labelsOver n (recordLabel r) 0 }

@@ -2,12 +2,12 @@
 
 use kinds::Body;
 
-// A record: the station it is of, its count, its body and its labels.
+// A record: the station it is of, its count, its body and its labels, that of station k at bits 2k and 2k + 1.
 pub struct Record {
     pub station: u8,
     pub count: u8,
     pub body: Body,
-    pub labels: [u8; 16],
+    pub labels: u32,
 }
 
 // What reading a frame answers: its records, or the refusal; entries that no record uses are zero.

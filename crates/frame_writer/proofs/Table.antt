@@ -122,19 +122,19 @@ module _ (n sender count : ℕ) (held : List Bool) (table : List Record) where
         omega (arith, counted-more k held (heldCount k held) 1 refl (sym one))
 
     records-more :
-        n ≤ 16 → getD held k false ≡ true →
+        getD held k false ≡ true →
         recordsBytes n (recordsBelow (k + 1)) ≡ recordsBytes n (recordsBelow k) ++ recordBytes n (getD table k noRecord)
     unfolding gather recordsBytes
-    records-more few e =
+    records-more e =
         rw (add-one k, e)
         (records-append n (recordsBelow k) (framed n (getD table k noRecord) ∷ [])
-        ∙ rw (append-nil (recordBytes n (framed n (getD table k noRecord))), framed-bytes n (getD table k noRecord) few))
+        ∙ rw (append-nil (recordBytes n (framed n (getD table k noRecord))), framed-bytes n (getD table k noRecord)))
 
     pub filled-more :
-        (at : ℕ) (made : List ℕ) → at ≡ 4 + 16 * heldCount k held → n ≤ 16 → getD held k false ≡ true →
+        (at : ℕ) (made : List ℕ) → at ≡ 4 + 16 * heldCount k held → getD held k false ≡ true →
         made ≡ recordBytes n (getD table k noRecord) →
         Filled old (k + 1) (take at buffer ++ (made ++ drop (at + 16 - at) (drop at buffer)))
-    filled-more at made a few e m =
+    filled-more at made a e m =
         let long : length (front k) ≡ at = front-length k ∙ sym a in
         let is-old : buffer ≡ front k ++ drop at old = f .is ∙ ap (λ (j : ℕ). front k ++ drop j old) (sym a) in
         let before : take at buffer ≡ front k = ap (take at) is-old ∙ take-at (front k) (drop at old) at long in
@@ -146,7 +146,7 @@ module _ (n sender count : ℕ) (held : List Bool) (table : List Record) where
         ∙ ap (λ (j : ℕ). drop j old) place in
         record {
           is =
-              rw (before, past, m, records-more few e)
+              rw (before, past, m, records-more e)
               (sym (append-assoc (front k) (recordBytes n (getD table k noRecord)) (drop (4 + 16 * heldCount (k + 1) held) old)));
         }
 

@@ -2,11 +2,11 @@
 
 ghost use mathlib.Core.Path.{_≡_};
 ghost use mathlib.Core.Bool.{cond};
-ghost use Prim.Native.Nat.{_≤_};
+ghost use Prim.Native.Nat.{_≤_, _<_};
 ghost use lib.ListN.{length};
 ghost use Rattle.frame_rules.specs.Frame.{frameBytes};
 ghost use Rattle.frame_rules.specs.Calls.{tableRecords, written, bufferWith};
-ghost use Rattle.frame_rules.specs.Inner.Writing.{heldCount, Writable};
+ghost use Rattle.frame_rules.specs.Inner.Writing.{heldCount};
 use frame_rules::Record;
 use frame_rules::Written;
 use kinds::refusals::DONE;
@@ -42,7 +42,7 @@ pub fn write_table(
     n: usize,
     sender: usize,
 ) -> Written
-    requires { ⌜ Writable n sender held table ⌝ }
+    requires { ⌜ (n ≤ 16) × (sender < 256) ⌝ }
     ensures { λ r.
         ⌜ (r ≡ written (frameBytes n sender (tableRecords n held table)) (length (now (buffer .entry))))
         × (now (buffer .exit) ≡ bufferWith (frameBytes n sender (tableRecords n held table)) (now (buffer .entry))) ⌝ }

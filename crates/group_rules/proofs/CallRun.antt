@@ -18,9 +18,10 @@ use Rattle.station_rules.proofs.Setters.{SameButWaiting, same-refl, same-trans}
 use Rattle.station_rules.proofs.Shape.{posted-same}
 use Rattle.group_rules.specs.declared.Post.{Post}
 use Rattle.group_rules.specs.State.{noStation, stationAt, freshGroup}
-use Rattle.group_rules.specs.Calls.{groupPostRefusal, afterPost, groupPostCall, afterRound}
+use Rattle.group_rules.specs.Calls.{groupPostRefusal, afterPost, groupPostCall}
 use Rattle.group_rules.specs.History.{Call, post, round}
 use Rattle.group_rules.proofs.Setups.{Accepts}
+use Rattle.group_rules.proofs.Through.{roundThrough}
 use Rattle.group_rules.proofs.Run.{Run}
 
 set-same : (g : List Station) (x : Post) (i : ℕ) → SameButWaiting (stationAt g i) (stationAt (afterPost g x) i)
@@ -86,7 +87,7 @@ masksOf calls (suc u) = nextMasks (callsAfter calls u)
 -- the group after round u
 unfoldable pub groupAfter : Setup → List Call → ℕ → List Station
 groupAfter setup calls zero = freshGroup setup
-groupAfter setup calls (suc u) = afterRound (afterPosts (groupAfter setup calls u) (callsAfter calls u)) (masksOf calls (suc u))
+groupAfter setup calls (suc u) = roundThrough (afterPosts (groupAfter setup calls u) (callsAfter calls u)) (masksOf calls (suc u))
 
 -- what a post keeps, the posts between two rounds keep
 pub posts-keep : (P : List Station → Type 0)
@@ -117,7 +118,7 @@ unfolding groupAfter
 group-first setup calls = refl
 
 pub group-step : (setup : Setup) (calls : List Call) (u : ℕ)
-    → groupAfter setup calls (suc u) ≡ afterRound (afterPosts (groupAfter setup calls u) (callsAfter calls u)) (masksOf calls (suc u))
+    → groupAfter setup calls (suc u) ≡ roundThrough (afterPosts (groupAfter setup calls u) (callsAfter calls u)) (masksOf calls (suc u))
 unfolding groupAfter
 group-step setup calls u = refl
 

@@ -6,10 +6,11 @@ use mathlib.Core.List.{List}
 use lib.Dec.{leb, ltb, eqb}
 use lib.ListN.{set, replicate}
 use lib.Seq.{set-getD}
-use borrow.Author.Tests.{leb-true, lt-ltb, le-ltb}
+use borrow.Author.Tests.{leb-true, lt-ltb, le-ltb, ne-eqb}
 use Rattle.places.specs.Places.{allBelow, anyBelow, fill}
 use Rattle.places.proofs.Laws.{and-left, allBelow-not, anyBelow-none, anyBelow-hit}
 use Rattle.kinds.specs.declared.Body.{Body}
+use Rattle.kinds.specs.Refusals.{done}
 use Rattle.frame_rules.specs.Frame.{validNumber}
 use Rattle.station_rules.specs.declared.Setup.{Setup}
 use Rattle.station_rules.specs.declared.Station.{Station}
@@ -23,6 +24,7 @@ use Rattle.group_rules.specs.declared.Post.{Post}
 use Rattle.group_rules.specs.declared.RoundDone.{RoundDone}
 use Rattle.group_rules.specs.State.{noStation, stationAt, sizeOf, groupInside, freshGroup}
 use Rattle.group_rules.specs.Calls.{groupFreshRefusal, groupFreshCall, groupPostRefusal, groupPostCall, heard, noReport, reportOf, roundRefusal, afterRound, roundCall}
+use Rattle.group_rules.proofs.FirstRefusal.{first-none, first-hit}
 use Rattle.group_rules.proofs.Members.{member-at}
 
 -- fresh: 1
@@ -82,7 +84,7 @@ module _ (g : List Station) (x : Post) where
           rw (e, inside, i, lt-ltb k (sizeOf g) l)
           (λ j. record { refusal = postRefusal s b; group = put (eqb (postRefusal s b) 0) j })
 
--- round: 2, 10, 8
+-- round: 2, 10, and the refusal of the first refused frame
 module _ (g : List Station) (masks : List ℕ) where
   abbrev pub refused : ℕ → RoundDone
   refused number = record { refusal = number; group = g; reports = replicate 16 noReport }
@@ -95,8 +97,8 @@ module _ (g : List Station) (masks : List ℕ) where
     abbrev tooHigh : ℕ → Bool
     tooHigh k = not (ownCountInside (stationAt g k))
 
-    abbrev full : ℕ → Bool
-    full k = (heard g masks k) .overfull
+    abbrev refusals : ℕ → ℕ
+    refusals k = (heard g masks k) .refusal
 
     pub round-count : allBelow (sizeOf g) (λ k. ownCountInside (stationAt g k)) ≡ false → refused 10 ≡ roundCall g masks
     unfolding roundCall roundRefusal
@@ -108,13 +110,15 @@ module _ (g : List Station) (masks : List ℕ) where
       none-high : anyBelow (sizeOf g) tooHigh ≡ false
       none-high = anyBelow-none (sizeOf g) tooHigh (λ k l. ap not (counts k l))
 
-      pub round-full : (k : ℕ) → k < sizeOf g → full k ≡ true → refused 8 ≡ roundCall g masks
+      pub round-stopped :
+          (k : ℕ) → k < sizeOf g → ((j : ℕ) → j < k → refusals j ≡ done) → (refusals k ≡ done → ⊥) → refused (refusals k) ≡ roundCall g masks
       unfolding roundCall roundRefusal
-      round-full k l e = rw (i, none-high, anyBelow-hit (sizeOf g) full k l e)
+      round-stopped k l before hit =
+          rw (i, none-high, first-hit (sizeOf g) refusals k l before hit, ne-eqb (refusals k) done hit)
 
       pub round-done :
-          anyBelow (sizeOf g) full ≡ false →
+          ((k : ℕ) → k < sizeOf g → refusals k ≡ done) →
           record { refusal = 0; group = afterRound g masks; reports = fill (sizeOf g) (reportOf g masks) (replicate 16 noReport) }
           ≡ roundCall g masks
       unfolding roundCall roundRefusal
-      round-done e = rw (i, none-high, e)
+      round-done e = rw (i, none-high, first-none (sizeOf g) refusals e)

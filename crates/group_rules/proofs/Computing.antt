@@ -2,9 +2,9 @@
 use Rattle.links.specs.Log.{bit, hearsIn}
 use Rattle.station_rules.proofs.Computing.{stationRuns}
 use Rattle.group_rules.specs.State.{groupInside, freshGroup}
-use Rattle.group_rules.specs.Calls.{groupPostRefusal, groupPostCall, heardBelow, noReport, reportOf, roundRefusal, afterRound, roundCall}
+use Rattle.group_rules.specs.Calls.{groupPostRefusal, groupPostCall, heardBelow, noReport, reportOf, firstRefusal, roundRefusal, afterRound, roundCall}
 use Rattle.group_rules.specs.History.{startsIn, next, begun, continued, editsOf, collect, airedList, endsAt}
 
 unfoldable pub groupRuns : Unit {0}
-unfolding stationRuns bit hearsIn groupInside freshGroup groupPostRefusal groupPostCall heardBelow noReport reportOf roundRefusal afterRound roundCall startsIn next begun continued editsOf collect airedList endsAt
+unfolding stationRuns bit hearsIn groupInside freshGroup groupPostRefusal groupPostCall heardBelow noReport reportOf firstRefusal roundRefusal afterRound roundCall startsIn next begun continued editsOf collect airedList endsAt
 groupRuns = tt

@@ -20,7 +20,7 @@ use Rattle.group_rules.proofs.Simulation as simulation
 use Rattle.group_rules.proofs.Members.{Members, members-inside, fresh-members}
 use Rattle.group_rules.proofs.MembersPost.{post-members}
 use Rattle.group_rules.proofs.MembersRound.{Runs, after-members}
-use Rattle.group_rules.proofs.Lanes.{never-overfull}
+use Rattle.group_rules.proofs.Lanes.{never-refused, run-step}
 use Rattle.group_rules.proofs.CallRun.{runOf, callsAfter, groupAfter, group-first, group-step, posts-keep}
 use Rattle.group_rules.proofs.HistoryRun.{Unrefused, history-group}
 use Rattle.group_rules.proofs.PostsAccounted.{posts-started, starts-aired, starts-reported, posts-accounted, posts-counted}
@@ -48,7 +48,7 @@ module _ (setup : Setup) (accepted : groupFreshRefusal setup ≡ done) (calls : 
       record {
         inside = members-inside n (R .ready u) c;
         counts = λ k l. simulation.own-count-inside R u k (omega (arith, c .size));
-        room = λ i l. never-overfull R u i (omega (arith, c .size));
+        room = λ i l. never-refused R u i (omega (arith, c .size));
       }
 
   -- the group is inside its limits after every round
@@ -56,7 +56,7 @@ module _ (setup : Setup) (accepted : groupFreshRefusal setup ≡ done) (calls : 
   after-rounds zero = rw (group-first setup calls) (fresh-members setup (ok .high) (ok .low))
   after-rounds (suc u) =
       let c = ready-members u (after-rounds u) in
-      rw (group-step setup calls u) (after-members n (R .ready u) c (R .masks (suc u)) (round-runs u c))
+      rw (run-step R u) (after-members n (R .ready u) c (R .masks (suc u)) (round-runs u c))
 
   -- no round of the run is refused
   pub free : Unrefused R

@@ -17,14 +17,15 @@ use Rattle.station_rules.specs.declared.Setup.{Setup}
 use Rattle.station_rules.specs.Calls.{ownCountInside}
 use Rattle.group_rules.specs.declared.RoundDone.{RoundDone}
 use Rattle.group_rules.specs.State.{stationAt, sizeOf, groupInside}
-use Rattle.group_rules.specs.Calls.{heard, roundRefusal}
+use Rattle.group_rules.specs.Calls.{heard, firstRefusal, roundRefusal}
 use Rattle.group_rules.specs.History.{History, Call, historyOf, noRound, started, takenFrom, airedList, endsAt, startedIn}
 use Rattle.group_rules.specs.Demand.{Begins}
 use Rattle.group_rules.proofs.Setups.{Accepts}
 use Rattle.group_rules.proofs.Run.{Run, linksOf}
 use Rattle.group_rules.proofs.Simulation.{ready-formed}
 use Rattle.group_rules.proofs.Taken as taken
-use Rattle.group_rules.proofs.Lanes.{never-overfull}
+use Rattle.group_rules.proofs.FirstRefusal.{first-none}
+use Rattle.group_rules.proofs.Lanes.{never-refused}
 use Rattle.group_rules.proofs.Aired as aired
 use Rattle.group_rules.proofs.CallRun.{runOf}
 use Rattle.group_rules.proofs.HistoryRun.{Unrefused, roundIn, roundsBy, rounds-at, history-rounds, history-links}
@@ -42,8 +43,8 @@ unrefused R inside fits u =
     let n : sizeOf g ≡ R .n = ready-formed R u 0 (R .low) .size in
     let a : anyBelow (sizeOf g) (λ k. not (ownCountInside (stationAt g k))) ≡ false =
     anyBelow-none (sizeOf g) (λ k. not (ownCountInside (stationAt g k))) (λ k l. ap not (fits u k (omega arith))) in
-    let b : anyBelow (sizeOf g) (λ i. (heard g masks i) .overfull) ≡ false =
-    anyBelow-none (sizeOf g) (λ i. (heard g masks i) .overfull) (λ i l. never-overfull R u i (omega arith)) in
+    let b : firstRefusal (sizeOf g) (λ i. (heard g masks i) .refusal) ≡ done =
+    first-none (sizeOf g) (λ i. (heard g masks i) .refusal) (λ i l. never-refused R u i (omega arith)) in
     rw (inside u, a, b)
 
 module _ (setup : Setup) (ok : Accepts setup) (calls : List Call) (free : Unrefused (runOf setup ok calls)) where

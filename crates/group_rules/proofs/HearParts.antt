@@ -21,7 +21,6 @@ use Rattle.lanes.specs.Lane.{pushed}
 use Rattle.station_rules.specs.State.{recordOf}
 use Rattle.station_rules.specs.Hearing.{raised, replaced, heardNewer}
 use Rattle.station_rules.proofs.Cells
-use Rattle.station_rules.proofs.Setters.{Shaped}
 use Rattle.station_rules.proofs.Shape.{heardNewer-shaped}
 use Rattle.group_rules.proofs.Run.{Run, linksOf}
 use Rattle.group_rules.proofs.Version.{Stands, Caught, shown, caught-same}
@@ -87,23 +86,21 @@ module _ (R : Run) where
       record { lane-now = d .lane-now; taken-now = append-nil taken ∙ d .taken-now }
 
   pub stands-replaced :
-      (s : Station) (r : Record) (w : ℕ) → s .n ≡ R .n → Shaped s → r .station < R .n → Stands R r (r .station) w →
+      (s : Station) (r : Record) (w : ℕ) → s .n ≡ R .n → Stands R r (r .station) w →
       Stands R (replaced (s .n) (recordOf s (r .station)) r) (r .station) w
-  stands-replaced s r w e shape l t =
-      let high = R .high in
+  stands-replaced s r w e t =
       let old = recordOf s (r .station) in
       record {
         station = Cells.replaced-station (s .n) old r ∙ t .station;
         count = Cells.replaced-count (s .n) old r ∙ t .count;
         body = Cells.replaced-body (s .n) old r ∙ t .body;
-        labels = λ i b. Cells.heard-label s r shape (omega arith) (omega arith) i (omega arith) ∙ t .labels i b;
+        labels = λ i b. Cells.replaced-label (s .n) old r i (omega arith) ∙ t .labels i b;
       }
 
-  pub formed-heard : (p : ℕ) (s : Station) (r : Record) → r .station < R .n → Formed R p s → Formed R p (heardNewer s r)
-  formed-heard p s r lk f =
-      let high = R .high in
+  pub formed-heard : (p : ℕ) (s : Station) (r : Record) → Formed R p s → Formed R p (heardNewer s r)
+  formed-heard p s r f =
       record {
         size = Cells.heard-n s r ∙ f .size;
         own = Cells.heard-own s r ∙ f .own;
-        shape = heardNewer-shaped s r (omega arith) (f .shape);
+        shape = heardNewer-shaped s r (f .shape);
       }

@@ -22,14 +22,16 @@ use Rattle.links.proofs.Bounds.{gotOf-some}
 use Rattle.links.proofs.Version.{gotOf-mono, gotOf-limit, gotOf-close, numOf-limit}
 use Rattle.links.proofs.Tally.{tally-same, tally-rises}
 use Rattle.frame_rules.specs.declared.Record.{Record}
+use Rattle.frame_rules.specs.Record.{recordLabel}
 use Rattle.places.specs.Places.{anyBelow}
 use Rattle.places.proofs.Laws.{anyBelow-ext, anyBelow-add}
 use Rattle.station_rules.specs.declared.Station.{Station}
 use Rattle.station_rules.specs.declared.Taking.{Taking}
 use Rattle.lanes.specs.Lane.{pushed}
-use Rattle.station_rules.specs.State.{Cell, labelOf, ackedOf, recordOf, laneAt, recordLabel}
-use Rattle.station_rules.specs.Hearing.{Hearing, heeds, advances, takes, raised, heardNewer, hearRecord}
-use Rattle.station_rules.proofs.HearRecord.{heardOne, hearRecord-skips, hearRecord-heeds}
+use Rattle.kinds.specs.Refusals.{done, laneFull, refuse}
+use Rattle.station_rules.specs.State.{Cell, labelOf, ackedOf, recordOf, laneAt}
+use Rattle.station_rules.specs.Hearing.{Hearing, advances, takes, overfills, raised, heardNewer, hearRecord}
+use Rattle.station_rules.proofs.HearRecord.{heeds, heardOne, hearRecord-skips, hearRecord-heeds}
 use Rattle.station_rules.proofs.Cells
 use Rattle.group_rules.specs.History.{takingsOf}
 use Rattle.group_rules.proofs.Run.{Run, linksOf}
@@ -38,6 +40,13 @@ use Rattle.group_rules.proofs.Outcome.{Outcome, skipped, renewed, advan
 use Rattle.group_rules.proofs.Standing.{Standing, standing-alike, standing-count}
 use Rattle.group_rules.proofs.HearParts.{acked-mod, label-step, raised-step, caught-move, not-risen, risen, lane-before, caught-step, stands-replaced, formed-heard}
 use Rattle.group_rules.proofs.Takings.{takingsOf-append, taking-other, taking-here}
+
+-- one refusal after another with the same number
+either : (a b : Bool) → max (refuse b laneFull done) (refuse a laneFull done) ≡ refuse (b || a) laneFull done
+either true true = refl
+either true false = refl
+either false true = refl
+either false false = refl
 
 module _ (R : Run) where
   abbrev L : Links
@@ -115,7 +124,7 @@ module _ (R : Run) where
               stands =
                   λ x z.
                   subst (λ i. Stands R (recordOf s′ k) k i) (omega (arith, z))
-                  (subst (λ (y : Cell). Stands R (y .entry) k w) (sym e) (stands-replaced R s r w (f .size) (f .shape) lk t));
+                  (subst (λ (y : Cell). Stands R (y .entry) k w) (sym e) (stands-replaced R s r w (f .size) t));
             }
 
         cells-after :
@@ -215,15 +224,15 @@ module _ (R : Run) where
 
         overfull-after :
             (x : Bool) → b ≡ x →
-            (h .overfull || (takes s r && leb 2 ((laneAt s k) .len)))
+            (anyBelow (R .n) (λ q. gains R u p q (vs q) && leb 2 ((laneAt first q) .len)) || (takes s r && leb 2 ((laneAt s k) .len)))
             ≡ anyBelow (R .n) (λ q. gains R u p q (vs′ q) && leb 2 ((laneAt first q) .len))
         unfolding full-at
         overfull-after true f =
-            rw (c .overfull, ← (full-here f .1))
+            rw (← (full-here f .1))
             (sym
             (anyBelow-add (R .n) (full-at vs) (full-at vs′) k lk (full-here f .0) (λ q l d. full-rest q d)))
         overfull-after false f =
-            rw (takes-is, f, c .overfull)
+            rw (takes-is, f)
             (or-false (anyBelow (R .n) (full-at vs))
             ∙ sym
             (anyBelow-ext (R .n) (full-at vs′) (full-at vs)
@@ -236,7 +245,7 @@ module _ (R : Run) where
         standing-heeded e =
             subst (λ x. Standing R u p first x vs′) (sym (hearRecord-heeds h r e))
             (record {
-              formed = formed-heard R p s r lk (c .formed);
+              formed = formed-heard R p s r (c .formed);
               body = Cells.heard-body s r ∙ c .body;
               own-version = rest p (λ q. other (sym q)) ∙ c .own-version;
               low = λ q l. low-after q l (ℕ-discrete q k);
@@ -244,7 +253,10 @@ module _ (R : Run) where
               cells = λ q l. cells-after q l (ℕ-discrete q k);
               caught = λ q l. caught-after q l (ℕ-discrete q k);
               count = count-after;
-              overfull = overfull-after b refl;
+              refusal =
+                  ap (λ (q : ℕ). max q (refuse (overfills s r) laneFull done)) (c .refusal)
+                  ∙ either (overfills s r) (anyBelow (R .n) (λ q. gains R u p q (vs q) && leb 2 ((laneAt first q) .len)))
+                  ∙ ap (λ (t : Bool). refuse t laneFull done) (overfull-after b refl);
             })
           where
             low-after : (q : ℕ) → q < R .n → Dec (q ≡ k) → news L u p q ≤ vs′ q
@@ -259,11 +271,11 @@ module _ (R : Run) where
       -- the step
       pub hear-step : vs′ k ≡ max (vs k) (suc w) → Standing R u p first (hearRecord h r) vs′
       hear-step here =
-          go (outcome R s r u p lp (c .formed .own) other lk (vs k) w j lj (c .cells k lk) t (c .low k lk) (c .high k lk) from)
+          go (outcome R s r u p lp (c .formed .own) other lk (vs k) w j lj (c .formed .size) (c .cells k lk) t (c .low k lk) (c .high k lk) from)
         where
           go : Outcome R s r k (vs k) w → Standing R u p first (hearRecord h r) vs′
-          go (skipped e a) =
-              subst (λ x. Standing R u p first x vs′) (sym (hearRecord-skips h r e))
+          go (skipped e f a) =
+              subst (λ x. Standing R u p first x vs′) (sym (hearRecord-skips h r e f))
               (standing-alike R u p first h vs vs′ lp (λ q l. alike q (ℕ-discrete q k))
               (λ q l. below q l (ℕ-discrete q k)) c)
             where

@@ -15,6 +15,7 @@ use Rattle.links.proofs.Number.{start-ends, start-stays, start-zero}
 use Rattle.station_rules.specs.declared.Station.{Station}
 use Rattle.station_rules.specs.declared.Taking.{Taking}
 use Rattle.station_rules.specs.declared.TurnReport.{TurnReport}
+use Rattle.station_rules.specs.Hearing.{Hearing}
 use Rattle.station_rules.specs.Turn.{turnReport}
 use Rattle.station_rules.proofs.TurnParts.{report-ended}
 use Rattle.group_rules.specs.declared.Report.{Report}
@@ -24,6 +25,7 @@ use Rattle.group_rules.specs.History.{History, collect, noRound, reportI
 use Rattle.group_rules.proofs.Run.{Run, linksOf, hearingIn}
 use Rattle.group_rules.proofs.PostsAccounted.{collect-last}
 use Rattle.group_rules.proofs.Simulation.{simulated}
+use Rattle.group_rules.proofs.Lanes.{run-heard}
 use Rattle.group_rules.proofs.Lists.{turnIn, startedBy, heardBy, takenBy, airedBy}
 use Rattle.group_rules.proofs.HistoryRun.{roundIn, roundsBy, rounds-at, report-at}
 
@@ -55,11 +57,13 @@ module _ {A : Type 0} where
 module _ (R : Run) where
   turn-at : (u p : ℕ) → p < R .n → (reportIn (roundIn R u) p) .turn ≡ turnIn R u p
   turn-at u p l = ap (λ (r : Report). r .turn) (report-at R u p l) ∙ report-turn (R .ready u) (R .masks (suc u)) p
+      ∙ ap (λ (h : Hearing). turnReport (h .station)) (run-heard R u p l)
 
   takings-at : (u p : ℕ) → p < R .n
       → take ((reportIn (roundIn R u) p) .«takings_len») ((reportIn (roundIn R u) p) .takings) ≡ (hearingIn R u p) .takings
   takings-at u p l =
       ap (λ (r : Report). take (r .«takings_len») (r .takings)) (report-at R u p l) ∙ report-takings (R .ready u) (R .masks (suc u)) p
+      ∙ ap (λ (h : Hearing). h .takings) (run-heard R u p l)
 
 module _ (R : Run) (H : History) (last : ℕ) (same : H .rounds ≡ roundsBy R last) where
   pub started-list : (s : ℕ) → s < R .n → started H s ≡ startedBy R last s

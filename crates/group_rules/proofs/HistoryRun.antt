@@ -23,6 +23,7 @@ use Rattle.group_rules.specs.History.{History, Call, post, round, next, 
 use Rattle.group_rules.proofs.Setups.{Accepts}
 use Rattle.group_rules.proofs.Run.{Run, linksOf}
 use Rattle.group_rules.proofs.Simulation.{ready-formed}
+use Rattle.group_rules.proofs.Lanes.{run-step}
 use Rattle.group_rules.proofs.CallRun.{afterPosts, nextMasks, afterNext, callsAfter, masksOf, groupAfter, runOf}
 
 -- what round u + 1 of a run returns, the rounds up to u, and their log
@@ -78,7 +79,7 @@ module _ (R : Run) where
   unfolding roundCall roundIn
   round-call u e =
       let n : sizeOf (R .ready u) ≡ R .n = ready-formed R u 0 (R .low) .size in
-      rw (e, R .step u, n)
+      rw (e, run-step R u, n)
 
   pub report-at : (u p : ℕ) → p < R .n → reportIn (roundIn R u) p ≡ reportOf (R .ready u) (R .masks (suc u)) p
   unfolding roundIn
@@ -169,6 +170,23 @@ module _ (setup : Setup) (ok : Accepts setup) (calls : List Call) (free : Unrefu
   tied-last u H [] t = (u, t)
   tied-last u H (post x ∷ ahead) t = tied-last u (next H (post x)) ahead (tied-post u H x ahead t)
   tied-last u H (round masks ∷ ahead) t = tied-last (suc u) (next H (round masks)) ahead (tied-round u H masks ahead t)
+
+  -- the calls before a point of the list
+  tied-split : (u : ℕ) (H : History) (before ahead : List Call) → Tied u H (before ++ ahead) → (v : ℕ) × Tied v (continued H before) ahead
+  unfolding continued
+  tied-split u H [] ahead t = (u, t)
+  tied-split u H (post x ∷ before) ahead t = tied-split u (next H (post x)) before ahead (tied-post u H x (before ++ ahead) t)
+  tied-split u H (round masks ∷ before) ahead t =
+      tied-split (suc u) (next H (round masks)) before ahead (tied-round u H masks (before ++ ahead) t)
+
+  -- a round of the list is given the group that the calls before it leave
+  pub ready-before :
+      (before : List Call) (masks : List ℕ) (ahead : List Call) → before ++ (round masks ∷ ahead) ≡ calls →
+      (v : ℕ) × ((historyOf setup before) .group ≡ R .ready v) × (masks ≡ R .masks (suc v))
+  ready-before before masks ahead e =
+      let t = tied-split 0 (begun setup) before (round masks ∷ ahead) (subst (λ (l : List Call). Tied 0 (begun setup) l) (sym e) tied-first) in
+      let parts = round-parts ((historyOf setup before) .group) masks ahead in
+      (t .0, sym (parts .0) ∙ t .1 .group, sym (parts .2) ∙ t .1 .masks)
 
   abbrev H : History
   H = historyOf setup calls

@@ -1,5 +1,5 @@
 -- The lanes of a run: a lane holds what was taken beyond the rows aired, round after round. The counts of bodies and rows then follow the two rules of
--- counting, so no lane has more than one body after a round or two while hearing, and none is ever overfull.
+-- counting, so no lane has more than one body after a round or two while hearing, and no hearing is ever refused.
 use mathlib.Core.Bool.{Bool, true, false, cond, not, _&&_, true≢false}
 use mathlib.Core.Logic.{_⊎_, inl, inr}
 use mathlib.Core.List.{List, [], _∷_, _++_, append-nil}
@@ -22,16 +22,20 @@ use Rattle.lanes.specs.declared.Lane.{Lane}
 use Rattle.station_rules.specs.declared.Setup.{Setup}
 use Rattle.station_rules.specs.declared.Station.{Station}
 use Rattle.lanes.specs.Lane.{noLane, pushed, popped}
+use Rattle.kinds.specs.Refusals.{done, laneFull, refuse}
 use Rattle.station_rules.specs.State.{Cell, laneAt, freshStation}
+use Rattle.station_rules.specs.Hearing.{Hearing}
 use Rattle.station_rules.specs.Turn.{airs, mayStart, startedBody, afterTurn}
 use Rattle.station_rules.proofs.Setters.{fresh-own, fresh-other}
 use Rattle.station_rules.proofs.TurnCells.{laneAfter, lane-after, turn-lane-own, turn-lane-other}
 use Rattle.lanes.proofs.LaneLaws.{Holds, holds-none, holds-pushed, holds-popped}
 use Rattle.station_rules.proofs.TurnParts.{airs-each, started-waits, report-aired}
-use Rattle.group_rules.specs.State.{stationAt}
+use Rattle.group_rules.specs.State.{stationAt, sizeOf}
+use Rattle.group_rules.specs.Calls.{heard, afterRound}
 use Rattle.group_rules.specs.History.{unlessEmpty}
 use Rattle.group_rules.proofs.Run.{Run, linksOf, hearingIn, bodyAt, rises, comes}
-use Rattle.group_rules.proofs.Simulation.{simulated, heard-standing}
+use Rattle.group_rules.proofs.Simulation.{simulated, heard-standing, ready-formed}
+use Rattle.group_rules.proofs.Through.{below-through, round-through}
 use Rattle.group_rules.proofs.Standing.{Formed}
 use Rattle.group_rules.proofs.Rounds.{first-at, after-at}
 use Rattle.group_rules.proofs.Lists.{startedBy, takenBy, rowsBy, madeBy, startedAt}
@@ -351,19 +355,32 @@ module _ (R : Run) where
         hearing-ahead L (madeBy R) (rowsBy R) (suc u) (counting (suc u)) u p s (omega arith) lp ls,
       )
 
-  -- So no lane that holds two gets a third.
-  pub never-overfull : (u p : ℕ) → p < R .n → (hearingIn R u p) .overfull ≡ false
-  never-overfull u p lp =
-      simulated R .overfull u p lp
-      ∙ anyBelow-none
+  -- So no lane that holds two gets a third, and no frame is refused.
+  pub through-done : (u p : ℕ) → p < R .n → (hearingIn R u p) .refusal ≡ done
+  through-done u p lp =
+      simulated R .refusal u p lp
+      ∙ ap (λ (t : Bool). refuse t laneFull done)
+      (anyBelow-none
       (R .n)
       (λ s. not (eqb p s) && (comes R u p s && leb 2 ((laneAt (stationAt (R .ready u) p) s) .len)))
-      (λ s ls. rw (lt-leb 2 ((laneAt (stationAt (R .ready u) p) s) .len) (omega (arith, ready-limit u p s lp ls))) (go (not (eqb p s)) (comes R u p s)))
+      (λ s ls. rw (lt-leb 2 ((laneAt (stationAt (R .ready u) p) s) .len) (omega (arith, ready-limit u p s lp ls))) (go (not (eqb p s)) (comes R u p s))))
     where
       go : (a b : Bool) → (a && (b && false)) ≡ false
       go true true = refl
       go true false = refl
       go false b = refl
+
+  -- What a station hears in a round of the run is therefore what the definition of a round has it hear.
+  pub run-heard : (u p : ℕ) → p < R .n → heard (R .ready u) (R .masks (suc u)) p ≡ hearingIn R u p
+  run-heard u p lp = below-through (R .ready u) (R .masks (suc u)) p (sizeOf (R .ready u)) (through-done u p lp)
+
+  pub never-refused : (u p : ℕ) → p < R .n → (heard (R .ready u) (R .masks (suc u)) p) .refusal ≡ done
+  never-refused u p lp = ap (λ (h : Hearing). h .refusal) (run-heard u p lp) ∙ through-done u p lp
+
+  pub run-step : (u : ℕ) → R .after (suc u) ≡ afterRound (R .ready u) (R .masks (suc u))
+  run-step u =
+      let n : sizeOf (R .ready u) ≡ R .n = ready-formed R u 0 (R .low) .size in
+      R .step u ∙ sym (round-through (R .ready u) (R .masks (suc u)) (λ i l. run-heard u i (omega (arith, n))))
 
   -- A row is aired exactly where there is one more of everybody.
   pub airs-exactly : (u p : ℕ) → p < R .n → airs ((hearingIn R u p) .station) ≡ airsRow L (madeBy R) (rowsBy R) u p

@@ -4,6 +4,7 @@
 pub mod Setups
 pub mod Members
 pub mod MembersPost
+pub mod FirstRefusal
 pub mod MembersRound
 pub mod CallSteps
 pub mod HistoryInside
@@ -12,6 +13,7 @@ pub mod Takings
 pub mod TurnAccount
 pub mod PostsAccounted
 -- the simulation: what a record stands for, one record heard, a round heard, a turn, all rounds of a run
+pub mod Through
 pub mod Run
 pub mod Version
 pub mod Outcome
@@ -35,9 +37,11 @@ pub mod HistoryRun
 pub mod HistoryLists
 pub mod FromRun
 pub mod DemandThree
+pub mod Conflicts
 -- examples
 pub mod Computing
 pub mod MarkedStatement
 pub mod Marked
 pub mod RunLines
 pub mod RunExamples
+pub mod RoundExamples

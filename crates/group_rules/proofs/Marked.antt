@@ -16,6 +16,7 @@ use Rattle.kinds.specs.Refusals.{done, notAnEdit}
 use Rattle.kind_limits.proofs.Laws.{postable-inside, postable-not-empty, argument-outside}
 use Rattle.kind_limits.proofs.Examples as kinds
 use Rattle.labels.proofs.Examples as labels
+use Rattle.label_words.specs.Packing.{labelIn, labelsInside}
 use Rattle.label_words.proofs.Examples as words
 use Rattle.frame_rules.specs.Words.{wordAt}
 use Rattle.frame_rules.specs.Record.{recordFits}
@@ -127,7 +128,7 @@ posts s i room a b p q = (station.taken s i a p room, station.refused s i b q)
 
 -- a frame of one insert inside its limits is accepted
 framed : (start : ℤ) → bodyInside (Insert 1 start) ≡ true → checkRefusal (insertFrame start) 2 0 ≡ done
-unfolding recordsFit recordFits bodyInside allBelow anyBelow
+unfolding recordsFit recordFits bodyInside labelsInside labelIn allBelow anyBelow
 framed start h =
     sym (by-frame (insertFrame start) 2 0 refl)
     ∙ frames.written-accepted 2 1 _ (omega arith) (simp h) 0 (λ e. omega arith) (omega arith)

@@ -36,7 +36,7 @@ turnIn H u = (reportIn (getD (H .rounds) u noRound) 0) .turn
 -- the frame in which station 1 of two sends its own record alone, an insert of event 1 with this start
 abbrev pub insertFrame : ℤ → List ℕ
 insertFrame start =
-    frameBytes 2 1 (record { station = 1; count = 0; body = Insert 1 start; labels = replicate 16 0 } ∷ [])
+    frameBytes 2 1 (record { station = 1; count = 0; body = Insert 1 start; labels = 0 } ∷ [])
 
 pub record Marked : Type 0 where
   -- M1, M2: at one label the count decides

@@ -1,4 +1,4 @@
--- A round that is not refused leaves every station inside its limits: each hears records that a frame may carry, with no lane overfull, and then takes
+-- A round that is not refused leaves every station inside its limits: each hears records that a frame may carry, no frame is refused, and it takes
 -- its turn. A refused round leaves the group.
 use Prim.Native.Nat.{ℕ, zero, suc, _≤_, _<_}
 use mathlib.Core.Bool.{Bool, true, false, cond, not, false≢true}
@@ -8,7 +8,7 @@ use native.Mathlib.Decide.{decLe}
 use native.Mathlib.Omega.{arith}
 use lib.Dec.{eqb}
 use lib.ListN.{length}
-use borrow.Author.Tests.{not-false}
+use borrow.Author.Tests.{not-false, eqb-true}
 use Rattle.kinds.specs.Refusals.{done}
 use Rattle.links.specs.Log.{hearsIn}
 use Rattle.places.specs.Places.{anyBelow}
@@ -16,15 +16,16 @@ use Rattle.places.proofs.Laws.{anyBelow-at, length-fill, fill-below, fill-above
 use Rattle.station_rules.specs.declared.Station.{Station}
 use Rattle.station_rules.specs.State.{sentRecords}
 use Rattle.station_rules.specs.Calls.{ownCountInside}
-use Rattle.station_rules.specs.Hearing.{silent, hearRecords}
+use Rattle.station_rules.specs.Hearing.{silent, hearFrame}
 use Rattle.station_rules.specs.Turn.{afterTurn}
 use Rattle.station_rules.proofs.Setters.{Shaped}
-use Rattle.station_rules.proofs.LimitsHearing.{Hears, AllCarried, hears-none, hears-records, takings-bounded}
+use Rattle.station_rules.proofs.LimitsHearing.{Hears, AllCarried, hears-none, hears-frame, takings-bounded}
 use Rattle.station_rules.proofs.LimitsSent.{sent-carried}
 use Rattle.station_rules.proofs.LimitsTurn.{turn-holds}
 use Rattle.station_rules.proofs.TurnCells.{turn-n, turn-own, afterTurn-shaped}
 use Rattle.group_rules.specs.State.{noStation, stationAt, sizeOf, groupInside}
-use Rattle.group_rules.specs.Calls.{heardBelow, heard, roundRefusal, afterRound, roundCall}
+use Rattle.group_rules.specs.Calls.{heardBelow, heard, firstRefusal, roundRefusal, afterRound, roundCall}
+use Rattle.group_rules.proofs.FirstRefusal.{first-done}
 use Rattle.group_rules.proofs.Members.{Member, GroupShaped, Members, members-open, members-inside}
 
 -- a round puts at each place of the group the station as it heard and took its turn
@@ -42,28 +43,25 @@ round-length g masks = length-fill (sizeOf g) (λ i. afterTurn ((heard g masks i
 pub record Runs (g : List Station) (masks : List ℕ) : Type 0 where
   pub inside : groupInside g ≡ true
   pub counts : (k : ℕ) → k < sizeOf g → ownCountInside (stationAt g k) ≡ true
-  pub room : (i : ℕ) → i < sizeOf g → (heard g masks i) .overfull ≡ false
+  pub room : (i : ℕ) → i < sizeOf g → (heard g masks i) .refusal ≡ done
 
 pub runs : (g : List Station) (masks : List ℕ) → eqb (roundRefusal g masks) done ≡ true → Runs g masks
 unfolding roundRefusal
 runs g masks h =
-    go (groupInside g) (anyBelow (sizeOf g) (λ k. not (ownCountInside (stationAt g k)))) (anyBelow (sizeOf g) (λ i. (heard g masks i) .overfull))
-    refl refl refl h
+    go (groupInside g) (anyBelow (sizeOf g) (λ k. not (ownCountInside (stationAt g k)))) refl refl h
   where
     go :
-        (a b c : Bool) → groupInside g ≡ a → anyBelow (sizeOf g) (λ k. not (ownCountInside (stationAt g k))) ≡ b →
-        anyBelow (sizeOf g) (λ i. (heard g masks i) .overfull) ≡ c →
-        eqb (cond (not a) 2 (cond b 10 (cond c 8 0))) 0 ≡ true → Runs g masks
-    go true false false p q r z =
+        (a b : Bool) → groupInside g ≡ a → anyBelow (sizeOf g) (λ k. not (ownCountInside (stationAt g k))) ≡ b →
+        eqb (cond (not a) 2 (cond b 10 (firstRefusal (sizeOf g) (λ i. (heard g masks i) .refusal)))) 0 ≡ true → Runs g masks
+    go true false p q z =
         record {
           inside = p;
           counts =
               λ k l. not-false (ownCountInside (stationAt g k)) (anyBelow-at (sizeOf g) (λ k. not (ownCountInside (stationAt g k))) q k l);
-          room = anyBelow-at (sizeOf g) (λ i. (heard g masks i) .overfull) r;
+          room = first-done (sizeOf g) (λ i. (heard g masks i) .refusal) (eqb-true _ 0 z);
         }
-    go true false true p q r z = absurd (false≢true z)
-    go true true c p q r z = absurd (false≢true z)
-    go false b c p q r z = absurd (false≢true z)
+    go true true p q z = absurd (false≢true z)
+    go false b p q z = absurd (false≢true z)
 
 module _ (n : ℕ) (g : List Station) (c : Members n g) (masks : List ℕ) (counts : (k : ℕ) → k < n → ownCountInside (stationAt g k) ≡ true) where
   carried : (i j : ℕ) → i < n → j < n → AllCarried (stationAt g i .n) (sentRecords (stationAt g j))
@@ -79,9 +77,9 @@ module _ (n : ℕ) (g : List Station) (c : Members n g) (masks : List ℕ) (coun
     where
       go :
           (t : Bool) → Hears (silent (stationAt g i)) (heardBelow g masks i j) →
-          Hears (silent (stationAt g i)) (cond t (hearRecords (heardBelow g masks i j) (sentRecords (stationAt g j))) (heardBelow g masks i j))
+          Hears (silent (stationAt g i)) (cond t (hearFrame (heardBelow g masks i j) (sentRecords (stationAt g j))) (heardBelow g masks i j))
       go true hs =
-          hears-records (silent (stationAt g i)) (c .member i l .inside) (heardBelow g masks i j) (sentRecords (stationAt g j)) hs (carried i j l m)
+          hears-frame (silent (stationAt g i)) (c .member i l .inside) (heardBelow g masks i j) (sentRecords (stationAt g j)) hs (carried i j l m)
       go false hs = hs
 
   pub hears-all : (i : ℕ) → i < n → Hears (silent (stationAt g i)) (heard g masks i)
@@ -94,7 +92,7 @@ module _ (n : ℕ) (g : List Station) (c : Members n g) (masks : List ℕ) (run 
   pub run-hears : (i : ℕ) → i < n → Hears (silent (stationAt g i)) (heard g masks i)
   run-hears = hears-all n g c masks run-counts
 
-  pub run-room : (i : ℕ) → i < n → (heard g masks i) .overfull ≡ false
+  pub run-room : (i : ℕ) → i < n → (heard g masks i) .refusal ≡ done
   run-room i l = run .room i (omega (arith, c .size))
 
   -- a round reports at most 30 takings of a station
@@ -115,8 +113,7 @@ module _ (n : ℕ) (g : List Station) (c : Members n g) (masks : List ℕ) (run 
         | no l ↦
             let below : i < n = omega arith in
             rw (after-at i below)
-            (afterTurn-shaped ((heard g masks i) .station)
-            (rw (run-hears i below .own ∙ c .member i below .own) b) (run-hears i below .shaped))
+            (afterTurn-shaped ((heard g masks i) .station) (run-hears i below .shaped))
       ]
 
   after-member : (i : ℕ) → i < n → Member n (afterRound g masks) i

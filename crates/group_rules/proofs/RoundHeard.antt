@@ -19,20 +19,23 @@ use Rattle.links.proofs.Clock.{news-own, news-limit}
 use Rattle.links.proofs.Hearing.{hearing-all}
 use Rattle.links.proofs.Got.{got-numOf, version}
 use Rattle.frame_rules.specs.declared.Record.{Record}
+use Rattle.frame_rules.proofs.Labels.{framed-label}
 use Rattle.frame_rules.specs.Record.{framed}
 use Rattle.places.specs.Places.{gather}
 use Rattle.places.proofs.Laws.{anyBelow-none}
 use Rattle.station_rules.specs.declared.Station.{Station}
+use Rattle.kinds.specs.Refusals.{done, laneFull, refuse}
 use Rattle.station_rules.specs.State.{heldOf, recordOf, laneAt, sentRecords}
 use Rattle.station_rules.specs.Hearing.{Hearing, silent, hearRecord, hearRecords}
-use Rattle.station_rules.proofs.HearRecord.{hearRecord-skips}
+use Rattle.station_rules.proofs.HearRecord.{conflicts, hearRecord-skips}
 use Rattle.station_rules.proofs.Cells
 use Rattle.group_rules.specs.State.{stationAt, sizeOf}
-use Rattle.group_rules.specs.Calls.{heardBelow}
+use Rattle.group_rules.proofs.Through.{heardThrough}
 use Rattle.group_rules.specs.History.{takingsOf}
 use Rattle.group_rules.proofs.Run.{Run, linksOf, hearingIn}
 use Rattle.group_rules.proofs.Version.{Stands, CellAt, shown, gains}
 use Rattle.group_rules.proofs.Standing.{Formed, Standing, standing-alike}
+use Rattle.group_rules.proofs.Outcome.{outcome, outcome-calm}
 use Rattle.group_rules.proofs.HearStep.{hear-step}
 
 module _ (R : Run) where
@@ -60,9 +63,10 @@ module _ (R : Run) where
         cells = a .cells;
         caught = λ q l. record { lane-now = rw (still q); taken-now = rw (still q) };
         count = a .count;
-        overfull =
-            sym
-            (anyBelow-none (R .n) (λ q. gains R u p q (news L u p q) && leb 2 ((laneAt s q) .len)) (λ q l. rw (still q)));
+        refusal =
+            ap (λ (t : Bool). refuse t laneFull done)
+            (sym
+            (anyBelow-none (R .n) (λ q. gains R u p q (news L u p q) && leb 2 ((laneAt s q) .len)) (λ q l. rw (still q))));
       }
     where
       still : (q : ℕ) → ltb (got L u p q) (numOf L q (news L u p q)) ≡ false
@@ -71,12 +75,11 @@ module _ (R : Run) where
 
   stands-framed : (n : ℕ) (r : Record) (k w : ℕ) → n ≡ R .n → Stands R r k w → Stands R (framed n r) k w
   stands-framed n r k w e t =
-      let high = R .high in
       record {
         station = Cells.framed-station n r ∙ t .station;
         count = Cells.framed-count n r ∙ t .count;
         body = Cells.framed-body n r ∙ t .body;
-        labels = λ i b. Cells.framed-label n r i (omega arith) (omega arith) ∙ t .labels i b;
+        labels = λ i b. framed-label n r i (omega arith) ∙ t .labels i b;
       }
 
   -- p hears the frame of j
@@ -137,7 +140,8 @@ module _ (R : Run) where
             subst (λ z. Standing R u p first z (upTo (suc k)))
             (sym
             (hearRecord-skips x (framed (s .n) (recordOf s k))
-            (Cells.heeds-own (x .station) (framed (s .n) (recordOf s k)) (t .station ∙ i ∙ sym (c .formed .own)))))
+            (Cells.heeds-own (x .station) (framed (s .n) (recordOf s k)) (t .station ∙ i ∙ sym (c .formed .own)))
+            (Cells.conflicts-own (x .station) (framed (s .n) (recordOf s k)) (t .station ∙ i ∙ sym (c .formed .own)))))
             (same-versions k x lk c
             (let y : vs k ≡ suc u = sym (upTo-above k k (le-refl k)) ∙ ap (upTo k) i ∙ c .own-version in
             omega (arith, news-limit L u j k)))
@@ -169,6 +173,32 @@ module _ (R : Run) where
         (hear-one k (hearRecords h (gather k (heldOf s) (λ i. framed (s .n) (recordOf s i)))) l (hear-frame k (omega arith) c) (heldOf s k)
         refl)
 
+    -- a record that the sender holds of k is of k, and stands for the version that the sender has
+    held-version : (k : ℕ) → k < R .n → heldOf s k ≡ true → (w : ℕ) × (news L u j k ≡ suc w) × Stands R (framed (s .n) (recordOf s k)) k w
+    held-version k lk e =
+        ⊎-elim
+        (λ (z : news L u j k ≡ 0). absurd (omega (arith, ltb-true 0 (news L u j k) (sym (a .cells k lk .is-held) ∙ e))))
+        (λ (z : (w : ℕ) × (news L u j k ≡ suc w)).
+        (z .0, z .1, stands-framed (s .n) (recordOf s k) k (z .0) (a .formed .size) (a .cells k lk .stands (z .0) (z .1))))
+        (version (news L u j k))
+
+    pub frame-station : (k : ℕ) → k < R .n → heldOf s k ≡ true → (framed (s .n) (recordOf s k)) .station ≡ k
+    frame-station k lk e = held-version k lk e .2 .station
+
+    -- none of its records conflicts with what p holds when the frame comes
+    pub frame-calm :
+        Standing R u p first h vs → (k : ℕ) → k < R .n → (k ≡ p → ⊥) → heldOf s k ≡ true → conflicts (h .station) (framed (s .n) (recordOf s k)) ≡ false
+    frame-calm c k lk d e =
+        let r = framed (s .n) (recordOf s k) in
+        let v = held-version k lk e in
+        let t = v .2 in
+        let here : r .station ≡ k = t .station in
+        let below : r .station < R .n = subst (λ i. i < R .n) (sym here) lk in
+        outcome-calm R (h .station) r (vs (r .station)) (v .0)
+        (outcome R (h .station) r u p lp (c .formed .own) (λ q. d (sym here ∙ q)) below (vs (r .station)) (v .0) j lj (c .formed .size)
+        (c .cells (r .station) below) (subst (λ i. Stands R r i (v .0)) (sym here) t) (c .low (r .station) below) (c .high (r .station) below)
+        (subst (λ i. suc (v .0) ≡ news L u j i) (sym here) (sym (v .1))))
+
     pub hear-sent :
         Standing R u p first h vs →
         Standing R u p first (hearRecords h (sentRecords s)) (λ q. max (vs q) (news L u j q))
@@ -191,37 +221,47 @@ module _ (R : Run) where
     pub ready-size : sizeOf (R .ready u) ≡ R .n
     ready-size = all 0 (R .low) .formed .size
 
-    hear-senders :
+    pub hear-senders :
         (k : ℕ) → k ≤ R .n →
-        Standing R u p (stationAt (R .ready u) p) (heardBelow (R .ready u) (R .masks (suc u)) p k) (λ q. heardVersion u p k q)
-    unfolding heardBelow clock.hearing latest
+        Standing R u p (stationAt (R .ready u) p) (heardThrough (R .ready u) (R .masks (suc u)) p k) (λ q. heardVersion u p k q)
+    unfolding heardThrough clock.hearing latest
     hear-senders zero l = standing-silent u p (stationAt (R .ready u) p) lp (all p lp)
     hear-senders (suc k) l =
         subst (λ b. Standing R u p (stationAt (R .ready u) p)
         (cond b
-        (hearRecords (heardBelow (R .ready u) (R .masks (suc u)) p k) (sentRecords (stationAt (R .ready u) k)))
-        (heardBelow (R .ready u) (R .masks (suc u)) p k))
+        (hearRecords (heardThrough (R .ready u) (R .masks (suc u)) p k) (sentRecords (stationAt (R .ready u) k)))
+        (heardThrough (R .ready u) (R .masks (suc u)) p k))
         (λ q. cond (hearsIn (R .n) (R .masks (suc u)) p k) (max (heardVersion u p k q) (news L u k q)) (heardVersion u p k q)))
         (ap (λ (m : ℕ). hearsIn m (R .masks (suc u)) p k) (sym ready-size))
         (go (hearsIn (R .n) (R .masks (suc u)) p k) (hear-senders k (omega arith)))
       where
         go :
             (b : Bool) →
-            Standing R u p (stationAt (R .ready u) p) (heardBelow (R .ready u) (R .masks (suc u)) p k) (λ q. heardVersion u p k q) →
+            Standing R u p (stationAt (R .ready u) p) (heardThrough (R .ready u) (R .masks (suc u)) p k) (λ q. heardVersion u p k q) →
             Standing R u p (stationAt (R .ready u) p)
             (cond b
-            (hearRecords (heardBelow (R .ready u) (R .masks (suc u)) p k) (sentRecords (stationAt (R .ready u) k)))
-            (heardBelow (R .ready u) (R .masks (suc u)) p k))
+            (hearRecords (heardThrough (R .ready u) (R .masks (suc u)) p k) (sentRecords (stationAt (R .ready u) k)))
+            (heardThrough (R .ready u) (R .masks (suc u)) p k))
             (λ q. cond b (max (heardVersion u p k q) (news L u k q)) (heardVersion u p k q))
         go true c =
             hear-sent u p lp (stationAt (R .ready u) p) k l (stationAt (R .ready u) k) (all k l)
-            (heardBelow (R .ready u) (R .masks (suc u)) p k) (λ q. heardVersion u p k q) c
+            (heardThrough (R .ready u) (R .masks (suc u)) p k) (λ q. heardVersion u p k q) c
         go false c = c
+
+    -- no record that p hears conflicts
+    pub round-calm :
+        (j k : ℕ) → j < R .n → k < R .n → (k ≡ p → ⊥) → heldOf (stationAt (R .ready u) j) k ≡ true →
+        conflicts ((heardThrough (R .ready u) (R .masks (suc u)) p j) .station)
+        (framed ((stationAt (R .ready u) j) .n) (recordOf (stationAt (R .ready u) j) k))
+        ≡ false
+    round-calm j k lj lk d e =
+        frame-calm u p lp (stationAt (R .ready u) p) j lj (stationAt (R .ready u) j) (all j lj)
+        (heardThrough (R .ready u) (R .masks (suc u)) p j) (λ q. heardVersion u p j q) (hear-senders j (omega arith)) k lk d e
 
     -- all of them
     pub hear-round : Standing R u p (stationAt (R .ready u) p) (hearingIn R u p) (λ q. heardVersion u p (R .n) q)
     hear-round =
-        subst (λ m. Standing R u p (stationAt (R .ready u) p) (heardBelow (R .ready u) (R .masks (suc u)) p m) (λ q. heardVersion u p (R .n) q))
+        subst (λ m. Standing R u p (stationAt (R .ready u) p) (heardThrough (R .ready u) (R .masks (suc u)) p m) (λ q. heardVersion u p (R .n) q))
         (sym ready-size) (hear-senders (R .n) (le-refl (R .n)))
 
     -- of another station that is the clock of the round

@@ -14,14 +14,15 @@ use Rattle.links.proofs.Clock.{news-own, news-start}
 use Rattle.links.proofs.Number.{num-zero, start-zero}
 use Rattle.links.proofs.Hearing.{counted-zero}
 use Rattle.links.proofs.Got.{got-none, got-own}
+use Rattle.frame_rules.specs.Record.{recordLabel}
 use Rattle.station_rules.specs.declared.Station.{Station}
-use Rattle.station_rules.specs.State.{Cell, recordLabel, freshRecord, freshStation}
+use Rattle.station_rules.specs.State.{Cell, freshRecord, freshStation}
 use Rattle.station_rules.specs.Turn.{afterTurn}
 use Rattle.group_rules.specs.State.{stationAt, sizeOf}
 use Rattle.group_rules.proofs.Run.{Run, linksOf, hearingIn}
 use Rattle.station_rules.proofs.Setters.{SameButWaiting, fresh-self, fresh-own, fresh-other, fresh-label-own, fresh-label-other, fresh-shaped}
 use Rattle.group_rules.proofs.Members.{fresh-at, fresh-shape}
-use Rattle.group_rules.proofs.MembersRound.{round-at, round-length}
+use Rattle.group_rules.proofs.Through.{through-at, through-length}
 use Rattle.group_rules.proofs.Version.{Stands, CellStands, CellAt}
 use Rattle.group_rules.proofs.Standing.{Formed}
 use Rattle.group_rules.proofs.RoundHeard.{After, hear-round, heard-version}
@@ -120,14 +121,14 @@ module _ (R : Run) where
   pub after-length : (u : ℕ) → length (R .after u) ≡ 16
   after-length zero = ap length (R .first) ∙ fresh-shape (R .setup) (omega (arith, R .given, R .high)) .places
   after-length (suc u) =
-      ap length (R .step u) ∙ round-length (R .ready u) (R .masks (suc u)) ∙ R .length-ready u ∙ after-length u
+      ap length (R .step u) ∙ through-length (R .ready u) (R .masks (suc u)) ∙ R .length-ready u ∙ after-length u
 
   round-station :
       (u p : ℕ) → p < R .n → sizeOf (R .ready u) ≡ R .n → stationAt (R .after (suc u)) p ≡ afterTurn ((hearingIn R u p) .station)
   round-station u p lp e =
       let high = R .high in
       ap (λ g. stationAt g p) (R .step u)
-      ∙ round-at (R .ready u) (R .masks (suc u)) p (omega arith) (omega (arith, R .length-ready u, after-length u))
+      ∙ through-at (R .ready u) (R .masks (suc u)) p (omega arith) (omega (arith, R .length-ready u, after-length u))
 
   -- every round
   pub after-all : (u p : ℕ) → p < R .n → After R u p (stationAt (R .after u) p)

@@ -15,12 +15,13 @@ use Rattle.places.specs.Places.{anyBelow}
 use Rattle.station_rules.specs.declared.Setup.{Setup}
 use Rattle.station_rules.specs.declared.Station.{Station}
 use Rattle.lanes.specs.Lane.{pushed}
+use Rattle.kinds.specs.Refusals.{done, laneFull, refuse}
 use Rattle.station_rules.specs.State.{laneAt}
 use Rattle.station_rules.specs.Hearing.{Hearing}
 use Rattle.station_rules.specs.Turn as turn
 use Rattle.station_rules.proofs.Setters.{SameButWaiting}
-use Rattle.group_rules.specs.State.{stationAt, freshGroup}
-use Rattle.group_rules.specs.Calls.{heard, afterRound}
+use Rattle.group_rules.specs.State.{stationAt, sizeOf, freshGroup}
+use Rattle.group_rules.proofs.Through.{heardThrough, roundThrough}
 use Rattle.group_rules.specs.History.{takingsOf, unlessEmpty}
 
 pub record Run : Type 0 where
@@ -38,7 +39,7 @@ pub record Run : Type 0 where
   pub first : after 0 ≡ freshGroup setup
   pub length-ready : (u : ℕ) → length (ready u) ≡ length (after u)
   pub posts : (u k : ℕ) → SameButWaiting (stationAt (after u) k) (stationAt (ready u) k)
-  pub step : (u : ℕ) → after (suc u) ≡ afterRound (ready u) (masks (suc u))
+  pub step : (u : ℕ) → after (suc u) ≡ roundThrough (ready u) (masks (suc u))
 
 -- the links of a run
 abbrev pub linksOf : Run → Links
@@ -46,7 +47,7 @@ linksOf R = ofMasks (R .n) (R .masks)
 
 -- station p in round u + 1, once it has heard
 abbrev pub hearingIn : Run → ℕ → ℕ → Hearing
-hearingIn R u p = heard (R .ready u) (R .masks (suc u)) p
+hearingIn R u p = heardThrough (R .ready u) (R .masks (suc u)) p (sizeOf (R .ready u))
 
 -- the body that s had as round w left it, for version w + 1
 abbrev pub bodyAt : Run → ℕ → ℕ → Body
@@ -75,7 +76,7 @@ pub record Simulated (R : Run) : Type 0 where
       (pushed (laneAt (stationAt (R .ready u) p) s) (bodyAt R s (news (linksOf R) (suc u) p s)))
       (laneAt (stationAt (R .ready u) p) s)
   pub own-lane : (u p : ℕ) → p < R .n → laneAt ((hearingIn R u p) .station) p ≡ laneAt (stationAt (R .ready u) p) p
-  pub overfull :
+  pub refusal :
       (u p : ℕ) → p < R .n →
-      (hearingIn R u p) .overfull
-      ≡ anyBelow (R .n) (λ s. not (eqb p s) && (comes R u p s && leb 2 ((laneAt (stationAt (R .ready u) p) s) .len)))
+      (hearingIn R u p) .refusal
+      ≡ refuse (anyBelow (R .n) (λ s. not (eqb p s) && (comes R u p s && leb 2 ((laneAt (stationAt (R .ready u) p) s) .len)))) laneFull done

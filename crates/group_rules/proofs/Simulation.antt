@@ -18,9 +18,11 @@ use Rattle.links.proofs.Clock.{news-own}
 use Rattle.links.proofs.Got.{got-numOf, got-own, numOf-some}
 use Rattle.links.proofs.Bounds.{counted-limit}
 use Rattle.frame_rules.specs.declared.Record.{Record}
+use Rattle.frame_rules.specs.Record.{recordLabel}
 use Rattle.places.proofs.Laws.{anyBelow-ext}
 use Rattle.lanes.specs.Lane.{pushed}
-use Rattle.station_rules.specs.State.{labelOf, ackedOf, heldOf, recordOf, recordLabel, laneAt}
+use Rattle.kinds.specs.Refusals.{done, laneFull, refuse}
+use Rattle.station_rules.specs.State.{labelOf, ackedOf, heldOf, recordOf, laneAt}
 use Rattle.station_rules.specs.Calls.{ownCountInside}
 use Rattle.station_rules.specs.Turn as turn
 use Rattle.group_rules.specs.State.{stationAt}
@@ -187,12 +189,13 @@ module _ (R : Run) where
             (gains-comes u p s ls)
             (sym (body-shown u s ls (news L (suc u) p s)));
         own-lane = λ u p lp. lane-own u p lp;
-        overfull =
+        refusal =
             λ u p lp.
-            heard-standing u p lp .overfull
-            ∙ anyBelow-ext (R .n) _
+            heard-standing u p lp .refusal
+            ∙ ap (λ (t : Bool). refuse t laneFull done)
+            (anyBelow-ext (R .n) _
             (λ s. not (eqb p s) && (comes R u p s && leb 2 ((laneAt (stationAt (R .ready u) p) s) .len)))
-            (λ s ls. one u p lp s ls (ℕ-discrete p s));
+            (λ s ls. one u p lp s ls (ℕ-discrete p s)));
       }
     where
       one :

@@ -3,7 +3,7 @@
 use Prim.Native.Nat.{ℕ, suc, _*_, _-_, _≤_, _<_}
 use mathlib.Core.Bool.{Bool, _&&_}
 use mathlib.Core.Logic.{inl, inr}
-use mathlib.Core.Path.{_≡_, refl, sym, _∙_, subst}
+use mathlib.Core.Path.{_≡_, refl, sym, ap, _∙_, subst}
 use native.Mathlib.Omega.{arith}
 use lib.Dec.{leb}
 use Rattle.links.specs.Relay.{Links}
@@ -16,6 +16,7 @@ use Rattle.links.proofs.Tally.{tally-same, tally-limit}
 use Rattle.places.specs.Places.{anyBelow}
 use Rattle.places.proofs.Laws.{anyBelow-ext}
 use Rattle.station_rules.specs.declared.Station.{Station}
+use Rattle.kinds.specs.Refusals.{done, laneFull, refuse}
 use Rattle.station_rules.specs.State.{laneAt}
 use Rattle.station_rules.specs.Hearing.{Hearing}
 use Rattle.station_rules.proofs.Setters.{Shaped}
@@ -45,7 +46,8 @@ module _ (R : Run) where
         CellAt R u p q (vs q) (h .station)
     pub caught : (q : ℕ) → q < R .n → Caught R u p q (vs q) (laneAt first q) (laneAt (h .station) q) (takingsOf q (h .takings))
     pub count : (h .station) .count ≡ tally (R .n) p (λ q. numOf L q (vs q)) (λ q. got L (start L u p) p q)
-    pub overfull : h .overfull ≡ anyBelow (R .n) (λ q. gains R u p q (vs q) && leb 2 ((laneAt first q) .len))
+    pub refusal :
+        h .refusal ≡ refuse (anyBelow (R .n) (λ q. gains R u p q (vs q) && leb 2 ((laneAt first q) .len))) laneFull done
 
   alike-later : (q v v′ : ℕ) → Alike R q v v′ → v ≤ v′
   alike-later q v v′ (inl e) = omega arith
@@ -71,11 +73,12 @@ module _ (R : Run) where
             ∙ tally-same p (R .n) (λ q. numOf L q (vs q)) (λ q. numOf L q (vs′ q))
             (λ q. got L (start L u p) p q) (λ q. got L (start L u p) p q)
             (λ q l d. (number q l, refl));
-        overfull =
-            c .overfull
-            ∙ anyBelow-ext (R .n) (λ q. gains R u p q (vs q) && leb 2 ((laneAt first q) .len))
+        refusal =
+            c .refusal
+            ∙ ap (λ (t : Bool). refuse t laneFull done)
+            (anyBelow-ext (R .n) (λ q. gains R u p q (vs q) && leb 2 ((laneAt first q) .len))
             (λ q. gains R u p q (vs′ q) && leb 2 ((laneAt first q) .len))
-            (λ q l. gains-same q (vs q) (vs′ q) (leb 2 ((laneAt first q) .len)) (number q l));
+            (λ q l. gains-same q (vs q) (vs′ q) (leb 2 ((laneAt first q) .len)) (number q l)));
       }
     where
       gains-same : (q v v′ : ℕ) (b : Bool) → numOf L q v ≡ numOf L q v′ → (gains R u p q v && b) ≡ (gains R u p q v′ && b)

@@ -91,7 +91,7 @@ module _ (R : Run) where
           record {
             size = TurnCells.turn-n s ∙ f .size;
             own = TurnCells.turn-own s ∙ f .own;
-            shape = TurnCells.afterTurn-shaped s (omega (arith, f .own)) (f .shape);
+            shape = TurnCells.afterTurn-shaped s (f .shape);
           }
 
       -- b says whether the broadcast ends
@@ -156,13 +156,16 @@ module _ (R : Run) where
             ∙ ap (λ (i : ℕ). i % 3)
             (ap (λ (v : ℕ). numOf L q v) (clock q d) ∙ sym (got-numOf L (suc u) p q))
 
+        label-fits : (q : ℕ) → q < s .n → labelOf (afterTurn s) q < 4
+        label-fits q l = omega (arith, label-now q (omega (arith, c .formed .size)) (ℕ-discrete q p))
+
         own-stands : Stands R (ownRecord (passed s)) p (suc u)
         own-stands =
             record {
               station = TurnCells.own-station s shape few below ∙ c .formed .own;
               count = TurnCells.own-count s shape few below ∙ count-turn;
               body = TurnCells.own-body s shape few below ∙ body-turn;
-              labels = λ k l. TurnCells.own-label s shape few below k (omega (arith, c .formed .size)) ∙ label-now k l (ℕ-discrete k p);
+              labels = λ k l. TurnCells.own-label s shape few below label-fits k (omega (arith, c .formed .size)) ∙ label-now k l (ℕ-discrete k p);
             }
 
         acked-turn : (q : ℕ) → q < R .n → ackedOf (afterTurn s) q ≡ cond b (eqb q p) (ackedOf s q)

@@ -19,10 +19,11 @@ use Rattle.links.proofs.Got.{numOf-none, numOf-some, got-own}
 use Rattle.links.proofs.Bounds.{gotOf-some}
 use Rattle.links.proofs.Version.{counted-pins}
 use Rattle.frame_rules.specs.declared.Record.{Record}
+use Rattle.frame_rules.specs.Record.{recordLabel}
 use Rattle.lanes.specs.declared.Lane.{Lane}
 use Rattle.station_rules.specs.declared.Station.{Station}
 use Rattle.lanes.specs.Lane.{pushed}
-use Rattle.station_rules.specs.State.{Cell, cellOf, recordLabel}
+use Rattle.station_rules.specs.State.{Cell, cellOf}
 use Rattle.group_rules.specs.State.{stationAt}
 use Rattle.group_rules.specs.History.{unlessEmpty}
 use Rattle.group_rules.proofs.Run.{Run, linksOf}

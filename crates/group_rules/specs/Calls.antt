@@ -4,13 +4,13 @@ use mathlib.Core.Bool.{cond, not, _&&_}
 use mathlib.Core.List.{List, _++_}
 use lib.ListN.{set, replicate, length}
 use lib.Dec.{leb, ltb, eqb}
-use Rattle.kinds.specs.Refusals.{done, badNumber, outsideLimits, laneFull, countTooHigh, refuse}
+use Rattle.kinds.specs.Refusals.{done, badNumber, outsideLimits, countTooHigh, refuse}
 use Rattle.links.specs.Log.{hearsIn}
 use Rattle.places.specs.Places.{anyBelow, fill}
 use Rattle.station_rules.specs.declared.Setup.{Setup}
 use Rattle.station_rules.specs.declared.Station.{Station}
 use Rattle.station_rules.specs.State.{sentRecords, aloneSetup}
-use Rattle.station_rules.specs.Hearing.{Hearing, silent, hearRecords}
+use Rattle.station_rules.specs.Hearing.{Hearing, silent, hearFrame}
 pub use Rattle.station_rules.specs.Hearing.{noTaking}
 use Rattle.station_rules.specs.Turn.{afterTurn, turnReport}
 use Rattle.station_rules.specs.Calls.{posted, postRefusal, ownCountInside, noTurn}
@@ -50,7 +50,7 @@ unfoldable pub heardBelow : List Station → List ℕ → ℕ → ℕ → Hearin
 heardBelow g masks i zero = silent (stationAt g i)
 heardBelow g masks i (suc j) =
     cond (hearsIn (sizeOf g) masks i j)
-    (hearRecords (heardBelow g masks i j) (sentRecords (stationAt g j)))
+    (hearFrame (heardBelow g masks i j) (sentRecords (stationAt g j)))
     (heardBelow g masks i j)
 
 -- station i once it has heard all of its mask
@@ -71,12 +71,18 @@ reportOf g masks i =
       turn = turnReport (h .station);
     }
 
--- 2, 10, 8
+-- the refusal of the first station below n that has one
+unfoldable pub firstRefusal : ℕ → (ℕ → ℕ) → ℕ
+firstRefusal zero refusal = done
+firstRefusal (suc k) refusal =
+    cond (eqb (firstRefusal k refusal) done) (refusal k) (firstRefusal k refusal)
+
+-- 2, 10, then the first refused frame's: 14 or 8
 unfoldable pub roundRefusal : List Station → List ℕ → ℕ
 roundRefusal g masks =
     refuse (not (groupInside g)) outsideLimits
     (refuse (anyBelow (sizeOf g) (λ k. not (ownCountInside (stationAt g k)))) countTooHigh
-    (refuse (anyBelow (sizeOf g) (λ i. (heard g masks i) .overfull)) laneFull done))
+    (firstRefusal (sizeOf g) (λ i. (heard g masks i) .refusal)))
 
 -- the group after a round that is not refused
 unfoldable pub afterRound : List Station → List ℕ → List Station

@@ -1,8 +1,9 @@
 -- Document 01, "Bodies, labels and records": what each case of the body enum stands for, as the three numbers of a record.
 use Prim.Native.Nat.{ℕ}
-use mathlib.Core.Bool.{Bool, cond}
+use mathlib.Core.Bool.{Bool, cond, _&&_}
 use lib.Dec.{leb, eqb}
 use lib.IntN.{ℤ, pos}
+use lib.Signed.{leZ}
 use Rattle.kinds.specs.declared.Body.{Body}
 use Rattle.kinds.specs.declared.Body.the-variants.{Empty, Neutral, Insert, Drop, Shift}
 
@@ -37,6 +38,12 @@ isEmpty b = eqb (kindOf b) 0
 -- the term "edit": kinds 2 to 4, whatever the numbers
 abbrev pub isEdit : Body → Bool
 isEdit b = leb 2 (kindOf b)
+
+-- kind, event and argument are the same
+abbrev pub sameBody : Body → Body → Bool
+sameBody a b =
+    (eqb (kindOf a) (kindOf b) && eqb (eventOf a) (eventOf b))
+    && (leZ (argumentOf a) (argumentOf b) && leZ (argumentOf b) (argumentOf a))
 
 -- the body of a kind with its event and argument; numbers that the kind does not have are left out, and a number that is no kind gives Empty
 unfoldable pub bodyOf : ℕ → ℕ → ℤ → Body

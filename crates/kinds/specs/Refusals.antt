@@ -53,6 +53,10 @@ malformedLine = 11
 abbrev pub badLinkLog : ℕ
 badLinkLog = 12
 
+-- a record of another station conflicts with the one held of it (document 02, A4)
+abbrev pub conflict : ℕ
+conflict = 14
+
 -- a listing has a line that is not of the listing's form, or does not end with its last line (document 02, A8)
 abbrev pub badListing : ℕ
 badListing = 16

@@ -1,4 +1,5 @@
 pub mod Laws
-pub mod PackSteps
+pub mod Packing
 pub mod Word
+pub mod Made
 pub mod Examples

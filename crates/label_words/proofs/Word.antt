@@ -1,20 +1,31 @@
--- How two looks at a word show what `wordInside` asks of its sixteen labels. A label is 3 where both its bits are 1, so a word has a 3 where
--- the word and its half share a bit at an even place; and the labels from n up are 0 where nothing is left above 2 n bits.
-use Prim.Native.Nat.{ℕ, zero, suc, _+_, _*_, _/_, _%_, _^_, _≤_, _<_, min}
-use native.Mathlib.Nat.{div-one, div-div-eq-div-mul, pow-succ'}
+-- How looks at a word's bits show what is asked of its sixteen labels. A label is 3 where both its bits are 1, so a word has a 3 where the word and its half
+-- share a bit at an even place; and the labels from n up are 0 where nothing is left above 2 n bits.
+use Prim.Native.Nat.{ℕ, zero, suc, _+_, _-_, _*_, _/_, _%_, _^_, _≤_, _<_, min}
+use native.Mathlib.Nat.{mod-one, pow-suc, one-le-pow, div-eq-of-lt, div-lt-iff-lt-mul}
+use native.Mathlib.Decide.{decLt}
 use native.Mathlib.Omega.{arith}
-use mathlib.Core.Bool.{Bool, true, false, _&&_}
+use mathlib.Core.Bool.{_&&_}
 use mathlib.Core.Path.{_≡_, refl, sym, ap, ap₂, _∙_}
 use lib.Arith.{mod-mul}
-use lib.Bits.{bitAnd, bitOr, and-step, and-zero-r, and-le-l, and-le-r, or-add-and}
-use lib.Dec.{leb, eqb}
-use lib.ListN.{take, drop}
+use lib.Bits.{bitAnd, bitOr, and-step, and-mask, and-zero-r, and-le-l, and-le-r, or-add-and}
+use lib.Dec.{eqb}
 use borrow.Author.Tests.{leb-true, eqb-true, le-leb, eq-eqb}
-use Rattle.labels.specs.Label.{allLabels}
-use Rattle.label_words.specs.Packing.{unpacked, allZero, wordInside}
-use Rattle.labels.proofs.Laws.{same-test, all-split}
-use Rattle.label_words.proofs.Laws.{zero-all, zero-word}
+use Rattle.labels.proofs.Laws.{same-test}
 use Rattle.places.proofs.Laws.{both, and-both}
+use Rattle.label_words.specs.Packing.{labelIn, labelsInside, zeroFrom, wordInside}
+use Rattle.label_words.proofs.Laws.{label-first, label-next, label-high, labels-less, inside-at, inside-make, zeros-at, zeros-make}
+
+-- 2 n bits are n labels
+pub four : (n : ℕ) → 2 ^ (2 * n) ≡ 4 ^ n
+four zero = refl
+four (suc n) =
+    let e : 2 * suc n ≡ suc (suc (2 * n)) = omega arith in
+    rw e (omega (arith, four n))
+
+pub low-mask : (word n : ℕ) → bitAnd word (4 ^ n - 1) ≡ word % 4 ^ n
+low-mask word n = rw (← four n) (and-mask word (2 * n))
+
+-- ---- labels are no 3
 
 -- the even places of n labels
 abbrev pub evens : ℕ → ℕ
@@ -47,73 +58,56 @@ threes-step n word =
       and-step word (word / 2),
     )
 
-all-threes : (n word : ℕ) → allLabels (unpacked n word) ≡ eqb (threes n word) 0
-unfolding allLabels unpacked
-all-threes zero word = sym (eq-eqb (threes 0 word) 0 (and-zero-r (shared word)))
-all-threes (suc n) word =
-    let bits : word % 4 ≡ word / 2 % 2 * 2 + word % 2 = mod-mul word (omega arith) (omega arith) in
-    rw (all-threes n (word / 4))
-    (same-test
-    (leb (word % 4) 2 && eqb (threes n (word / 4)) 0)
-    (eqb (threes (suc n) word) 0)
+bits : (word : ℕ) → word % 4 ≡ word / 2 % 2 * 2 + word % 2
+bits word = mod-mul word (omega arith) (omega arith)
+
+threes-none : (n word : ℕ) → threes n word ≡ 0 → (k : ℕ) → k < n → labelIn word k ≤ 2
+threes-none zero word z k h = absurd (omega arith)
+threes-none (suc n) word z zero h = omega (arith, threes-step n word, bits word, label-first word)
+threes-none (suc n) word z (suc k) h =
+    rw (label-next word k) (threes-none n (word / 4) (omega (arith, threes-step n word)) k (omega arith))
+
+none-threes : (n word : ℕ) → ((k : ℕ) → k < n → labelIn word k ≤ 2) → threes n word ≡ 0
+none-threes zero word f = and-zero-r (shared word)
+none-threes (suc n) word f =
+    let low : word % 4 ≤ 2 = rw (label-first word) at (f 0 (omega arith)) in
+    let rest = none-threes n (word / 4) (λ k h. rw (label-next word k) at (f (suc k) (omega arith))) in
+    omega (arith, threes-step n word, bits word, rest)
+
+threes-are : (n word : ℕ) → eqb (threes n word) 0 ≡ labelsInside n word
+threes-are n word =
+    same-test (eqb (threes n word) 0) (labelsInside n word)
     (λ t.
-    let p = both (leb (word % 4) 2) (eqb (threes n (word / 4)) 0) t in
-    eq-eqb
-    (threes (suc n) word)
-    0
-    (omega (
-      arith,
-      threes-step n word,
-      leb-true (word % 4) 2 (p .0),
-      eqb-true (threes n (word / 4)) 0 (p .1),
-    )))
+    inside-make n word
+    (λ k l. le-leb (labelIn word k) 2 (threes-none n word (eqb-true (threes n word) 0 t) k l)))
     (λ t.
-    let z : threes (suc n) word ≡ 0 = eqb-true (threes (suc n) word) 0 t in
-    let low : word % 4 ≤ 2 = omega (arith, threes-step n word) in
-    let rest : threes n (word / 4) ≡ 0 = omega (arith, threes-step n word) in
-    rw (le-leb (word % 4) 2 low) (eq-eqb (threes n (word / 4)) 0 rest)))
+    eq-eqb (threes n word) 0
+    (none-threes n word (λ k l. leb-true (labelIn word k) 2 (inside-at n word t k l))))
 
-four : (n : ℕ) → 2 ^ (2 * n) ≡ 4 ^ n
-four zero = refl
-four (suc n) =
-    let e : 2 * suc n ≡ suc (suc (2 * n)) = omega arith in
-    rw e (omega (arith, four n))
+-- the places above those of the first n labels are masked out
+threes-mod : (n m word : ℕ) → n ≤ m → threes m word % 4 ^ n ≡ threes n word
+threes-mod zero m word h = mod-one (threes m word) ∙ sym (and-zero-r (shared word))
+threes-mod (suc n) zero word h = absurd (omega arith)
+threes-mod (suc n) (suc m) word h =
+    let x = threes (suc m) word in
+    let q : x / 4 ≡ threes m (word / 4) = omega (arith, threes-step m word) in
+    let e : x % (4 ^ n * 4) ≡ x / 4 % 4 ^ n * 4 + x % 4 = mod-mul x (one-le-pow n 4 (omega arith)) (omega arith) in
+    rw (pow-suc 4 n)
+    (e ∙ rw q (omega (arith, threes-mod n m (word / 4) (omega arith), threes-step m word, threes-step n word)))
 
-high-zero :
-    (n k word : ℕ) →
-    n ≤ k →
-    word < 4 ^ k →
-    allZero (drop n (unpacked k word)) ≡ eqb (word / 4 ^ n) 0
-unfolding unpacked
-high-zero zero k word l h = rw div-one (zero-word k word h)
-high-zero (suc n) zero word l h = absurd (omega arith)
-high-zero (suc n) (suc k) word l h =
-    high-zero n k (word / 4) (omega arith) (omega arith)
-    ∙ ap
-    (λ (q : ℕ). eqb q 0)
-    (div-div-eq-div-mul word 4 (4 ^ n) ∙ ap (λ (p : ℕ). word / p) (sym (pow-succ' 4 n)))
+pub inside-masked : (n word : ℕ) → n ≤ 16 → eqb (bitAnd (threes 16 word) (4 ^ n - 1)) 0 ≡ labelsInside n word
+inside-masked n word h = rw (low-mask (threes 16 word) n, threes-mod n 16 word h) (threes-are n word)
 
--- a test that a later one implies adds nothing
-absorb : (t d z : Bool) → (z ≡ true → d ≡ true) → (t && z) ≡ ((t && d) && z)
-absorb false d z f = refl
-absorb true true z f = refl
-absorb true false true f = sym (f refl)
-absorb true false false f = refl
+-- ---- and nothing stands above them
 
--- what `wordInside` asks, as the two looks
-pub inside-is :
-    (n word : ℕ) →
-    n ≤ 16 →
-    word < 2 ^ 32 →
-    wordInside n word ≡ (eqb (threes 16 word) 0 && eqb (word / 2 ^ (2 * n)) 0)
-unfolding wordInside
-inside-is n word l h =
-    let u = unpacked 16 word in
-    absorb (allLabels (take n u)) (allLabels (drop n u)) (allZero (drop n u)) (zero-all (drop n u))
-    ∙ ap₂
-    _&&_
-    (sym (all-split n u) ∙ all-threes 16 word)
-    (high-zero n 16 word l h ∙ ap (λ (p : ℕ). eqb (word / p) 0) (sym (four n)))
+high-zero : (n word : ℕ) → n ≤ 16 → word < 2 ^ 32 → eqb (word / 4 ^ n) 0 ≡ zeroFrom n word
+high-zero n word l h =
+    same-test (eqb (word / 4 ^ n) 0) (zeroFrom n word)
+    (λ t.
+    let z : word / 4 ^ n < 1 = omega (arith, eqb-true (word / 4 ^ n) 0 t) in
+    let less : word < 1 * 4 ^ n = div-lt-iff-lt-mul (one-le-pow n 4 (omega arith)) .0 z in
+    zeros-make n word (λ k a b. label-high n k word (omega arith) a))
+    (λ t. eq-eqb (word / 4 ^ n) 0 (div-eq-of-lt (labels-less n 16 word l h (zeros-at n word t))))
 
 -- two numbers are both 0 where together they have no bit
 or-zero : (a b : ℕ) → eqb (bitOr a b) 0 ≡ (eqb a 0 && eqb b 0)
@@ -130,7 +124,29 @@ or-zero a b =
     let p = both (eqb a 0) (eqb b 0) t in
     eq-eqb (bitOr a b) 0 (omega (arith, or-add-and a b, eqb-true a 0 (p .0), eqb-true b 0 (p .1))))
 
--- the two looks as one
+-- where the labels from n up are 0, the first n are labels exactly if all sixteen are
+all-sixteen : (n word : ℕ) → n ≤ 16 → (labelsInside 16 word && zeroFrom n word) ≡ (labelsInside n word && zeroFrom n word)
+all-sixteen n word l =
+    same-test (labelsInside 16 word && zeroFrom n word) (labelsInside n word && zeroFrom n word)
+    (λ t.
+    let p = both (labelsInside 16 word) (zeroFrom n word) t in
+    and-both (inside-make n word (λ k b. inside-at 16 word (p .0) k (omega arith))) (p .1))
+    (λ t.
+    let p = both (labelsInside n word) (zeroFrom n word) t in
+    and-both
+    (inside-make 16 word
+    (λ k b.
+    elim (decLt k n) [
+      | yes a ↦ inside-at n word (p .0) k a
+      | no a ↦ le-leb (labelIn word k) 2 (omega (arith, zeros-at n word (p .1) k (omega arith) b))
+    ]))
+    (p .1))
+
+-- both looks as one
 pub inside-one :
     (n word : ℕ) → n ≤ 16 → word < 2 ^ 32 → eqb (bitOr (threes 16 word) (word / 2 ^ (2 * n))) 0 ≡ wordInside n word
-inside-one n word l h = or-zero (threes 16 word) (word / 2 ^ (2 * n)) ∙ sym (inside-is n word l h)
+unfolding wordInside
+inside-one n word l h =
+    or-zero (threes 16 word) (word / 2 ^ (2 * n))
+    ∙ ap₂ _&&_ (threes-are 16 word) (ap (λ (p : ℕ). eqb (word / p) 0) (four n) ∙ high-zero n word l h)
+    ∙ all-sixteen n word l

@@ -4,7 +4,7 @@ use mathlib.Core.List.{List, _∷_, _++_}
 use Prim.Native.Nat.{ℕ, _≤_}
 use native.Mathlib.Omega.{arith}
 use lib.IntN.{ℤ}
-use lib.ListN.{length, set, take, drop-of-length-le}
+use lib.ListN.{length, set, drop-of-length-le}
 use lib.Seq.{sets, sets-eq}
 use mir.Syntax.{w32}
 use mir.Val.{SFits, toZ, ofZ}
@@ -12,10 +12,11 @@ use mir.ValLaws.{toZ-ofZ}
 use Rattle.kinds.specs.declared.Body.{Body}
 use Rattle.kinds.specs.declared.Body.the-variants.{Empty, Neutral, Insert, Drop, Shift}
 use Rattle.kinds.specs.Body.{kindOf, eventOf, argumentOf}
-use Rattle.label_words.specs.Packing.{packed}
+use Rattle.label_words.specs.Packing.{labelIn, labelsOver}
 use Rattle.frame_rules.specs.declared.Record.{Record}
 use Rattle.frame_rules.specs.Words.{wordBytes, unsigned}
 use Rattle.frame_rules.specs.Record.{recordBytes}
+use Rattle.frame_rules.proofs.Labels.{labels-of}
 
 -- a kind is a byte
 pub kind-small : (b : Body) → kindOf b ≤ 4
@@ -38,7 +39,7 @@ module _ (n : ℕ) (r : Record) (p : List ℕ) (fit : length p ≡ 16) where
   pub record-made :
       (k e : ℕ) (z : ℤ) (u w : ℕ) (l₁ l₂ l₃ : List ℕ) →
       k ≡ kindOf (r .body) → e ≡ eventOf (r .body) → SFits w32 z → z ≡ argumentOf (r .body) → u ≡ unsigned (toZ w32 (ofZ w32 z)) →
-      w ≡ packed (take n (r .labels)) →
+      w ≡ labelsOver n (labelIn (r .labels)) 0 →
       l₁ ≡ sets (set (set (set (set p 0 (r .station)) 1 (r .count)) 2 k) 3 0) 4 (wordBytes e) →
       l₂ ≡ sets l₁ 8 (wordBytes u) →
       l₃ ≡ sets l₂ 12 (wordBytes w) →
@@ -49,4 +50,4 @@ module _ (n : ℕ) (r : Record) (p : List ℕ) (fit : length p ≡ 16) where
       s₃
       ∙ ap (λ (l : List ℕ). sets l 12 (wordBytes w)) (s₂ ∙ ap (λ (l : List ℕ). sets l 8 (wordBytes u)) s₁)
       ∙ sixteen p fit (r .station) (r .count) k 0 e u w
-      ∙ (λ i. r .station ∷ r .count ∷ kind i ∷ 0 ∷ wordBytes (event i) ++ wordBytes (u-is i) ++ wordBytes (labels i))
+      ∙ (λ i. r .station ∷ r .count ∷ kind i ∷ 0 ∷ wordBytes (event i) ++ wordBytes (u-is i) ++ wordBytes ((labels ∙ labels-of n r 0) i))

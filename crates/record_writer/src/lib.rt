@@ -1,13 +1,11 @@
 // Records written into their own sixteen bytes.
 
 ghost use mathlib.Core.Path.{_≡_};
-ghost use mathlib.Core.Bool.{true};
 ghost use Prim.Native.Nat.{_+_, _≤_};
-ghost use lib.ListN.{length, take};
+ghost use lib.ListN.{length};
 ghost use lib.Seq.{sets};
 ghost use Rattle.frame_rules.specs.Words.{wordBytes, unsigned};
 ghost use Rattle.frame_rules.specs.Record.{recordBytes};
-ghost use Rattle.labels.specs.Label.{allLabels};
 use frame_rules::Record;
 
 // Byte 3 of a frame, and byte 3 of a record, are zero.
@@ -16,7 +14,7 @@ pub const FRAME_MARK: u8 = 0;
 pub const RECORD_MARK: u8 = 0;
 
 // The four bytes of a number, put at a place.
-fn put_word(bytes: &mut [u8], at: usize, word: u32)
+pub fn put_word(bytes: &mut [u8], at: usize, word: u32)
     requires { ⌜ at + 4 ≤ length (now bytes) ⌝ }
     ensures { λ _. ⌜ now (bytes .exit) ≡ sets (now (bytes .entry)) at (wordBytes word) ⌝ }
 {
@@ -39,16 +37,15 @@ pub fn unsigned(number: i32) -> u32
 
 // A record as sixteen bytes; its labels from n up are written 0.
 pub fn write_record(part: &mut [u8], n: usize, r: Record)
-    requires { ⌜ (length (now part) ≡ 16) × (n ≤ 16) × (allLabels (take n (r .labels)) ≡ true) ⌝ }
+    requires { ⌜ (length (now part) ≡ 16) × (n ≤ 16) ⌝ }
     ensures { λ _. ⌜ now (part .exit) ≡ recordBytes n r ⌝ }
 {
     let body = r.body;
-    let labels = r.labels;
     part[0] = r.station;
     part[1] = r.count;
     part[2] = kinds::kind_of(body) as u8;
     part[3] = RECORD_MARK;
     put_word(part, 4, kinds::event_of(body));
     put_word(part, 8, unsigned(kinds::argument_of(body)));
-    put_word(part, 12, label_words::pack(labels, n));
+    put_word(part, 12, label_words::over(n, r.labels, 0));
 }

@@ -1,1 +1,6 @@
 pub mod Pair
+pub mod Refusals
+pub mod Station
+pub mod Write
+pub mod Group
+pub mod RoundRefusals

@@ -1,4 +1,4 @@
-// What C programs call. The declarations for C are in include/relay_host.h.
+// What C programs call. The declarations for C are in include/relay.h.
 
 ghost use mathlib.Core.Path.{_≡_};
 ghost use Rattle.frame_rules.specs.Frame.{checkRefusal};
@@ -6,9 +6,11 @@ ghost use Rattle.frame_rules.specs.Frame.{checkRefusal};
 mod relay_compare;
 mod relay_contest;
 mod relay_forecast;
+mod relay_group;
 mod relay_load;
 mod relay_merge;
 mod relay_questions;
+mod relay_station;
 
 // The frame check: 0, or the refusal, for any bytes and any two numbers.
 #[no_mangle]

@@ -1,4 +1,4 @@
-// The comparison of two air logs for C (document 02, A8). The declaration for C is in include/relay_host.h.
+// The comparison of two air logs for C (document 02, A8). The declaration for C is in include/relay.h.
 
 ghost use mathlib.Core.Path.{_≡_};
 ghost use Rattle.air_logs_spec.specs.Compare.{refusalOf, outcomeOf, positionOf};

@@ -3,25 +3,30 @@ use Prim.Native.Nat.{ℕ, _<_, _≤_}
 use mathlib.Core.Bool.{true, false, cond, _||_}
 use mathlib.Core.List.{List, [], _∷_, _++_}
 use mathlib.Core.Path.{_≡_, refl, _∙_}
-use native.Mathlib.Omega.{arith}
-use lib.ListN.{getD, length, replicate}
 use lib.Dec.{eqb}
+use lib.ListN.{set}
 use borrow.Author.Tests.{eq-eqb, ne-eqb}
 use Rattle.labels.specs.Label.{successor}
 use Rattle.labels.specs.Newer.{isNewer}
 use Rattle.frame_rules.specs.declared.Record.{Record}
-use Rattle.frame_rules.specs.Record.{framed}
-use Rattle.places.proofs.Laws.{fill-below, fill-above}
+use Rattle.label_words.specs.Packing.{labelsOver}
+use Rattle.label_words.proofs.Laws.{over-twice}
+use Rattle.frame_rules.specs.Record.{recordLabel, framed}
+use Rattle.frame_rules.proofs.Labels.{label-fits, label-below, label-above, labels-kept, framed-label}
 use Rattle.station_rules.specs.declared.Station.{Station}
 use Rattle.lanes.specs.Lane.{pushed}
-use Rattle.station_rules.specs.State.{cellOf, labelOf, ackedOf, heldOf, recordOf, laneAt, recordLabel, ownLabel, withBroadcast}
-use Rattle.station_rules.specs.Hearing.{Hearing, heeds, advances, takes, raised, replaced, heardNewer, hearRecord, hearRecords}
+use Rattle.station_rules.specs.State.{cellOf, labelOf, ackedOf, heldOf, recordOf, laneAt, ownLabel, withBroadcast, withCell}
+use Rattle.station_rules.specs.Hearing.{Hearing, advances, takes, raised, replaced, heardNewer, hearRecord, hearRecords}
+use Rattle.station_rules.proofs.HearRecord.{heeds, conflicts}
 use Rattle.station_rules.proofs.Setters.{Shaped, broadcast-cell, broadcast-shaped, cell-self, cell-here, cell-other}
 
 -- a station never heeds a record of itself, and heeds one of another station where it is newer
 module _ (s : Station) (r : Record) where
   pub heeds-own : r .station ≡ s .own → heeds s r ≡ false
   heeds-own e = rw (eq-eqb (r .station) (s .own) e)
+
+  pub conflicts-own : r .station ≡ s .own → conflicts s r ≡ false
+  conflicts-own e = rw (eq-eqb (r .station) (s .own) e)
 
   pub heeds-newer :
       (r .station ≡ s .own → ⊥) →
@@ -30,12 +35,7 @@ module _ (s : Station) (r : Record) where
       (ownLabel r) (r .count)
   heeds-newer d = rw (ne-eqb (r .station) (s .own) d)
 
--- the labels below n of a record as a frame carries it, and of one put in the place of another
-pub framed-label : (n : ℕ) (r : Record) (k : ℕ) → k < n → n ≤ 16 → recordLabel (framed n r) k ≡ recordLabel r k
-unfolding framed
-framed-label n r k l b =
-    fill-below n (λ i. getD (r .labels) i 0) (replicate 16 0) k 0 l (omega arith)
-
+-- the fields of a record as a frame carries it, and of one put in the place of another
 pub framed-station : (n : ℕ) (r : Record) → (framed n r) .station ≡ r .station
 unfolding framed
 framed-station n r = refl
@@ -49,13 +49,15 @@ unfolding framed
 framed-body n r = refl
 
 module _ (n : ℕ) (old r : Record) where
-  pub replaced-label : (k : ℕ) → k < n → k < length (old .labels) → recordLabel (replaced n old r) k ≡ recordLabel r k
+  replaced-word : (replaced n old r) .labels ≡ labelsOver n (recordLabel r) (old .labels)
   unfolding replaced
-  replaced-label k l b = fill-below n (recordLabel r) (old .labels) k 0 l b
+  replaced-word = refl
+
+  pub replaced-label : (k : ℕ) → k < n → recordLabel (replaced n old r) k ≡ recordLabel r k
+  replaced-label k l = label-below n (recordLabel r) (λ j b. label-fits r j) (replaced n old r) (old .labels) k replaced-word l
 
   pub replaced-above : (k : ℕ) → n ≤ k → recordLabel (replaced n old r) k ≡ recordLabel old k
-  unfolding replaced
-  replaced-above k l = fill-above n (recordLabel r) (old .labels) k 0 l
+  replaced-above k l = label-above n (recordLabel r) (λ j b. label-fits r j) (replaced n old r) old k replaced-word l
 
   pub replaced-station : (replaced n old r) .station ≡ r .station
   unfolding replaced
@@ -68,6 +70,16 @@ module _ (n : ℕ) (old r : Record) where
   pub replaced-body : (replaced n old r) .body ≡ r .body
   unfolding replaced
   replaced-body = refl
+
+-- of two records put one after the other the second decides
+pub replaced-twice : (n : ℕ) (old q r : Record) → replaced n (replaced n old q) r ≡ replaced n old r
+unfolding replaced
+replaced-twice n old q r = rw (over-twice n (recordLabel r) (recordLabel q) (old .labels) (λ j l. label-fits q j))
+
+-- a record in the place of itself, as a frame carries it
+pub replaced-framed : (n : ℕ) (r : Record) → replaced n r (framed n r) ≡ r
+unfolding replaced framed
+replaced-framed n r = rw (labels-kept n (recordLabel (framed n r)) r (λ k l. framed-label n r k l))
 
 module _ (s : Station) (r : Record) where
   abbrev counted : Station
@@ -92,12 +104,24 @@ module _ (s : Station) (r : Record) where
   unfolding heardNewer
   heard-here shape l = cell-here counted (r .station) _ (broadcast-shaped s (s .body) _ shape) l
 
-  -- the labels below n of the record that is held afterwards
-  pub heard-label :
-      Shaped s → s .n ≤ 16 → r .station < 16 → (k : ℕ) → k < s .n →
-      recordLabel (replaced (s .n) (recordOf s (r .station)) r) k ≡ recordLabel r k
-  heard-label shape high l k m =
-      replaced-label (s .n) (recordOf s (r .station)) r k m (omega (arith, shape .record-labels (r .station) l))
+  -- the arrays of which a cell has one entry
+  pub heard-acked :
+      (heardNewer s r) .acked
+      ≡ set (s .acked) (r .station) (ackedOf s (r .station) || eqb (recordLabel r (s .own)) (labelOf s (s .own)))
+  unfolding heardNewer withCell
+  heard-acked = refl
+
+  pub heard-labels :
+      (heardNewer s r) .labels
+      ≡ set (s .labels) (r .station) (cond (advances s r) (successor (labelOf s (r .station))) (labelOf s (r .station)))
+  unfolding heardNewer withCell
+  heard-labels = refl
+
+  pub heard-lanes :
+      (heardNewer s r) .lanes
+      ≡ set (s .lanes) (r .station) (cond (takes s r) (pushed (laneAt s (r .station)) (r .body)) (laneAt s (r .station)))
+  unfolding heardNewer withCell
+  heard-lanes = refl
 
   -- what is no cell
   pub heard-n : (heardNewer s r) .n ≡ s .n

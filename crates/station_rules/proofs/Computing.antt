@@ -2,26 +2,25 @@
 -- them open.
 use Rattle.kinds.specs.Body.{bodyOf}
 use Rattle.kind_limits.specs.Limits.{postable, bodyInside, numbersInside}
-use Rattle.labels.specs.Label.{allLabels}
-use Rattle.labels.specs.Newer.{isNewer}
-use Rattle.label_words.specs.Packing.{packed, unpacked, allZero, wordInside}
+use Rattle.labels.specs.Newer.{isNewer, ageOf}
+use Rattle.label_words.specs.Packing.{labelIn, packed, labelsOver, labelsInside, zeroFrom}
 use Rattle.places.specs.Places.{allBelow, anyBelow, fill, gather, tabulate}
 use Rattle.frame_rules.specs.Words.{wordAt, wordBytes, signed, unsigned}
-use Rattle.frame_rules.specs.Record.{recordFrom, recordBytes, bytesInside, framed}
+use Rattle.frame_rules.specs.Record.{recordLabel, recordFrom, recordBytes, bytesInside, framed}
 use Rattle.frame_rules.specs.Frame.{shapeWrong, addressWrong, recordsInside, frameRefusal, recordsOf, recordsBytes, frameBytes}
 use Rattle.lanes.specs.Lane.{bodies, laneOf}
 use Rattle.lanes.specs.Queue.{emptyQueue, queued, oldest, unqueued, queueBodies, queueInside}
 use Rattle.lanes.specs.Waiting.{noneWaiting, waitingEdits, waitingCount, hasRoom, withPosted, nextEdit, withoutNext, waitingInside}
 use Rattle.station_rules.specs.State.{cellOf, withCell, withAcked, withLanes, sentRecords, freshStation}
 use Rattle.station_rules.specs.Limits.{stationInside, placeInside, recordInside, laneInside}
-use Rattle.station_rules.specs.Hearing.{replaced, heardNewer, hearRecord, hearRecords}
+use Rattle.station_rules.specs.Hearing.{agree, replaced, heardNewer, heardAs, hearRecord, hearRecords, hearFrame}
 use Rattle.station_rules.specs.Turn.{airs, rowOf, afterAiring, broadcastEnds, startedBody, begins, takesOwn, passed, ownRecord, rewritten, afterTurn, turnReport}
 use Rattle.station_rules.specs.Calls.{posted, postCall, frameOf, hearCall, noTurn}
 
 unfoldable pub stationRuns : Unit {0}
-unfolding postable bodyInside numbersInside isNewer allBelow anyBelow fill gather tabulate framed bodies laneOf emptyQueue queued oldest unqueued queueBodies queueInside noneWaiting waitingEdits waitingCount hasRoom withPosted nextEdit withoutNext waitingInside cellOf withCell withAcked withLanes sentRecords freshStation stationInside placeInside recordInside laneInside replaced heardNewer hearRecord hearRecords airs rowOf afterAiring broadcastEnds startedBody begins takesOwn passed ownRecord rewritten afterTurn turnReport posted postCall noTurn
+unfolding postable bodyInside numbersInside isNewer ageOf labelIn packed labelsOver labelsInside recordLabel allBelow anyBelow fill gather tabulate framed bodies laneOf emptyQueue queued oldest unqueued queueBodies queueInside noneWaiting waitingEdits waitingCount hasRoom withPosted nextEdit withoutNext waitingInside cellOf withCell withAcked withLanes sentRecords freshStation stationInside placeInside recordInside laneInside agree replaced heardNewer heardAs hearRecord hearRecords hearFrame airs rowOf afterAiring broadcastEnds startedBody begins takesOwn passed ownRecord rewritten afterTurn turnReport posted postCall noTurn
 stationRuns = tt
 
 unfoldable pub frameRuns : Unit {0}
-unfolding stationRuns bodyOf allLabels packed unpacked allZero wordInside wordAt wordBytes signed unsigned recordFrom recordBytes bytesInside shapeWrong addressWrong recordsInside frameRefusal recordsOf recordsBytes frameBytes frameOf hearCall
+unfolding stationRuns bodyOf zeroFrom wordAt wordBytes signed unsigned recordFrom recordBytes bytesInside shapeWrong addressWrong recordsInside frameRefusal recordsOf recordsBytes frameBytes frameOf hearCall
 frameRuns = tt

@@ -10,11 +10,12 @@ use Rattle.kind_limits.specs.Limits.{postable}
 use Rattle.labels.specs.Newer.{isNewer}
 use Rattle.labels.proofs.Examples as labels
 use Rattle.frame_rules.specs.declared.Record.{Record}
+use Rattle.frame_rules.specs.Record.{recordLabel}
 use Rattle.station_rules.specs.declared.Station.{Station}
 use Rattle.station_rules.specs.declared.Kept.{Kept}
-use Rattle.station_rules.specs.State.{heldOf, recordOf, recordLabel, ownLabel}
+use Rattle.station_rules.specs.State.{heldOf, recordOf, ownLabel}
 use Rattle.station_rules.specs.Limits.{stationInside}
-use Rattle.station_rules.specs.Hearing.{heeds}
+use Rattle.station_rules.proofs.HearRecord.{heeds}
 use Rattle.station_rules.specs.Calls.{posted, postCall}
 use Rattle.station_rules.proofs.CallSteps.{post-no-edit, post-full, post-done}
 use Rattle.lanes.specs.Queue.{queueCapacity}

@@ -1,10 +1,8 @@
--- The lengths that a station's arrays have by their types, out of what owning a station tells: each array says how many entries it has, and the table's
--- array says it of each record's labels.
+-- The lengths that a station's arrays have by their types, out of what owning a station tells: each array says how many entries it has.
 use Prim.Native.Nat.{ℕ, zero, suc, _<_}
 use native.Mathlib.Omega.{arith}
-use mathlib.Core.Path.{_≡_, subst}
 use mathlib.Core.List.{List, [], _∷_}
-use lib.ListN.{getD, length, length-map, List·getD-map}
+use lib.ListN.{getD, length, length-map}
 use mir.Val.{Val}
 use base.Fml.{Fml}
 use denote.Shadow.{shadow}
@@ -12,10 +10,7 @@ use denote.Array.{each}
 use denote.Struct as Struct
 use denote.Struct.Laws as Laws
 use Rattle.station_rules.specs.declared.Station.{Station}
-use Rattle.frame_rules.specs.Record.{noRecord}
-use Rattle.station_rules.specs.State.{cellOf, recordOf}
 use Rattle.station_rules.proofs.Setters.{Shaped}
-use Rattle.frame_rules.proofs.Record as Carried
 use Rattle.lanes.proofs.WaitingOwned.{owned-sized}
 use Rattle.station_rules.proofs.Station as Declared
 use Rattle.station_rules.proofs.Station.Laws as DeclaredLaws
@@ -33,17 +28,6 @@ each-at own (x ∷ xs) (u ∷ us) h (suc i) d l = each-at own xs us (h .1) i d (
 abbrev pub Owned : Station → Type 0
 Owned s = shadow ((Struct.Declared.row Declared.the-type) .own s (Laws.val Declared.the-type DeclaredLaws.the-laws s ∷ []))
 
--- the labels of a record of the table
-labels-at :
-    (s : Station) (us : List Val) → shadow (each (Carried.the-field .row .Denot) (Carried.the-field .row .own) ((Declared.the-type .to s) .1 .1 .1 .1 .1 .1 .1 .1 .0) us) →
-    (k : ℕ) → k < length (s .table) → length ((recordOf s k) .labels) ≡ 16
-unfolding cellOf
-labels-at s us h k l =
-    let f = Carried.the-type .to in
-    let o = each-at (Carried.the-field .row .own) ((Declared.the-type .to s) .1 .1 .1 .1 .1 .1 .1 .1 .0) us h k (f noRecord) (rw (length-map (s .table) f) l) in
-    let e = subst (λ (x : Carried.the-field .row .Denot). shadow (Carried.the-field .row .own x (o .0 ∷ []))) (List·getD-map f (s .table) k noRecord) (o .1) in
-    simp length-map at (e .1 .1 .1 .1 .1 .0 .1 .0 .1)
-
 pub lengths-at : (s : Station) (vs : List Val) → shadow ((Struct.Declared.row Declared.the-type) .own s vs) → Shaped s
 lengths-at s vs h =
     record {
@@ -53,7 +37,6 @@ lengths-at s vs h =
       table = simp length-map at (h .1 .1 .1 .1 .1 .1 .1 .1 .1 .1 .0 .1 .0 .1);
       lanes = simp length-map at (h .1 .1 .1 .1 .1 .1 .1 .1 .1 .1 .1 .0 .1 .0 .1);
       waiting = owned-sized (s .waiting) _ (h .1 .1 .1 .1 .0);
-      record-labels = λ k l. labels-at s (h .1 .1 .1 .1 .1 .1 .1 .1 .1 .1 .0 .0) (h .1 .1 .1 .1 .1 .1 .1 .1 .1 .1 .0 .1 .1) k (rw (simp length-map at (h .1 .1 .1 .1 .1 .1 .1 .1 .1 .1 .0 .1 .0 .1)) l);
     }
 
 pub lengths : (s : Station) → Owned s → Shaped s

@@ -15,7 +15,9 @@ pub mod LimitsCalls
 pub mod Bodies
 -- what a heard record and a turn change, cell by cell and case by case
 pub mod HearRecord
+pub mod FrameConflicts
 pub mod Cells
+pub mod Agree
 pub mod TurnCells
 pub mod TurnLaws
 pub mod TurnParts

@@ -9,7 +9,8 @@ use lib.Dec.{ltb, eqb}
 use lib.ListN.{getD}
 use Rattle.kinds.specs.declared.Body.{Body}
 use Rattle.kind_limits.specs.Limits.{postable}
-use Rattle.kinds.specs.Refusals.{done, laneFull}
+use borrow.Author.Tests.{eqb-true}
+use Rattle.kinds.specs.Refusals.{done}
 use Rattle.frame_rules.specs.Record as frames
 use Rattle.frame_rules.proofs.Limits.{fits-open}
 use Rattle.frame_rules.proofs.RecordTrip.{held-fits}
@@ -21,13 +22,13 @@ use Rattle.station_rules.specs.declared.Setup.{Setup}
 use Rattle.station_rules.specs.declared.Station.{Station}
 use Rattle.station_rules.specs.declared.Heard.{Heard}
 use Rattle.station_rules.specs.Limits.{stationInside}
-use Rattle.station_rules.specs.Hearing.{Hearing, silent, hearRecords}
+use Rattle.station_rules.specs.Hearing.{Hearing, silent, hearFrame}
 use Rattle.station_rules.specs.State.{aloneSetup}
 use Rattle.station_rules.specs.Calls.{freshCall, posted, postCall, hearCall, turnCall}
 use Rattle.station_rules.proofs.Setters.{Shaped}
 use Rattle.station_rules.proofs.LimitsFresh.{fresh-inside, posted-inside}
 use Rattle.station_rules.proofs.LimitsHear.{Carried}
-use Rattle.station_rules.proofs.LimitsHearing.{AllCarried, hearRecords-inside}
+use Rattle.station_rules.proofs.LimitsHearing.{AllCarried, hearFrame-inside}
 use Rattle.station_rules.proofs.LimitsSent.{carried-append}
 use Rattle.station_rules.proofs.LimitsTurn.{turn-inside}
 
@@ -101,11 +102,11 @@ module _ (s : Station) (shape : Shaped s) (inside : stationInside s ≡ true) wh
   hear-answer : (bytes : List ℕ) → ℕ
   hear-answer bytes =
       cond (not (eqb (frameRefusal bytes (s .n) (s .own)) done)) (frameRefusal bytes (s .n) (s .own))
-      (cond ((hearRecords (silent s) (recordsOf bytes)) .overfull) laneFull done)
+      ((hearFrame (silent s) (recordsOf bytes)) .refusal)
 
   hear-station :
       (bytes : List ℕ) →
-      (hearCall s bytes) .station ≡ cond (eqb (hear-answer bytes) done) ((hearRecords (silent s) (recordsOf bytes)) .station) s
+      (hearCall s bytes) .station ≡ cond (eqb (hear-answer bytes) done) ((hearFrame (silent s) (recordsOf bytes)) .station) s
   unfolding hearCall hear-answer
   hear-station bytes = rw inside (pick (eqb (hear-answer bytes) done) _ _ _ _ _ _)
     where
@@ -119,15 +120,16 @@ module _ (s : Station) (shape : Shaped s) (inside : stationInside s ≡ true) wh
   pub hear-call-inside : (bytes : List ℕ) → stationInside ((hearCall s bytes) .station) ≡ true
   unfolding hear-answer
   hear-call-inside bytes =
-      rw (hear-station bytes) (go (eqb (frameRefusal bytes (s .n) (s .own)) done) (heard .overfull) refl refl)
+      rw (hear-station bytes) (go (eqb (frameRefusal bytes (s .n) (s .own)) done) (eqb (heard .refusal) done) refl refl)
     where
       heard : Hearing
-      heard = hearRecords (silent s) (recordsOf bytes)
+      heard = hearFrame (silent s) (recordsOf bytes)
 
       go :
-          (a b : Bool) → eqb (frameRefusal bytes (s .n) (s .own)) done ≡ a → heard .overfull ≡ b →
-          stationInside (cond (eqb (cond (not a) (frameRefusal bytes (s .n) (s .own)) (cond b laneFull done)) done) (heard .station) s) ≡ true
-      go true false p q =
-          hearRecords-inside (silent s) (recordsOf bytes) shape inside (frame-carried (s .n) bytes (frame-fine bytes p)) q
-      go true true p q = inside
+          (a b : Bool) → eqb (frameRefusal bytes (s .n) (s .own)) done ≡ a → eqb (heard .refusal) done ≡ b →
+          stationInside (cond (eqb (cond (not a) (frameRefusal bytes (s .n) (s .own)) (heard .refusal)) done) (heard .station) s) ≡ true
+      go true true p q =
+          rw q
+          (hearFrame-inside (silent s) (recordsOf bytes) shape inside (frame-carried (s .n) bytes (frame-fine bytes p)) (eqb-true _ done q))
+      go true false p q = rw q inside
       go false b p q = rw p inside

@@ -5,30 +5,24 @@ use mathlib.Core.Path.{_≡_, refl, sym, ap, subst, _∙_}
 use native.Mathlib.Decide.{ℕ-discrete}
 use native.Mathlib.Omega.{arith}
 use lib.Dec.{leb, ltb, eqb}
-use lib.ListN.{getD, replicate, getD-replicate}
-use borrow.Author.Tests.{leb-true, ltb-true, eq-eqb}
+use borrow.Author.Tests.{leb-true, ltb-true, eq-eqb, le-leb}
 use Rattle.kinds.specs.declared.Body.{Body}
 use Rattle.kinds.specs.declared.Body.the-variants.{Empty}
 use Rattle.kind_limits.specs.Limits.{postable}
-use Rattle.labels.specs.Label.{isLabel}
+use Rattle.frame_rules.specs.Record.{recordLabel}
 use Rattle.frame_rules.specs.Frame.{validNumber}
 use Rattle.places.proofs.Laws.{and-left, and-right}
-use Rattle.places.proofs.Keeps.{set-keeps}
 use Rattle.station_rules.specs.declared.Setup.{Setup}
 use Rattle.station_rules.specs.declared.Station.{Station}
 use Rattle.lanes.specs.Waiting.{hasRoom, withPosted}
 use Rattle.lanes.proofs.WaitingLaws as waiting
-use Rattle.station_rules.specs.State.{Cell, cellOf, freshLabels, freshRecord, freshStation}
+use Rattle.station_rules.specs.State.{Cell, cellOf, freshRecord, freshStation}
 use Rattle.station_rules.specs.Limits.{stationInside}
 use Rattle.station_rules.specs.Calls.{posted}
 use Rattle.station_rules.proofs.BodyLaws.{empty-inside}
-use Rattle.station_rules.proofs.Setters.{Shaped, waiting-cell, fresh-self, fresh-own, fresh-other}
+use Rattle.station_rules.proofs.Setters.{Shaped, waiting-cell, fresh-at, fresh-label, fresh-self, fresh-own, fresh-other}
 use Rattle.station_rules.proofs.LimitsLane.{lane-none}
 use Rattle.station_rules.proofs.StationLimits.{RecordHolds, CellHolds, Inside, inside-as, inside-open, inside-make}
-
-freshLabels-label : (own k : ℕ) → k < 16 → isLabel (getD (freshLabels own) k 0) ≡ true
-freshLabels-label own k l =
-    set-keeps (λ (x : ℕ). isLabel x ≡ true) (replicate 16 0) own 1 0 k l (rw (getD-replicate {A = ℕ} 16 k 0 0 l)) refl
 
 module _ (setup : Setup) (own : ℕ) (high : setup .n ≤ 16) (below : own < setup .n) where
   own-holds : RecordHolds (setup .n) own own (freshRecord own)
@@ -37,7 +31,7 @@ module _ (setup : Setup) (own : ℕ) (high : setup .n ≤ 16) (below : own < set
         station = refl;
         count = rw (eq-eqb own own refl);
         body = empty-inside;
-        labels = λ j l. freshLabels-label own j (omega arith);
+        labels = λ j l. le-leb (recordLabel (freshRecord own) j) 2 (rw (fresh-label own j (omega arith)) (fresh-at own j (omega arith)));
       }
 
   fresh-cell : (k : ℕ) → k < setup .n → CellHolds (setup .n) own k (cellOf (freshStation setup own) k)

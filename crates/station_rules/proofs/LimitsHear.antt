@@ -12,18 +12,19 @@ use Rattle.kind_limits.specs.Limits.{bodyInside}
 use Rattle.labels.specs.Label.{isLabel, successor}
 use Rattle.labels.specs.Newer.{isNewer}
 use Rattle.frame_rules.specs.declared.Record.{Record}
-use Rattle.frame_rules.specs.Record.{countInside}
+use Rattle.frame_rules.specs.Record.{recordLabel, countInside}
 use Rattle.places.proofs.Laws.{and-both, and-left, and-right}
 use Rattle.places.proofs.Keeps.{cond-keeps}
 use Rattle.station_rules.specs.declared.Station.{Station}
 use Rattle.lanes.specs.Lane.{pushed}
-use Rattle.station_rules.specs.State.{Cell, cellOf, labelOf, heldOf, recordOf, laneAt, recordLabel, ownLabel}
+use Rattle.station_rules.specs.State.{Cell, cellOf, labelOf, heldOf, recordOf, laneAt, ownLabel}
 use Rattle.station_rules.specs.Limits.{laneInside, takeable}
-use Rattle.station_rules.specs.Hearing.{heeds, advances, takes, replaced, heardNewer}
+use Rattle.station_rules.specs.Hearing.{advances, takes, replaced, heardNewer}
+use Rattle.station_rules.proofs.HearRecord.{heeds}
 use Rattle.station_rules.proofs.Setters.{Shaped}
 use Rattle.station_rules.proofs.LimitsLane.{pushed-inside}
 use Rattle.station_rules.proofs.StationLimits.{RecordHolds, CellHolds, Inside, inside-as}
-use Rattle.station_rules.proofs.Cells.{replaced-station, replaced-count, replaced-body, heard-label, heard-n, heard-own, heard-waiting, heard-body, heard-here, heard-other}
+use Rattle.station_rules.proofs.Cells.{replaced-label, replaced-station, replaced-count, replaced-body, heard-n, heard-own, heard-waiting, heard-body, heard-here, heard-other}
 
 -- a record that a frame among n stations may carry
 pub record Carried (n : ℕ) (r : Record) : Type 0 where
@@ -57,7 +58,7 @@ module _ (s : Station) (r : Record) (shape : Shaped s) (c : Inside s) (carry : C
         station = replaced-station (s .n) old r;
         count = rw (replaced-count (s .n) old r) (cond-or (eqb (r .station) own) (countInside (s .n) (r .count)) (carry .count));
         body = rw (replaced-body (s .n) old r) (carry .body);
-        labels = λ j l. rw (heard-label s r shape (c .high) (omega arith) j l) (carry .labels j l);
+        labels = λ j l. rw (replaced-label (s .n) old r j l) (carry .labels j l);
       }
     where
       cond-or : (a b : Bool) → b ≡ true → (a || b) ≡ true

@@ -1,7 +1,7 @@
 -- A station while it hears. One fold carries all of it: N, the own number, the waiting edits, the body and the own lane stay; the shape and the limits
--- are kept as long as no lane is overfull; and every taking stands in a lane of another station, so from silence on there are at most 30.
-use Prim.Native.Nat.{ℕ, suc, _+_, _*_, _≤_, _<_}
-use mathlib.Core.Bool.{Bool, true, false, cond, _&&_, _||_}
+-- are kept as long as no frame is refused; and every taking stands in a lane of another station, so from silence on there are at most 30.
+use Prim.Native.Nat.{ℕ, suc, max, _+_, _*_, _≤_, _<_}
+use mathlib.Core.Bool.{Bool, true, false, cond}
 use mathlib.Core.List.{List, [], _∷_, _++_, append-nil}
 use mathlib.Core.Path.{_≡_, refl, sym, ap, subst, _∙_}
 use native.Mathlib.Decide.{ℕ-discrete}
@@ -9,15 +9,16 @@ use native.Mathlib.Omega.{arith}
 use lib.Dec.{leb, eqb}
 use lib.ListN.{length, length-append}
 use borrow.Author.Tests.{leb-false, eq-eqb, ne-eqb}
+use Rattle.kinds.specs.Refusals.{done, laneFull, refuse}
 use Rattle.frame_rules.specs.declared.Record.{Record}
 use Rattle.places.specs.Places.{total}
-use Rattle.places.proofs.Laws.{or-left, or-right}
+use Rattle.places.proofs.Keeps.{cond-keeps}
 use Rattle.places.proofs.Total.{total-ext, total-gap, total-raised}
 use Rattle.station_rules.specs.declared.Station.{Station}
 use Rattle.station_rules.specs.State.{Cell, laneAt}
 use Rattle.station_rules.specs.Limits.{stationInside}
-use Rattle.station_rules.specs.Hearing.{Hearing, silent, heeds, takes, heardNewer, hearRecord, hearRecords}
-use Rattle.station_rules.proofs.HearRecord.{heardOne, hearRecord-heeds, hearRecord-skips}
+use Rattle.station_rules.specs.Hearing.{Hearing, silent, takes, overfills, heardNewer, hearRecord, hearRecords, hearFrame}
+use Rattle.station_rules.proofs.HearRecord.{heeds, heardOne, stopped, hearRecord-cases, not-refused}
 use Rattle.station_rules.proofs.Setters.{Shaped}
 use Rattle.station_rules.proofs.Shape.{heardNewer-shaped}
 use Rattle.lanes.specs.Lane.{pushed}
@@ -91,8 +92,8 @@ pub record Hears (a h : Hearing) : Type 0 where
   pub body : h .station .body ≡ a .station .body
   pub lane : laneAt (h .station) (a .station .own) ≡ laneAt (a .station) (a .station .own)
   pub shaped : Shaped (h .station)
-  pub inside : h .overfull ≡ false → Inside (h .station)
-  pub takings : h .overfull ≡ false → length (h .takings) ≤ length (a .takings) + otherLens (h .station)
+  pub inside : h .refusal ≡ done → Inside (h .station)
+  pub takings : h .refusal ≡ done → length (h .takings) ≤ length (a .takings) + otherLens (h .station)
 
 -- every record of a list may stand in a frame among n
 abbrev pub AllCarried : ℕ → List Record → Type 0
@@ -121,16 +122,13 @@ module _ (a : Hearing) (c : Inside (a .station)) where
     below = omega (arith, c .high, carry .station)
 
     takings-most :
-        heeds (h .station) r ≡ true → (h .overfull || (takes (h .station) r && leb 2 ((laneAt (h .station) (r .station)) .len))) ≡ false →
+        heeds (h .station) r ≡ true → max (h .refusal) (refuse (overfills (h .station) r) laneFull done) ≡ done →
         length (h .takings ++ cond (takes (h .station) r) (record { source = r .station; body = r .body } ∷ []) [])
         ≤ length (a .takings) + otherLens (heardNewer (h .station) r)
     takings-most e f = go (takes (h .station) r) refl
       where
-        full : Bool
-        full = takes (h .station) r && leb 2 ((laneAt (h .station) (r .station)) .len)
-
         so-far : length (h .takings) ≤ length (a .takings) + otherLens (h .station)
-        so-far = hs .takings (or-left (h .overfull) full f)
+        so-far = hs .takings (not-refused (overfills (h .station) r) (h .refusal) f .1)
 
         go :
             (t : Bool) → takes (h .station) r ≡ t →
@@ -138,7 +136,7 @@ module _ (a : Hearing) (c : Inside (a .station)) where
             ≤ length (a .takings) + otherLens (heardNewer (h .station) r)
         go true taken =
             let room : (laneAt (h .station) (r .station)) .len < 2 =
-            leb-false 2 ((laneAt (h .station) (r .station)) .len) (rw taken at (or-right (h .overfull) full f)) in
+            leb-false 2 ((laneAt (h .station) (r .station)) .len) (rw taken at (not-refused (overfills (h .station) r) (h .refusal) f .0)) in
             let more : otherLens (heardNewer (h .station) r) ≡ suc (otherLens (h .station)) =
             otherLens-raised (h .station) r (heeds-other (h .station) r e) (hs .shaped) below (here .station) taken room in
             rw (length-append (h .takings) (record { source = r .station; body = r .body } ∷ [])) (omega (arith, so-far))
@@ -150,7 +148,7 @@ module _ (a : Hearing) (c : Inside (a .station)) where
     hears-newer : heeds (h .station) r ≡ true → Hears a (heardOne h r)
     unfolding heardOne
     hears-newer e =
-        let full = takes (h .station) r && leb 2 ((laneAt (h .station) (r .station)) .len) in
+        let apart = not-refused (overfills (h .station) r) (h .refusal) in
         record {
           n = heard-n (h .station) r ∙ hs .n;
           own = heard-own (h .station) r ∙ hs .own;
@@ -158,62 +156,77 @@ module _ (a : Hearing) (c : Inside (a .station)) where
           body = heard-body (h .station) r ∙ hs .body;
           lane =
               ap (λ (x : Cell). x .lane) (heard-other (h .station) r (a .station .own) (λ z. heeds-other (h .station) r e (sym z ∙ sym (hs .own)))) ∙ hs .lane;
-          shaped = heardNewer-shaped (h .station) r below (hs .shaped);
+          shaped = heardNewer-shaped (h .station) r (hs .shaped);
           inside =
-              λ f. heard-holds (h .station) r (hs .shaped) (hs .inside (or-left (h .overfull) full f)) here e (or-right (h .overfull) full f);
+              λ f. heard-holds (h .station) r (hs .shaped) (hs .inside (apart f .1)) here e (apart f .0);
           takings = takings-most e;
         }
 
+    -- a refused hearing is as it was
+    hears-stopped : Hears a (stopped h)
+    hears-stopped =
+        record {
+          n = hs .n;
+          own = hs .own;
+          waiting = hs .waiting;
+          body = hs .body;
+          lane = hs .lane;
+          shaped = hs .shaped;
+          inside = λ f. absurd (omega (arith, f));
+          takings = λ f. absurd (omega (arith, f));
+        }
+
     pub hears-record : Hears a (hearRecord h r)
-    hears-record = go (heeds (h .station) r) refl
-      where
-        go : (t : Bool) → heeds (h .station) r ≡ t → Hears a (hearRecord h r)
-        go true e = rw (hearRecord-heeds h r e) (hears-newer e)
-        go false e = rw (hearRecord-skips h r e) hs
+    hears-record = hearRecord-cases (Hears a) h r hears-newer (λ e. hears-stopped) (λ e f. hs)
 
   pub hears-records : (h : Hearing) (rs : List Record) → Hears a h → AllCarried (a .station .n) rs → Hears a (hearRecords h rs)
   unfolding hearRecords
   hears-records h [] hs all = hs
   hears-records h (r ∷ rs) hs all = hears-records (hearRecord h r) rs (hears-record h r hs (all .0)) (all .1)
 
--- the shape is kept whether or not the station is inside its limits
-pub hearRecord-shaped : (h : Hearing) (r : Record) → r .station < 16 → Shaped (h .station) → Shaped ((hearRecord h r) .station)
-unfolding heardOne
-hearRecord-shaped h r b c = go (heeds (h .station) r) refl
-  where
-    go : (t : Bool) → heeds (h .station) r ≡ t → Shaped ((hearRecord h r) .station)
-    go true e = rw (hearRecord-heeds h r e) (heardNewer-shaped (h .station) r b c)
-    go false e = rw (hearRecord-skips h r e) c
+  pub hears-frame : (h : Hearing) (rs : List Record) → Hears a h → AllCarried (a .station .n) rs → Hears a (hearFrame h rs)
+  unfolding hearFrame
+  hears-frame h rs hs all = cond-keeps (Hears a) (eqb (h .refusal) done) (hearRecords h rs) h (hears-records h rs hs all) hs
 
-pub hearRecords-shaped :
-    (n : ℕ) → n ≤ 16 → (h : Hearing) (rs : List Record) → AllCarried n rs → Shaped (h .station) → Shaped ((hearRecords h rs) .station)
+-- the shape is kept whether or not the station is inside its limits
+pub hearRecord-shaped : (h : Hearing) (r : Record) → Shaped (h .station) → Shaped ((hearRecord h r) .station)
+unfolding heardOne
+hearRecord-shaped h r c = hearRecord-cases (λ x. Shaped (x .station)) h r (λ e. heardNewer-shaped (h .station) r c) (λ e. c) (λ e f. c)
+
+pub hearRecords-shaped : (h : Hearing) (rs : List Record) → Shaped (h .station) → Shaped ((hearRecords h rs) .station)
 unfolding hearRecords
-hearRecords-shaped n high h [] all shape = shape
-hearRecords-shaped n high h (r ∷ rs) all shape =
-    hearRecords-shaped n high (hearRecord h r) rs (all .1) (hearRecord-shaped h r (omega (arith, all .0 .station)) shape)
+hearRecords-shaped h [] shape = shape
+hearRecords-shaped h (r ∷ rs) shape = hearRecords-shaped (hearRecord h r) rs (hearRecord-shaped h r shape)
 
 -- at most two in the lane of each of at most fifteen others
-pub takings-bounded : (s : Station) (h : Hearing) → Hears (silent s) h → h .overfull ≡ false → length (h .takings) ≤ 30
+pub takings-bounded : (s : Station) (h : Hearing) → Hears (silent s) h → h .refusal ≡ done → length (h .takings) ≤ 30
 takings-bounded s h hs f = omega (arith, hs .takings f, otherLens-most (h .station) (hs .inside f))
 
 pub hearRecord-inside :
     (h : Hearing) (r : Record) → Shaped (h .station) → stationInside (h .station) ≡ true → Carried (h .station .n) r →
-    (hearRecord h r) .overfull ≡ false → stationInside ((hearRecord h r) .station) ≡ true
+    (hearRecord h r) .refusal ≡ done → stationInside ((hearRecord h r) .station) ≡ true
 hearRecord-inside h r shape i carry f =
     let c = inside-open (h .station) i in
     inside-make ((hearRecord h r) .station) (hears-record h c h r (hears-none h c shape) carry .inside f)
 
 pub hearRecords-inside :
     (h : Hearing) (rs : List Record) → Shaped (h .station) → stationInside (h .station) ≡ true → AllCarried (h .station .n) rs →
-    (hearRecords h rs) .overfull ≡ false → stationInside ((hearRecords h rs) .station) ≡ true
+    (hearRecords h rs) .refusal ≡ done → stationInside ((hearRecords h rs) .station) ≡ true
 hearRecords-inside h rs shape i all f =
     let c = inside-open (h .station) i in
     inside-make ((hearRecords h rs) .station) (hears-records h c h rs (hears-none h c shape) all .inside f)
 
+pub hearFrame-inside :
+    (h : Hearing) (rs : List Record) → Shaped (h .station) → stationInside (h .station) ≡ true → AllCarried (h .station .n) rs →
+    (hearFrame h rs) .refusal ≡ done → stationInside ((hearFrame h rs) .station) ≡ true
+hearFrame-inside h rs shape i all f =
+    let c = inside-open (h .station) i in
+    inside-make ((hearFrame h rs) .station) (hears-frame h c h rs (hears-none h c shape) all .inside f)
+
 -- the takings of one frame
 pub frame-takings-bounded :
     (s : Station) (rs : List Record) → Shaped s → stationInside s ≡ true → AllCarried (s .n) rs →
-    (hearRecords (silent s) rs) .overfull ≡ false → length ((hearRecords (silent s) rs) .takings) ≤ 30
+    (hearRecords (silent s) rs) .refusal ≡ done → length ((hearRecords (silent s) rs) .takings) ≤ 30
 frame-takings-bounded s rs shape i all f =
     let c = inside-open s i in
     takings-bounded s (hearRecords (silent s) rs) (hears-records (silent s) c (silent s) rs (hears-none (silent s) c shape) all) f

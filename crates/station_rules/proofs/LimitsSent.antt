@@ -5,15 +5,14 @@ use mathlib.Core.List.{List, [], _∷_, _++_}
 use mathlib.Core.Path.{_≡_, refl, sym, subst}
 use native.Mathlib.Omega.{arith}
 use lib.Dec.{eqb}
-use lib.ListN.{replicate}
 use borrow.Author.Tests.{eqb-true}
 use Rattle.frame_rules.specs.declared.Record.{Record}
 use Rattle.frame_rules.specs.Record.{countInside, framed}
+use Rattle.frame_rules.proofs.Labels.{framed-label}
 use Rattle.places.specs.Places.{gather}
-use Rattle.places.proofs.Laws.{fill-below}
 use Rattle.station_rules.specs.declared.Station.{Station}
 use Rattle.frame_rules.specs.Calls.{tableRecords}
-use Rattle.station_rules.specs.State.{heldOf, recordOf, recordLabel, sentRecords}
+use Rattle.station_rules.specs.State.{heldOf, recordOf, sentRecords}
 use Rattle.station_rules.specs.Calls.{ownCountInside}
 use Rattle.station_rules.proofs.StationLimits.{RecordHolds, Inside}
 use Rattle.station_rules.proofs.LimitsHear.{Carried}
@@ -31,7 +30,7 @@ framed-carried n own k r high l c fits =
       station = rw (c .station) l;
       count = fits;
       body = c .body;
-      labels = λ j m. rw (fill-below n (recordLabel r) (replicate 16 0) j 0 m (omega arith)) (c .labels j m);
+      labels = λ j m. rw (framed-label n r j m) (c .labels j m);
     }
 
 or-cases : (a b : Bool) → (a || b) ≡ true → (a ≡ true → b ≡ true) → b ≡ true

@@ -6,13 +6,12 @@ use mathlib.Core.Path.{_≡_, refl, sym, ap, subst, _∙_}
 use native.Mathlib.Decide.{ℕ-discrete}
 use native.Mathlib.Omega.{arith}
 use lib.Dec.{eqb}
-use borrow.Author.Tests.{eq-eqb}
+use borrow.Author.Tests.{eq-eqb, leb-true}
 use Rattle.kinds.specs.declared.Body.{Body}
 use Rattle.kinds.specs.declared.Body.the-variants.{Empty, Neutral}
 use Rattle.kinds.specs.Body.{isEmpty}
 use Rattle.kind_limits.specs.Limits.{bodyInside}
 use Rattle.labels.specs.Label.{isLabel, successor}
-use Rattle.places.proofs.Laws.{fill-below}
 use Rattle.places.proofs.Keeps.{cond-keeps}
 use Rattle.lanes.specs.declared.Lane.{Lane}
 use Rattle.lanes.specs.declared.Waiting.{Waiting}
@@ -20,7 +19,7 @@ use Rattle.station_rules.specs.declared.Station.{Station}
 use Rattle.lanes.specs.Lane.{pushed, popped}
 use Rattle.lanes.specs.Waiting.{nextEdit, withoutNext, waitingInside}
 use Rattle.lanes.proofs.WaitingLaws as waiting
-use Rattle.station_rules.specs.State.{Cell, cellOf, labelOf, ackedOf, recordOf, laneAt, withEntry, withCell}
+use Rattle.station_rules.specs.State.{Cell, cellOf, labelOf, ackedOf, laneAt, withEntry, withCell}
 use Rattle.station_rules.specs.Limits.{laneInside, takeable, stationInside}
 use Rattle.station_rules.specs.Turn.{airs, broadcastEnds, startsEdit, startedBody, passed, ownRecord, rewritten, afterTurn}
 use Rattle.station_rules.proofs.BodyLaws.{postable-takeable, takeable-inside, empty-inside, neutral-takeable}
@@ -29,7 +28,7 @@ use Rattle.station_rules.proofs.Shape.{passed-shaped}
 use Rattle.station_rules.proofs.LimitsLane.{popped-inside, pushed-inside}
 use Rattle.station_rules.proofs.StationLimits.{RecordHolds, CellHolds, InsideAs, Inside, inside-as, inside-open, inside-make}
 use Rattle.station_rules.proofs.LimitsHear.{successor-label}
-use Rattle.station_rules.proofs.TurnCells.{laneAfter, lane-after, passed-n, passed-own, passed-waiting, passed-body, passed-cell-own, passed-cell-other, turn-n, turn-own}
+use Rattle.station_rules.proofs.TurnCells.{ownRecord-label, laneAfter, lane-after, passed-n, passed-own, passed-waiting, passed-body, passed-cell-own, passed-cell-other, turn-n, turn-own}
 use Rattle.station_rules.proofs.TurnLaws.{Start, Start.anEdit, Start.aNeutral, Start.nothing, start}
 
 module _ (s : Station) (shape : Shaped s) (c : Inside s) where
@@ -115,10 +114,7 @@ module _ (s : Station) (shape : Shaped s) (c : Inside s) where
         station = refl;
         count = rw (eq-eqb (s .own) (s .own) refl);
         body = c .body;
-        labels =
-            λ j l. rw (fill-below (s .n) (labelOf s) ((recordOf s (s .own)) .labels) j 0 l
-            (rw (shape .record-labels (s .own) (omega (arith, c .high, c .own))) (omega (arith, c .high))))
-            (c .places j l .label);
+        labels = λ j l. rw (ownRecord-label s (λ k b. omega (arith, leb-true (labelOf s k) 2 (c .places k b .label))) j l) (c .places j l .label);
       }
 
   pub rewritten-holds : InsideAs (s .n) (s .own) (rewritten s)
@@ -151,7 +147,7 @@ turn-holds s shape c =
     let low : s .own < 16 = omega (arith, c .high, c .own) in
     let p : Inside (passed s) = inside-as (s .n) (s .own) (passed s) (passed-n s) (passed-own s) (passed-holds s shape c) in
     inside-as ((passed s) .n) ((passed s) .own) (afterTurn s) (turn-n s ∙ sym (passed-n s)) (turn-own s ∙ sym (passed-own s))
-    (rewritten-holds (passed s) (passed-shaped s low shape) p)
+    (rewritten-holds (passed s) (passed-shaped s shape) p)
 
 pub turn-inside : (s : Station) → Shaped s → stationInside s ≡ true → stationInside (afterTurn s) ≡ true
 turn-inside s shape h = inside-make (afterTurn s) (turn-holds s shape (inside-open s h))

@@ -11,7 +11,7 @@ use Rattle.frame_rules.proofs.Limits.{fits-make}
 use Rattle.frame_rules.proofs.TableTrip.{table-read, table-accepted}
 use Rattle.station_rules.specs.declared.Station.{Station}
 use Rattle.station_rules.specs.State.{cellOf, heldOf, recordOf, sentRecords}
-use Rattle.station_rules.specs.Hearing.{Hearing, hearRecords}
+use Rattle.station_rules.specs.Hearing.{Hearing, hearFrame}
 use Rattle.station_rules.specs.Calls.{ownCountInside, frameOf}
 use Rattle.station_rules.proofs.StationLimits.{Inside}
 use Rattle.station_rules.proofs.LimitsSent.{sent-count}
@@ -36,5 +36,5 @@ module _ (s : Station) (c : Inside s) (fits : ownCountInside s ≡ true) where
   sent-accepted = table-accepted (s .n) (s .own) (s .held) (s .table) (c .high) place record-fits (c .held) (c .own)
 
   -- the hearer makes the same of the frame as of the table
-  pub hear-sent : (h : Hearing) → hearRecords h (recordsOf (frameOf s)) ≡ hearRecords h (sentRecords s)
-  hear-sent h = ap (hearRecords h) sent-read
+  pub hear-sent : (h : Hearing) → hearFrame h (recordsOf (frameOf s)) ≡ hearFrame h (sentRecords s)
+  hear-sent h = ap (hearFrame h) sent-read

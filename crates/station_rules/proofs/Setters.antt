@@ -2,15 +2,23 @@
 -- name. A station has sixteen places by its type, and setters keep them. Only these laws open the arrays of a station; all others cite them.
 use Prim.Native.Nat.{ℕ, _≤_, _<_}
 use mathlib.Core.Bool.{Bool, true, false}
+use mathlib.Core.List.{List}
 use mathlib.Core.Path.{_≡_, refl, sym, _∙_}
+use native.Mathlib.Decide.{decLt}
 use native.Mathlib.Omega.{arith}
-use lib.ListN.{set, length, replicate, length-set, getD-replicate}
-use lib.Seq.{getD-set-same, getD-set-other, set-getD}
+use lib.ListN.{getD, set, length, replicate, length-set, getD-replicate}
+use lib.Seq.{getD-set-same, getD-set-other, set-getD, ext-getD}
 use Rattle.kinds.specs.declared.Body.{Body}
 use Rattle.kinds.specs.declared.Body.the-variants.{Empty}
+use Rattle.labels.specs.Label.{allLabels}
+use Rattle.labels.proofs.Laws.{at-all}
+use Rattle.label_words.specs.Packing.{labelsOver}
+use Rattle.label_words.proofs.Packing.{packed-whole}
 use Rattle.frame_rules.specs.declared.Record.{Record}
-use Rattle.frame_rules.specs.Record.{noRecord, zeroRecord}
+use Rattle.frame_rules.specs.Record.{recordLabel, noRecord}
 use Rattle.frame_rules.specs.Calls.{tableRecords}
+use Rattle.frame_rules.proofs.Labels.{label-packed}
+use Rattle.places.specs.Places.{fill}
 use Rattle.places.proofs.Laws.{length-fill, fill-below, fill-above}
 use Rattle.places.proofs.Keeps.{set-keeps}
 use Rattle.lanes.specs.declared.Lane.{Lane}
@@ -20,13 +28,9 @@ use Rattle.lanes.specs.Waiting.{noneWaiting}
 use Rattle.lanes.proofs.WaitingLaws.{WaitingSized, none-sized}
 use Rattle.station_rules.specs.declared.Setup.{Setup}
 use Rattle.station_rules.specs.declared.Station.{Station}
-use Rattle.station_rules.specs.State.{Cell, cellOf, recordOf, recordLabel, withLabel, withEntry, withLane, withWaiting, withBroadcast, withArrays, withCell, withAcked, withLanes, sentRecords, freshRecord, freshStation}
+use Rattle.station_rules.specs.State.{Cell, cellOf, labelOf, ackedOf, heldOf, recordOf, laneAt, withLabel, withEntry, withLane, withWaiting, withBroadcast, withArrays, withCell, withAcked, withLanes, sentRecords, freshLabels, freshRecord, freshStation}
 
--- the labels of a record have sixteen places
-abbrev pub LabelsShaped : Record → Type 0
-LabelsShaped r = length (r .labels) ≡ 16
-
--- the lengths that a station's arrays have by their types: sixteen places, the slots of the waiting edits, sixteen labels in each record of the table
+-- the lengths that a station's arrays have by their types: sixteen places, and the slots of the waiting edits
 pub record Shaped (s : Station) : Type 0 where
   pub acked : length (s .acked) ≡ 16
   pub labels : length (s .labels) ≡ 16
@@ -34,7 +38,6 @@ pub record Shaped (s : Station) : Type 0 where
   pub table : length (s .table) ≡ 16
   pub lanes : length (s .lanes) ≡ 16
   pub waiting : WaitingSized (s .waiting)
-  pub record-labels : (k : ℕ) → k < 16 → LabelsShaped (recordOf s k)
 
 -- what a station has besides its cells
 pub record Self (s : Station) (size number : ℕ) (edits : Waiting) (shown : Body) (counted : ℕ) : Type 0 where
@@ -72,7 +75,6 @@ module _ (s : Station) where
           table = c .table;
           lanes = c .lanes;
           waiting = l;
-          record-labels = c .record-labels;
         }
 
   -- another body and count
@@ -91,7 +93,6 @@ module _ (s : Station) where
           table = c .table;
           lanes = c .lanes;
           waiting = c .waiting;
-          record-labels = c .record-labels;
         }
 
   -- another cell
@@ -135,9 +136,9 @@ module _ (s : Station) where
     unfolding cellOf withCell
     cell-lane l e = rw (e, set-getD (s .acked) k false, set-getD (s .labels) k 0, set-getD (s .held) k false, set-getD (s .table) k noRecord)
 
-    pub cell-shaped : LabelsShaped (c .entry) → Shaped s → Shaped (withCell s k c)
+    pub cell-shaped : Shaped s → Shaped (withCell s k c)
     unfolding cellOf withCell
-    cell-shaped e shape =
+    cell-shaped shape =
         record {
           acked = length-set (s .acked) k (c .acked) ∙ shape .acked;
           labels = length-set (s .labels) k (c .label) ∙ shape .labels;
@@ -145,8 +146,6 @@ module _ (s : Station) where
           table = length-set (s .table) k (c .entry) ∙ shape .table;
           lanes = length-set (s .lanes) k (c .lane) ∙ shape .lanes;
           waiting = shape .waiting;
-          record-labels =
-              λ j l. set-keeps LabelsShaped (s .table) k (c .entry) noRecord j (omega (arith, shape .table)) (shape .record-labels j l) e;
         }
 
   -- other acknowledgements below n
@@ -173,7 +172,6 @@ module _ (s : Station) where
           table = c .table;
           lanes = c .lanes;
           waiting = c .waiting;
-          record-labels = c .record-labels;
         }
 
   -- other lanes below n
@@ -200,7 +198,6 @@ module _ (s : Station) where
           table = c .table;
           lanes = length-fill (s .n) lane (s .lanes) ∙ c .lanes;
           waiting = c .waiting;
-          record-labels = c .record-labels;
         }
 
 -- two stations that differ in their waiting edits at most
@@ -237,6 +234,24 @@ waiting-same s w e =
       shape = λ c. waiting-shaped s w (e (c .waiting)) c;
     }
 
+-- the labels of the fresh station, which are its own record's too
+module _ (own : ℕ) where
+  pub fresh-at : (k : ℕ) → k < 16 → getD (freshLabels own) k 0 ≤ 2
+  fresh-at k l =
+      set-keeps (λ (x : ℕ). x ≤ 2) (replicate 16 0) own 1 0 k l (rw (getD-replicate {A = ℕ} 16 k 0 0 l) (omega arith)) (omega arith)
+
+  fresh-long : length (freshLabels own) ≡ 16
+  fresh-long = length-set (replicate 16 0) own 1
+
+  fresh-all : allLabels (freshLabels own) ≡ true
+  fresh-all = at-all (freshLabels own) (λ k l. fresh-at k (rw fresh-long at l))
+
+  pub fresh-word : (freshRecord own) .labels ≡ labelsOver 16 (λ k. getD (freshLabels own) k 0) 0
+  fresh-word = packed-whole 16 (freshLabels own) fresh-long
+
+  pub fresh-label : (k : ℕ) → k < 16 → recordLabel (freshRecord own) k ≡ getD (freshLabels own) k 0
+  fresh-label k l = label-packed (freshRecord own) (freshLabels own) refl fresh-all k (rw fresh-long l)
+
 -- the fresh station
 module _ (setup : Setup) (own : ℕ) where
   pub fresh-self : Self (freshStation setup own) (setup .n) own noneWaiting Empty 0
@@ -250,30 +265,31 @@ module _ (setup : Setup) (own : ℕ) where
       rw (
         getD-set-same {A = ℕ} (replicate 16 0) own 1 0 l,
         getD-set-same (replicate 16 false) own true false l,
-        getD-set-same (replicate 16 zeroRecord) own (freshRecord own) noRecord l,
+        getD-set-same (replicate 16 noRecord) own (freshRecord own) noRecord l,
         getD-replicate 16 own noLane noLane l,
       )
 
   pub fresh-other :
       (k : ℕ) → k < 16 → (k ≡ own → ⊥) →
-      cellOf (freshStation setup own) k ≡ record { label = 0; acked = false; held = false; entry = zeroRecord; lane = noLane }
+      cellOf (freshStation setup own) k ≡ record { label = 0; acked = false; held = false; entry = noRecord; lane = noLane }
   unfolding cellOf freshStation
   fresh-other k l d =
       rw (
         getD-set-other {A = ℕ} (replicate 16 0) own k 1 0 d,
         getD-set-other (replicate 16 false) own k true false d,
-        getD-set-other (replicate 16 zeroRecord) own k (freshRecord own) noRecord d,
+        getD-set-other (replicate 16 noRecord) own k (freshRecord own) noRecord d,
         getD-replicate {A = ℕ} 16 k 0 0 l,
         getD-replicate 16 k false false l,
-        getD-replicate 16 k zeroRecord noRecord l,
+        getD-replicate 16 k noRecord noRecord l,
         getD-replicate 16 k noLane noLane l,
       )
 
   pub fresh-label-own : own < 16 → recordLabel (freshRecord own) own ≡ 1
-  fresh-label-own l = getD-set-same {A = ℕ} (replicate 16 0) own 1 0 l
+  fresh-label-own l = fresh-label own own l ∙ getD-set-same {A = ℕ} (replicate 16 0) own 1 0 l
 
   pub fresh-label-other : (k : ℕ) → k < 16 → (k ≡ own → ⊥) → recordLabel (freshRecord own) k ≡ 0
-  fresh-label-other k l d = getD-set-other {A = ℕ} (replicate 16 0) own k 1 0 d ∙ getD-replicate {A = ℕ} 16 k 0 0 l
+  fresh-label-other k l d =
+      fresh-label own k l ∙ getD-set-other {A = ℕ} (replicate 16 0) own k 1 0 d ∙ getD-replicate {A = ℕ} 16 k 0 0 l
 
   pub fresh-shaped : Shaped (freshStation setup own)
   unfolding cellOf freshStation
@@ -285,12 +301,69 @@ module _ (setup : Setup) (own : ℕ) where
         table = simp length-set;
         lanes = refl;
         waiting = none-sized;
-        record-labels =
-            λ k h. set-keeps LabelsShaped (replicate 16 zeroRecord) own _ noRecord k h
-            (rw (getD-replicate 16 k zeroRecord noRecord h)) (simp length-set);
       }
 
 -- the records that are sent are those of the table
 pub sent-table : (s : Station) → sentRecords s ≡ tableRecords (s .n) (s .held) (s .table)
 unfolding cellOf sentRecords tableRecords
 sent-table s = refl
+
+-- what the arrays have at place k is what the cell of k has
+module _ (s : Station) (k : ℕ) where
+  pub acked-at : getD (s .acked) k false ≡ ackedOf s k
+  unfolding cellOf
+  acked-at = refl
+
+  pub label-at : getD (s .labels) k 0 ≡ labelOf s k
+  unfolding cellOf
+  label-at = refl
+
+  pub lane-at : getD (s .lanes) k noLane ≡ laneAt s k
+  unfolding cellOf
+  lane-at = refl
+
+-- a list that is f below n, and as another from n up
+list-made :
+    {A : Type 0} (n : ℕ) (f : ℕ → A) (l m : List A) (d : A) → length m ≡ length l → ((k : ℕ) → k < n → getD m k d ≡ f k) →
+    ((k : ℕ) → n ≤ k → getD m k d ≡ getD l k d) → m ≡ fill n f l
+list-made n f l m d e below above = ext-getD d m (fill n f l) (e ∙ sym (length-fill n f l)) each
+  where
+    each : (i : ℕ) → i < length m → getD m i d ≡ getD (fill n f l) i d
+    each i b =
+        elim (decLt i n) [
+          | yes c ↦ below i c ∙ sym (fill-below n f l i d c (omega arith))
+          | no up ↦ above i (omega arith) ∙ sym (fill-above n f l i d (omega arith))
+        ]
+
+-- a station t that has below n these records, held or not, and from n up those of s: its arrays;
+-- and all of it, where it has else the body and the waiting edits of s
+module _ (s t : Station) (shape-s : Shaped s) (shape-t : Shaped t) (n : ℕ) where
+  pub table-made :
+      (f : ℕ → Record) → ((k : ℕ) → k < n → recordOf t k ≡ f k) → ((k : ℕ) → n ≤ k → recordOf t k ≡ recordOf s k) →
+      t .table ≡ fill n f (s .table)
+  unfolding cellOf
+  table-made f below above = list-made n f (s .table) (t .table) noRecord (shape-t .table ∙ sym (shape-s .table)) below above
+
+  pub held-made :
+      (f : ℕ → Bool) → ((k : ℕ) → k < n → heldOf t k ≡ f k) → ((k : ℕ) → n ≤ k → heldOf t k ≡ heldOf s k) → t .held ≡ fill n f (s .held)
+  unfolding cellOf
+  held-made f below above = list-made n f (s .held) (t .held) false (shape-t .held ∙ sym (shape-s .held)) below above
+
+pub station-made :
+    (s t : Station) (held : List Bool) (table : List Record) (lanes : List Lane) →
+    Self t (s .n) (s .own) (s .waiting) (s .body) (t .count) → t .held ≡ held → t .table ≡ table → t .lanes ≡ lanes →
+    t ≡ withArrays (withBroadcast s (s .body) (t .count)) (t .acked) (t .labels) held table lanes
+station-made s t held table lanes self e₁ e₂ e₃ =
+    λ i.
+    record {
+      n = self .n i;
+      own = self .own i;
+      waiting = self .waiting i;
+      acked = t .acked;
+      body = self .body i;
+      count = t .count;
+      labels = t .labels;
+      held = e₁ i;
+      table = e₂ i;
+      lanes = e₃ i;
+    }

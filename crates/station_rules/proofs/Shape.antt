@@ -1,25 +1,23 @@
 -- Every step of a station keeps the lengths of its arrays, for it only changes entries: each is made of setters, and these keep them.
-use Prim.Native.Nat.{ℕ, _<_}
 use mathlib.Core.Bool.{Bool, true, false, cond, _&&_}
-use mathlib.Core.Path.{_≡_, refl, _∙_}
-use native.Mathlib.Omega.{arith}
+use mathlib.Core.Path.{_≡_, refl}
 use lib.Dec.{eqb, ltb}
 use borrow.Author.Tests.{ltb-true}
 use Rattle.kinds.specs.declared.Body.{Body}
 use Rattle.kinds.specs.Body.{isEmpty}
 use Rattle.frame_rules.specs.declared.Record.{Record}
-use Rattle.places.proofs.Laws.{and-right, length-fill}
+use Rattle.places.proofs.Laws.{and-right}
 use Rattle.places.proofs.Keeps.{cond-keeps}
 use Rattle.lanes.specs.Lane.{popped}
 use Rattle.lanes.specs.Waiting.{waitingCount, withPosted, withoutNext}
 use Rattle.lanes.proofs.WaitingLaws as laws
 use Rattle.lanes.proofs.WaitingLaws.{WaitingSized}
 use Rattle.station_rules.specs.declared.Station.{Station}
-use Rattle.station_rules.specs.State.{recordOf, recordLabel, labelOf, laneAt, withBroadcast, withCell, withAcked, withLanes}
-use Rattle.station_rules.specs.Hearing.{replaced, heardNewer}
-use Rattle.station_rules.specs.Turn.{airs, broadcastEnds, mayStart, startsEdit, startedBody, afterAiring, begins, takesOwn, passed, ownRecord, rewritten}
+use Rattle.station_rules.specs.State.{laneAt, withBroadcast, withCell, withAcked, withLanes}
+use Rattle.station_rules.specs.Hearing.{heardNewer}
+use Rattle.station_rules.specs.Turn.{airs, broadcastEnds, mayStart, startsEdit, startedBody, afterAiring, begins, takesOwn, passed, rewritten}
 use Rattle.station_rules.specs.Calls.{posted}
-use Rattle.station_rules.proofs.Setters.{LabelsShaped, Shaped, SameSelf, self-refl, lanes-self, SameButWaiting, waiting-same, waiting-shaped, broadcast-shaped, cell-shaped, acked-shaped, lanes-shaped}
+use Rattle.station_rules.proofs.Setters.{Shaped, SameSelf, self-refl, lanes-self, SameButWaiting, waiting-same, waiting-shaped, broadcast-shaped, cell-shaped, acked-shaped, lanes-shaped}
 
 -- the waiting edits after a turn
 waiting-sized : (s : Station) → WaitingSized (s .waiting) → WaitingSized (cond (startsEdit s) (withoutNext (s .waiting)) (s .waiting))
@@ -40,16 +38,9 @@ posted-same s b = waiting-same s (withPosted (s .waiting) b) (laws.posted-sized 
 pub posted-shaped : (s : Station) (b : Body) → Shaped s → Shaped (posted s b)
 posted-shaped s b c = posted-same s b .shape c
 
-replaced-labels : (n : ℕ) (old r : Record) → LabelsShaped old → LabelsShaped (replaced n old r)
-unfolding replaced
-replaced-labels n old r e = length-fill n (recordLabel r) (old .labels) ∙ e
-
-pub heardNewer-shaped : (s : Station) (r : Record) → r .station < 16 → Shaped s → Shaped (heardNewer s r)
+pub heardNewer-shaped : (s : Station) (r : Record) → Shaped s → Shaped (heardNewer s r)
 unfolding heardNewer
-heardNewer-shaped s r b c =
-    cell-shaped (withBroadcast s (s .body) _) (r .station) _
-    (replaced-labels (s .n) (recordOf s (r .station)) r (c .record-labels (r .station) b))
-    (broadcast-shaped s (s .body) _ c)
+heardNewer-shaped s r c = cell-shaped (withBroadcast s (s .body) _) (r .station) _ (broadcast-shaped s (s .body) _ c)
 
 -- the steps of a turn
 pub aired-self : (s : Station) → SameSelf (afterAiring s) s
@@ -63,37 +54,27 @@ unfolding afterAiring
 aired-shaped s c =
     cond-keeps Shaped (airs s) (withLanes s (λ k. popped (laneAt s k))) s (lanes-shaped s (λ k. popped (laneAt s k)) c) c
 
-pub begins-shaped : (s : Station) (b : Body) → s .own < 16 → Shaped s → Shaped (begins s b)
+pub begins-shaped : (s : Station) (b : Body) → Shaped s → Shaped (begins s b)
 unfolding begins
-begins-shaped s b l c =
+begins-shaped s b c =
     let t = withAcked (withBroadcast s b 0) (λ k. eqb k (s .own)) in
     let shape : Shaped t = acked-shaped (withBroadcast s b 0) (λ k. eqb k (s .own)) (broadcast-shaped s b 0 c) in
-    cell-shaped t (s .own) _ (shape .record-labels (s .own) l) shape
+    cell-shaped t (s .own) _ shape
 
-takesOwn-shaped : (s : Station) (b : Body) → s .own < 16 → Shaped s → Shaped (takesOwn s b)
+takesOwn-shaped : (s : Station) (b : Body) → Shaped s → Shaped (takesOwn s b)
 unfolding takesOwn
-takesOwn-shaped s b l c =
-    cond-keeps Shaped (isEmpty b) s (withCell s (s .own) _) c (cell-shaped s (s .own) _ (c .record-labels (s .own) l) c)
+takesOwn-shaped s b c = cond-keeps Shaped (isEmpty b) s (withCell s (s .own) _) c (cell-shaped s (s .own) _ c)
 
-begins-own : (s : Station) (b : Body) → (begins s b) .own ≡ s .own
-unfolding begins withCell withAcked
-begins-own s b = refl
-
-pub passed-shaped : (s : Station) → s .own < 16 → Shaped s → Shaped (passed s)
+pub passed-shaped : (s : Station) → Shaped s → Shaped (passed s)
 unfolding passed
-passed-shaped s l c =
+passed-shaped s c =
     let t = afterAiring s in
-    let own : t .own < 16 = omega (arith, aired-self s .own) in
     let shape : Shaped t = aired-shaped s c in
     let next = begins t (startedBody s) in
     let started : Shaped (takesOwn next (startedBody s)) =
-    takesOwn-shaped next (startedBody s) (omega (arith, begins-own t (startedBody s))) (begins-shaped t (startedBody s) own shape) in
+    takesOwn-shaped next (startedBody s) (begins-shaped t (startedBody s) shape) in
     cond-keeps Shaped (broadcastEnds s) _ t (waiting-shaped (takesOwn next (startedBody s)) _ (waiting-sized s (c .waiting)) started) shape
 
-ownRecord-labels : (s : Station) → s .own < 16 → Shaped s → LabelsShaped (ownRecord s)
-unfolding ownRecord
-ownRecord-labels s b c = length-fill (s .n) (labelOf s) ((recordOf s (s .own)) .labels) ∙ c .record-labels (s .own) b
-
-pub rewritten-shaped : (s : Station) → s .own < 16 → Shaped s → Shaped (rewritten s)
+pub rewritten-shaped : (s : Station) → Shaped s → Shaped (rewritten s)
 unfolding rewritten
-rewritten-shaped s b c = cell-shaped s (s .own) _ (ownRecord-labels s b c) c
+rewritten-shaped s c = cell-shaped s (s .own) _ c

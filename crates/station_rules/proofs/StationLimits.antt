@@ -8,13 +8,13 @@ use borrow.Author.Tests.{leb-true, ltb-true, le-leb, lt-ltb, eqb-true, eq-eqb}
 use Rattle.kind_limits.specs.Limits.{bodyInside}
 use Rattle.labels.specs.Label.{isLabel}
 use Rattle.frame_rules.specs.declared.Record.{Record}
-use Rattle.frame_rules.specs.Record.{countInside, recordLimits}
+use Rattle.frame_rules.specs.Record.{recordLabel, countInside, recordLimits}
 use Rattle.frame_rules.proofs.Limits.{limits-open, limits-make}
 use Rattle.frame_rules.specs.Frame.{validNumber}
 use Rattle.places.specs.Places.{allBelow}
 use Rattle.places.proofs.Laws.{and-both, and-left, and-right, allBelow-at, allBelow-make}
 use Rattle.station_rules.specs.declared.Station.{Station}
-use Rattle.station_rules.specs.State.{Cell, cellOf, labelOf, ackedOf, heldOf, recordOf, laneAt, recordLabel}
+use Rattle.station_rules.specs.State.{Cell, cellOf, labelOf, ackedOf, heldOf, recordOf, laneAt}
 use Rattle.lanes.specs.Waiting.{waitingInside}
 use Rattle.station_rules.specs.Limits.{laneInside, recordInside, placeInside, stationInside}
 

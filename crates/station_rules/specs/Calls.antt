@@ -7,7 +7,7 @@ use lib.Dec.{ltb, eqb}
 use Rattle.kinds.specs.declared.Body.{Body}
 use Rattle.kinds.specs.declared.Body.the-variants.{Empty}
 use Rattle.kind_limits.specs.Limits.{postable}
-use Rattle.kinds.specs.Refusals.{done, badNumber, outsideLimits, queueFull, notAnEdit, laneFull, shortBuffer, countTooHigh, refuse}
+use Rattle.kinds.specs.Refusals.{done, badNumber, outsideLimits, queueFull, notAnEdit, shortBuffer, countTooHigh, refuse}
 use Rattle.frame_rules.specs.Record.{countInside}
 use Rattle.frame_rules.specs.Frame.{validNumber, frameRefusal, recordsOf, frameBytes}
 use Rattle.station_rules.specs.declared.Setup.{Setup}
@@ -22,7 +22,7 @@ use Rattle.lanes.specs.Queue.{noSlot}
 use Rattle.lanes.specs.Waiting.{hasRoom, withPosted}
 use Rattle.station_rules.specs.State.{recordOf, withWaiting, sentRecords, aloneSetup, freshStation}
 use Rattle.station_rules.specs.Limits.{stationInside}
-use Rattle.station_rules.specs.Hearing.{silent, hearRecords}
+use Rattle.station_rules.specs.Hearing.{silent, hearFrame}
 use Rattle.station_rules.specs.Turn.{afterTurn, turnReport}
 
 -- "Fresh": 1
@@ -84,11 +84,10 @@ sourcesOf (t ∷ ts) = set (sourcesOf ts) (t .source) true
 -- "Hear": 2, 5, 6, 7, 8
 unfoldable pub hearCall : Station → List ℕ → Heard
 hearCall s bytes =
-    let h = hearRecords (silent s) (recordsOf bytes) in
+    let h = hearFrame (silent s) (recordsOf bytes) in
     let refusal =
     refuse (not (stationInside s)) outsideLimits
-    (refuse (not (eqb (frameRefusal bytes (s .n) (s .own)) done)) (frameRefusal bytes (s .n) (s .own))
-    (refuse (h .overfull) laneFull done)) in
+    (refuse (not (eqb (frameRefusal bytes (s .n) (s .own)) done)) (frameRefusal bytes (s .n) (s .own)) (h .refusal)) in
     cond (eqb refusal done)
     (record { refusal = done; station = h .station; taken = sourcesOf (h .takings) })
     (record { refusal = refusal; station = s; taken = replicate 16 false })

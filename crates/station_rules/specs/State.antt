@@ -6,9 +6,10 @@ use mathlib.Core.List.{List, []}
 use lib.ListN.{getD, set, replicate}
 use Rattle.kinds.specs.declared.Body.{Body}
 use Rattle.kinds.specs.declared.Body.the-variants.{Empty}
+use Rattle.label_words.specs.Packing.{packed}
 use Rattle.places.specs.Places.{fill, gather}
 use Rattle.frame_rules.specs.declared.Record.{Record}
-use Rattle.frame_rules.specs.Record.{noRecord, zeroRecord, framed}
+use Rattle.frame_rules.specs.Record.{recordLabel, noRecord, framed}
 use Rattle.lanes.specs.declared.Lane.{Lane}
 use Rattle.lanes.specs.declared.Waiting.{Waiting}
 use Rattle.station_rules.specs.declared.Setup.{Setup}
@@ -53,10 +54,6 @@ recordOf s k = (cellOf s k) .entry
 -- the lane of station k
 abbrev pub laneAt : Station → ℕ → Lane
 laneAt s k = (cellOf s k) .lane
-
--- the label of a record for station k
-abbrev pub recordLabel : Record → ℕ → ℕ
-recordLabel r k = getD (r .labels) k 0
 
 -- the own label of a record: the one for its station
 abbrev pub ownLabel : Record → ℕ
@@ -145,9 +142,9 @@ aloneSetup = record { n = 1 }
 abbrev pub freshLabels : ℕ → List ℕ
 freshLabels own = set (replicate 16 0) own 1
 
--- its own record
+-- its own record, which has the same labels
 abbrev pub freshRecord : ℕ → Record
-freshRecord own = record { station = own; count = 0; body = Empty; labels = freshLabels own }
+freshRecord own = record { station = own; count = 0; body = Empty; labels = packed (freshLabels own) }
 
 -- the term "fresh": label 1 for itself and 0 for others, nothing counted, Empty as its body, nobody but itself acknowledged, no record but its own, an Empty
 -- record standing in the other places of the table (Algorithm 1, the initial values)
@@ -162,7 +159,7 @@ freshStation setup own =
       count = 0;
       labels = freshLabels own;
       held = set (replicate 16 false) own true;
-      table = set (replicate 16 zeroRecord) own (freshRecord own);
+      table = set (replicate 16 noRecord) own (freshRecord own);
       lanes = replicate 16 noLane;
     }
 

@@ -8,6 +8,7 @@ use Rattle.kinds.specs.declared.Body.{Body}
 use Rattle.kinds.specs.declared.Body.the-variants.{Empty, Neutral}
 use Rattle.kinds.specs.Body.{isEmpty}
 use Rattle.labels.specs.Label.{successor}
+use Rattle.label_words.specs.Packing.{labelsOver}
 use Rattle.frame_rules.specs.declared.Record.{Record}
 use Rattle.places.specs.Places.{allBelow, fill}
 use Rattle.lanes.specs.declared.Lane.{Lane}
@@ -84,7 +85,7 @@ ownRecord s =
       station = s .own;
       count = s .count;
       body = s .body;
-      labels = fill (s .n) (labelOf s) ((recordOf s (s .own)) .labels);
+      labels = labelsOver (s .n) (labelOf s) ((recordOf s (s .own)) .labels);
     }
 
 unfoldable pub rewritten : Station → Station

@@ -53,14 +53,6 @@ pub struct Heard {
     pub taken: [bool; 16],
 }
 
-// What a station makes of several frames: where no lane would have got a third body, the station and what it took, in the order heard.
-pub struct HeardAll {
-    pub overfull: bool,
-    pub station: Station,
-    pub takings_len: usize,
-    pub takings: [Taking; 30],
-}
-
 // The answer of turn.
 pub struct Turned {
     pub refusal: u32,

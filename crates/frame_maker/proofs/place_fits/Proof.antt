@@ -3,7 +3,7 @@ use mathlib.Core.Path.{sym, _∙_}
 use native.Mathlib.Omega.{arith}
 use borrow.Author.Needs.{needs}
 use borrow.Author.Tests.{not-true, not-false}
-use Rattle.frame_rules.proofs.Fitting.{other-station, high-count, other-body, by-all-labels}
+use Rattle.frame_rules.proofs.Fitting.{other-station, high-count, other-body, by-labels}
 use Rattle.frame_maker.proofs.place_fits.Statement.{statement}
 use Rattle.frame_maker.proofs.place_fits.Tie as tie
 
@@ -37,14 +37,14 @@ returns-3 c =
     let a = c .before .before .before .before .before .before .args in
     other-body (a .n) (a .k) (a .r) (c .before .before .before .before .if1 .left) (omega arith) (omega arith) (sym (c .before .body-inside .ensures) ∙ not-true _ (c .if3 .taken))
 
-all-labels-requires : tie.Need-all-labels-requires
-all-labels-requires c κs = search needs
+labels-inside-requires : tie.Need-labels-inside-requires
+labels-inside-requires c κs = search needs
 
 returns-4 : tie.Need-returns-4
 returns-4 c =
-    let a = c .before .before .before .before .before .before .before .before .args in
-    c .all-labels .ensures
-    ∙ by-all-labels (a .n) (a .k) (a .r) (c .before .before .before .before .before .before .if1 .left) (omega arith) (omega arith) (sym (c .before .before .before .body-inside .ensures) ∙ not-false _ (c .before .before .if3 .left))
+    let a = c .before .before .before .before .before .before .before .args in
+    c .labels-inside .ensures
+    ∙ by-labels (a .n) (a .k) (a .r) (c .before .before .before .before .before .if1 .left) (omega arith) (omega arith) (sym (c .before .before .body-inside .ensures) ∙ not-false _ (c .before .if3 .left))
 
 pub place-fits-spec : {M : Type 1} → statement M
 place-fits-spec =
@@ -58,5 +58,5 @@ place-fits-spec =
     returns-2
     body-inside-requires
     returns-3
-    all-labels-requires
+    labels-inside-requires
     returns-4)

@@ -1,10 +1,11 @@
--- `frame_maker::write_frame` meets its contract: what is refused changes nothing, and a table that fits is one that `write_table` may be called with.
+-- `frame_maker::write_frame` meets its contract: what is refused changes nothing, and a table that fits is written by `write_table`.
 use mathlib.Core.Path.{sym, _∙_}
+use native.Mathlib.Omega.{arith}
 use lib.ListN.{length}
 use borrow.Author.Needs.{needs}
 use borrow.Author.Tests.{not-true, not-false}
 use Rattle.frame_rules.proofs.Check.{valid-few, valid-own}
-use Rattle.frame_rules.proofs.Fitting.{writable, number-answer, number-buffer, record-answer, record-buffer, frame-answer, frame-buffer}
+use Rattle.frame_rules.proofs.Fitting.{number-answer, number-buffer, record-answer, record-buffer, frame-answer, frame-buffer}
 use Rattle.frame_maker.proofs.write_frame.Statement.{statement}
 use Rattle.frame_maker.proofs.write_frame.Tie as tie
 
@@ -33,7 +34,8 @@ returns-2 c =
 write-table-requires : tie.Need-write-table-requires
 write-table-requires c κs =
     let a = c .before .before .before .before .before .before .args in
-    writable (a .n) (a .sender) (a .held) (a .table) (sym (c .before .before .table-fits .ensures) ∙ not-false _ (c .before .if2 .left)) (sym (c .before .before .before .before .valid-number .ensures) ∙ not-false _ (c .before .before .before .if1 .left))
+    let v = sym (c .before .before .before .before .valid-number .ensures) ∙ not-false _ (c .before .before .before .if1 .left) in
+    (valid-few (a .n) (a .sender) v, omega (arith, valid-few (a .n) (a .sender) v, valid-own (a .n) (a .sender) v))
 
 same-length : tie.Need-same-length
 same-length c = search needs

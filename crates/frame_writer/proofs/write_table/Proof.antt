@@ -121,8 +121,7 @@ write-record-requires c κs =
     let room = count-room (s .n) (s .t2) (l .k) (omega arith) on in
     let long = simp length-set at (l .inv .2) in (
       simp (length-take, length-drop) (omega (arith, c .before .before .before .before .before .before .held-count .ensures, room, long)),
-      c .before .before .before .before .before .before .before .before .pre .few,
-      c .before .before .before .before .before .before .before .before .pre .labels (l .k) (omega arith) on,
+      c .before .before .before .before .before .before .before .before .pre .0,
     )
 
 add-at : tie.Need-add-at Inv-loop μ-loop
@@ -150,7 +149,7 @@ loop-again-2 c =
       omega arith,
       omega (arith, at-more (s .n) (s .sender) h (s .t2) (s .t3) _ (l .buffer) (l .k) (l .inv .3) on),
       same-len-mid (l .at) (l .at + 16 - l .at) (l .buffer) (w .last .0) (w .kept .0) ∙ l .inv .2,
-      filled-more (s .n) (s .sender) h (s .t2) (s .t3) _ (l .buffer) (l .k) (l .inv .3) (l .at) (w .last .0) (l .inv .1) (c .before .before .before .before .before .before .before .before .before .before .before .pre .few) on (w .ensures),
+      filled-more (s .n) (s .sender) h (s .t2) (s .t3) _ (l .buffer) (l .k) (l .inv .3) (l .at) (w .last .0) (l .inv .1) on (w .ensures),
     )
 
 same-length : tie.Need-same-length Inv-loop μ-loop

@@ -1,9 +1,7 @@
 -- `record_reader::read_record` meets its contract: each field is read as the definition reads it.
-use mathlib.Core.Path.{ap, _∙_}
 use native.Mathlib.Omega.{arith}
 use lib.ListN.{getD}
 use Rattle.kinds.specs.Body.{bodyOf}
-use Rattle.label_words.specs.Packing.{unpacked}
 use Rattle.frame_rules.proofs.Check.{judged}
 use Rattle.frame_rules.proofs.Entries.{record-is}
 use borrow.Author.Needs.{needs}
@@ -31,9 +29,6 @@ body-of-requires c κs = search needs
 word-at-requires-3 : tie.Need-word-at-requires-3
 word-at-requires-3 c κs = search needs
 
-unpack-requires : tie.Need-unpack-requires
-unpack-requires c κs = search needs
-
 shared-slice-read-t8 : tie.Need-shared-slice-read-t8
 shared-slice-read-t8 c = search needs
 
@@ -42,21 +37,21 @@ shared-slice-read-t11 c = search needs
 
 returns : tie.Need-returns
 returns c =
-    let p = c .before .before .before .before .before .before .before .before .before .before .args .part .now in
+    let p = c .before .before .before .before .before .before .before .before .before .args .part .now in
     let body =
     judged
     (bodyOf (getD p 2 0))
     p
-    (c .before .before .before .before .body-of .result)
-    (c .before .before .before .before .before .before .before .before .word-at .result)
-    (c .before .before .before .before .before .before .before .word-at2 .result)
-    (c .before .before .before .before .before .before .signed .result)
-    (record { sfits = c .before .before .before .before .before .before .signed .ok })
-    (c .before .before .before .before .body-of .ensures)
-    (c .before .before .before .before .before .before .before .before .word-at .ensures)
-    (c .before .before .before .before .before .before .before .word-at2 .ensures)
-    (c .before .before .before .before .before .before .signed .ensures) in
-    record-is p body (c .before .before .unpack .ensures ∙ ap (unpacked 16) (c .before .before .before .word-at3 .ensures))
+    (c .before .before .before .body-of .result)
+    (c .before .before .before .before .before .before .before .word-at .result)
+    (c .before .before .before .before .before .before .word-at2 .result)
+    (c .before .before .before .before .before .signed .result)
+    (record { sfits = c .before .before .before .before .before .signed .ok })
+    (c .before .before .before .body-of .ensures)
+    (c .before .before .before .before .before .before .before .word-at .ensures)
+    (c .before .before .before .before .before .before .word-at2 .ensures)
+    (c .before .before .before .before .before .signed .ensures) in
+    record-is p body (c .before .before .word-at3 .ensures)
 
 pub read-record-spec : {M : Type 1} → statement M
 read-record-spec =
@@ -69,7 +64,6 @@ read-record-spec =
     cast-body-of
     body-of-requires
     word-at-requires-3
-    unpack-requires
     shared-slice-read-t8
     shared-slice-read-t11
     returns)

@@ -17,7 +17,7 @@ kind-of-requires : tie.Need-kind-of-requires
 kind-of-requires c κs = search needs
 
 cast-part : tie.Need-cast-part
-cast-part c = omega (arith, c .kind-of .ensures, kind-small (c .before .before .before .args .r .body))
+cast-part c = omega (arith, c .kind-of .ensures, kind-small (c .before .before .args .r .body))
 
 slice-write-part-3 : tie.Need-slice-write-part-3
 slice-write-part-3 c = search needs
@@ -40,8 +40,8 @@ unsigned-requires c κs = search needs
 put-word-requires-2 : tie.Need-put-word-requires-2
 put-word-requires-2 c κs = omega (arith, simp length-set at (c .before .before .before .before .before .put-word .kept .0))
 
-pack-requires : tie.Need-pack-requires
-pack-requires c κs = search needs
+over-requires : tie.Need-over-requires
+over-requires c κs = search needs
 
 put-word-requires-3 : tie.Need-put-word-requires-3
 put-word-requires-3 c κs = omega (arith, c .before .before .before .before .put-word2 .kept .0, simp length-set at (c .before .before .before .before .before .before .before .before .before .before .put-word .kept .0))
@@ -52,13 +52,13 @@ same-length c =
 
 returns : tie.Need-returns
 returns c =
-    let s = c .before .before .before .before .before .before .before .before .before .before .before .before .before .before .before .before .before .before .before .args in
+    let s = c .before .before .before .before .before .before .before .before .before .before .before .before .before .before .before .before .before .before .args in
     record-made (s .n) (s .r) (s .part .now) (omega arith)
     (c .before .before .before .before .before .before .before .before .before .before .before .before .before .before .before .before .kind-of .result)
     (c .before .before .before .before .before .before .before .before .before .before .before .before .before .before .event-of .result)
     (c .before .before .before .before .before .before .before .before .before .argument-of .result)
     (c .before .before .before .before .before .before .before .before .unsigned .result)
-    (c .before .before .before .pack .result)
+    (c .before .before .before .over .result)
     (c .before .before .before .before .before .before .before .before .before .before .before .before .before .put-word .last .0)
     (c .before .before .before .before .before .before .before .put-word2 .last .0)
     (c .before .before .put-word3 .last .0)
@@ -67,7 +67,7 @@ returns c =
     (record { sfits = c .before .before .before .before .before .before .before .before .before .argument-of .ok })
     (c .before .before .before .before .before .before .before .before .before .argument-of .ensures)
     (c .before .before .before .before .before .before .before .before .unsigned .ensures)
-    (c .before .before .before .pack .ensures)
+    (c .before .before .before .over .ensures)
     (c .before .before .before .before .before .before .before .before .before .before .before .before .before .put-word .ensures)
     (c .before .before .before .before .before .before .before .put-word2 .ensures)
     (c .before .before .put-word3 .ensures)
@@ -87,7 +87,7 @@ write-record-spec =
     argument-of-requires
     unsigned-requires
     put-word-requires-2
-    pack-requires
+    over-requires
     put-word-requires-3
     same-length
     returns)

@@ -1,0 +1,31 @@
+-- `station_encoder::put_body` meets its contract: three words, one behind the other.
+use Rattle.station_encoder.proofs.Writing.{body-written}
+use borrow.Author.Needs.{needs}
+use Rattle.station_encoder.proofs.put_body.Statement.{statement}
+use Rattle.station_encoder.proofs.put_body.Tie as tie
+
+returns : tie.Need-returns
+returns c =
+    let z₃ = c .before .before in
+    let z₂ = z₃ .before .before .before .before .before .before in
+    let z₁ = z₂ .before .before .before .before .before in
+    let s = z₁ .before .before .before .before .args in
+    body-written (s .bytes .now) (s .at) (s .body) (z₁ .before .kind-of .result) (z₂ .before .event-of .result) (z₃ .before .before .argument-of .result) (z₃ .before .unsigned .result) _ _ _
+    (z₁ .before .kind-of .ensures) (z₂ .before .event-of .ensures) (record { sfits = z₃ .before .before .argument-of .ok }) (z₃ .before .before .argument-of .ensures) (z₃ .before .unsigned .ensures)
+    (z₁ .put-word .ensures) (z₂ .put-word2 .ensures) (z₃ .put-word3 .ensures)
+
+pub put-body-spec : {M : Type 1} → statement M
+put-body-spec =
+    tie.close
+    (tie.spec
+    (λ c κs. search needs)
+    (λ c κs. search needs)
+    (λ c. search needs)
+    (λ c κs. search needs)
+    (λ c κs. search needs)
+    (λ c. search needs)
+    (λ c κs. search needs)
+    (λ c κs. search needs)
+    (λ c κs. search needs)
+    (λ c. search needs)
+    returns)
