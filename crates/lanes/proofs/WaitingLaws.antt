@@ -7,7 +7,7 @@ use mathlib.Core.Path.{_≡_, refl, _∙_}
 use native.Mathlib.Omega.{arith}
 use lib.Dec.{ltb}
 use lib.ListN.{length}
-use borrow.Author.Tests.{ltb-true, lt-ltb, le-ltb}
+use borrow.Author.Tests.{ltb-true, lt-ltb, le-ltb, le-leb}
 use Rattle.kinds.specs.declared.Body.{Body}
 use Rattle.kind_limits.specs.Limits.{postable}
 use Rattle.places.specs.Places.{allBelow}
@@ -30,22 +30,22 @@ pub none-sized : WaitingSized noneWaiting
 unfolding noneWaiting emptyQueue
 none-sized = record { slots = refl }
 
-pub none-inside : waitingInside noneWaiting ≡ true
+pub none-inside : (limit : ℕ) → waitingInside limit noneWaiting ≡ true
 unfolding waitingInside noneWaiting emptyQueue queueInside allBelow
-none-inside = refl
+none-inside limit = rw (le-leb 0 limit (omega arith))
 
 -- room for one more
-pub room-below : (w : Waiting) → waitingCount w < queueCapacity → hasRoom w ≡ true
+pub room-below : (limit : ℕ) (w : Waiting) → waitingCount w < limit → hasRoom limit w ≡ true
 unfolding hasRoom
-room-below w l = lt-ltb (waitingCount w) queueCapacity l
+room-below limit w l = lt-ltb (waitingCount w) limit l
 
-pub room-full : (w : Waiting) → queueCapacity ≤ waitingCount w → hasRoom w ≡ false
+pub room-full : (limit : ℕ) (w : Waiting) → limit ≤ waitingCount w → hasRoom limit w ≡ false
 unfolding hasRoom
-room-full w l = le-ltb (waitingCount w) queueCapacity l
+room-full limit w l = le-ltb (waitingCount w) limit l
 
-pub room-count : (w : Waiting) → hasRoom w ≡ true → w .queue .len < queueCapacity
-unfolding hasRoom waitingCount
-room-count w h = ltb-true (w .queue .len) queueCapacity h
+pub room-count : (limit : ℕ) (w : Waiting) → hasRoom limit w ≡ true → waitingCount w < limit
+unfolding hasRoom
+room-count limit w h = ltb-true (waitingCount w) limit h
 
 -- one more, posted last
 pub posted-count : (w : Waiting) (b : Body) → waitingCount (withPosted w b) ≡ suc (waitingCount w)
@@ -56,27 +56,32 @@ pub posted-sized : (w : Waiting) (b : Body) → WaitingSized w → WaitingSized 
 unfolding withPosted
 posted-sized w b c = record { slots = queued-slots (w .queue) b ∙ c .slots }
 
-pub posted-edits : (w : Waiting) (b : Body) → WaitingSized w → hasRoom w ≡ true → waitingEdits (withPosted w b) ≡ waitingEdits w ++ (b ∷ [])
-unfolding waitingEdits withPosted
-posted-edits w b c h = bodies-queued (w .queue) b (omega (arith, room-count w h, c .slots))
+pub posted-edits : (w : Waiting) (b : Body) → WaitingSized w → waitingCount w < queueCapacity → waitingEdits (withPosted w b) ≡ waitingEdits w ++ (b ∷ [])
+unfolding waitingEdits waitingCount withPosted
+posted-edits w b c l = bodies-queued (w .queue) b (omega (arith, l, c .slots))
 
 pub posted-inside :
-    (w : Waiting) (b : Body) → WaitingSized w → waitingInside w ≡ true → hasRoom w ≡ true → postable b ≡ true → waitingInside (withPosted w b) ≡ true
-unfolding waitingInside withPosted
-posted-inside w b c i h e = queued-inside (w .queue) b (c .slots) i (room-count w h) e
+    (limit : ℕ) (w : Waiting) (b : Body) → WaitingSized w → limit ≤ queueCapacity → waitingInside limit w ≡ true → waitingCount w < limit → postable b ≡ true →
+    waitingInside limit (withPosted w b) ≡ true
+unfolding waitingInside waitingCount withPosted
+posted-inside limit w b c high i l e = queued-inside limit (w .queue) b (c .slots) high i l e
 
 -- what is inside its limits
-pub edits-count : (w : Waiting) → WaitingSized w → waitingInside w ≡ true → length (waitingEdits w) ≡ waitingCount w
-unfolding waitingEdits waitingCount waitingInside
-edits-count w c i = length-queueBodies (w .queue) (omega (arith, queue-most (w .queue) i, c .slots))
+pub inside-count : (limit : ℕ) (w : Waiting) → waitingInside limit w ≡ true → waitingCount w ≤ limit
+unfolding waitingCount waitingInside
+inside-count limit w i = queue-most limit (w .queue) i
 
-pub waiting-postable : (w : Waiting) → waitingInside w ≡ true → (i : ℕ) → i < waitingCount w → postable (waitingAt w i) ≡ true
+pub edits-count : (w : Waiting) → WaitingSized w → waitingCount w ≤ queueCapacity → length (waitingEdits w) ≡ waitingCount w
+unfolding waitingEdits waitingCount
+edits-count w c l = length-queueBodies (w .queue) (omega (arith, l, c .slots))
+
+pub waiting-postable : (limit : ℕ) (w : Waiting) → waitingInside limit w ≡ true → (i : ℕ) → i < waitingCount w → postable (waitingAt w i) ≡ true
 unfolding waitingCount waitingInside waitingAt
-waiting-postable w = queue-postable (w .queue)
+waiting-postable limit w = queue-postable limit (w .queue)
 
-pub next-postable : (w : Waiting) → waitingInside w ≡ true → 0 < waitingCount w → postable (nextEdit w) ≡ true
+pub next-postable : (limit : ℕ) (w : Waiting) → waitingInside limit w ≡ true → 0 < waitingCount w → postable (nextEdit w) ≡ true
 unfolding waitingCount waitingInside nextEdit
-next-postable w i l = oldest-postable (w .queue) i l
+next-postable limit w i l = oldest-postable limit (w .queue) i l
 
 -- the next one started
 pub started-count : (w : Waiting) → waitingCount (withoutNext w) ≡ waitingCount w - 1
@@ -87,10 +92,10 @@ pub started-sized : (w : Waiting) → 0 < waitingCount w → WaitingSized w → 
 unfolding waitingCount withoutNext
 started-sized w l c = record { slots = unqueued-slots (w .queue) l (omega (arith, c .slots)) ∙ c .slots }
 
-pub started-edits : (w : Waiting) → WaitingSized w → waitingInside w ≡ true → 0 < waitingCount w → waitingEdits w ≡ nextEdit w ∷ waitingEdits (withoutNext w)
-unfolding waitingEdits waitingCount waitingInside nextEdit withoutNext
-started-edits w c i l = bodies-unqueued (w .queue) l (omega (arith, queue-most (w .queue) i, c .slots))
+pub started-edits : (w : Waiting) → WaitingSized w → waitingCount w ≤ queueCapacity → 0 < waitingCount w → waitingEdits w ≡ nextEdit w ∷ waitingEdits (withoutNext w)
+unfolding waitingEdits waitingCount nextEdit withoutNext
+started-edits w c most l = bodies-unqueued (w .queue) l (omega (arith, most, c .slots))
 
-pub started-inside : (w : Waiting) → WaitingSized w → waitingInside w ≡ true → waitingInside (withoutNext w) ≡ true
+pub started-inside : (limit : ℕ) (w : Waiting) → WaitingSized w → limit ≤ queueCapacity → waitingInside limit w ≡ true → waitingInside limit (withoutNext w) ≡ true
 unfolding waitingInside withoutNext
-started-inside w c i = unqueued-inside (w .queue) (c .slots) i
+started-inside limit w c high i = unqueued-inside limit (w .queue) (c .slots) high i

@@ -1,8 +1,8 @@
--- Document 01, "A station and its calls": the edits of a station that wait to start, at most 32, in the order posted.
+-- Document 01, "A station and its calls": the edits of a station that wait to start, in the order posted. How many may wait is the station's limit (document 02, A2).
 use Prim.Native.Nat.{ℕ}
-use mathlib.Core.Bool.{Bool}
+use mathlib.Core.Bool.{Bool, _&&_}
 use mathlib.Core.List.{List, []}
-use lib.Dec.{ltb}
+use lib.Dec.{leb, ltb}
 use lib.ListN.{getD}
 use Rattle.kinds.specs.declared.Body.{Body}
 use Rattle.lanes.specs.declared.Waiting.{Waiting}
@@ -28,9 +28,17 @@ waitingCount w = w .queue .len
 unfoldable pub waitingAt : Waiting → ℕ → Body
 waitingAt w i = (getD (w .queue .slots) i noSlot) .body
 
+-- what may be a limit: 1 to 32
+abbrev pub limitInside : ℕ → Bool
+limitInside limit = leb 1 limit && leb limit queueCapacity
+
+-- the limit where none is named (document 02, A2)
+abbrev pub defaultLimit : ℕ
+defaultLimit = 8
+
 -- one more may wait
-unfoldable pub hasRoom : Waiting → Bool
-hasRoom w = ltb (waitingCount w) queueCapacity
+unfoldable pub hasRoom : ℕ → Waiting → Bool
+hasRoom limit w = ltb (waitingCount w) limit
 
 -- one more edit, posted last
 unfoldable pub withPosted : Waiting → Body → Waiting
@@ -44,6 +52,6 @@ nextEdit w = oldest (w .queue)
 unfoldable pub withoutNext : Waiting → Waiting
 withoutNext w = record { queue = unqueued (w .queue) }
 
--- "Limits": at most 32 wait, and each may be posted
-unfoldable pub waitingInside : Waiting → Bool
-waitingInside w = queueInside (w .queue)
+-- "Limits": no more wait than the limit, and each may be posted
+unfoldable pub waitingInside : ℕ → Waiting → Bool
+waitingInside limit w = queueInside limit (w .queue)
