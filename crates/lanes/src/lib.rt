@@ -32,8 +32,9 @@ pub struct Queue {
     pub slots: [Slot; QUEUE_CAPACITY],
 }
 
-// The edits of a station that wait to start.
+// The edits of a station that wait to start, and how many may wait: the station's limit.
 pub struct Waiting {
+    pub limit: usize,
     pub queue: Queue,
 }
 
@@ -139,12 +140,15 @@ fn queue_inside(queue: Queue, limit: usize) -> bool
     true
 }
 
-// No edit waits.
-pub fn none_waiting() -> Waiting
-    ensures { λ r. ⌜ r ≡ waitingSpec.noneWaiting ⌝ }
+// No edit waits, and so many may.
+pub fn none_waiting(limit: usize) -> Waiting
+    ensures { λ r. ⌜ r ≡ waitingSpec.noneWaiting limit ⌝ }
 {
     let queue = empty_queue();
-    Waiting { queue: queue }
+    Waiting {
+        limit: limit,
+        queue: queue,
+    }
 }
 
 // How many edits wait.
@@ -165,12 +169,12 @@ pub fn limit_inside(limit: usize) -> bool
     limit <= QUEUE_CAPACITY
 }
 
-// Is there room for one more edit, with so many at most?
-pub fn has_room(waiting: Waiting, limit: usize) -> bool
-    ensures { λ r. ⌜ r ≡ waitingSpec.hasRoom limit waiting ⌝ }
+// Is there room for one more edit?
+pub fn has_room(waiting: Waiting) -> bool
+    ensures { λ r. ⌜ r ≡ waitingSpec.hasRoom waiting ⌝ }
 {
     let queue = waiting.queue;
-    queue.len < limit
+    queue.len < waiting.limit
 }
 
 // The waiting edits once one more is posted.
@@ -180,7 +184,10 @@ pub fn with_posted(waiting: Waiting, body: Body) -> Waiting
 {
     let queue = waiting.queue;
     let longer = queued(queue, body);
-    Waiting { queue: longer }
+    Waiting {
+        limit: waiting.limit,
+        queue: longer,
+    }
 }
 
 // The edit that starts next.
@@ -198,14 +205,20 @@ pub fn without_next(waiting: Waiting) -> Waiting
 {
     let queue = waiting.queue;
     let shorter = unqueued(queue);
-    Waiting { queue: shorter }
+    Waiting {
+        limit: waiting.limit,
+        queue: shorter,
+    }
 }
 
-// Are the waiting edits inside their limits, so many being the most?
-pub fn waiting_inside(waiting: Waiting, limit: usize) -> bool
-    requires { ⌜ limit ≤ queueSpec.queueCapacity ⌝ }
-    ensures { λ r. ⌜ r ≡ waitingSpec.waitingInside limit waiting ⌝ }
+// Are the waiting edits inside their limits?
+pub fn waiting_inside(waiting: Waiting) -> bool
+    ensures { λ r. ⌜ r ≡ waitingSpec.waitingInside waiting ⌝ }
 {
+    let limit = waiting.limit;
+    if !limit_inside(limit) {
+        return false;
+    }
     let queue = waiting.queue;
     queue_inside(queue, limit)
 }
