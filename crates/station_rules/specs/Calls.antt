@@ -44,7 +44,7 @@ posted s b = withWaiting s (withPosted (s .waiting) b)
 
 -- 4, 3: what a post judges of the body and of the waiting edits
 abbrev pub postRefusal : Station → Body → ℕ
-postRefusal s b = refuse (not (postable b)) notAnEdit (refuse (not (hasRoom (s .limit) (s .waiting))) queueFull done)
+postRefusal s b = refuse (not (postable b)) notAnEdit (refuse (not (hasRoom (s .waiting))) queueFull done)
 
 -- "Post": 2, 4, 3
 unfoldable pub postCall : Station → Body → Kept
