@@ -158,7 +158,8 @@ class TheTestCanFail(unittest.TestCase):
         for path, right, wrong, array in (
                 (successor, "(((label as u32) + 1) % 3) as u8", "[1u8, 2, 0][label as usize]", "[1u8, 2, 0]"),
                 (packing, "word * 4 +", "word * [4u32, 4][0] +", "[4u32, 4]"),
-                (packing, "(rest % 4) as u8", 'b"\\x00\\x01\\x02\\x03"[(rest % 4) as usize]', r'b"\x00\x01\x02\x03"')):
+                (packing, "((word >> (2 * k)) % 4) as u8", 'b"\\x00\\x01\\x02\\x03"[((word >> (2 * k)) % 4) as usize]',
+                 r'b"\x00\x01\x02\x03"')):
             source = path.read_text(encoding="utf-8")
             self.assertIn(right, source)
             self.assertEqual(constant_arrays(source), [])

@@ -19,21 +19,20 @@ pub fn fresh_station(setup: Setup, own: usize) -> Station
     acked[own] = true;
     let mut held = [false; 16];
     held[own] = true;
-    let zeros = [0u8; 16];
     let mut labels = [0u8; 16];
     labels[own] = 1;
     let zero = Record {
         station: 0,
         count: 0,
         body: Body::Empty,
-        labels: zeros,
+        labels: 0,
     };
     let mut table = [zero; 16];
     table[own] = Record {
         station: own as u8,
         count: 0,
         body: Body::Empty,
-        labels: labels,
+        labels: label_words::pack_over(16, labels, 0),
     };
     let lane = Lane {
         len: 0,

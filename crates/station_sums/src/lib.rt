@@ -55,11 +55,11 @@ fn mix_queue(sum: u64, queue: Queue) -> u64 {
     mixed
 }
 
-fn mix_labels(sum: u64, labels: [u8; 16]) -> u64 {
+fn mix_labels(sum: u64, labels: u32) -> u64 {
     let mut mixed = sum;
     let mut k: usize = 0;
     while k < 16 {
-        mixed = mix(mixed, labels[k] as u32);
+        mixed = mix(mixed, label_words::label_in(labels, k) as u32);
         k += 1;
     }
     mixed
@@ -67,10 +67,9 @@ fn mix_labels(sum: u64, labels: [u8; 16]) -> u64 {
 
 fn mix_record(sum: u64, record: Record) -> u64 {
     let body = record.body;
-    let labels = record.labels;
     let station = mix(sum, record.station as u32);
     let count = mix(station, record.count as u32);
-    mix_labels(mix_body(count, body), labels)
+    mix_labels(mix_body(count, body), record.labels)
 }
 
 fn mix_lane(sum: u64, lane: Lane) -> u64 {

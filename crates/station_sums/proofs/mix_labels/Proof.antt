@@ -13,8 +13,8 @@ abbrev μ-loop : tie.MeasureT-loop
 loop-holds : tie.Need-loop-holds Inv-loop μ-loop
 loop-holds c = search needs
 
-array-read-mix : tie.Need-array-read-mix Inv-loop μ-loop
-array-read-mix c = search needs
+label-in-requires : tie.Need-label-in-requires Inv-loop μ-loop
+label-in-requires c κs = search needs
 
 cast-mix : tie.Need-cast-mix Inv-loop μ-loop
 cast-mix c = search needs
@@ -41,7 +41,7 @@ mix-labels-spec =
     Inv-loop
     μ-loop
     loop-holds
-    array-read-mix
+    label-in-requires
     cast-mix
     mix-requires
     add-k
