@@ -2,9 +2,10 @@
 
 ghost use mathlib.Core.Path.{_≡_};
 ghost use Prim.Native.Nat.{_<_};
-ghost use Rattle.station_rules.specs.State.{freshStation};
+ghost use Rattle.station_rules.specs.State.{aloneSetup, freshStation};
 use frame_rules::Record;
 use kinds::Body;
+use lanes::DEFAULT_LIMIT;
 use lanes::Lane;
 use station_rules::Setup;
 use station_rules::Station;
@@ -14,7 +15,7 @@ pub fn fresh_station(setup: Setup, own: usize) -> Station
     requires { ⌜ own < 16 ⌝ }
     ensures { λ r. ⌜ r ≡ freshStation setup own ⌝ }
 {
-    let waiting = lanes::none_waiting();
+    let waiting = lanes::none_waiting(setup.limit);
     let mut acked = [false; 16];
     acked[own] = true;
     let mut held = [false; 16];
@@ -52,4 +53,17 @@ pub fn fresh_station(setup: Setup, own: usize) -> Station
         table: table,
         lanes: lanes,
     }
+}
+
+// A station alone: a refused fresh call answers with it, and it stands in a fresh group's places from N up.
+pub fn alone() -> Station
+    ensures { λ r. ⌜ r ≡ freshStation aloneSetup 0 ⌝ }
+{
+    fresh_station(
+        Setup {
+            n: 1,
+            limit: DEFAULT_LIMIT,
+        },
+        0,
+    )
 }
