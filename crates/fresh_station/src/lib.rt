@@ -1,8 +1,8 @@
-// The fresh station.
+// The fresh station, and what it is given where no limit is named.
 
 ghost use mathlib.Core.Path.{_≡_};
 ghost use Prim.Native.Nat.{_<_};
-ghost use Rattle.station_rules.specs.State.{aloneSetup, freshStation};
+ghost use Rattle.station_rules.specs.State.{sized, freshStation};
 use frame_rules::Record;
 use kinds::Body;
 use lanes::DEFAULT_LIMIT;
@@ -55,15 +55,12 @@ pub fn fresh_station(setup: Setup, own: usize) -> Station
     }
 }
 
-// A station alone: a refused fresh call answers with it, and it stands in a fresh group's places from N up.
-pub fn alone() -> Station
-    ensures { λ r. ⌜ r ≡ freshStation aloneSetup 0 ⌝ }
+// What is given where no limit is named.
+pub fn sized(n: usize) -> Setup
+    ensures { λ r. ⌜ r ≡ sized n ⌝ }
 {
-    fresh_station(
-        Setup {
-            n: 1,
-            limit: DEFAULT_LIMIT,
-        },
-        0,
-    )
+    Setup {
+        n,
+        limit: DEFAULT_LIMIT,
+    }
 }
