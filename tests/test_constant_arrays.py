@@ -22,11 +22,6 @@ ALLOWED = {
         r'b"relay_listing: cannot write\n"': "what the program says where a write fails",
         r'b"relay_listing: cannot read\n"': "what the program says where a read fails",
     },
-    "crates/station_calls/src/main.rt": {
-        'b" "': "between two numbers that the program prints",
-        r'b"\n"': "the end of a line that the program prints",
-        'b"none"': "bytes that are no frame, which the program hands to hear",
-    },
 }
 
 # The crates in which successors and the packing of labels are worked out. No list can allow an array here.
