@@ -24,6 +24,7 @@ type Questions = unsafe extern "C" fn(*const u16, usize, u32, *const u32, usize,
 type StationRounds = fn(&[Vec<Vec<u8>>], usize) -> u32;
 
 /// The codec of a station: bytes, how often they are read and written, and whether they are judged before.
+#[cfg(all(relay_host, relay_bench))]
 type Codec = unsafe extern "C" fn(*mut u8, usize, u32, u32) -> u32;
 
 /// The frame check of crate relay_host.
@@ -55,12 +56,6 @@ const PROJECT_QUESTIONS: Option<Questions> = None;
 const PROJECT_ROUNDS: Option<Function> = Some(relay_bench_rounds);
 #[cfg(not(relay_bench))]
 const PROJECT_ROUNDS: Option<Function> = None;
-
-/// The codec, from crate relay_bench.
-#[cfg(relay_bench)]
-const PROJECT_CODEC: Option<Codec> = Some(relay_bench_codec);
-#[cfg(not(relay_bench))]
-const PROJECT_CODEC: Option<Codec> = None;
 
 /// A station's rounds through the calls of crate relay_host.
 #[cfg(relay_host)]
@@ -117,26 +112,12 @@ unsafe extern "C" {
     #[cfg(relay_host)]
     fn relay_station_post(state: *mut u8, state_len: usize, kind: u32, event: u32, argument: i32) -> u32;
     #[cfg(relay_host)]
-    fn relay_station_write(
-        state: *const u8,
-        state_len: usize,
-        frame: *mut u8,
-        frame_len: usize,
-        length: *mut u32,
-        length_len: usize,
-    ) -> u32;
+    fn relay_station_write(state: *const u8, state_len: usize, frame: *mut u8, frame_len: usize, length: *mut u32, length_len: usize) -> u32;
     #[cfg(relay_host)]
-    fn relay_station_hear(
-        state: *mut u8,
-        state_len: usize,
-        frame: *const u8,
-        frame_len: usize,
-        taken: *mut u8,
-        taken_len: usize,
-    ) -> u32;
+    fn relay_station_hear(state: *mut u8, state_len: usize, frame: *const u8, frame_len: usize, taken: *mut u8, taken_len: usize) -> u32;
     #[cfg(relay_host)]
     fn relay_station_turn(state: *mut u8, state_len: usize, report: *mut u8, report_len: usize) -> u32;
-    #[cfg(relay_bench)]
+    #[cfg(all(relay_host, relay_bench))]
     fn relay_bench_codec(state: *mut u8, state_len: usize, times: u32, judged: u32) -> u32;
     #[cfg(relay_bench)]
     fn relay_bench_rounds(schedule: *const u8, len: usize, n: u32, rounds: u32) -> u32;
@@ -155,6 +136,11 @@ extern "C" fn frame_check_rust(bytes: *const u8, len: usize, n: u32, own: u32) -
 extern "C" fn rounds_rust(schedule: *const u8, len: usize, n: u32, rounds: u32) -> u32 {
     // SAFETY: as above.
     measured::rounds(unsafe { std::slice::from_raw_parts(schedule, len) }, n, rounds)
+}
+
+extern "C" fn rounds_by_value(schedule: *const u8, len: usize, n: u32, rounds: u32) -> u32 {
+    // SAFETY: as above.
+    measured::rounds_by_value(unsafe { std::slice::from_raw_parts(schedule, len) }, n, rounds)
 }
 
 extern "C" fn forecast_rust(log: *const u16, len: usize, n: u32, ends: *mut u16, _: usize, last: *mut u16, _: usize) -> u32 {
@@ -288,6 +274,7 @@ const CHECKS: u32 = 25_600;
 const STATION_ROUNDS: u32 = 2_048;
 const LOAD_STATIONS: u32 = 65_536;
 const RECORDED_ROUNDS: usize = 64;
+#[cfg(all(relay_host, relay_bench))]
 const CODED: u32 = 2_048;
 
 fn call(function: Function, bytes: &[u8], first: u32, second: u32) -> u32 {
@@ -398,6 +385,7 @@ impl<F: Copy> Measure<'_, F> {
 }
 
 /// Prints the time of reading a station's bytes and writing them again, which the project alone does; false if the bytes change.
+#[cfg(all(relay_host, relay_bench))]
 fn print_codec(name: &str, codec: Codec, state: &[u8], judged: u32, span: Duration) -> bool {
     let mut bytes = state.to_vec();
     let mut best = Duration::MAX;
@@ -472,8 +460,10 @@ fn main() -> ExitCode {
             let schedule = schedule(n as usize);
             let rounds = STATION_ROUNDS / n;
             let work = |function| call(function, &schedule, n, rounds);
-            let name = format!("{links} round, N = {n}");
-            agree &= Measure { name, units: rounds, work: &work }.print(PROJECT_ROUNDS, rounds_rust, span);
+            for (peer, function) in [("", rounds_rust as Function), (", peer by value", rounds_by_value)] {
+                let name = format!("{links} round, N = {n}{peer}");
+                agree &= Measure { name, units: rounds, work: &work }.print(PROJECT_ROUNDS, function, span);
+            }
         }
     }
     for (links, rounds, n) in [
@@ -529,14 +519,16 @@ fn main() -> ExitCode {
     }
     for n in [16, 8, 2] {
         let frames = recorded::record(n, RECORDED_ROUNDS);
-        let work = |function: StationRounds| function(&frames, n);
+        let times = 1024 / (n * n);
+        let work = |function: StationRounds| (0..times).fold(0, |sum, _| recorded::mix(sum, function(black_box(&frames), n)));
         let name = format!("a station's round from C, N = {n}: write, {} hears, turn", n - 1);
-        agree &= Measure { name, units: RECORDED_ROUNDS as u32, work: &work }.print(PROJECT_STATION, recorded::rounds as StationRounds, span);
+        let units = (times * RECORDED_ROUNDS) as u32;
+        agree &= Measure { name, units, work: &work }.print(PROJECT_STATION, recorded::rounds as StationRounds, span);
     }
-    #[cfg(relay_host)]
-    if let (Some(codec), Some((state, _))) = (PROJECT_CODEC, play(&recorded::record(16, RECORDED_ROUNDS), 16)) {
+    #[cfg(all(relay_host, relay_bench))]
+    if let Some((state, _)) = play(&recorded::record(16, RECORDED_ROUNDS), 16) {
         for (judged, name) in [(0, "a station read and written, N = 16"), (1, "a station judged, read and written, N = 16")] {
-            agree &= print_codec(name, codec, &state, judged, span);
+            agree &= print_codec(name, relay_bench_codec, &state, judged, span);
         }
     }
     if agree { ExitCode::SUCCESS } else { ExitCode::FAILURE }

@@ -4,6 +4,7 @@
 //! `tests/check-peer` compares it with the model.
 
 pub mod bodies;
+pub mod by_value;
 pub mod forecast;
 pub mod frames;
 pub mod group;

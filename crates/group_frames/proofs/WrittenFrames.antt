@@ -21,7 +21,7 @@ use Rattle.group_frames.proofs.SentFrame.{frame-fits}
 use Rattle.group_frames.proofs.SendSteps.{part-frame, length-after, worse-done, judged-none, judged-more, judged-right}
 
 -- bytes that end by place a stay where what follows from a on is replaced
-before-part :
+pub before-part :
     (m k a : ℕ) (bytes rest : List ℕ) → k + m ≤ a → a ≤ length bytes → take m (drop k (take a bytes ++ rest)) ≡ take m (drop k bytes)
 before-part m k a bytes rest l h = front rest ∙ sym (front (drop a bytes)) ∙ ap (λ (b : List ℕ). take m (drop k b)) (take-append-drop a bytes)
   where

@@ -137,10 +137,12 @@ fn run(schedule: &[u8], n: usize, rounds: u32) -> u32
             g = kept.group;
         }
         let done = rounds::round(g, masks_of(schedule, number));
-        g = done.group;
+        let after = done.group;
+        let reports = done.reports;
+        g = after;
         let mut k: usize = 0;
         while k < n {
-            sum = mix_report(sum, done.reports[k], number);
+            sum = mix_report(sum, reports[k], number);
             k += 1;
         }
         number += 1;

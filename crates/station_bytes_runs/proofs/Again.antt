@@ -11,7 +11,7 @@ use borrow.Author.Tests.{eqb-true, eq-eqb, ne-eqb}
 use Rattle.kinds.specs.declared.Body.{Body}
 use Rattle.kinds.specs.Refusals.{done, outsideLimits, refuse}
 use Rattle.kind_limits.specs.Limits.{postable}
-use Rattle.frame_rules.specs.Frame.{frameRefusal, recordsOf, recordsInside, shapeWrong, addressWrong}
+use Rattle.frame_rules.specs.Frame.{validNumber, frameRefusal, recordsOf, recordsInside, shapeWrong, addressWrong}
 use Rattle.lanes.specs.Waiting.{hasRoom}
 use Rattle.station_rules.specs.declared.Setup.{Setup}
 use Rattle.station_rules.specs.declared.Station.{Station}
@@ -21,18 +21,20 @@ use Rattle.station_rules.specs.declared.Kept.{Kept}
 use Rattle.station_rules.specs.Limits.{stationInside}
 use Rattle.station_rules.specs.Hearing.{Hearing, silent, hearFrame}
 use Rattle.station_rules.specs.Turn.{afterTurn}
-use Rattle.station_rules.specs.Calls.{postRefusal, posted, postCall, hearCall, turnCall}
-use Rattle.station_rules.proofs.Setters.{Shaped}
+use Rattle.station_rules.specs.State.{aloneSetup, freshStation}
+use Rattle.station_rules.specs.Calls.{freshCall, postRefusal, posted, postCall, hearCall, turnCall}
+use Rattle.station_rules.proofs.Setters.{Shaped, fresh-shaped}
 use Rattle.station_rules.proofs.Shape.{posted-shaped}
 use Rattle.station_rules.proofs.StationLimits.{inside-open}
-use Rattle.station_rules.proofs.LimitsTurn.{turn-inside}
+use Rattle.station_rules.proofs.CallSteps.{valid-parts}
+use Rattle.station_rules.proofs.LimitsFresh.{fresh-inside}
 use Rattle.station_rules.proofs.LimitsCalls.{frame-carried, post-call-inside, turn-call-inside, hear-call-inside}
 use Rattle.station_bytes_spec.specs.Station.{encodeStation, decodeStation, isStation}
 use Rattle.station_bytes_spec.proofs.Bytes.{AllBytes}
 use Rattle.station_bytes_spec.proofs.Body.{BodyFits}
 use Rattle.station_bytes_spec.proofs.Inside.{Typed, inside-decoded, inside-accepted}
 use Rattle.station_bytes_runs.proofs.Bodies.{edit-fits}
-use Rattle.station_bytes_runs.proofs.Typed.{Fitting, posted-fitting, turn-fitting, turn-shaped, Keeps, frame-keeps}
+use Rattle.station_bytes_runs.proofs.Typed.{Fitting, fresh-fitting, posted-fitting, turn-fitting, turn-shaped, Keeps, frame-keeps}
 use Rattle.station_bytes_runs.proofs.Decoded.{station-fitting, station-shaped, frame-words, all-fit}
 
 -- a station that a call leaves: inside its limits, its bytes accepted, and decoded to it again
@@ -135,6 +137,18 @@ module _ (s : Station) (shape : Shaped s) (f : Fitting s) where
         (hear-call-inside s shape hear-inside bytes)
 
 -- ---- the calls on bytes
+
+-- fresh, also where it is refused: the answer is then the fresh station of N = 1
+pub after-fresh : (setup : Setup) (own : ℕ) → Again ((freshCall setup own) .station)
+unfolding freshCall
+after-fresh setup own = go (validNumber (setup .n) own) refl
+  where
+    go : (t : Bool) → validNumber (setup .n) own ≡ t → Again ((freshCall setup own) .station)
+    go true e =
+        let v = valid-parts (setup .n) own e in
+        rw e (again (freshStation setup own) (fresh-shaped setup own) (fresh-fitting setup own (omega (arith, v .1, v .2))) (fresh-inside setup own e))
+    go false e =
+        rw e (again (freshStation aloneSetup 0) (fresh-shaped aloneSetup 0) (fresh-fitting aloneSetup 0 (omega arith)) (fresh-inside aloneSetup 0 refl))
 
 module _ (b : List ℕ) (small : AllBytes b) where
   abbrev now : Station

@@ -6,7 +6,7 @@ use Prim.Native.Nat.{ℕ, zero, suc, _+_, _-_, _<_, _≤_}
 use native.Mathlib.Omega.{arith}
 use lib.Dec.{eqb, ltb}
 use lib.IntN.{ℤ}
-use lib.ListN.{getD, set, take, drop, length, length-set, length-take, List·getD-append, List·getD-eq-default}
+use lib.ListN.{getD, set, take, drop, length, length-set, length-take, replicate, length-replicate, getD-replicate, List·getD-append, List·getD-eq-default}
 use lib.Seq.{take-nil, getD-take, getD-drop, getD-append-add}
 use mir.Syntax.{w32}
 use mir.Val.{SFits}
@@ -21,8 +21,8 @@ use Rattle.lanes.specs.declared.Slot.{Slot}
 use Rattle.lanes.specs.declared.Queue.{Queue}
 use Rattle.lanes.specs.declared.Waiting.{Waiting}
 use Rattle.lanes.specs.Lane.{bodies, laneOf, pushed, popped}
-use Rattle.lanes.specs.Queue.{noSlot, queued, oldest, unqueued}
-use Rattle.lanes.specs.Waiting.{waitingCount, waitingAt, withPosted, nextEdit, withoutNext}
+use Rattle.lanes.specs.Queue.{noSlot, emptyQueue, queued, oldest, unqueued}
+use Rattle.lanes.specs.Waiting.{noneWaiting, waitingCount, waitingAt, withPosted, nextEdit, withoutNext}
 use Rattle.lanes.proofs.WaitingLaws.{WaitingSized}
 use Rattle.station_bytes_spec.proofs.Body.{BodyFits}
 
@@ -142,6 +142,12 @@ module _ (w : Waiting) (f : EditsFit w) where
   pub edit-fits : (i : ℕ) → BodyFits (waitingAt w i)
   unfolding waitingAt
   edit-fits i = f .slot i
+
+pub none-fit : EditsFit noneWaiting
+unfolding noneWaiting emptyQueue
+none-fit =
+    slots-fit (replicate 32 noSlot)
+    (λ i l. subst (λ (s : Slot). BodyFits (s .body)) (sym (getD-replicate 32 i noSlot noSlot (rw (length-replicate 32 noSlot) at l))) empty-fits)
 
 pub edits-fit : (w : Waiting) → WaitingSized w → ((i : ℕ) → i < 32 → BodyFits (waitingAt w i)) → EditsFit w
 unfolding waitingAt

@@ -132,7 +132,7 @@ pub data AllWords : List Record → Type 0 where
   no-words : AllWords []
   more-words : {r : Record} {rs : List Record} → RecordFits r → AllWords rs → AllWords (r ∷ rs)
 
-words-append : (rs : List Record) (r : Record) → AllWords rs → RecordFits r → AllWords (rs ++ (r ∷ []))
+pub words-append : (rs : List Record) (r : Record) → AllWords rs → RecordFits r → AllWords (rs ++ (r ∷ []))
 words-append [] r no-words g = more-words g no-words
 words-append (x ∷ rs) r (more-words f all) g = more-words f (words-append rs r all g)
 

@@ -24,19 +24,20 @@ use Rattle.lanes.specs.Lane.{pushed, popped}
 use Rattle.lanes.specs.Waiting.{waitingCount, waitingAt, withPosted, nextEdit, withoutNext}
 use Rattle.lanes.proofs.WaitingLaws.{WaitingSized}
 use Rattle.station_rules.specs.declared.Station.{Station}
-use Rattle.station_rules.specs.State.{Cell, cellOf, labelOf, recordOf, laneAt, withLabel, withEntry, withLane, withWaiting, withBroadcast, withCell, withAcked, withLanes}
+use Rattle.station_rules.specs.declared.Setup.{Setup}
+use Rattle.station_rules.specs.State.{freshLabels, freshRecord, freshStation, Cell, cellOf, labelOf, recordOf, laneAt, withLabel, withEntry, withLane, withWaiting, withBroadcast, withCell, withAcked, withLanes}
 use Rattle.station_rules.specs.Limits.{stationInside}
 use Rattle.kinds.specs.Refusals.{done, laneFull, refuse}
 use Rattle.station_rules.specs.Hearing.{Hearing, heeds, takes, overfills, replaced, heardNewer, hearRecord, hearRecords, hearFrame}
 use Rattle.station_rules.specs.Turn.{airs, afterAiring, broadcastEnds, mayStart, startsEdit, startedBody, begins, takesOwn, passed, ownRecord, rewritten, afterTurn}
 use Rattle.station_rules.specs.Calls.{posted}
-use Rattle.station_rules.proofs.Setters.{Shaped, SameSelf, withAck, waiting-cell, broadcast-cell, cell-self, cell-here, cell-other, acked-self, acked-below, acked-above, acked-shaped, lanes-self, lanes-below, lanes-above, broadcast-shaped, cell-shaped}
+use Rattle.station_rules.proofs.Setters.{Shaped, fresh-at, fresh-word, fresh-self, fresh-own, fresh-other, SameSelf, withAck, waiting-cell, broadcast-cell, cell-self, cell-here, cell-other, acked-self, acked-below, acked-above, acked-shaped, lanes-self, lanes-below, lanes-above, broadcast-shaped, cell-shaped}
 use Rattle.station_rules.proofs.Shape.{posted-shaped, heardNewer-shaped, aired-self, aired-shaped, begins-shaped, passed-shaped, rewritten-shaped}
 use Rattle.station_rules.proofs.StationLimits.{inside-open}
 use Rattle.station_rules.proofs.LimitsTurn.{turn-inside}
 use Rattle.station_bytes_spec.proofs.Body.{BodyFits, RecordFits}
 use Rattle.station_bytes_spec.proofs.Station.{CellFits}
-use Rattle.station_bytes_runs.proofs.Bodies.{empty-fits, neutral-fits, LaneFits, pushed-fits, popped-fits, EditsFit, posted-fit, started-fit, next-fits}
+use Rattle.station_bytes_runs.proofs.Bodies.{empty-fits, neutral-fits, none-fit, LaneFits, pushed-fits, popped-fits, EditsFit, posted-fit, started-fit, next-fits}
 
 -- the numbers of a station's bodies and records fit
 pub record Fitting (s : Station) : Type 0 where
@@ -102,6 +103,40 @@ module _ (s : Station) (f : Fitting s) where
           subst CellFits (sym (lanes-below s lane shape high k (ltb-true k (s .n) e)))
           (cell-of (withLane (cellOf s k) (lane k)) (f .cells k l .entry-fits) (g k l))
       go k l false e = subst CellFits (sym (lanes-above s lane k (ltb-false k (s .n) e))) (f .cells k l)
+
+-- ---- fresh
+
+pub fresh-fitting : (setup : Setup) (own : ℕ) → own < 16 → Fitting (freshStation setup own)
+fresh-fitting setup own l =
+    record {
+      body = subst BodyFits (sym (fresh-self setup own .body)) empty-fits;
+      cells = go;
+      edits = subst EditsFit (sym (fresh-self setup own .waiting)) none-fit;
+    }
+  where
+    own-fits : RecordFits (freshRecord own)
+    own-fits =
+        record {
+          labels-fit =
+              subst (λ (w : ℕ). w < 4_294_967_296) (sym (fresh-word own))
+              (over-less 16 16 (λ k. getD (freshLabels own) k 0) 0 (λ j m. omega (arith, fresh-at own j m)) (omega arith) (omega arith));
+          body-fits = empty-fits;
+        }
+
+    go : (k : ℕ) → k < 16 → CellFits (cellOf (freshStation setup own) k)
+    go k m =
+        elim (ℕ-discrete k own) [
+          | yes e ↦
+              subst (λ (i : ℕ). CellFits (cellOf (freshStation setup own) i)) (sym e)
+              (subst CellFits (sym (fresh-own setup own l)) (record { entry-fits = own-fits; first-fits = empty-fits; second-fits = empty-fits }))
+          | no d ↦
+              subst CellFits (sym (fresh-other setup own k m d))
+              (record {
+                entry-fits = record { labels-fit = omega arith; body-fits = empty-fits };
+                first-fits = empty-fits;
+                second-fits = empty-fits;
+              })
+        ]
 
 -- ---- post
 
