@@ -37,11 +37,27 @@ pub fn listen(bytes: &[u8], mask: u16, places: &mut [u16], taken: &mut [u16], s:
         labels: labels,
         len: 0,
     };
-    hearing::hear_mask(quiet, bytes, n, own, mask, &mut last, places, &mut lens, taken)
+    hearing::hear_mask(
+        quiet,
+        bytes,
+        n,
+        own,
+        mask,
+        &mut last,
+        places,
+        &mut lens,
+        taken,
+    )
 }
 
 // What a station hears of the frame that begins at `start`. Its own stands first in the bytes.
-pub fn listen_to(bytes: &[u8], start: usize, places: &mut [u16], taken: &mut [u16], s: Station) -> Ear
+pub fn listen_to(
+    bytes: &[u8],
+    start: usize,
+    places: &mut [u16],
+    taken: &mut [u16],
+    s: Station,
+) -> Ear
     requires { ⌜ MayListen s (now bytes) 0 ⌝ ∗ ⌜ FrameRoom (now bytes) start ⌝ ∗
         ⌜ (now places ≡ replicate 16 0) × (length (now taken) ≡ takingsRoom) ⌝ }
     ensures { λ r.
@@ -62,5 +78,14 @@ pub fn listen_to(bytes: &[u8], start: usize, places: &mut [u16], taken: &mut [u1
         labels: labels,
         len: 0,
     };
-    hearing::hear_frame(quiet, bytes, start, own, &mut last, places, &mut lens, taken)
+    hearing::hear_frame(
+        quiet,
+        bytes,
+        start,
+        own,
+        &mut last,
+        places,
+        &mut lens,
+        taken,
+    )
 }

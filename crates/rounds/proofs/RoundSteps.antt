@@ -18,7 +18,6 @@ use Rattle.group_frames.specs.Frames.{judgedBelow}
 use Rattle.group_limits.proofs.GroupLimits.{group-judged}
 use Rattle.group_frames.proofs.SendSteps.{judged-is}
 
-
 -- a group of a number of stations that there is not
 pub size-outside : (g : List Station) → validNumber (sizeOf g) 0 ≡ false → groupInside g ≡ false
 size-outside g v = go (groupInside g) refl

@@ -73,7 +73,13 @@ pub fn round(g: [Station; 16], masks: [u16; 16]) -> RoundDone
     while j < n {
         let a = 16 * j;
         let b = 30 * j;
-        let heard = listening::listen(&bytes, masks[j], &mut places[a..a + 16], &mut taken[b..b + 30], group[j]);
+        let heard = listening::listen(
+            &bytes,
+            masks[j],
+            &mut places[a..a + 16],
+            &mut taken[b..b + 30],
+            group[j],
+        );
         if heard.refusal != DONE {
             return RoundDone {
                 refusal: heard.refusal as usize,
@@ -90,7 +96,13 @@ pub fn round(g: [Station; 16], masks: [u16; 16]) -> RoundDone
         let b = 30 * i;
         let heard = ears[i];
         let takings = acting::takings_of(&bytes, &taken[b..b + 30], heard.len);
-        let acted = acting::acted(heard, &bytes, &places[a..a + 16], &taken[b..b + 30], group[i]);
+        let acted = acting::acted(
+            heard,
+            &bytes,
+            &places[a..a + 16],
+            &taken[b..b + 30],
+            group[i],
+        );
         let turned = station_turns::take_turn(acted);
         let turn = turned.report;
         reports[i] = Report {
