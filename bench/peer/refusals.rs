@@ -15,6 +15,7 @@ pub enum Refusal {
     MalformedLine = 11,
     BadLinkLog = 12,
     BadLimit = 13,
+    Conflict = 14,
     BadQuestion = 18,
 }
 

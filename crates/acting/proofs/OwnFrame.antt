@@ -18,7 +18,7 @@ use Rattle.station_rules.specs.State.{heldOf, recordOf, sentRecords}
 use Rattle.station_rules.proofs.StationLimits.{Inside}
 use Rattle.hearing_spec.specs.Buffer.{sizeIn, recordAt, recordsAt}
 use Rattle.hearing_spec.specs.StandsFor.{holdsAt, topAt}
-use Rattle.hearing_spec.specs.Room.{FrameRoom}
+use Rattle.hearing_spec.specs.Room.{Written, FrameRoom}
 use Rattle.acting.specs.Places.{recordPlace, placesOf}
 use Rattle.acting.proofs.OwnPlaces.{gather-entry, Placed, placed-all}
 
@@ -113,3 +113,14 @@ module _ (s : Station) (c : Inside s) (bytes : List ℕ) (start : ℕ) (frame : 
       go : (t : Bool) → heldOf s k ≡ t → getD places k 0 + 16 ≤ length bytes
       go true e = rw (own-placed .here k l e) (held-room k l e)
       go false e = omega (arith, own-placed .none k l e, held-room (s .own) (c .own) (c .held))
+
+  -- the records at these places are of their stations, and their bytes are those that are written of them
+  pub own-station : (k : ℕ) → k < s .n → holdsAt places k ≡ true → getD bytes (getD places k 0) 0 ≡ k
+  own-station k l h =
+      let e = own-held k l ∙ h in
+      ap (λ (m : ℕ). getD bytes m 0) (own-placed .here k l e) ∙ held-station k l e
+
+  pub own-written : (k : ℕ) → k < s .n → holdsAt places k ≡ true → Written bytes (getD places k 0)
+  own-written k l h =
+      let e = own-held k l ∙ h in
+      subst (Written bytes) (sym (own-placed .here k l e)) (frame .written (number k l e) (number-below k l e))

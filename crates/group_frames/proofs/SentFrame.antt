@@ -6,16 +6,16 @@ use mathlib.Core.List.{List, _++_}
 use mathlib.Core.Path.{_≡_, refl, sym, ap, subst, _∙_}
 use native.Mathlib.Omega.{arith}
 use lib.ListN.{getD, take, drop, length, length-drop, length-append, take-append-drop}
-use lib.Seq.{take-append-le, drop-append-le, getD-take, getD-drop}
-use Rattle.places.proofs.Laws.{and-left, allBelow-at, tabulate-ext}
+use lib.Seq.{take-append-le, drop-append-le, getD-take, getD-drop, drop-drop}
+use Rattle.places.proofs.Laws.{and-left, allBelow-at, tabulate-at, tabulate-ext}
 use Rattle.frame_rules.specs.declared.Record.{Record}
-use Rattle.frame_rules.specs.Record.{recordFrom, bytesInside}
+use Rattle.frame_rules.specs.Record.{noRecord, recordFrom, recordBytes, bytesInside}
 use Rattle.frame_rules.specs.Frame.{part, recordsInside, recordsOf, frameBytes}
 use Rattle.frame_rules.specs.Calls.{tableRecords}
 use Rattle.frame_rules.proofs.Bytes.{length-frame}
 use Rattle.frame_rules.proofs.Limits.{bytes-open}
 use Rattle.frame_rules.proofs.Check.{accepted-frame}
-use Rattle.frame_rules.proofs.FrameTrip.{at-most}
+use Rattle.frame_rules.proofs.FrameTrip.{at-most, part-of-frame}
 use Rattle.frame_rules.proofs.TableTrip.{table-fits}
 use Rattle.station_rules.specs.declared.Station.{Station}
 use Rattle.station_rules.specs.State.{cellOf, sentRecords}
@@ -59,6 +59,18 @@ module _ (s : Station) (c : Inside s) where
         .records-right in
         and-left (bytesInside (s .n) (part (frameOf s) k)) _ (allBelow-at (getD (frameOf s) 2 0) _ (and-left _ _ ok) k (rw amount l))
 
+    -- each part is what is written of its record
+    part-read : (k : ℕ) → k < length records → recordFrom (part (frameOf s) k) ≡ getD records k noRecord
+    unfolding cellOf sentRecords tableRecords recordsOf
+    part-read k l =
+        sym (tabulate-at (getD (frameOf s) 2 0) (λ k. recordFrom (part (frameOf s) k)) k noRecord (rw amount l))
+        ∙ ap (λ (rs : List Record). getD rs k noRecord) (sent-read s c fits)
+
+    written-part : (k : ℕ) → k < length records → recordBytes (s .n) (recordFrom (part (frameOf s) k)) ≡ part (frameOf s) k
+    written-part k l =
+        ap (recordBytes (s .n)) (part-read k l) ∙ sym (part-of-frame (s .n) (s .own) records k l)
+        ∙ ap (λ (f : List ℕ). part f k) (sym frame-is)
+
     -- where the frame stands
     module _ (bytes : List ℕ) (start : ℕ) (here : take (length (frameOf s)) (drop start bytes) ≡ frameOf s) where
       abbrev rest : List ℕ
@@ -96,6 +108,11 @@ module _ (s : Station) (c : Inside s) where
           ∙ getD-drop start bytes (4 + 16 * k + 0) 0
           ∙ ap (λ (i : ℕ). getD bytes i 0) place
 
+      part-at : (k : ℕ) → k < length records → take 16 (drop (start + 4 + 16 * k) bytes) ≡ part (frameOf s) k
+      part-at k l =
+          let place : start + 4 + 16 * k ≡ start + (4 + 16 * k) = omega arith in
+          ap (λ (m : ℕ). take 16 (drop m bytes)) place ∙ ap (take 16) (sym (drop-drop (4 + 16 * k) start bytes)) ∙ part-is k l
+
       size-is : getD bytes (start + 2) 0 ≡ length records
       size-is = sym (getD-drop start bytes 2 0) ∙ counted
 
@@ -108,6 +125,10 @@ module _ (s : Station) (c : Inside s) where
                 let low : r < length records = rw size-is at l in
                 let h = bytes-open (s .n) (part (frameOf s) r) (inside-parts r low) .station in
                 omega (arith, n-is, h, sym (station-is r) ∙ ap (λ (p : List ℕ). getD p 0 0) (part-is r low));
+            written =
+                λ r l.
+                let low : r < length records = rw size-is at l in
+                (λ i. recordBytes (n-is i) (recordFrom (part-at r low i))) ∙ written-part r low ∙ sym (part-at r low);
           }
 
       pub first-byte : getD bytes (start + 0) 0 ≡ s .n

@@ -1,23 +1,23 @@
 -- The ways of one record as the code goes them: it is read from its own part of the bytes, beside
 -- the one held of its station; where it is newer, its place is put down.
 use Prim.Native.Nat.{ℕ, _+_, _-_, _<_, _≤_}
-use mathlib.Core.Bool.{true}
 use mathlib.Core.List.{List}
 use mathlib.Core.Path.{_≡_, sym, ap, subst, _∙_}
 use native.Mathlib.Omega.{arith}
 use lib.ListN.{getD, set, take, drop, length, length-drop}
 use lib.Seq.{length-take-le}
+use Rattle.labels.specs.declared.Age.the-variants.{Newer}
 use Rattle.frame_rules.specs.declared.Record.{Record}
 use Rattle.frame_rules.specs.Record.{recordFrom}
 use Rattle.hearing_spec.specs.declared.Ear.{Ear}
 use Rattle.hearing_spec.specs.Buffer.{recordAt}
 use Rattle.hearing_spec.specs.StandsFor.{notes}
-use Rattle.hearing_spec.specs.Heeding.{heedsAt, earAfter, lensAfter, takenAfter}
+use Rattle.hearing_spec.specs.Heeding.{ageAt, earAfter, lensAfter, takenAfter}
 use Rattle.hearing_spec.specs.Room.{RecordRoom, Room}
 use Rattle.hearing_spec.specs.Promises.{HearsRecord}
 use Rattle.hearing_spec.proofs.Heeding.{noted}
 use Rattle.hearing_spec.proofs.FrameLoop.{station-at}
-use Rattle.hearing_spec.proofs.RecordSteps.{case-heeded}
+use Rattle.hearing_spec.proofs.RecordSteps.{heeded}
 
 -- the sixteen bytes from a place on
 abbrev pub partAt : List ℕ → ℕ → List ℕ
@@ -37,9 +37,9 @@ module _ (bytes : List ℕ) (at : ℕ) (r : Record) (read : r ≡ recordFrom (pa
   pub read-station : r .station ≡ getD bytes at 0
   read-station = ap (λ (q : Record). q .station) read-is ∙ station-at bytes at
 
--- a record that is heeded: its place is put down, and it is acted on
+-- a newer record: its place is put down, and it is acted on
 module _ (own : ℕ) (bytes : List ℕ) (at k : ℕ) (places lens taken : List ℕ) (e : Ear) (room : Room own bytes (notes places lens taken e))
-    (here : RecordRoom bytes at) (k-is : k ≡ getD bytes at 0) (heeded : heedsAt own bytes (getD places k 0) at k ≡ true) (seen : Record)
+    (here : RecordRoom bytes at) (k-is : k ≡ getD bytes at 0) (newer : ageAt own bytes (getD places k 0) at k ≡ Newer) (seen : Record)
     (seen-read : seen ≡ recordFrom (partAt bytes at)) where
   seen-is : seen ≡ recordAt bytes at
   seen-is = read-is bytes at seen seen-read
@@ -58,5 +58,5 @@ module _ (own : ℕ) (bytes : List ℕ) (at k : ℕ) (places lens taken : List �
       ∙ (λ i.
       notes (set places (q .station) at) (lensAfter lens e (seen-is i)) (takenAfter lens taken e (seen-is i) at)
       (earAfter own lens e (seen-is i))) in
-      let h = case-heeded own bytes at x room here k k-is heeded some in
+      let h = heeded own bytes at x room here k k-is newer some in
       (subst (HearsRecord own bytes at x) (sym is) (h .0), subst (Room own bytes) (sym is) (h .1))

@@ -1,9 +1,9 @@
 -- Sixteen bytes are the same where their two numbers of eight bytes are: a number of eight bytes is
 -- two words, a word four bytes, and each tells its parts.
 use Prim.Native.Nat.{ℕ, zero, suc, _+_, _-_, _*_, _<_}
-use mathlib.Core.Bool.{true, _&&_}
+use mathlib.Core.Bool.{Bool, true, false, _&&_, false≢true}
 use mathlib.Core.List.{List}
-use mathlib.Core.Path.{_≡_, sym, ap, _∙_}
+use mathlib.Core.Path.{_≡_, refl, sym, ap, _∙_}
 use native.Mathlib.Decide.{decLt}
 use native.Mathlib.Nat.{add-zero, zero-add}
 use native.Mathlib.Omega.{arith}
@@ -13,6 +13,8 @@ use lib.Seq.{ext-getD}
 use borrow.Author.Tests.{eqb-true, eq-eqb}
 use Rattle.places.proofs.Laws.{both, and-both}
 use Rattle.frame_rules.specs.Words.{wordAt}
+use Rattle.hearing_spec.specs.Heeding.{sameBytes}
+use Rattle.hearing_spec.proofs.EqualRecords.{same-make, same-open}
 
 -- the number of eight bytes
 abbrev pub longAt : List ℕ → ℕ → ℕ
@@ -52,7 +54,7 @@ module _ (p q : List ℕ) (small-p : (i : ℕ) → getD p i 0 < 256) (small-q : 
       ]
 
   module _ (long-p : length p ≡ 16) (long-q : length q ≡ 16) where
-    pub same-sound : longAt p 0 ≡ longAt q 0 → longAt p 8 ≡ longAt q 8 → p ≡ q
+    same-sound : longAt p 0 ≡ longAt q 0 → longAt p 8 ≡ longAt q 8 → p ≡ q
     same-sound e f = ext-getD 0 p q (long-p ∙ sym long-q) each
       where
         each : (i : ℕ) → i < length p → getD p i 0 ≡ getD q i 0
@@ -64,10 +66,14 @@ module _ (p q : List ℕ) (small-p : (i : ℕ) → getD p i 0 < 256) (small-q : 
                   rw z at (long-bytes 8 f (i - 8) (omega arith)))
             ]
 
-    pub same-is :
-        ((eqb (longAt p 0) (longAt q 0) && eqb (longAt p 8) (longAt q 8)) ≡ true → p ≡ q)
-        × (p ≡ q → (eqb (longAt p 0) (longAt q 0) && eqb (longAt p 8) (longAt q 8)) ≡ true)
-    same-is = (
-      λ t. let b = both _ _ t in same-sound (eqb-true _ _ (b .0)) (eqb-true _ _ (b .1)),
-      λ e. and-both (eq-eqb _ _ (ap (λ (l : List ℕ). longAt l 0) e)) (eq-eqb _ _ (ap (λ (l : List ℕ). longAt l 8) e)),
-    )
+    pub same-is : (eqb (longAt p 0) (longAt q 0) && eqb (longAt p 8) (longAt q 8)) ≡ sameBytes p q
+    same-is = go (eqb (longAt p 0) (longAt q 0) && eqb (longAt p 8) (longAt q 8)) (sameBytes p q) refl refl
+      where
+        go : (t u : Bool) → (eqb (longAt p 0) (longAt q 0) && eqb (longAt p 8) (longAt q 8)) ≡ t → sameBytes p q ≡ u → t ≡ u
+        go true u e f = let b = both _ _ e in sym (same-make p q (same-sound (eqb-true _ _ (b .0)) (eqb-true _ _ (b .1)))) ∙ f
+        go false true e f =
+            let equal = same-open p q long-p long-q f in
+            absurd
+            (false≢true
+            (sym e ∙ and-both (eq-eqb _ _ (ap (λ (l : List ℕ). longAt l 0) equal)) (eq-eqb _ _ (ap (λ (l : List ℕ). longAt l 8) equal))))
+        go false false e f = refl

@@ -7,7 +7,6 @@
 //   taken       the places of the records whose bodies are taken, in the order heard
 
 ghost use mathlib.Core.Path.{_≡_};
-ghost use mathlib.Core.Bool.{true};
 ghost use Prim.Native.Nat.{ℕ, _+_, _*_, _≤_, _<_};
 ghost use lib.ListN.{getD, length};
 ghost use Rattle.kinds.specs.Refusals.{done};
@@ -15,12 +14,13 @@ ghost use Rattle.frame_rules.specs.Words.{wordAt};
 ghost use Rattle.station_rules.specs.Hearing.{raised};
 ghost use Rattle.hearing_spec.specs.Buffer.{sizeIn, frameStart, hearsSender};
 ghost use Rattle.hearing_spec.specs.StandsFor.{notes};
-ghost use Rattle.hearing_spec.specs.Heeding.{ageBeside, heedsAt, earAfter, lensAfter, takenAfter};
+ghost use Rattle.hearing_spec.specs.Heeding.{sameBytes, ageBeside, ageAt, earAfter, lensAfter, takenAfter};
 ghost use Rattle.hearing_spec.specs.Room.{takingsRoom, mostBytes, Room, LastRoom, FrameRoom};
 ghost use Rattle.hearing_spec.specs.Promises.{HearsFrame, HearsMask};
 use frame_rules::Record;
 use hearing_spec::Ear;
 use hearing_spec::FRAME_ROOM;
+use kinds::refusals::CONFLICT;
 use kinds::refusals::DONE;
 use kinds::refusals::LANE_FULL;
 use labels::Age;
@@ -37,22 +37,22 @@ fn long_at(part: &[u8], at: usize) -> u64
 // Have two records the same sixteen bytes? They are compared as two numbers of eight.
 fn same(a: &[u8], b: &[u8]) -> bool
     requires { ⌜ (length (now a) ≡ 16) × (length (now b) ≡ 16) ⌝ }
-    ensures sound { λ r. ⌜ (r ≡ true → now (a .entry) ≡ now (b .entry)) ⌝ }
-    ensures whole { λ r. ⌜ (now (a .entry) ≡ now (b .entry) → r ≡ true) ⌝ }
+    ensures { λ r. ⌜ r ≡ sameBytes (now (a .entry)) (now (b .entry)) ⌝ }
 {
     let first = long_at(a, 0) == long_at(b, 0);
     let second = long_at(a, 8) == long_at(b, 8);
     first & second
 }
 
-// What is decided of a seen record of station k beside the old one, if that is held.
-fn age_of(held: bool, old: Record, seen: Record, k: usize) -> Age
+// What is decided of a seen record of station k beside the old one, if that is held; `equal` says
+// whether their bytes are the same.
+fn age_of(held: bool, old: Record, seen: Record, k: usize, equal: bool) -> Age
     requires { ⌜ k < 16 ⌝ }
-    ensures { λ r. ⌜ r ≡ ageBeside held old seen k ⌝ }
+    ensures { λ r. ⌜ r ≡ ageBeside held old seen k equal ⌝ }
 {
     let old_label = label_words::label_in(old.labels, k);
     let seen_label = label_words::label_in(seen.labels, k);
-    labels::newer(held, old_label, old.count, seen_label, seen.count)
+    labels::age_beside(held, old_label, old.count, seen_label, seen.count, equal)
 }
 
 // One more, and 255 stays 255.
@@ -108,26 +108,24 @@ fn heed(
     ear
 }
 
-// Does the hearer heed the record of station k at a place, beside the one that it holds at another?
-// Its own it does not, and of others a newer one.
-fn heeds(bytes: &[u8], held: usize, at: usize, k: usize, own: usize) -> bool
+// What is decided of the record of station k at a place, beside the one that the hearer holds at
+// another. The hearer's own counts as the same, for it does nothing.
+fn age_at(bytes: &[u8], held: usize, at: usize, k: usize, own: usize) -> Age
     requires { ⌜ (held + 16 ≤ length (now bytes)) × (at + 16 ≤ length (now bytes)) × (length (now bytes) ≤ mostBytes) × (k < 16) ⌝ }
-    ensures { λ r. ⌜ r ≡ heedsAt own (now (bytes .entry)) held at k ⌝ }
+    ensures { λ r. ⌜ r ≡ ageAt own (now (bytes .entry)) held at k ⌝ }
 {
     if k == own {
-        return false;
+        return Age::Same;
     }
     let old = record_reader::read_record(&bytes[held..held + 16]);
     let seen = record_reader::read_record(&bytes[at..at + 16]);
-    let found = age_of(held != 0, old, seen, k);
-    match found {
-        Age::Newer => true,
-        Age::NotNewer => false,
-    }
+    let equal = same(&bytes[held..held + 16], &bytes[at..at + 16]);
+    age_of(held != 0, old, seen, k, equal)
 }
 
 // The frame that begins at `start`, where none was refused before. A record with the bytes of the
-// one of its station heard last is passed over, and one that is not newer does nothing.
+// one of its station heard last is passed over, one that conflicts ends the frame, and any other that
+// is not newer does nothing.
 pub fn hear_frame(
     e: Ear,
     bytes: &[u8],
@@ -160,14 +158,28 @@ pub fn hear_frame(
         }
         last[k] = at as u16;
         let held = places[k] as usize;
-        if !heeds(bytes, held, at, k, own) {
-            at += 16;
-            continue;
+        let found = age_at(bytes, held, at, k, own);
+        match found {
+            Age::Newer => {
+                places[k] = at as u16;
+                let seen = record_reader::read_record(&bytes[at..at + 16]);
+                ear = heed(ear, seen, at, k, own, lens, taken);
+                at += 16;
+                continue;
+            }
+            Age::Same => {
+                at += 16;
+                continue;
+            }
+            Age::Conflicting => {
+                ear.refusal = CONFLICT;
+                return ear;
+            }
+            Age::Older => {
+                at += 16;
+                continue;
+            }
         }
-        places[k] = at as u16;
-        let seen = record_reader::read_record(&bytes[at..at + 16]);
-        ear = heed(ear, seen, at, k, own, lens, taken);
-        at += 16;
     }
     ear
 }

@@ -1,10 +1,10 @@
 -- A newer record: what it does to the numbers stands for what it does to the station, and the notes
 -- keep their room. Its body is taken, put into a lane with fewer than two; or nothing is taken; or
 -- the lane has two, and the frame is refused.
-use Prim.Native.Nat.{ℕ, suc, _+_, _*_, _<_, _≤_}
-use mathlib.Core.Bool.{Bool, true, false, cond, not, _&&_, _||_}
+use Prim.Native.Nat.{ℕ, suc, max, _+_, _*_, _<_, _≤_}
+use mathlib.Core.Bool.{Bool, true, false, cond, not, _&&_, _||_, true≢false}
 use mathlib.Core.List.{List, [], _∷_, _++_, append-nil, map, map-append}
-use mathlib.Core.Path.{_≡_, refl, sym, ap, _∙_}
+use mathlib.Core.Path.{_≡_, refl, sym, ap, subst, _∙_}
 use native.Mathlib.Decide.{ℕ-discrete}
 use native.Mathlib.Numerals.{add-one}
 use native.Mathlib.Omega.{arith}
@@ -25,15 +25,17 @@ use Rattle.station_rules.specs.declared.Station.{Station}
 use Rattle.station_rules.specs.declared.Taking.{Taking}
 use Rattle.station_rules.specs.State.{Cell, labelOf, ackedOf, heldOf, laneAt}
 use Rattle.frame_rules.specs.Record.{recordLabel}
-use Rattle.station_rules.specs.Hearing.{Hearing, heeds, advances, takes, overfills, raised, heardNewer, hearRecord}
-use Rattle.station_rules.proofs.HearRecord.{heardOne, hearRecord-heeds}
+use Rattle.labels.specs.declared.Age.the-variants.{Newer}
+use Rattle.station_rules.specs.Hearing.{Hearing, ageIn, advances, takes, overfills, raised, heardNewer, hearRecord}
+use Rattle.station_rules.proofs.HearRecord.{heardOne, hear-newer, not-refused}
 use Rattle.station_rules.proofs.Setters.{Shaped, acked-at, label-at}
 use Rattle.station_rules.proofs.Cells.{heard-count, heard-here, heard-other, heard-acked, heard-labels}
+use Rattle.hearing_spec.specs.declared.Ear.{Ear}
 use Rattle.hearing_spec.specs.Buffer.{sizeIn, recordAt, takingAt}
 use Rattle.hearing_spec.specs.Gathered.{Gathered}
 use Rattle.hearing_spec.specs.StandsFor.{Notes, notes, holdsAt, topAt, StandsFor}
 use Rattle.hearing_spec.specs.Heeding.{earAdvances, earTakes, earPuts, laneHasTwo, earAfter, lensAfter, takenAfter}
-use Rattle.hearing_spec.specs.Room.{takingsRoom, LanesRoom, RecordRoom, Room}
+use Rattle.hearing_spec.specs.Room.{takingsRoom, Written, LanesRoom, RecordRoom, Room}
 use Rattle.hearing_spec.proofs.Gathering.{takingOf, gathered-newer, gathered-ext}
 
 -- the notes after a newer record r at a place
@@ -94,6 +96,19 @@ takings-most n own lens taken len high o c =
         go true = omega arith
         go false = c .two j b
 
+-- while no record of the frame conflicted, a full lane's refusal is the larger one
+full-larger : (full : Bool) (refusal : ℕ) → refusal ≤ laneFull → refuse full laneFull refusal ≡ max refusal (refuse full laneFull done)
+full-larger true refusal l = omega arith
+full-larger false refusal l = omega arith
+
+pub after-calm : (own : ℕ) (lens : List ℕ) (e : Ear) (r : Record) → e .refusal ≤ laneFull → (earAfter own lens e r) .refusal ≤ laneFull
+unfolding earAfter
+after-calm own lens e r l = go (earTakes e r && laneHasTwo lens r)
+  where
+    go : (full : Bool) → refuse full laneFull (e .refusal) ≤ laneFull
+    go true = omega arith
+    go false = l
+
 -- a lane of two that gets a third has two
 len-full : (l : Lane) (b : _) → 2 ≤ l .len → (pushed l b) .len ≡ 2
 len-full l b h = ap (λ (z : Lane). z .len) (sym (push-two l b h))
@@ -101,7 +116,7 @@ len-full l b h = ap (λ (z : Lane). z .len) (sym (push-two l b h))
 module _ (s : Station) (most : s .n ≤ 16) (own : ℕ) (mine : s .own ≡ own) (bytes : List ℕ) (x : Notes) (h : Hearing) (c : StandsFor s bytes x h)
     (shape : Shaped (h .station)) (places-long : length (x .places) ≡ 16) (lens-long : length (x .lens) ≡ 16) (at : ℕ)
     (below : (recordAt bytes at) .station < s .n) (some : at ≡ 0 → ⊥) (two : getD (x .lens) ((recordAt bytes at) .station) 0 ≤ 2)
-    (room : getD (x .lens) ((recordAt bytes at) .station) 0 < 2 → x .ear .len < length (x .taken)) where
+    (room : getD (x .lens) ((recordAt bytes at) .station) 0 < 2 → x .ear .len < length (x .taken)) (calm : h .refusal ≤ laneFull) where
   abbrev r : Record
   r = recordAt bytes at
 
@@ -156,9 +171,9 @@ module _ (s : Station) (most : s .n ≤ 16) (own : ℕ) (mine : s .own ≡ own) 
       (topAt s bytes (y .places)) tops (gathered-newer s most st (h .takings) (topAt s bytes (x .places)) (c .gathered) shape r below)
 
   -- the numbers
-  refusal' : (y .ear) .refusal ≡ refuse (overfills st r) laneFull (h .refusal)
+  refusal' : (y .ear) .refusal ≡ max (h .refusal) (refuse (overfills st r) laneFull done)
   unfolding earAfter
-  refusal' = λ i. refuse (takes-is i && two-is i) laneFull (c .refusal i)
+  refusal' = (λ i. refuse (takes-is i && two-is i) laneFull (c .refusal i)) ∙ full-larger (overfills st r) (h .refusal) calm
 
   count' : (y .ear) .count ≡ (heardNewer st r) .count
   unfolding earAfter
@@ -223,31 +238,32 @@ module _ (s : Station) (most : s .n ≤ 16) (own : ℕ) (mine : s .own ≡ own) 
       other false d = refl
 
   takings' :
-      refuse (overfills st r) laneFull (h .refusal) ≡ done →
+      max (h .refusal) (refuse (overfills st r) laneFull done) ≡ done →
       h .takings ++ takingOf st r ≡ map (takingAt bytes) (take ((y .ear) .len) (y .taken))
   unfolding earAfter takenAfter
   takings' fine =
       rw takes-is
-      (go (takes st r) (laneHasTwo (x .lens) r) refl (rw (← two-is) at fine))
+      (go (takes st r) (laneHasTwo (x .lens) r) refl (rw (← two-is) at (not-refused (overfills st r) (h .refusal) fine .0))
+      (not-refused (overfills st r) (h .refusal) fine .1))
     where
       go :
-          (t u : Bool) → laneHasTwo (x .lens) r ≡ u → refuse (t && u) laneFull (h .refusal) ≡ done →
+          (t u : Bool) → laneHasTwo (x .lens) r ≡ u → (t && u) ≡ false → h .refusal ≡ done →
           h .takings ++ cond t (takingAt bytes at ∷ []) []
           ≡ map (takingAt bytes) (take (cond (t && not u) (x .ear .len + 1) (x .ear .len)) (cond (t && not u) (set (x .taken) (x .ear .len) at) (x .taken)))
-      go true true e f = absurd (omega (arith, f))
-      go true false e f =
+      go true true e z f = absurd (true≢false z)
+      go true false e z f =
           rw (
             add-one (x .ear .len),
             take-suc-set (x .taken) (x .ear .len) at (room (leb-false 2 (getD (x .lens) k 0) e)),
             map-append (takingAt bytes) (take (x .ear .len) (x .taken)) (at ∷ []),
           )
           (ap (λ (z : List Taking). z ++ (takingAt bytes at ∷ [])) (c .takings f))
-      go false u e f = append-nil (h .takings) ∙ c .takings f
+      go false u e z f = append-nil (h .takings) ∙ c .takings f
 
-  pub stands-newer : heeds st r ≡ true → StandsFor s bytes y (hearRecord h r)
+  pub stands-newer : (k ≡ s .own → ⊥) → ageIn st r ≡ Newer → StandsFor s bytes y (hearRecord h r)
   unfolding heardOne
-  stands-newer e =
-      rw (hearRecord-heeds h r e)
+  stands-newer other e =
+      rw (hear-newer h r (λ z. other (z ∙ c .gathered .own)) e)
       (record {
         gathered = gathered';
         held = held';
@@ -330,16 +346,35 @@ module _ (own : ℕ) (bytes : List ℕ) (x : Notes) (c : Room own bytes x) (at :
         short = c .short;
         places-long = length-set (x .places) q at ∙ c .places-long;
         inside = inside;
+        station = stations;
+        written = written;
         lanes = lanes-kept (earTakes (x .ear) r) (laneHasTwo (x .lens) r) refl;
         taken = taken-kept (earTakes (x .ear) r) (laneHasTwo (x .lens) r) refl;
       }
     where
+      here-is : (j : ℕ) → j ≡ q → getD (set (x .places) q at) j 0 ≡ at
+      here-is j i = rw i (getD-set-same (x .places) q at 0 (omega (arith, q-below, c .high, c .places-long)))
+
+      other-is : (j : ℕ) → (j ≡ q → ⊥) → getD (set (x .places) q at) j 0 ≡ getD (x .places) j 0
+      other-is j d = getD-set-other (x .places) q j at 0 d
+
       inside : (j : ℕ) → j < sizeIn bytes → getD (set (x .places) q at) j 0 + 16 ≤ length bytes
       inside j l =
           elim (ℕ-discrete j q) [
-            | yes i ↦
-                (let z : getD (set (x .places) q at) j 0 ≡ at =
-                rw i (getD-set-same (x .places) q at 0 (omega (arith, q-below, c .high, c .places-long))) in
-                omega (arith, z, here .room))
-            | no d ↦ rw (getD-set-other (x .places) q j at 0 d) (c .inside j l)
+            | yes i ↦ omega (arith, here-is j i, here .room)
+            | no d ↦ rw (other-is j d) (c .inside j l)
+          ]
+
+      stations : (j : ℕ) → j < sizeIn bytes → holdsAt (set (x .places) q at) j ≡ true → getD bytes (getD (set (x .places) q at) j 0) 0 ≡ j
+      stations j l h =
+          elim (ℕ-discrete j q) [
+            | yes i ↦ ap (λ (m : ℕ). getD bytes m 0) (here-is j i) ∙ sym station ∙ sym i
+            | no d ↦ ap (λ (m : ℕ). getD bytes m 0) (other-is j d) ∙ c .station j l (ap (λ (m : ℕ). not (eqb m 0)) (sym (other-is j d)) ∙ h)
+          ]
+
+      written : (j : ℕ) → j < sizeIn bytes → holdsAt (set (x .places) q at) j ≡ true → Written bytes (getD (set (x .places) q at) j 0)
+      written j l h =
+          elim (ℕ-discrete j q) [
+            | yes i ↦ subst (Written bytes) (sym (here-is j i)) (here .written)
+            | no d ↦ subst (Written bytes) (sym (other-is j d)) (c .written j l (ap (λ (m : ℕ). not (eqb m 0)) (sym (other-is j d)) ∙ h))
           ]

@@ -1,3 +1,5 @@
+-- when two records are equal
+pub mod EqualRecords
 -- the three laws of a settled record
 pub mod Settled
 -- what hearing leaves of a station, and the numbers that stand for it

@@ -6,13 +6,13 @@ use mathlib.Core.List.{List}
 use mathlib.Core.Path.{_≡_, sym, ap, subst, _∙_}
 use native.Mathlib.Nat.{zero-add, suc-add}
 use native.Mathlib.Omega.{arith}
-use borrow.Author.Tests.{ne-eqb, lt-ltb}
+use borrow.Author.Tests.{lt-ltb}
 use Rattle.kinds.specs.Refusals.{done}
 use Rattle.links.specs.Log.{hearsIn}
 use lib.ListN.{getD}
-use Rattle.frame_rules.specs.declared.Record.{Record}
 use Rattle.station_rules.specs.declared.Station.{Station}
 use Rattle.station_rules.specs.Hearing.{Hearing, hearFrame}
+use Rattle.station_rules.proofs.FrameConflicts.{refused-stays}
 use Rattle.hearing_spec.specs.Buffer.{sizeIn, frameStart, recordsAt, hearsSender, hearSenders}
 use Rattle.hearing_spec.specs.StandsFor.{Notes, Stands}
 use Rattle.hearing_spec.specs.Room.{Room, LastRoom}
@@ -23,11 +23,6 @@ pub sender-heard :
     (n : ℕ) (masks : List ℕ) (i j : ℕ) → i < n → j < n → hearsSender i (getD masks i 0) j ≡ hearsIn n masks i j
 unfolding hearsIn
 sender-heard n masks i j a b = rw (lt-ltb i n a, lt-ltb j n b)
-
--- after a refused frame none is heard
-pub refused-stays : (h : Hearing) (rs : List Record) → (h .refusal ≡ done → ⊥) → hearFrame h rs ≡ h
-unfolding hearFrame
-refused-stays h rs d = rw (ne-eqb (h .refusal) done d)
 
 pub senders-stay :
     (h : Hearing) (bytes : List ℕ) (own mask j d : ℕ) → ((hearSenders h bytes own mask j) .refusal ≡ done → ⊥) →

@@ -26,9 +26,12 @@ frameStart j = frameRoom * j
 abbrev pub sizeIn : List ℕ → ℕ
 sizeIn bytes = getD bytes 0 0
 
--- the record at a place, and the taking of its body
+-- the sixteen bytes at a place, the record there, and the taking of its body
+abbrev pub bytesAt : List ℕ → ℕ → List ℕ
+bytesAt bytes at = take 16 (drop at bytes)
+
 abbrev pub recordAt : List ℕ → ℕ → Record
-recordAt bytes at = recordFrom (take 16 (drop at bytes))
+recordAt bytes at = recordFrom (bytesAt bytes at)
 
 abbrev pub takingAt : List ℕ → ℕ → Taking
 takingAt bytes at = record { source = (recordAt bytes at) .station; body = (recordAt bytes at) .body }

@@ -1,7 +1,7 @@
 -- Document 01, "A station and its calls", Hear: what a newer record does, on numbers. The hearer's
 -- labels, acknowledgements and count stand in an `Ear`.
 use Prim.Native.Nat.{ℕ, _+_}
-use mathlib.Core.Bool.{Bool, true, false, cond, not, _&&_, _||_}
+use mathlib.Core.Bool.{Bool, false, cond, not, _&&_, _||_}
 use mathlib.Core.List.{List}
 use lib.ListN.{getD, set}
 use lib.Dec.{leb, eqb}
@@ -9,26 +9,29 @@ use Rattle.kinds.specs.Body.{isEmpty}
 use Rattle.kinds.specs.Refusals.{laneFull, refuse}
 use Rattle.labels.specs.Label.{successor}
 use Rattle.labels.specs.declared.Age.{Age}
-use Rattle.labels.specs.declared.Age.the-variants.{Newer, NotNewer}
-use Rattle.labels.specs.Newer.{isNewer, ageOf}
+use Rattle.labels.specs.declared.Age.the-variants.{Same}
+use Rattle.labels.specs.Newer.{ageOf}
+use Rattle.places.specs.Places.{allBelow}
 use Rattle.frame_rules.specs.declared.Record.{Record}
 use Rattle.frame_rules.specs.Record.{recordLabel}
 use Rattle.station_rules.specs.Hearing.{follows, raised}
 use Rattle.hearing_spec.specs.declared.Ear.{Ear}
-use Rattle.hearing_spec.specs.Buffer.{recordAt}
+use Rattle.hearing_spec.specs.Buffer.{bytesAt, recordAt}
 
--- what is decided of the record r of station k, beside `old`, where one is held
-abbrev pub ageBeside : Bool → Record → Record → ℕ → Age
-ageBeside held old r k = ageOf (isNewer held (recordLabel old k) (old .count) (recordLabel r k) (r .count))
+-- sixteen bytes are the same
+unfoldable pub sameBytes : List ℕ → List ℕ → Bool
+sameBytes p q = allBelow 16 (λ i. eqb (getD p i 0) (getD q i 0))
 
--- a seen record is newer
-abbrev pub isNew : Age → Bool
-isNew Newer = true
-isNew NotNewer = false
+-- what is decided of the record r of station k, beside `old`, where one is held; `equal` says whether all else is equal
+abbrev pub ageBeside : Bool → Record → Record → ℕ → Bool → Age
+ageBeside held old r k equal = ageOf held (recordLabel old k) (old .count) (recordLabel r k) (r .count) equal
 
--- the record of station k at a place is heeded, beside the one that is held at another: it is of another station than the hearer, and newer
-unfoldable pub heedsAt : ℕ → List ℕ → ℕ → ℕ → ℕ → Bool
-heedsAt own bytes held at k = not (eqb k own) && isNew (ageBeside (not (eqb held 0)) (recordAt bytes held) (recordAt bytes at) k)
+-- what is decided of the record of station k at a place, beside the one that is held at another. The
+-- hearer's own counts as the same, for it does nothing
+unfoldable pub ageAt : ℕ → List ℕ → ℕ → ℕ → ℕ → Age
+ageAt own bytes held at k =
+    cond (eqb k own) Same
+    (ageBeside (not (eqb held 0)) (recordAt bytes held) (recordAt bytes at) k (sameBytes (bytesAt bytes held) (bytesAt bytes at)))
 
 -- the label for the record's station advances
 abbrev pub earAdvances : Ear → Record → Bool

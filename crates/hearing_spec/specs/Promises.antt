@@ -1,9 +1,9 @@
 -- What the functions of hearing promise. Each holds for every station and every hearing that its
 -- notes stand for, for the functions see notes alone.
-use Prim.Native.Nat.{ℕ}
+use Prim.Native.Nat.{ℕ, _≤_}
 use mathlib.Core.Path.{_≡_}
 use mathlib.Core.List.{List}
-use Rattle.kinds.specs.Refusals.{done}
+use Rattle.kinds.specs.Refusals.{done, laneFull}
 use Rattle.station_rules.specs.declared.Station.{Station}
 use Rattle.station_rules.specs.Hearing.{Hearing, hearRecord, hearFrame}
 use Rattle.station_rules.proofs.Setters.{Shaped}
@@ -15,11 +15,11 @@ pub record Named (s : Station) (n own : ℕ) : Type 0 where
   pub n-is : s .n ≡ n
   pub own-is : s .own ≡ own
 
--- one record, at a place
+-- one record, at a place, while no record of its frame conflicted
 pub record HearsRecord (own : ℕ) (bytes : List ℕ) (at : ℕ) (x y : Notes) : Type 0 where
   pub hears :
       (s : Station) (h : Hearing) → Named s (sizeIn bytes) own → StandsFor s bytes x h → Shaped (h .station) →
-      StandsFor s bytes y (hearRecord h (recordAt bytes at))
+      h .refusal ≤ laneFull → StandsFor s bytes y (hearRecord h (recordAt bytes at))
 
 -- one step or several, said as what becomes of a hearing of which no frame was refused: the refusal
 -- afterwards is that of the hearing, and where there is none, the notes stand for it

@@ -26,7 +26,7 @@ use Rattle.hearing_spec.proofs.Heeding.{takings-most}
 use Rattle.hearing_spec.proofs.Acting.{heard-and-acted}
 use Rattle.acting.specs.Places.{placesOf}
 use Rattle.acting.specs.Listened.{heardNotes, takingsAt, TakenRoom, Readable, Listens}
-use Rattle.acting.proofs.OwnFrame.{own-long, own-held, own-top, own-room}
+use Rattle.acting.proofs.OwnFrame.{own-long, own-held, own-top, own-room, own-station, own-written}
 use Rattle.listening.specs.Listening.{MayListen}
 
 -- the numbers of a station that has heard nothing
@@ -71,6 +71,8 @@ module _ (s : Station) (bytes : List ℕ) (start : ℕ) (may : MayListen s bytes
         short = may .short;
         places-long = own-long s inside bytes start (may .own-room) (may .own-frame);
         inside = λ k l. own-room s inside bytes start (may .own-room) (may .own-frame) k (omega (arith, may .size));
+        station = λ k l. own-station s inside bytes start (may .own-room) (may .own-frame) k (omega (arith, may .size));
+        written = λ k l. own-written s inside bytes start (may .own-room) (may .own-frame) k (omega (arith, may .size));
         lanes =
             record {
               lens-long = length-fill 16 (λ k. (getD (s .lanes) k noLane) .len) (replicate 16 0);

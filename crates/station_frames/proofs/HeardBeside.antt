@@ -3,14 +3,15 @@ use Prim.Native.Nat.{ℕ, _+_, _-_, _*_, _≤_, _<_}
 use native.Mathlib.Omega.{arith}
 use mathlib.Core.Bool.{true}
 use mathlib.Core.List.{List, _++_, append-assoc}
-use mathlib.Core.Path.{_≡_, refl, sym, ap, _∙_}
+use mathlib.Core.Path.{_≡_, refl, sym, ap, subst, _∙_}
 use lib.ListN.{getD, drop, length, replicate, length-append, List·getD-append}
 use lib.Seq.{drop-at}
 use Rattle.kinds.specs.Refusals.{done}
 use Rattle.places.proofs.Laws.{and-left, allBelow-at}
-use Rattle.frame_rules.specs.Record.{bytesInside}
+use Rattle.frame_rules.specs.Record.{recordFrom, recordBytes, bytesInside}
 use Rattle.frame_rules.specs.Frame.{part, recordsOf, recordsInside, frameRefusal}
 use Rattle.frame_rules.proofs.Limits.{bytes-open}
+use Rattle.frame_rules.proofs.FrameTrip.{part-written}
 use Rattle.frame_rules.proofs.Check.{Shape, accepted-frame, shape}
 use Rattle.station_rules.specs.declared.Station.{Station}
 use Rattle.station_rules.specs.State.{sentRecords}
@@ -22,7 +23,7 @@ use Rattle.hearing_spec.specs.Buffer.{sizeIn, recordsAt}
 use Rattle.hearing_spec.specs.Room.{FrameRoom}
 use Rattle.listening.specs.Listening.{MayListen, frameHeard}
 use Rattle.station_frames.specs.Beside.{roomed, beside}
-use Rattle.station_frames.proofs.OwnFrame.{own-shape, own-fits, own-first, own-read, own-stations, frame-records, frame-room}
+use Rattle.station_frames.proofs.OwnFrame.{own-shape, own-fits, own-first, own-read, own-stations, own-written, frame-records, frame-room}
 use Rattle.station_frames.proofs.Copied.{roomed-length}
 
 module _ (s : Station) (inside : stationInside s ≡ true) (bytes : List ℕ) (accepted : frameRefusal bytes (s .n) (s .own) ≡ 0) where
@@ -77,13 +78,16 @@ module _ (s : Station) (inside : stationInside s ≡ true) (bytes : List ℕ) (a
         inside = inside;
         short = omega (arith, both-length);
         size = size;
-        own-room = frame-room own own-rest (own-shape s c) both 0 own-here (λ r l. omega (arith, own-stations s c r l, size));
+        own-room = frame-room own own-rest (own-shape s c) both 0 own-here (λ r l. omega (arith, own-stations s c r l, size))
+            (λ r l. subst (λ (n : ℕ). recordBytes n (recordFrom (part own r)) ≡ part own r) size (own-written s c r l));
         own-frame = frame-records own own-rest (own-shape s c) both 0 own-here ∙ own-read s c;
       }
 
-  pub heard-room : FrameRoom both 260
-  heard-room =
+  pub heard-room : ((i : ℕ) → getD bytes i 0 < 256) → FrameRoom both 260
+  heard-room small =
       frame-room bytes (replicate (260 - length bytes) 0) (form .long) both 260 heard-here (λ r l. omega (arith, heard-station r l, size))
+      (λ r l.
+      subst (λ (n : ℕ). recordBytes n (recordFrom (part bytes r)) ≡ part bytes r) size (part-written bytes (s .n) (s .own) accepted small r l))
 
   pub heard-is : frameHeard both 260 (silent s) ≡ hearFrame (silent s) (recordsOf bytes)
   heard-is = ap (hearFrame (silent s)) (frame-records bytes (replicate (260 - length bytes) 0) (form .long) both 260 heard-here)

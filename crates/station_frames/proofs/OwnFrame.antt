@@ -7,7 +7,7 @@ use mathlib.Core.Bool.{Bool, true, false, cond}
 use mathlib.Core.List.{List, [], _∷_, _++_, map, append-nil}
 use mathlib.Core.Path.{_≡_, refl, sym, ap, subst, _∙_}
 use lib.ListN.{getD, take, drop, length, replicate, length-append, length-drop, length-replicate, List·getD-append}
-use lib.Seq.{getD-at, getD-take, getD-drop, take-append-le, drop-append-le, ext-getD}
+use lib.Seq.{getD-at, getD-take, getD-drop, drop-drop, take-append-le, drop-append-le, ext-getD}
 use borrow.Author.Tests.{lt-ltb, le-leb}
 use Rattle.kind_limits.specs.Limits.{bodyInside}
 use Rattle.places.specs.Places.{gather, tabulate}
@@ -107,8 +107,10 @@ module _ (f rest : List ℕ) (long : length f ≡ 4 + 16 * getD f 2 0) where
     pub frame-records : recordsAt bytes start ≡ recordsOf f
     frame-records = ap recordsOf here ∙ records-front
 
-    pub frame-room : ((r : ℕ) → r < getD f 2 0 → getD (part f r) 0 0 < sizeIn bytes) → FrameRoom bytes start
-    frame-room each =
+    pub frame-room :
+        ((r : ℕ) → r < getD f 2 0 → getD (part f r) 0 0 < sizeIn bytes) →
+        ((r : ℕ) → r < getD f 2 0 → recordBytes (sizeIn bytes) (recordFrom (part f r)) ≡ part f r) → FrameRoom bytes start
+    frame-room each written =
         let size : getD bytes (start + 2) 0 ≡ getD f 2 0 = byte-at 2 (omega arith) in
         record {
           room = omega (arith, size, length-drop start bytes, length-append f rest, ap length here);
@@ -121,6 +123,16 @@ module _ (f rest : List ℕ) (long : length f ≡ 4 + 16 * getD f 2 0) where
               ∙ getD-drop (4 + 16 * r) f 0 0
               ∙ (let z : 4 + 16 * r + 0 ≡ 4 + 16 * r = omega arith in ap (λ (i : ℕ). getD f i 0) z) in
               omega (arith, each r low, first, byte-at (4 + 16 * r) (omega arith), ap (λ (i : ℕ). getD bytes i 0) place);
+          written =
+              λ r l.
+              let low : r < getD f 2 0 = rw size at l in
+              let place : start + 4 + 16 * r ≡ start + (4 + 16 * r) = omega arith in
+              let is : take 16 (drop (start + 4 + 16 * r) bytes) ≡ part f r =
+              ap (λ (m : ℕ). take 16 (drop m bytes)) place
+              ∙ ap (take 16) (sym (drop-drop (4 + 16 * r) start bytes))
+              ∙ ap (λ (b : List ℕ). part b r) here
+              ∙ part-front r low in
+              ap (λ (p : List ℕ). recordBytes (sizeIn bytes) (recordFrom p)) is ∙ written r low ∙ sym is;
         }
 
 -- ---- the own frame
@@ -193,3 +205,8 @@ module _ (s : Station) (c : Inside s) where
   own-stations r l =
       let low : r < length (sentRecords s) = rw own-count at l in
       omega (arith, ap (λ (p : List ℕ). getD p 0 0) (part-own r low), each-sent r low .below)
+
+  pub own-written : (r : ℕ) → r < getD (frameOf s) 2 0 → recordBytes (s .n) (recordFrom (part (frameOf s) r)) ≡ part (frameOf s) r
+  own-written r l =
+      let low : r < length (sentRecords s) = rw own-count at l in
+      ap (recordBytes (s .n)) (ap recordFrom (part-own r low) ∙ each-sent r low .back) ∙ sym (part-own r low)

@@ -56,7 +56,8 @@ module _ (c : tie.Else2) where
   both-listen both e = subst (λ (b : List ℕ). MayListen s b 0) (sym e) (may-listen s inside bytes accepted)
 
   both-room : (both : List ℕ) → both ≡ beside s bytes → FrameRoom both 260
-  both-room both e = subst (λ (b : List ℕ). FrameRoom b 260) (sym e) (heard-room s inside bytes accepted)
+  both-room both e = subst (λ (b : List ℕ). FrameRoom b 260) (sym e)
+      (heard-room s inside bytes accepted (λ i. c .before .before .before .before .shared-slice-known .given i .fits))
 
   both-size : (both : List ℕ) → both ≡ beside s bytes → s .n ≡ sizeIn both
   both-size both e = heard-size s inside bytes accepted ∙ ap sizeIn (sym e)
