@@ -27,8 +27,10 @@ use Rattle.station_rules.specs.declared.Station.{Station}
 use Rattle.station_rules.specs.declared.Setup.{Setup}
 use Rattle.station_rules.specs.State.{freshLabels, freshRecord, freshStation, Cell, cellOf, labelOf, recordOf, laneAt, withLabel, withEntry, withLane, withWaiting, withBroadcast, withCell, withAcked, withLanes}
 use Rattle.station_rules.specs.Limits.{stationInside}
-use Rattle.kinds.specs.Refusals.{done, laneFull, refuse}
-use Rattle.station_rules.specs.Hearing.{Hearing, heeds, takes, overfills, replaced, heardNewer, hearRecord, hearRecords, hearFrame}
+use Rattle.kinds.specs.Refusals.{done}
+use Rattle.labels.specs.declared.Age.{Age}
+use Rattle.labels.specs.declared.Age.the-variants.{Newer, Same, Conflicting, Older}
+use Rattle.station_rules.specs.Hearing.{Hearing, takes, replaced, ageIn, heardAs, heardNewer, hearRecord, hearRecords, hearFrame}
 use Rattle.station_rules.specs.Turn.{airs, afterAiring, broadcastEnds, mayStart, startsEdit, startedBody, begins, takesOwn, passed, ownRecord, rewritten, afterTurn}
 use Rattle.station_rules.specs.Calls.{posted}
 use Rattle.station_rules.proofs.Setters.{Shaped, fresh-at, fresh-word, fresh-self, fresh-own, fresh-other, SameSelf, withAck, waiting-cell, broadcast-cell, cell-self, cell-here, cell-other, acked-self, acked-below, acked-above, acked-shaped, lanes-self, lanes-below, lanes-above, broadcast-shaped, cell-shaped}
@@ -345,23 +347,20 @@ heard-keeps s k r low g =
       size = omega (arith, k .size, heard-size s r);
     }
 
+age-keeps : (h : Hearing) → Keeps (h .station) → (r : Record) → r .station < 16 → RecordFits r → (a : Age) → Keeps ((heardAs h r a) .station)
+unfolding heardAs
+age-keeps h k r low g Newer = heard-keeps (h .station) k r low g
+age-keeps h k r low g Same = k
+age-keeps h k r low g Conflicting = k
+age-keeps h k r low g Older = k
+
 record-keeps : (h : Hearing) → Keeps (h .station) → (r : Record) → r .station < 16 → RecordFits r → Keeps ((hearRecord h r) .station)
 unfolding hearRecord
-record-keeps h k r low g = go (heeds (h .station) r)
+record-keeps h k r low g = go (eqb (r .station) (h .station .own))
   where
-    go :
-        (t : Bool) →
-        Keeps
-        ((cond {A = Hearing} t
-        (record {
-          station = heardNewer (h .station) r;
-          takings = h .takings ++ cond (takes (h .station) r) (record { source = r .station; body = r .body } ∷ []) [];
-          refusal = refuse (overfills (h .station) r) laneFull (h .refusal);
-        })
-        h)
-        .station)
-    go true = heard-keeps (h .station) k r low g
-    go false = k
+    go : (t : Bool) → Keeps ((cond {A = Hearing} t h (heardAs h r (ageIn (h .station) r))) .station)
+    go true = k
+    go false = age-keeps h k r low g (ageIn (h .station) r)
 
 records-keep : (rs : List Record) (h : Hearing) → AllFit rs → Keeps (h .station) → Keeps ((hearRecords h rs) .station)
 unfolding hearRecords

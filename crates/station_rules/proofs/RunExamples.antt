@@ -125,7 +125,7 @@ abbrev one-held : Record
 one-held = record { station = 1; count = 2; body = Shift 9 (pos 5); labels = packed (2 ∷ 1 ∷ 0 ∷ []) }
 
 abbrev holds-one : Hearing
-holds-one = hearRecord (silent (freshStation (record { n = 3 }) 0)) one-held
+holds-one = hearRecord (silent (freshStation (sized 3) 0)) one-held
 
 -- the record with another body, other labels, or another station
 abbrev with-body : Body → Record
@@ -171,7 +171,7 @@ pub record Conflicts : Type 0 where
   pub conflict-frame : (hearFrame (hearFrame lane-full (with-body edit ∷ [])) (of-two 0 edit 0 ∷ [])) .refusal ≡ conflict
   -- a conflict with a record that came in the frame before
   pub frame-before :
-      (hearFrame (hearFrame (silent (freshStation (record { n = 3 }) 0)) (one-held ∷ [])) (with-body edit ∷ [])) .refusal ≡ conflict
+      (hearFrame (hearFrame (silent (freshStation (sized 3) 0)) (one-held ∷ [])) (with-body edit ∷ [])) .refusal ≡ conflict
 
 -- by computation
 pub alone-runs : Alone
