@@ -61,6 +61,10 @@ badLimit = 13
 abbrev pub conflict : ℕ
 conflict = 14
 
+-- there is no such desk: it is neither 0 nor 1 (document 02, A7)
+abbrev pub badDesk : ℕ
+badDesk = 15
+
 -- a question names a station that is not among N, has a number below 1, is not whole, or is past the 64th (document 02, A11)
 abbrev pub badQuestion : ℕ
 badQuestion = 18

@@ -1,12 +1,12 @@
--- `lanes::has_room` compares the length of the queue with the limit.
-use mathlib.Core.Path.{refl}
-use Rattle.lanes.specs.Waiting.{waitingCount, hasRoom}
+-- `lanes::has_room` compares what the desk has waiting with the limit.
+use borrow.Author.Needs.{needs}
+use Rattle.lanes.specs.Waiting.{hasRoom}
 use Rattle.lanes.proofs.has_room.Statement.{statement}
 use Rattle.lanes.proofs.has_room.Tie as tie
 
 returns : tie.Need-returns
-unfolding hasRoom waitingCount
-returns c = refl
+unfolding hasRoom
+returns c = rw (c .before .desk-count .ensures)
 
 pub has-room-spec : {M : Type 1} → statement M
-has-room-spec = tie.close (tie.spec returns)
+has-room-spec = tie.close (tie.spec (λ c κs. search needs) returns)
