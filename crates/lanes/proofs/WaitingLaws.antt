@@ -18,7 +18,7 @@ use Rattle.lanes.specs.declared.Waiting.{Waiting}
 use Rattle.lanes.specs.Queue.{queueCapacity, queueBodies, emptyQueue, queued, oldest, unqueued, queueInside}
 use Rattle.lanes.specs.Waiting.{isDesk, otherDesk, limitInside, noneWaiting, queueOf, waitingEdits, deskCount, waitingCount, waitingAt, hasRoom, withQueue, withFirst, withPosted, firstDesk, nextDesk, nextEdit, withoutNext, waitingInside}
 use Rattle.lanes.proofs.QueueLaws.{bodies-empty, length-queueBodies, bodies-queued, bodies-unqueued, queued-slots, unqueued-slots}
-use Rattle.lanes.proofs.QueueLimits.{queue-most, queue-postable, queued-len, unqueued-len, queued-inside, unqueued-inside, oldest-postable}
+use Rattle.lanes.proofs.QueueLimits.{queue-most, queue-postable, queue-slots, queued-len, unqueued-len, queued-inside, unqueued-inside, oldest-postable}
 
 -- the arrays have their length by their type
 pub record WaitingSized (w : Waiting) : Type 0 where
@@ -171,12 +171,9 @@ pub count-both : (w : Waiting) → waitingCount w ≡ deskCount w 0 + deskCount 
 unfolding waitingCount
 count-both w = refl
 
-pub edits-count : (w : Waiting) → WaitingSized w → waitingInside w ≡ true → (d : ℕ) → length (waitingEdits w d) ≡ deskCount w d
-unfolding waitingEdits
-edits-count w c i d = length-queueBodies (queueOf w d) (unfold deskCount in (omega (arith, inside-most w i d, c .slots d))) ∙ len
-  where
-    len : (queueOf w d) .len ≡ deskCount w d
-    len = unfold deskCount in refl
+pub edits-count : (w : Waiting) → waitingInside w ≡ true → (d : ℕ) → length (waitingEdits w d) ≡ deskCount w d
+unfolding waitingEdits deskCount
+edits-count w i d = length-queueBodies (queueOf w d) (queue-slots (w .limit) (queueOf w d) (inside-queue w i d))
 
 pub waiting-postable : (w : Waiting) → waitingInside w ≡ true → (d i : ℕ) → i < deskCount w d → postable (waitingAt w d i) ≡ true
 unfolding deskCount waitingAt

@@ -61,8 +61,7 @@ module _ (s : Station) (i : stationInside s ≡ true) (d : ℕ) (k : isDesk d �
       (b : Body) → postable b ≡ true → s .waiting .limit ≡ 32 → deskCount (s .waiting) d < 32 →
       ((postCall s d b) .refusal ≡ 0) × (waitingCount ((postCall s d b) .station .waiting) ≡ waitingCount (s .waiting) + 1)
   m11-room b e limit wait =
-      let l : deskCount (s .waiting) d < s .waiting .limit = omega arith in
-      (
+      let l : deskCount (s .waiting) d < s .waiting .limit = omega arith in (
         taken b e l,
         sym (ap (λ (x : Kept). waitingCount (x .station .waiting)) (post-done s d b i k e (room-below (s .waiting) d l))) ∙ one-more,
       )
