@@ -6,7 +6,7 @@ use std::hint::black_box;
 use std::process::ExitCode;
 use std::time::{Duration, Instant};
 
-use relay_peer::{forecast, frames, load, measured, merge, questions, refusals};
+use relay_peer::{forecast, frames, load, measured, merge, questions, recorded, refusals};
 
 /// A slice and two numbers in, a number out: the form of everything that is measured but the forecast, the merge and the questions.
 type Function = unsafe extern "C" fn(*const u8, usize, u32, u32) -> u32;
@@ -19,6 +19,12 @@ type Merge = unsafe extern "C" fn(*const u16, usize, *const u16, usize, u32, *mu
 
 /// The questions: a log, N and a page in, an answer a question into a buffer.
 type Questions = unsafe extern "C" fn(*const u16, usize, u32, *const u32, usize, *mut u32, usize) -> u32;
+
+/// A station's rounds beside recorded frames, and N: a checksum.
+type StationRounds = fn(&[Vec<Vec<u8>>], usize) -> u32;
+
+/// The codec of a station: bytes, how often they are read and written, and whether they are judged before.
+type Codec = unsafe extern "C" fn(*mut u8, usize, u32, u32) -> u32;
 
 /// The frame check of crate relay_host.
 #[cfg(relay_host)]
@@ -49,6 +55,18 @@ const PROJECT_QUESTIONS: Option<Questions> = None;
 const PROJECT_ROUNDS: Option<Function> = Some(relay_bench_rounds);
 #[cfg(not(relay_bench))]
 const PROJECT_ROUNDS: Option<Function> = None;
+
+/// The codec, from crate relay_bench.
+#[cfg(relay_bench)]
+const PROJECT_CODEC: Option<Codec> = Some(relay_bench_codec);
+#[cfg(not(relay_bench))]
+const PROJECT_CODEC: Option<Codec> = None;
+
+/// A station's rounds through the calls of crate relay_host.
+#[cfg(relay_host)]
+const PROJECT_STATION: Option<StationRounds> = Some(station_project);
+#[cfg(not(relay_host))]
+const PROJECT_STATION: Option<StationRounds> = None;
 
 /// The load generator of crate relay_host.
 #[cfg(relay_host)]
@@ -94,6 +112,32 @@ unsafe extern "C" {
         answers: *mut u32,
         answers_len: usize,
     ) -> u32;
+    #[cfg(relay_host)]
+    fn relay_station_fresh(state: *mut u8, state_len: usize, n: u32, own: u32) -> u32;
+    #[cfg(relay_host)]
+    fn relay_station_post(state: *mut u8, state_len: usize, kind: u32, event: u32, argument: i32) -> u32;
+    #[cfg(relay_host)]
+    fn relay_station_write(
+        state: *const u8,
+        state_len: usize,
+        frame: *mut u8,
+        frame_len: usize,
+        length: *mut u32,
+        length_len: usize,
+    ) -> u32;
+    #[cfg(relay_host)]
+    fn relay_station_hear(
+        state: *mut u8,
+        state_len: usize,
+        frame: *const u8,
+        frame_len: usize,
+        taken: *mut u8,
+        taken_len: usize,
+    ) -> u32;
+    #[cfg(relay_host)]
+    fn relay_station_turn(state: *mut u8, state_len: usize, report: *mut u8, report_len: usize) -> u32;
+    #[cfg(relay_bench)]
+    fn relay_bench_codec(state: *mut u8, state_len: usize, times: u32, judged: u32) -> u32;
     #[cfg(relay_bench)]
     fn relay_bench_rounds(schedule: *const u8, len: usize, n: u32, rounds: u32) -> u32;
     #[cfg(gcc)]
@@ -149,6 +193,49 @@ extern "C" fn load_project(_bytes: *const u8, _len: usize, n: u32, rounds: u32) 
     })
 }
 
+/// The bytes of a station's state and of a turn's report: RELAY_STATION_BYTES and RELAY_TURN_BYTES of include/relay.h.
+#[cfg(relay_host)]
+const STATION_BYTES: usize = 1108;
+#[cfg(relay_host)]
+const TURN_BYTES: usize = 220;
+
+/// What `recorded::rounds` does, through the calls for C: the state after it, and the sum; nothing where a call is refused.
+#[cfg(relay_host)]
+fn play(recorded: &[Vec<Vec<u8>>], n: usize) -> Option<([u8; STATION_BYTES], u32)> {
+    use recorded::{OWN, mix};
+    let (mut state, mut frame, mut taken, mut report) = ([0u8; STATION_BYTES], [0u8; frames::LARGEST_FRAME], [0u8; 16], [0u8; TURN_BYTES]);
+    let (mut length, mut sum) = ([0u32], 0u32);
+    let at = state.as_mut_ptr();
+    let done = |refusal: u32| (refusal == 0).then_some(());
+    let number = |bytes: &[u8], at: usize| u32::from_le_bytes([bytes[at], bytes[at + 1], bytes[at + 2], bytes[at + 3]]);
+    // SAFETY: pointers and lengths are those of arrays and slices that live through the calls.
+    unsafe {
+        done(relay_station_fresh(at, STATION_BYTES, n as u32, OWN as u32))?;
+        for (round, frames) in recorded.iter().enumerate() {
+            if let Some((event, start)) = recorded::due(round, OWN) {
+                sum = mix(sum, (relay_station_post(at, STATION_BYTES, 2, event, start) == 0).into());
+            }
+            done(relay_station_write(at, STATION_BYTES, frame.as_mut_ptr(), frame.len(), length.as_mut_ptr(), 1))?;
+            sum = mix(mix(sum, length[0]), frame[round % length[0] as usize].into());
+            for (_, heard) in frames.iter().enumerate().filter(|&(sender, _)| sender != OWN) {
+                done(relay_station_hear(at, STATION_BYTES, heard.as_ptr(), heard.len(), taken.as_mut_ptr(), taken.len()))?;
+                sum = mix(sum, taken.iter().rev().fold(0, |set, &one| 2 * set + u32::from(one)));
+            }
+            done(relay_station_turn(at, STATION_BYTES, report.as_mut_ptr(), report.len()))?;
+            sum = mix(sum, u32::from(report[0]) + 2 * u32::from(report[1]));
+            for body in [28 + 12 * (round % 16), 4, 16] {
+                sum = mix(mix(sum, report[body].into()), number(&report, body + 4));
+            }
+        }
+    }
+    Some((state, sum))
+}
+
+#[cfg(relay_host)]
+fn station_project(recorded: &[Vec<Vec<u8>>], n: usize) -> u32 {
+    play(recorded, n).map_or(0, |(_, sum)| sum)
+}
+
 #[allow(clippy::too_many_arguments)]
 extern "C" fn merge_rust(
     first: *const u16,
@@ -200,6 +287,8 @@ extern "C" fn questions_rust(
 const CHECKS: u32 = 25_600;
 const STATION_ROUNDS: u32 = 2_048;
 const LOAD_STATIONS: u32 = 65_536;
+const RECORDED_ROUNDS: usize = 64;
+const CODED: u32 = 2_048;
 
 fn call(function: Function, bytes: &[u8], first: u32, second: u32) -> u32 {
     // SAFETY: pointer and length are those of a slice that lives through the call.
@@ -306,6 +395,21 @@ impl<F: Copy> Measure<'_, F> {
         }
         true
     }
+}
+
+/// Prints the time of reading a station's bytes and writing them again, which the project alone does; false if the bytes change.
+fn print_codec(name: &str, codec: Codec, state: &[u8], judged: u32, span: Duration) -> bool {
+    let mut bytes = state.to_vec();
+    let mut best = Duration::MAX;
+    let begun = Instant::now();
+    while begun.elapsed() < span {
+        let from = processor_time();
+        // SAFETY: pointer and length are those of a vector that lives through the call.
+        black_box(unsafe { codec(bytes.as_mut_ptr(), bytes.len(), CODED, judged) });
+        best = best.min(processor_time() - from);
+    }
+    println!("{name}: project {:.1} ns", best.as_nanos() as f64 / f64::from(CODED));
+    bytes == state
 }
 
 /// The frame of station 1 among n, with a record of each station; every kind of body comes.
@@ -422,6 +526,18 @@ fn main() -> ExitCode {
         let work = |function| call(function, &[], n, rounds);
         let name = format!("load of a round, N = {n}");
         agree &= Measure { name, units: rounds, work: &work }.print(PROJECT_LOAD, load_rust, span);
+    }
+    for n in [16, 8, 2] {
+        let frames = recorded::record(n, RECORDED_ROUNDS);
+        let work = |function: StationRounds| function(&frames, n);
+        let name = format!("a station's round from C, N = {n}: write, {} hears, turn", n - 1);
+        agree &= Measure { name, units: RECORDED_ROUNDS as u32, work: &work }.print(PROJECT_STATION, recorded::rounds as StationRounds, span);
+    }
+    #[cfg(relay_host)]
+    if let (Some(codec), Some((state, _))) = (PROJECT_CODEC, play(&recorded::record(16, RECORDED_ROUNDS), 16)) {
+        for (judged, name) in [(0, "a station read and written, N = 16"), (1, "a station judged, read and written, N = 16")] {
+            agree &= print_codec(name, codec, &state, judged, span);
+        }
     }
     if agree { ExitCode::SUCCESS } else { ExitCode::FAILURE }
 }

@@ -22,11 +22,6 @@ ALLOWED = {
         r'b"relay_listing: cannot write\n"': "what the program says where a write fails",
         r'b"relay_listing: cannot read\n"': "what the program says where a read fails",
     },
-    "crates/station_calls/src/main.rt": {
-        'b" "': "between two numbers that the program prints",
-        r'b"\n"': "the end of a line that the program prints",
-        'b"none"': "bytes that are no frame, which the program hands to hear",
-    },
 }
 
 # The crates in which successors and the packing of labels are worked out. No list can allow an array here.
@@ -158,7 +153,8 @@ class TheTestCanFail(unittest.TestCase):
         for path, right, wrong, array in (
                 (successor, "(((label as u32) + 1) % 3) as u8", "[1u8, 2, 0][label as usize]", "[1u8, 2, 0]"),
                 (packing, "word * 4 +", "word * [4u32, 4][0] +", "[4u32, 4]"),
-                (packing, "(rest % 4) as u8", 'b"\\x00\\x01\\x02\\x03"[(rest % 4) as usize]', r'b"\x00\x01\x02\x03"')):
+                (packing, "((word >> (2 * k)) % 4) as u8", 'b"\\x00\\x01\\x02\\x03"[((word >> (2 * k)) % 4) as usize]',
+                 r'b"\x00\x01\x02\x03"')):
             source = path.read_text(encoding="utf-8")
             self.assertIn(right, source)
             self.assertEqual(constant_arrays(source), [])

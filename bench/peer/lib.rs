@@ -14,6 +14,7 @@ pub mod measured;
 pub mod merge;
 pub mod questions;
 pub mod queues;
+pub mod recorded;
 pub mod refusals;
 pub mod script;
 pub mod station;

@@ -1,6 +1,6 @@
 /* Frame checks that are wrong on purpose; FAULT says how. The campaign builds each of them as it finds the archive, without a checker of memory. */
 #include "frame_check_peer.h"
-#include "relay_host.h"
+#include "relay.h"
 
 enum { NOTHING, READS_AFTER, READS_BEFORE, WRITES, ACCEPTS, REFUSES, LABELS };
 

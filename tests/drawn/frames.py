@@ -111,11 +111,11 @@ def case_bytes(case):
 
 # The driver.
 
-def compile_driver(driver, *sources):
+def compile_driver(driver, *sources, main="check_frames.c"):
     """The driver under AddressSanitizer, linked with these; whether it could be built."""
     compiler = shlex.split(os.environ.get("CC", "gcc"))
     return subprocess.run([*compiler, "-std=c11", "-O1", "-g", "-fsanitize=address", "-Wall", "-Wextra", "-Werror", f"-I{ROOT / 'include'}",
-                           ROOT / "tests" / "host" / "check_frames.c", *sources, "-o", driver]).returncode == 0
+                           ROOT / "tests" / "host" / main, *sources, "-o", driver]).returncode == 0
 
 
 def compile_false(fault, folder):

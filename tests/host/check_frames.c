@@ -7,7 +7,7 @@
 #include <sys/mman.h>
 #include <unistd.h>
 
-#include "relay_host.h"
+#include "relay.h"
 
 /* Room between two pages that cannot be read. The archive's own code is not watched by a checker of memory, but a read outside a frame that lies against
    such a page ends the program. */

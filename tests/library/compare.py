@@ -1,7 +1,8 @@
 """A call of the library beside the model's, case by case.
 
-A case is the call's arguments: numbers, and arrays for lent buffers. The model gives the refusal and what every buffer
-then holds. Each case is called twice, with the buffers at the start and at the end of their rooms.
+A case is the call's arguments: numbers, and arrays for lent buffers; where one comparison is about several calls, the
+call's name stands before them. The model gives the refusal and what every buffer then holds. Each case is called twice,
+with the buffers at the start and at the end of their rooms.
 """
 
 import collections
@@ -21,6 +22,7 @@ class Comparison:
         self.check, self.call, self.model, self.told = check, call, model, told
         self.passed = self.failed = self.differences = self.cases = 0
         self.refusals = collections.Counter()
+        self.refusal, self.after = 0, []  # what the model gave for the last case
         self.rooms = [Room() for _ in range(4)]
 
     def all(self, name, cases):
@@ -45,24 +47,28 @@ class Comparison:
 
     def agrees(self, case):
         self.cases += 1
-        refusal, after = self.model(*case)
-        self.refusals[refusal] += 1
-        expected = refusal, [list(one) for one in after]
+        self.refusal, self.after = self.model(*case)
+        self.refusals[self.refusal] += 1
+        given = [one for one in case if isinstance(one, array)]
+        expected = self.refusal, [array(one.typecode, after) for one, after in zip(given, self.after, strict=True)]
         for at_end in (False, True):
             got = self.answer(case, at_end)
             if got != expected:
                 self.differences += 1
                 if self.differences <= SHOWN:
-                    self.say(f"{shown(case)}: the library gives {shown(got)}, the model {shown(expected)}")
+                    self.say(self.difference(case, got, expected))
                 return False
         return True
+
+    def difference(self, case, got, expected):
+        return f"{shown(case)}: the library gives {shown(got)}, the model {shown(expected)}"
 
     def answer(self, case, at_end):
         """The refusal, and what the buffers hold after the call."""
         rooms = iter(self.rooms)
         lent = [next(rooms).lend(one, at_end) if isinstance(one, array) else one for one in case]
         refusal = self.call(*lent)
-        return refusal, [list(held(one, given.typecode)) for one, given in zip(lent, case) if isinstance(given, array)]
+        return refusal, [held(one, given.typecode) for one, given in zip(lent, case) if isinstance(given, array)]
 
     def notices(self, wrong, cases):
         """Whether a call that is wrong on purpose is noticed, by a difference or by a fault of memory.
@@ -74,7 +80,7 @@ class Comparison:
             status = FAULTY
             signal.alarm(SECONDS)
             try:
-                other = Comparison(self.check, lambda *lent: wrong(self.call, *lent), self.model, told=False)
+                other = type(self)(self.check, lambda *lent: wrong(self.call, *lent), self.model, told=False)
                 status = 0 if all(other.agrees(case) for case in cases) else 1
             finally:
                 os._exit(status)

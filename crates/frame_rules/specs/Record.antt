@@ -37,7 +37,9 @@ recordBytes n r =
     ∷ r .count
     ∷ kindOf (r .body)
     ∷ recordMark
-    ∷ wordBytes (eventOf (r .body)) ++ wordBytes (unsigned (argumentOf (r .body))) ++ wordBytes (labelsOver n (recordLabel r) 0)
+    ∷ wordBytes (eventOf (r .body))
+    ++ wordBytes (unsigned (argumentOf (r .body)))
+    ++ wordBytes (labelsOver n (recordLabel r) 0)
 
 -- "count at most 2 × (N - 1)"
 abbrev pub countInside : ℕ → ℕ → Bool

@@ -4,7 +4,7 @@ use native.Mathlib.Numerals.{add-one}
 use native.Mathlib.Omega.{arith}
 use mathlib.Core.Bool.{Bool, true, false, cond, not, _&&_}
 use mathlib.Core.List.{List, _++_}
-use mathlib.Core.Path.{_≡_, refl, sym, ap, subst, _∙_}
+use mathlib.Core.Path.{_≡_, refl, sym, ap, _∙_}
 use lib.Dec.{eqb, ltb}
 use lib.ListN.{take, drop, length, length-append, length-drop, take-append-drop}
 use borrow.Author.Tests.{ne-eqb, eqb-true, eqb-false, ltb-false}
@@ -12,7 +12,6 @@ use Rattle.kinds.specs.Refusals.{refuse}
 use Rattle.frame_rules.specs.Record.{countInside}
 use Rattle.frame_rules.specs.Frame.{frameBytes}
 use Rattle.frame_rules.specs.Calls.{tableRecords, bufferWith}
-use Rattle.frame_rules.specs.Inner.Writing.{Writable}
 use Rattle.places.specs.Places.{allBelow}
 use Rattle.places.proofs.Laws.{and-left, and-right}
 use Rattle.station_rules.specs.declared.Station.{Station}
@@ -20,7 +19,7 @@ use Rattle.station_rules.specs.Limits.{stationInside}
 use Rattle.station_rules.specs.State.{recordOf}
 use Rattle.station_rules.specs.Calls.{ownCountInside, frameOf}
 use Rattle.station_rules.proofs.StationLimits.{Inside, inside-open}
-use Rattle.station_rules.proofs.WriteSteps.{writable, frame-is}
+use Rattle.station_rules.proofs.WriteSteps.{frame-is}
 use Rattle.group_rules.specs.State.{stationAt, sizeOf, memberInside}
 use Rattle.group_frames.specs.Frames.{sendRefusal, partAfter, bytesAfter, worse, judgedBelow}
 
@@ -49,10 +48,8 @@ module _ (n k : ℕ) (s : Station) where
     pub below : k < 16
     below = omega (arith, inside .own, inside .high, own)
 
-    pub may-write : Writable n k (s .held) (s .table)
-    may-write =
-        subst (λ (o : ℕ). Writable n o (s .held) (s .table)) own
-        (subst (λ (w : ℕ). Writable w (s .own) (s .held) (s .table)) size (writable s inside))
+    pub may-write : (n ≤ 16) × (k < 256)
+    may-write = (high, omega (arith, below))
 
     count-is : ownCountInside s ≡ countInside n ((recordOf s k) .count)
     count-is i = countInside (size i) ((recordOf s (own i)) .count)

@@ -74,12 +74,13 @@ packed-first (suc n) [] =
     omega (arith, rest)
 packed-first (suc n) (label ∷ labels) = omega (arith, packed-first n labels)
 
+-- and so does packing all of them
+pub packed-whole : (n : ℕ) (labels : List ℕ) → length labels ≡ n → packed labels ≡ labelsOver n (λ k. getD labels k 0) 0
+packed-whole n labels e = ap packed (sym (take-all n labels (omega arith))) ∙ packed-first n labels
+
 -- the labels of a packed word
 pub packed-label :
     (labels : List ℕ) → allLabels labels ≡ true → (k : ℕ) → k < length labels → labelIn (packed labels) k ≡ getD labels k 0
 packed-label labels h k l =
-    let whole : take (length labels) labels ≡ labels = take-all (length labels) labels (omega arith) in
-    let over : packed labels ≡ labelsOver (length labels) (λ j. getD labels j 0) 0 =
-    ap packed (sym whole) ∙ packed-first (length labels) labels in
-    ap (λ (w : ℕ). labelIn w k) over
+    ap (λ (w : ℕ). labelIn w k) (packed-whole (length labels) labels refl)
     ∙ over-below (length labels) (λ j. getD labels j 0) 0 k (λ j b. omega (arith, all-at labels h j)) l

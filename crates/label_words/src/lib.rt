@@ -1,4 +1,5 @@
-// Labels in a word, two bits each: one of them, the first n of a word or of an array over those of another word, and what a word may hold.
+// Labels in a word, two bits each: one of them, the first n of a word or of an array over those of another word, and
+// what a word may hold.
 
 ghost use mathlib.Core.Path.{_≡_};
 ghost use Prim.Native.Nat.{ℕ, _-_, _^_, _≤_, _<_};

@@ -14,7 +14,7 @@ pub const FRAME_MARK: u8 = 0;
 pub const RECORD_MARK: u8 = 0;
 
 // The four bytes of a number, put at a place.
-fn put_word(bytes: &mut [u8], at: usize, word: u32)
+pub fn put_word(bytes: &mut [u8], at: usize, word: u32)
     requires { ⌜ at + 4 ≤ length (now bytes) ⌝ }
     ensures { λ _. ⌜ now (bytes .exit) ≡ sets (now (bytes .entry)) at (wordBytes word) ⌝ }
 {

@@ -1,4 +1,4 @@
-// The work of one measurement of rounds: `relay_bench_rounds` of bench/README.md.
+// The work of measurements: `relay_bench_rounds` and `relay_bench_codec` of bench/README.md.
 
 ghost use Prim.Native.Nat.{_+_, _≤_, _<_};
 ghost use lib.ListN.{length};
@@ -8,13 +8,27 @@ use group_rules::Report;
 use kinds::Body;
 use station_rules::Setup;
 use station_rules::Station;
-use station_sums::mix;
 
 // The bytes of one round's masks: sixteen, two bytes each, the low byte first.
 const MASKS_SIZE: usize = 32;
 
 // A post comes before every eighth round, the first among them, at one station after the other.
 const POST_EVERY: u32 = 8;
+
+// The bytes of a station: RELAY_STATION_BYTES of include/relay.h.
+const STATION_WIDTH: usize = 1108;
+
+const LOW: u64 = 4_294_967_296;
+
+// A number mixed into a sum.
+fn mix(sum: u64, number: u32) -> u64 {
+    sum % LOW * 2_654_435_769 + (number as u64)
+}
+
+// The number that a sum leaves.
+fn low(sum: u64) -> u32 {
+    (sum % LOW) as u32
+}
 
 // A number of at most 99 as it is; there are no others here.
 fn small(number: usize) -> u32 {
@@ -131,7 +145,7 @@ fn run(schedule: &[u8], n: usize, rounds: u32) -> u32
         }
         number += 1;
     }
-    station_sums::low(sum)
+    low(sum)
 }
 
 // From fresh, rounds with the masks of a schedule, again and again; gives a checksum of what they report, and 0 if a number is refused.
@@ -151,4 +165,25 @@ pub extern "C" fn relay_bench_rounds(schedule: &[u8], n: u32, rounds: u32) -> u3
         return 0;
     }
     run(schedule, n as usize, rounds)
+}
+
+// A station's bytes, read and written again so many times, and judged each time before where a number that is not 0 says so. Gives how often that
+// was done: fewer times where the bytes are no station, and never where they are too few.
+#[no_mangle]
+pub extern "C" fn relay_bench_codec(state: &mut [u8], times: u32, judged: u32) -> u32 {
+    if state.len() < STATION_WIDTH {
+        return 0;
+    }
+    let mut done: u32 = 0;
+    while done < times {
+        if judged != 0 {
+            if !station_decoder::is_station(state) {
+                return done;
+            }
+        }
+        let station = station_decoder::read_station(state);
+        station_encoder::put_station(state, 0, station);
+        done += 1;
+    }
+    done
 }

@@ -1,1 +1,3 @@
 pub mod Contest
+pub mod Station
+pub mod Group

@@ -5,9 +5,11 @@ ghost use Rattle.frame_rules.specs.Frame.{checkRefusal};
 
 mod relay_contest;
 mod relay_forecast;
+mod relay_group;
 mod relay_load;
 mod relay_merge;
 mod relay_questions;
+mod relay_station;
 
 // The frame check: 0, or the refusal, for any bytes and any two numbers.
 #[no_mangle]

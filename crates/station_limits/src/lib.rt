@@ -78,8 +78,7 @@ fn record_inside(n: usize, own: usize, k: usize, record: Record) -> bool
     if !kind_limits::body_inside(body) {
         return false;
     }
-    let labels = record.labels;
-    labels::all_labels(labels, n)
+    label_words::labels_inside(record.labels, n)
 }
 
 // Is the record of station k inside its limits, if one is held?

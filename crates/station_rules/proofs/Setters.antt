@@ -10,6 +10,8 @@ use Rattle.kinds.specs.declared.Body.{Body}
 use Rattle.kinds.specs.declared.Body.the-variants.{Empty}
 use Rattle.labels.specs.Label.{allLabels}
 use Rattle.labels.proofs.Laws.{at-all}
+use Rattle.label_words.specs.Packing.{labelsOver}
+use Rattle.label_words.proofs.Packing.{packed-whole}
 use Rattle.frame_rules.specs.declared.Record.{Record}
 use Rattle.frame_rules.specs.Record.{recordLabel, noRecord}
 use Rattle.frame_rules.specs.Calls.{tableRecords}
@@ -238,8 +240,11 @@ module _ (own : ℕ) where
   fresh-long : length (freshLabels own) ≡ 16
   fresh-long = length-set (replicate 16 0) own 1
 
-  pub fresh-all : allLabels (freshLabels own) ≡ true
+  fresh-all : allLabels (freshLabels own) ≡ true
   fresh-all = at-all (freshLabels own) (λ k l. fresh-at k (rw fresh-long at l))
+
+  pub fresh-word : (freshRecord own) .labels ≡ labelsOver 16 (λ k. getD (freshLabels own) k 0) 0
+  fresh-word = packed-whole 16 (freshLabels own) fresh-long
 
   pub fresh-label : (k : ℕ) → k < 16 → recordLabel (freshRecord own) k ≡ getD (freshLabels own) k 0
   fresh-label k l = label-packed (freshRecord own) (freshLabels own) refl fresh-all k (rw fresh-long l)

@@ -44,7 +44,12 @@ takes s r = advances s r && not (isEmpty (r .body))
 -- the seen record in the place of the held one, whose labels from n up stay (lines 9 to 11)
 unfoldable pub replaced : ℕ → Record → Record → Record
 replaced n old r =
-    record { station = r .station; count = r .count; body = r .body; labels = labelsOver n (recordLabel r) (old .labels) }
+    record {
+      station = r .station;
+      count = r .count;
+      body = r .body;
+      labels = labelsOver n (recordLabel r) (old .labels);
+    }
 
 -- one more, and 255 stays 255
 abbrev pub raised : ℕ → ℕ

@@ -4,16 +4,18 @@ use native.Mathlib.Omega.{arith}
 use mathlib.Core.Path.{_≡_, refl, sym, ap, _∙_}
 use mathlib.Core.Bool.{Bool, true, false, cond, _&&_}
 use mathlib.Core.List.{List}
-use lib.ListN.{getD, set, replicate}
+use lib.ListN.{getD, set, length, replicate}
 use lib.Seq.{set-getD}
 use lib.Dec.{ltb, eqb}
-use borrow.Author.Tests.{ltb-true}
+use borrow.Author.Tests.{ltb-true, leb-true}
 use Rattle.kinds.specs.declared.Body.{Body}
 use Rattle.kinds.specs.declared.Body.the-variants.{Empty, Neutral}
 use Rattle.kinds.specs.Body.{isEmpty}
 use Rattle.labels.specs.Label.{successor}
+use Rattle.label_words.specs.Packing.{labelsOver}
 use Rattle.places.specs.Places.{fill}
 use Rattle.places.proofs.Laws.{and-right}
+use Rattle.places.proofs.Keeps.{set-keeps}
 use Rattle.lanes.specs.declared.Lane.{Lane}
 use Rattle.lanes.specs.declared.Waiting.{Waiting}
 use Rattle.lanes.specs.declared.Slot.{Slot}
@@ -26,6 +28,7 @@ use Rattle.lanes.specs.Waiting.{waitingCount, nextEdit, withoutNext}
 use Rattle.station_rules.specs.State.{cellOf, labelOf, recordOf, laneAt, withEntry, withLane, withWaiting, withBroadcast, withArrays, withCell, withAcked, withLanes}
 use Rattle.station_rules.specs.Turn.{eachHasBody, oldestOfEach, airs, rowOf, afterAiring, broadcastEnds, mayStart, startsEdit, startedBody, begins, takesOwn, passed, ownRecord, rewritten, afterTurn, turnReport}
 use Rattle.station_rules.specs.Calls.{turnDone}
+use Rattle.station_rules.proofs.StationLimits.{Inside}
 use Rattle.station_rules.proofs.Setters.{cell-label, cell-entry, cell-lane}
 use Rattle.station_rules.proofs.TurnCells.{started-stays}
 
@@ -138,10 +141,25 @@ module _ (s : Station) (left : List Lane) (l : withArrays s (s .acked) (s .label
           sym l
           ∙ rw (started-stays s e, e, set-getD left (s .own) noLane, set-getD (s .labels) (s .own) 0)
 
+-- the labels of a station inside its limits take two bits, and so does the label after its own
+next-fits : (t : Bool) (label : ℕ) → label ≤ 2 → cond t (successor label) label < 4
+next-fits true label h = omega arith
+next-fits false label h = omega arith
+
+pub labels-fit :
+    (s : Station) → Inside s → length (s .labels) ≡ 16 → (t : Bool) (next : ℕ) → next ≡ cond t (successor (labelOf s (s .own))) (labelOf s (s .own)) →
+    (k : ℕ) → k < s .n → getD (set (s .labels) (s .own) next) k 0 < 4
+unfolding cellOf
+labels-fit s c long t next e k l =
+    let label : (j : ℕ) → j < s .n → labelOf s j ≤ 2 = λ j b. leb-true (labelOf s j) 2 (c .places j b .label) in
+    set-keeps (λ (x : ℕ). x < 4) (s .labels) (s .own) next 0 k (omega (arith, c .high))
+    (omega (arith, label k l))
+    (rw e (next-fits t (labelOf s (s .own)) (label (s .own) (c .own))))
+
 -- the answer of a turn, by its parts
 module _
     (s : Station) (aired ended starts : Bool) (row : List Slot) (left : List Lane) (old : Body) (many : ℕ) (started body gone : Body)
-    (waiting : Waiting) (acked : List Bool) (count next : ℕ) (over : List ℕ) (lane : Lane) where
+    (waiting : Waiting) (acked : List Bool) (count next : ℕ) (over : ℕ) (lane : Lane) where
   -- before the own record is rewritten
   abbrev before : Station
   before =
@@ -173,7 +191,7 @@ module _
       gone ≡ cond ended (s .body) Empty →
       count ≡ cond ended 0 (s .count) →
       next ≡ cond ended (successor (labelOf s (s .own))) (labelOf s (s .own)) →
-      over ≡ fill (s .n) (λ k. getD (set (s .labels) (s .own) next) k 0) ((recordOf s (s .own)) .labels) →
+      over ≡ labelsOver (s .n) (λ k. getD (set (s .labels) (s .own) next) k 0) ((recordOf s (s .own)) .labels) →
       lane ≡ cond (isEmpty started) (getD left (s .own) noLane) (pushed (getD left (s .own) noLane) started) →
       answer ≡ turnDone s
   unfolding cellOf afterTurn rewritten ownRecord turnReport

@@ -37,17 +37,15 @@ pub fn take_turn(s: Station) -> Turned
     let body = turn_parts::body_of(ended, started, sent);
     let ended_body = turn_parts::body_of(ended, sent, Body::Empty);
     let count = turn_parts::count_after(ended, s.count);
-    let mut marks = s.labels;
-    marks[own] = turn_parts::label_after(ended, marks[own]);
+    let mut labels = s.labels;
+    labels[own] = turn_parts::label_after(ended, labels[own]);
     let mut table = s.table;
     let last = table[own];
-    let old = last.labels;
-    let over = labels::over(n, marks, old);
     table[own] = Record {
         station: own as u8,
         count: count,
         body: body,
-        labels: over,
+        labels: label_words::pack_over(n, labels, last.labels),
     };
     left[own] = turn_parts::lane_with(own_lane, started);
     let station = Station {
@@ -57,7 +55,7 @@ pub fn take_turn(s: Station) -> Turned
         acked: acked,
         body: body,
         count: count,
-        labels: marks,
+        labels: labels,
         held: held,
         table: table,
         lanes: left,

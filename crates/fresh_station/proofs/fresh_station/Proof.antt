@@ -1,5 +1,7 @@
--- `fresh_station::fresh_station` meets its contract: it makes the record of the definition.
+-- `fresh_station::fresh_station` meets its contract: it makes the record of the definition, and its labels packed are labels over 0.
+use native.Mathlib.Omega.{arith}
 use Rattle.station_rules.specs.State.{freshStation}
+use Rattle.station_rules.proofs.Setters.{fresh-at, fresh-word}
 use borrow.Author.Needs.{needs}
 use Rattle.fresh_station.proofs.fresh_station.Statement.{statement}
 use Rattle.fresh_station.proofs.fresh_station.Tie as tie
@@ -16,8 +18,11 @@ array-write-held c = search needs
 array-write-labels : tie.Need-array-write-labels
 array-write-labels c = search needs
 
-cast-t19 : tie.Need-cast-t19
-cast-t19 c = search needs
+cast-t18 : tie.Need-cast-t18
+cast-t18 c = search needs
+
+pack-over-requires : tie.Need-pack-over-requires
+pack-over-requires c κs = (omega arith, λ k l. omega (arith, fresh-at (c .before .args .own) k l))
 
 mul-table : tie.Need-mul-table
 mul-table c = search needs
@@ -27,7 +32,7 @@ array-set-from-table c = search needs
 
 returns : tie.Need-returns
 unfolding freshStation
-returns c = rw (c .none-waiting .ensures)
+returns c = rw (c .before .none-waiting .ensures, c .pack-over .ensures, ← fresh-word (c .before .before .args .own))
 
 pub fresh-station-spec : {M : Type 1} → statement M
 fresh-station-spec =
@@ -37,7 +42,8 @@ fresh-station-spec =
     array-write-acked
     array-write-held
     array-write-labels
-    cast-t19
+    cast-t18
+    pack-over-requires
     mul-table
     array-set-from-table
     returns)

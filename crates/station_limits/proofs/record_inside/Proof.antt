@@ -9,7 +9,6 @@ use Rattle.kind_limits.specs.Limits.{bodyInside}
 use Rattle.frame_rules.specs.Record.{countInside}
 use Rattle.station_rules.specs.Limits.{recordInside}
 use borrow.Author.Needs.{needs}
-use Rattle.labels.proofs.Laws.{all-below}
 use Rattle.station_limits.proofs.record_inside.Statement.{statement}
 use Rattle.station_limits.proofs.record_inside.Tie as tie
 
@@ -48,18 +47,18 @@ returns-3 c =
     let s = b .before .if1 .left in
     rw (eq-eqb _ _ s, below (a .n) (a .k) (a .«record» .station) s (omega arith), e, f)
 
-all-labels-requires : tie.Need-all-labels-requires
-all-labels-requires c κs = search needs
+labels-inside-requires : tie.Need-labels-inside-requires
+labels-inside-requires c κs = search needs
 
 returns-4 : tie.Need-returns-4
 unfolding recordInside bodyInside
 returns-4 c =
-    let b = c .before .before .before .before .before in
+    let b = c .before .before .before .before in
     let a = b .before .before .before .args in
-    let e : (eqb (a .k) (a .own) || countInside (a .n) (a .«record» .count)) ≡ true = sym (b .count-inside .ensures) ∙ not-false _ (c .before .before .before .before .if2 .left) in
-    let f : bodyInside (a .«record» .body) ≡ true = sym (c .before .before .before .body-inside .ensures) ∙ not-false _ (c .before .before .if3 .left) in
+    let e : (eqb (a .k) (a .own) || countInside (a .n) (a .«record» .count)) ≡ true = sym (b .count-inside .ensures) ∙ not-false _ (c .before .before .before .if2 .left) in
+    let f : bodyInside (a .«record» .body) ≡ true = sym (c .before .before .body-inside .ensures) ∙ not-false _ (c .before .if3 .left) in
     let s = b .before .if1 .left in
-    rw (eq-eqb _ _ s, below (a .n) (a .k) (a .«record» .station) s (omega arith), e, f) (c .all-labels .ensures ∙ all-below (a .n) (a .«record» .labels))
+    rw (eq-eqb _ _ s, below (a .n) (a .k) (a .«record» .station) s (omega arith), e, f) (c .labels-inside .ensures)
 
 pub record-inside-spec : {M : Type 1} → statement M
 record-inside-spec =
@@ -71,5 +70,5 @@ record-inside-spec =
     returns-2
     body-inside-requires
     returns-3
-    all-labels-requires
+    labels-inside-requires
     returns-4)

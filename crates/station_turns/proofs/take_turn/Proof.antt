@@ -1,5 +1,5 @@
 -- `station_turns::take_turn` meets its contract: the airing step is the definition's, and then each part of the answer is.
-use Prim.Native.Nat.{ℕ, _≤_, _<_}
+use Prim.Native.Nat.{ℕ, _<_}
 use native.Mathlib.Omega.{arith}
 use mathlib.Core.Path.{_≡_, ap, _∙_}
 use mathlib.Core.Bool.{cond, _&&_}
@@ -12,8 +12,10 @@ use Rattle.station_rules.specs.declared.Station.{Station}
 use Rattle.station_rules.specs.State.{cellOf}
 use Rattle.station_rules.specs.Turn.{broadcastEnds}
 use Rattle.lanes.specs.Waiting.{waitingCount}
+use Rattle.station_rules.proofs.Lengths.{lengths}
+use Rattle.station_rules.proofs.Setters.{Shaped}
 use Rattle.station_rules.proofs.StationLimits.{Inside, inside-open}
-use Rattle.station_turns.proofs.TurnSteps.{most-if, fill-if, step-aired, step-row, step-left, waits, turn-made}
+use Rattle.station_turns.proofs.TurnSteps.{most-if, fill-if, step-aired, step-row, step-left, waits, labels-fit, turn-made}
 use Rattle.station_turns.proofs.take_turn.Statement.{statement}
 use Rattle.station_turns.proofs.take_turn.Tie as tie
 
@@ -30,6 +32,9 @@ module _ (e : tie.After-all-acked) where
 
   inside : Inside station
   inside = inside-open station (e .before .before .before .before .before .before .before .before .pre)
+
+  shaped : Shaped station
+  shaped = lengths station (e .before .before .before .before .before .before .before .before .good .0)
 
   own-in : station .own < 16
   own-in = omega (arith, inside .high, inside .own)
@@ -94,8 +99,8 @@ array-read-label-after c =
 label-after-requires : tie.Need-label-after-requires
 label-after-requires c κs = search needs
 
-array-write-marks : tie.Need-array-write-marks
-array-write-marks c =
+array-write-labels : tie.Need-array-write-labels
+array-write-labels c =
     let h = own-in (c .before .before .before .before .before .before .before .before .before .before .before .before .before) in
     search needs
 
@@ -109,22 +114,26 @@ array-copy-out-last c =
     let h = own-in (c .before .before .before .before .before .before .before .before .before .before .before .before .before .before) in
     search needs
 
-over-requires : tie.Need-over-requires
-over-requires c κs = inside (c .before .before .before .before .before .before .before .before .before .before .before .before .before .before .before .before) .high
-
-cast-t39 : tie.Need-cast-t39
-cast-t39 c =
-    let h = own-in (c .before .before .before .before .before .before .before .before .before .before .before .before .before .before .before .before .before) in
+cast-t37 : tie.Need-cast-t37
+cast-t37 c =
+    let h = own-in (c .before .before .before .before .before .before .before .before .before .before .before .before .before .before .before) in
     search needs
+
+pack-over-requires : tie.Need-pack-over-requires
+unfolding cellOf
+pack-over-requires c κs =
+    let m = c .before .before in
+    let e = c .before .before .before .before .before .before .before .before .before .before .before .before .before .before .before in
+    (inside e .high, labels-fit (station e) (inside e) (shaped e .labels) (e .all-acked .result) (m .label-after .result) (m .label-after .ensures))
 
 mul-table : tie.Need-mul-table
 mul-table c =
-    let h = own-in (c .before .before .before .before .before .before .before .before .before .before .before .before .before .before .before .before .before) in
+    let h = own-in (c .before .before .before .before .before .before .before .before .before .before .before .before .before .before .before .before) in
     search needs
 
 array-set-from-table : tie.Need-array-set-from-table
 array-set-from-table c =
-    let h = own-in (c .before .before .before .before .before .before .before .before .before .before .before .before .before .before .before .before .before) in
+    let h = own-in (c .before .before .before .before .before .before .before .before .before .before .before .before .before .before .before .before) in
     search needs
 
 lane-with-requires : tie.Need-lane-with-requires
@@ -132,19 +141,19 @@ lane-with-requires c κs = search needs
 
 mul-left : tie.Need-mul-left
 mul-left c =
-    let h = own-in (c .before .before .before .before .before .before .before .before .before .before .before .before .before .before .before .before .before .before) in
+    let h = own-in (c .before .before .before .before .before .before .before .before .before .before .before .before .before .before .before .before .before) in
     search needs
 
 array-set-from-left : tie.Need-array-set-from-left
 array-set-from-left c =
-    let h = own-in (c .before .before .before .before .before .before .before .before .before .before .before .before .before .before .before .before .before .before) in
+    let h = own-in (c .before .before .before .before .before .before .before .before .before .before .before .before .before .before .before .before .before) in
     search needs
 
 returns : tie.Need-returns
 unfolding cellOf
 returns c =
     let o = c .before in
-    let m = o .before .before .before .before in
+    let m = o .before .before .before in
     let u = m .before .before in
     let g = u .before in
     let y = g .before in
@@ -163,10 +172,10 @@ returns c =
     ∙ fill-if (e .all-acked .result) (s .n) (λ j. eqb j (s .own)) (s .acked) in
     turn-made s (d .air .result .aired) (e .all-acked .result) (t .starts-edit .result) (d .air .result .row) (d .air .result .left)
     (q .next-edit .result) (z .waiting-count .result) (b .started-body .result) (y .body-of .result) (g .body-of2 .result) (w .waiting-after .result) (k .only-own .result)
-    (u .count-after .result) (m .label-after .result) (o .over .result) (c .lane-with .result)
+    (u .count-after .result) (m .label-after .result) (o .pack-over .result) (c .lane-with .result)
     (step-aired s (d .air .result) (d .air .ensures)) (ended e) (step-row s (d .air .result) (d .air .ensures)) (step-left s (d .air .result) (d .air .ensures))
     (q .next-edit .ensures) (z .waiting-count .ensures) (b .started-body .ensures) (t .starts-edit .ensures) (w .waiting-after .ensures)
-    kept (y .body-of .ensures) (g .body-of2 .ensures) (u .count-after .ensures) (m .label-after .ensures) (o .over .ensures) (c .lane-with .ensures)
+    kept (y .body-of .ensures) (g .body-of2 .ensures) (u .count-after .ensures) (m .label-after .ensures) (o .pack-over .ensures) (c .lane-with .ensures)
 
 pub take-turn-spec : {M : Type 1} → statement M
 take-turn-spec =
@@ -188,11 +197,11 @@ take-turn-spec =
     count-after-requires
     array-read-label-after
     label-after-requires
-    array-write-marks
+    array-write-labels
     mul-last
     array-copy-out-last
-    over-requires
-    cast-t39
+    cast-t37
+    pack-over-requires
     mul-table
     array-set-from-table
     lane-with-requires

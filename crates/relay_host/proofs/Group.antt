@@ -1,0 +1,178 @@
+-- The calls on a group that lies as bytes, return by return: what is refused leaves every buffer, and what is done leaves the encoding of what the call's definition gives.
+use mathlib.Core.Path.{_≡_, refl, sym, ap, _∙_}
+use mathlib.Core.Bool.{true, false}
+use mathlib.Core.List.{List}
+use Prim.Native.Nat.{ℕ, _+_, _*_, _<_, _≤_}
+use native.Mathlib.Numerals.{add-one}
+use native.Mathlib.Omega.{arith}
+use lib.Dec.{eqb}
+use lib.ListN.{getD, length, replicate, set}
+use lib.Seq.{sets}
+use borrow.Author.Tests.{eqb-true}
+use Rattle.kinds.specs.declared.Body.{Body}
+use Rattle.kinds.specs.Refusals.{done, outsideLimits, shortBuffer}
+use Rattle.places.specs.Places.{allBelow, fill, tabulate}
+use Rattle.places.proofs.Laws.{and-left}
+use Rattle.planning_spec.specs.Merge.{frontWritten}
+use Rattle.station_rules.specs.declared.Station.{Station}
+use Rattle.group_rules.specs.declared.Post.{Post}
+use Rattle.group_rules.specs.declared.KeptGroup.{KeptGroup}
+use Rattle.group_rules.specs.declared.RoundDone.{RoundDone}
+use Rattle.group_rules.specs.Calls.{groupPostCall, roundCall}
+use Rattle.station_bytes_spec.specs.Station.{stationWidth, isStationAt}
+use Rattle.station_bytes_spec.specs.Group.{groupWidth, encodeGroup, decodeGroup, isGroup}
+use Rattle.station_bytes_spec.specs.Reports.{reportsWidth, encodeReports}
+use Rattle.station_bytes_spec.proofs.Bytes.{filled}
+use Rattle.station_bytes_spec.proofs.Group.{length-group}
+use Rattle.station_bytes_spec.proofs.Reports.{length-reports}
+use Rattle.relay_host.specs.Station.{orElse, roomRefusal}
+use Rattle.relay_host.specs.Group.{groupFreshAnswer, groupFreshReturned, groupPostAnswer, groupPostReturned, sixteenMasks, roundAnswer, roundReturned}
+use Rattle.relay_host.proofs.Refusals.{first-refused, first-done, state-refused, state-taken, no-room, room, kept-whole, front-made, refused-is-2, short-is-9}
+
+-- ---- fresh
+
+module _ (n : ℕ) (state : List ℕ) (k : KeptGroup) (call : k ≡ groupFreshAnswer n) where
+  pub fresh-refused :
+      (k .refusal ≡ done → ⊥) → (k .refusal ≡ groupFreshReturned n state) × (state ≡ frontWritten (k .refusal) (encodeGroup (groupFreshAnswer n .group)) state)
+  unfolding groupFreshReturned
+  fresh-refused d =
+      let e = ap (λ (x : KeptGroup). x .refusal) call in
+      (e ∙ first-refused _ _ (λ z. d (e ∙ z)), kept-whole _ _ state d)
+
+  module _ (fine : k .refusal ≡ done) where
+    fresh-fine : (groupFreshAnswer n) .refusal ≡ done
+    fresh-fine = ap (λ (x : KeptGroup). x .refusal) (sym call) ∙ fine
+
+    pub fresh-short :
+        length state < groupWidth → (shortBuffer ≡ groupFreshReturned n state) × (state ≡ frontWritten shortBuffer (encodeGroup (groupFreshAnswer n .group)) state)
+    unfolding groupFreshReturned
+    fresh-short h = (no-room groupWidth state h ∙ first-done _ _ fresh-fine, kept-whole _ _ state short-is-9)
+
+    pub fresh-done :
+        groupWidth ≤ length state → (l : List ℕ) → l ≡ sets state 0 (encodeGroup (k .group)) →
+        (done ≡ groupFreshReturned n state) × (l ≡ frontWritten done (encodeGroup (groupFreshAnswer n .group)) state)
+    unfolding groupFreshReturned
+    fresh-done h l made =
+        let g = groupFreshAnswer n .group in (
+          room groupWidth state h ∙ first-done _ _ fresh-fine,
+          front-made (encodeGroup g) state l (omega (arith, length-group g)) (made ∙ ap (λ (x : KeptGroup). sets state 0 (encodeGroup (x .group))) call),
+        )
+
+-- ---- bytes that are no group
+
+pub group-long : (b : List ℕ) → isGroup b ≡ true → length b ≡ groupWidth
+unfolding isGroup
+group-long b h = eqb-true (length b) groupWidth (and-left (eqb (length b) groupWidth) (allBelow 16 (λ k. isStationAt b (stationWidth * k))) h)
+
+module _ (b : List ℕ) (h : isGroup b ≡ false) where
+  pub post-no-group :
+      (station : ℕ) (body : Body) →
+      (outsideLimits ≡ groupPostReturned b station body) × (b ≡ frontWritten outsideLimits (encodeGroup (groupPostAnswer b station body .group)) b)
+  unfolding groupPostReturned
+  post-no-group station body = (state-refused (isGroup b) _ h, kept-whole _ _ b refused-is-2)
+
+  pub round-no-group :
+      (masks reports : List ℕ) →
+      (outsideLimits ≡ roundReturned b masks reports) × (b ≡ frontWritten outsideLimits (encodeGroup (roundAnswer b masks .group)) b)
+      × (reports ≡ frontWritten outsideLimits (encodeReports (roundAnswer b masks .reports)) reports)
+  unfolding roundReturned
+  round-no-group masks reports = (state-refused (isGroup b) _ h, kept-whole _ _ b refused-is-2, kept-whole _ _ reports refused-is-2)
+
+-- ---- bytes that are a group
+
+module _ (b : List ℕ) (h : isGroup b ≡ true) (g : List Station) (read : g ≡ decodeGroup b) where
+  -- the group written over its own bytes
+  state-made : (t : List Station) (l : List ℕ) → l ≡ sets b 0 (encodeGroup t) → l ≡ frontWritten done (encodeGroup t) b
+  state-made t l made = front-made (encodeGroup t) b l (omega (arith, length-group t, group-long b h)) made
+
+  -- post
+  module _ (station : ℕ) (body : Body) (k : KeptGroup) (call : k ≡ groupPostCall g (record { station = station; body = body })) where
+    post-is : k ≡ groupPostAnswer b station body
+    post-is = call ∙ ap (λ (t : List Station). groupPostCall t (record { station = station; body = body })) read
+
+    pub post-refused :
+        (k .refusal ≡ done → ⊥) →
+        (k .refusal ≡ groupPostReturned b station body) × (b ≡ frontWritten (k .refusal) (encodeGroup (groupPostAnswer b station body .group)) b)
+    unfolding groupPostReturned
+    post-refused d = (ap (λ (x : KeptGroup). x .refusal) post-is ∙ state-taken (isGroup b) _ h, kept-whole _ _ b d)
+
+    pub post-done :
+        k .refusal ≡ done → (l : List ℕ) → l ≡ sets b 0 (encodeGroup (k .group)) →
+        (done ≡ groupPostReturned b station body) × (l ≡ frontWritten done (encodeGroup (groupPostAnswer b station body .group)) b)
+    unfolding groupPostReturned
+    post-done fine l made = (
+      sym fine ∙ ap (λ (x : KeptGroup). x .refusal) post-is ∙ state-taken (isGroup b) _ h,
+      state-made (groupPostAnswer b station body .group) l (made ∙ ap (λ (x : KeptGroup). sets b 0 (encodeGroup (x .group))) post-is),
+    )
+
+  -- round
+  module _ (masks reports sixteen : List ℕ) (all : sixteen ≡ sixteenMasks masks) (k : RoundDone) (call : k ≡ roundCall g sixteen) where
+    round-is : k ≡ roundAnswer b masks
+    round-is = call ∙ (λ i. roundCall (read i) (all i))
+
+    pub round-refused :
+        (k .refusal ≡ done → ⊥) →
+        (k .refusal ≡ roundReturned b masks reports) × (b ≡ frontWritten (k .refusal) (encodeGroup (roundAnswer b masks .group)) b)
+        × (reports ≡ frontWritten (k .refusal) (encodeReports (roundAnswer b masks .reports)) reports)
+    unfolding roundReturned
+    round-refused d =
+        let e = ap (λ (x : RoundDone). x .refusal) round-is in
+        (e ∙ first-refused _ _ (λ z. d (e ∙ z)) ∙ state-taken (isGroup b) _ h, kept-whole _ _ b d, kept-whole _ _ reports d)
+
+    module _ (fine : k .refusal ≡ done) where
+      round-fine : (roundAnswer b masks) .refusal ≡ done
+      round-fine = ap (λ (x : RoundDone). x .refusal) (sym round-is) ∙ fine
+
+      pub round-few :
+          length masks < 16 →
+          (shortBuffer ≡ roundReturned b masks reports) × (b ≡ frontWritten shortBuffer (encodeGroup (roundAnswer b masks .group)) b)
+          × (reports ≡ frontWritten shortBuffer (encodeReports (roundAnswer b masks .reports)) reports)
+      unfolding roundReturned
+      round-few few =
+          let short = no-room 16 masks few in (
+            short ∙ first-refused _ _ (λ z. short-is-9 (short ∙ z)) ∙ first-done _ _ round-fine ∙ state-taken (isGroup b) _ h,
+            kept-whole _ _ b short-is-9,
+            kept-whole _ _ reports short-is-9,
+          )
+
+      module _ (enough : 16 ≤ length masks) where
+        pub round-short :
+            length reports < reportsWidth →
+            (shortBuffer ≡ roundReturned b masks reports) × (b ≡ frontWritten shortBuffer (encodeGroup (roundAnswer b masks .group)) b)
+            × (reports ≡ frontWritten shortBuffer (encodeReports (roundAnswer b masks .reports)) reports)
+        unfolding roundReturned
+        round-short few = (
+          no-room reportsWidth reports few ∙ first-done _ _ (sym (room 16 masks enough)) ∙ first-done _ _ round-fine ∙ state-taken (isGroup b) _ h,
+          kept-whole _ _ b short-is-9,
+          kept-whole _ _ reports short-is-9,
+        )
+
+        pub round-done :
+            reportsWidth ≤ length reports → (l m : List ℕ) → l ≡ sets b 0 (encodeGroup (k .group)) → m ≡ sets reports 0 (encodeReports (k .reports)) →
+            (done ≡ roundReturned b masks reports) × (l ≡ frontWritten done (encodeGroup (roundAnswer b masks .group)) b)
+            × (m ≡ frontWritten done (encodeReports (roundAnswer b masks .reports)) reports)
+        unfolding roundReturned
+        round-done wide l m made told =
+            let a = roundAnswer b masks in (
+              room reportsWidth reports wide ∙ first-done _ _ (sym (room 16 masks enough)) ∙ first-done _ _ round-fine ∙ state-taken (isGroup b) _ h,
+              state-made (a .group) l (made ∙ ap (λ (x : RoundDone). sets b 0 (encodeGroup (x .group))) round-is),
+              front-made (encodeReports (a .reports)) reports m (omega (arith, length-reports (a .reports)))
+                  (told ∙ ap (λ (x : RoundDone). sets reports 0 (encodeReports (x .reports))) round-is),
+            )
+
+-- ---- sixteen masks
+
+pub masks-none : (masks : List ℕ) → replicate 16 0 ≡ fill 0 (λ k. getD masks k 0) (replicate 16 0)
+unfolding fill
+masks-none masks = refl
+
+pub masks-next :
+    (masks m : List ℕ) (k x : ℕ) → x ≡ getD masks k 0 → m ≡ fill k (λ j. getD masks j 0) (replicate 16 0) →
+    set m k x ≡ fill (k + 1) (λ j. getD masks j 0) (replicate 16 0)
+unfolding fill
+masks-next masks m k x e h = rw (add-one k, h, e)
+
+pub masks-all : (masks m : List ℕ) (k : ℕ) → k ≡ 16 → m ≡ fill k (λ j. getD masks j 0) (replicate 16 0) → m ≡ sixteenMasks masks
+unfolding sixteenMasks
+masks-all masks m k e h =
+    h ∙ ap (λ (n : ℕ). fill n (λ j. getD masks j 0) (replicate 16 0)) e ∙ filled 16 (λ j. getD masks j 0) (replicate 16 0) 0 refl

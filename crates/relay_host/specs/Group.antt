@@ -1,0 +1,46 @@
+-- What the calls on a group that lies as bytes return and write. Each is the group's call of document 01 on the decoded group: bytes that are no group are refused with 2
+-- as a group outside its limits is, and a lent buffer that is too short is refused last.
+use Prim.Native.Nat.{ℕ}
+use mathlib.Core.Bool.{not}
+use mathlib.Core.List.{List}
+use lib.ListN.{getD}
+use Rattle.kinds.specs.declared.Body.{Body}
+use Rattle.kinds.specs.Refusals.{done, outsideLimits, refuse}
+use Rattle.places.specs.Places.{tabulate}
+use Rattle.group_rules.specs.declared.KeptGroup.{KeptGroup}
+use Rattle.group_rules.specs.declared.RoundDone.{RoundDone}
+use Rattle.group_rules.specs.Calls.{groupFreshCall, groupPostCall, roundCall}
+use Rattle.station_bytes_spec.specs.Group.{groupWidth, decodeGroup, isGroup}
+use Rattle.station_bytes_spec.specs.Reports.{reportsWidth}
+use Rattle.relay_host.specs.Station.{orElse, roomRefusal}
+
+-- 2: the bytes are no group
+abbrev pub groupRefusal : List ℕ → ℕ
+groupRefusal b = refuse (not (isGroup b)) outsideLimits done
+
+-- group fresh: 1, 9
+abbrev pub groupFreshAnswer : ℕ → KeptGroup
+groupFreshAnswer n = groupFreshCall (record { n = n })
+
+unfoldable pub groupFreshReturned : ℕ → List ℕ → ℕ
+groupFreshReturned n state = orElse ((groupFreshAnswer n) .refusal) (roomRefusal groupWidth state)
+
+-- group post: 2, 1, 4, 3
+abbrev pub groupPostAnswer : List ℕ → ℕ → Body → KeptGroup
+groupPostAnswer state station body = groupPostCall (decodeGroup state) (record { station = station; body = body })
+
+unfoldable pub groupPostReturned : List ℕ → ℕ → Body → ℕ
+groupPostReturned state station body = orElse (groupRefusal state) ((groupPostAnswer state station body) .refusal)
+
+-- sixteen masks; those that are not there count as 0
+unfoldable pub sixteenMasks : List ℕ → List ℕ
+sixteenMasks masks = tabulate 16 (λ k. getD masks k 0)
+
+-- round: 2, 10, 8, 9
+abbrev pub roundAnswer : List ℕ → List ℕ → RoundDone
+roundAnswer state masks = roundCall (decodeGroup state) (sixteenMasks masks)
+
+unfoldable pub roundReturned : List ℕ → List ℕ → List ℕ → ℕ
+roundReturned state masks reports =
+    orElse (groupRefusal state)
+    (orElse ((roundAnswer state masks) .refusal) (orElse (roomRefusal 16 masks) (roomRefusal reportsWidth reports)))

@@ -1,0 +1,74 @@
+-- What the calls on a station that lies as bytes return and write. Each is the station's call of document 01 on the decoded station: bytes that are no station are
+-- refused with 2 as a station outside its limits is, and a lent buffer that is too short is refused last.
+use Prim.Native.Nat.{ℕ}
+use mathlib.Core.Bool.{cond, not}
+use mathlib.Core.List.{List, [], _∷_}
+use lib.Dec.{eqb, ltb}
+use lib.IntN.{ℤ}
+use lib.ListN.{length}
+use Rattle.kinds.specs.declared.Body.{Body}
+use Rattle.kinds.specs.declared.Body.the-variants.{Empty}
+use Rattle.kinds.specs.Body.{bodyOf}
+use Rattle.kinds.specs.Refusals.{done, outsideLimits, shortBuffer, refuse}
+use Rattle.kind_limits.specs.Limits.{numbersInside}
+use Rattle.station_rules.specs.declared.Kept.{Kept}
+use Rattle.station_rules.specs.declared.Heard.{Heard}
+use Rattle.station_rules.specs.declared.Turned.{Turned}
+use Rattle.station_rules.specs.declared.Station.{Station}
+use Rattle.station_rules.specs.Calls.{freshCall, postCall, writeCall, hearCall, turnCall}
+use Rattle.station_bytes_spec.specs.Station.{stationWidth, decodeStation, isStation}
+use Rattle.station_bytes_spec.specs.Reports.{turnWidth}
+
+-- the first refusal, or else the next
+abbrev pub orElse : ℕ → ℕ → ℕ
+orElse first next = cond (eqb first done) next first
+
+-- 9: a lent buffer has not so many places
+abbrev pub roomRefusal : ℕ → List ℕ → ℕ
+roomRefusal room buffer = refuse (ltb (length buffer) room) shortBuffer done
+
+-- 2: the bytes are no station
+abbrev pub stationRefusal : List ℕ → ℕ
+stationRefusal b = refuse (not (isStation b)) outsideLimits done
+
+-- the station that bytes are
+abbrev pub stationOf : List ℕ → Station
+stationOf b = decodeStation b 0
+
+-- the body that three numbers name: Empty, which is no edit, where they are the numbers of none inside its limits
+unfoldable pub namedBody : ℕ → ℕ → ℤ → Body
+namedBody kind event argument = cond (numbersInside kind event argument) (bodyOf kind event argument) Empty
+
+-- fresh: 1, 9
+abbrev pub freshAnswer : ℕ → ℕ → Kept
+freshAnswer n own = freshCall (record { n = n }) own
+
+unfoldable pub freshReturned : ℕ → ℕ → List ℕ → ℕ
+freshReturned n own state = orElse ((freshAnswer n own) .refusal) (roomRefusal stationWidth state)
+
+-- post: 2, 4, 3
+abbrev pub postAnswer : List ℕ → Body → Kept
+postAnswer state body = postCall (stationOf state) body
+
+unfoldable pub postReturned : List ℕ → Body → ℕ
+postReturned state body = orElse (stationRefusal state) ((postAnswer state body) .refusal)
+
+-- write: 2, 10, 9
+unfoldable pub writeReturned : List ℕ → List ℕ → List ℕ → ℕ
+writeReturned state frame lengths =
+    orElse (stationRefusal state) (orElse ((writeCall (stationOf state) (length frame)) .refusal) (roomRefusal 1 lengths))
+
+-- hear: 2, 5, 6, 7, 8, 9
+abbrev pub hearAnswer : List ℕ → List ℕ → Heard
+hearAnswer state frame = hearCall (stationOf state) frame
+
+unfoldable pub hearReturned : List ℕ → List ℕ → List ℕ → ℕ
+hearReturned state frame taken =
+    orElse (stationRefusal state) (orElse ((hearAnswer state frame) .refusal) (roomRefusal 16 taken))
+
+-- turn: 2, 9
+abbrev pub turnAnswer : List ℕ → Turned
+turnAnswer state = turnCall (stationOf state)
+
+unfoldable pub turnReturned : List ℕ → List ℕ → ℕ
+turnReturned state report = orElse (stationRefusal state) (orElse ((turnAnswer state) .refusal) (roomRefusal turnWidth report))

@@ -1,0 +1,150 @@
+-- Calls on bytes one after the other. What a call that is done leaves is accepted by the next call, and decoded to just the station that the call gave; so calls on bytes are the calls of document 01, one after the other, on the
+-- station itself, and a state that the library made is never refused with 2.
+use mathlib.Core.Path.{_≡_, refl, sym, ap, subst, _∙_}
+use mathlib.Core.Bool.{Bool, true, false, cond, not, _&&_, false≢true}
+use mathlib.Core.List.{List}
+use Prim.Native.Nat.{ℕ, _<_, _≤_}
+use native.Mathlib.Omega.{arith}
+use lib.Dec.{eqb}
+use lib.ListN.{getD}
+use borrow.Author.Tests.{eqb-true, eq-eqb, ne-eqb}
+use Rattle.kinds.specs.declared.Body.{Body}
+use Rattle.kinds.specs.Refusals.{done, outsideLimits, refuse}
+use Rattle.kind_limits.specs.Limits.{postable}
+use Rattle.frame_rules.specs.Frame.{frameRefusal, recordsOf, recordsInside, shapeWrong, addressWrong}
+use Rattle.lanes.specs.Waiting.{hasRoom}
+use Rattle.station_rules.specs.declared.Setup.{Setup}
+use Rattle.station_rules.specs.declared.Station.{Station}
+use Rattle.station_rules.specs.declared.Heard.{Heard}
+use Rattle.station_rules.specs.declared.Turned.{Turned}
+use Rattle.station_rules.specs.declared.Kept.{Kept}
+use Rattle.station_rules.specs.Limits.{stationInside}
+use Rattle.station_rules.specs.Hearing.{Hearing, silent, hearFrame}
+use Rattle.station_rules.specs.Turn.{afterTurn}
+use Rattle.station_rules.specs.Calls.{postRefusal, posted, postCall, hearCall, turnCall}
+use Rattle.station_rules.proofs.Setters.{Shaped}
+use Rattle.station_rules.proofs.Shape.{posted-shaped}
+use Rattle.station_rules.proofs.StationLimits.{inside-open}
+use Rattle.station_rules.proofs.LimitsTurn.{turn-inside}
+use Rattle.station_rules.proofs.LimitsCalls.{frame-carried, post-call-inside, turn-call-inside, hear-call-inside}
+use Rattle.station_bytes_spec.specs.Station.{encodeStation, decodeStation, isStation}
+use Rattle.station_bytes_spec.proofs.Bytes.{AllBytes}
+use Rattle.station_bytes_spec.proofs.Body.{BodyFits}
+use Rattle.station_bytes_spec.proofs.Inside.{Typed, inside-decoded, inside-accepted}
+use Rattle.station_bytes_runs.proofs.Bodies.{edit-fits}
+use Rattle.station_bytes_runs.proofs.Typed.{Fitting, posted-fitting, turn-fitting, turn-shaped, Keeps, frame-keeps}
+use Rattle.station_bytes_runs.proofs.Decoded.{station-fitting, station-shaped, frame-words, all-fit}
+
+-- a station that a call leaves: inside its limits, its bytes accepted, and decoded to it again
+pub record Again (s : Station) : Type 0 where
+  pub inside : stationInside s ≡ true
+  pub accepted : isStation (encodeStation s) ≡ true
+  pub decoded : decodeStation (encodeStation s) 0 ≡ s
+
+pub again : (s : Station) → Shaped s → Fitting s → stationInside s ≡ true → Again s
+again s shape f h =
+    let t : Typed s = record { shape = shape; body-typed = f .body; cell-typed = f .cells; edit-typed = λ i l. edit-fits (s .waiting) (f .edits) i } in
+    record { inside = h; accepted = inside-accepted s t h; decoded = inside-decoded s t h }
+
+-- what is refused with 2 first is inside where it is done
+inside-first : (t : Bool) (x : ℕ) → refuse (not t) outsideLimits x ≡ done → t ≡ true
+inside-first true x h = refl
+inside-first false x h = absurd (omega (arith, h))
+
+module _ (s : Station) (shape : Shaped s) (f : Fitting s) where
+  -- post
+  module _ (b : Body) (g : BodyFits b) (fine : (postCall s b) .refusal ≡ done) where
+    post-inside : stationInside s ≡ true
+    unfolding postCall
+    post-inside = inside-first (stationInside s) (postRefusal s b) fine
+
+    post-station : (postCall s b) .station ≡ posted s b
+    unfolding postCall
+    post-station = rw (eq-eqb _ done fine)
+
+    pub post-again : Again ((postCall s b) .station)
+    post-again =
+        again ((postCall s b) .station) (subst Shaped (sym post-station) (posted-shaped s b shape)) (subst Fitting (sym post-station) (posted-fitting s b f g))
+        (post-call-inside s shape post-inside b)
+
+  -- turn
+  module _ (fine : (turnCall s) .refusal ≡ done) where
+    turn-is : (stationInside s ≡ true) × ((turnCall s) .station ≡ afterTurn s)
+    unfolding turnCall
+    turn-is = go (stationInside s) refl
+      where
+        go : (t : Bool) → stationInside s ≡ t → (stationInside s ≡ true) × ((turnCall s) .station ≡ afterTurn s)
+        go true e = (e, rw e)
+        go false e = absurd (omega (arith, rw e at fine))
+
+    pub turn-again : Again ((turnCall s) .station)
+    turn-again =
+        again ((turnCall s) .station) (subst Shaped (sym (turn-is .1)) (turn-shaped s shape f (turn-is .0)))
+        (subst Fitting (sym (turn-is .1)) (turn-fitting s shape f (turn-is .0))) (turn-call-inside s shape (turn-is .0))
+
+  -- hear
+  module _ (bytes : List ℕ) (small : AllBytes bytes) (fine : (hearCall s bytes) .refusal ≡ done) where
+    heard : Hearing
+    heard = hearFrame (silent s) (recordsOf bytes)
+
+    hear-refusal : ℕ
+    hear-refusal =
+        refuse (not (stationInside s)) outsideLimits
+        (refuse (not (eqb (frameRefusal bytes (s .n) (s .own)) done)) (frameRefusal bytes (s .n) (s .own)) (heard .refusal))
+
+    hear-is : (hear-refusal ≡ done) × ((hearCall s bytes) .station ≡ heard .station)
+    unfolding hearCall hear-refusal heard
+    hear-is = go (eqb hear-refusal done) refl
+      where
+        go : (t : Bool) → eqb hear-refusal done ≡ t → (hear-refusal ≡ done) × ((hearCall s bytes) .station ≡ heard .station)
+        go true e = (eqb-true hear-refusal done e, rw e)
+        go false e = (rw e at fine, absurd (false≢true (sym e ∙ eq-eqb hear-refusal done (rw e at fine))))
+
+    hear-inside : stationInside s ≡ true
+    unfolding hear-refusal
+    hear-inside = inside-first (stationInside s) _ (hear-is .0)
+
+    frame-fine : frameRefusal bytes (s .n) (s .own) ≡ done
+    unfolding hear-refusal
+    frame-fine = go (eqb (frameRefusal bytes (s .n) (s .own)) done) refl
+      where
+        go : (t : Bool) → eqb (frameRefusal bytes (s .n) (s .own)) done ≡ t → frameRefusal bytes (s .n) (s .own) ≡ done
+        go true e = eqb-true _ done e
+        go false e = rw (hear-inside, e) at (hear-is .0)
+
+    records-fine : recordsInside bytes (s .n) ≡ true
+    unfolding frameRefusal
+    records-fine = go (shapeWrong bytes) (addressWrong bytes (s .n) (s .own)) (recordsInside bytes (s .n)) frame-fine
+      where
+        go : (a b c : Bool) → refuse a 5 (refuse b 6 (refuse (not c) 7 0)) ≡ 0 → c ≡ true
+        go false false true z = refl
+        go false false false z = absurd (omega (arith, z))
+        go false true c z = absurd (omega (arith, z))
+        go true b c z = absurd (omega (arith, z))
+
+    heard-keeps : Keeps (heard .station)
+    unfolding heard
+    heard-keeps =
+        let high = inside-open s hear-inside .high in
+        frame-keeps (silent s) (recordsOf bytes) (all-fit (s .n) high (recordsOf bytes) (frame-carried (s .n) bytes records-fine) (frame-words bytes small))
+        (record { shape = shape; fitting = f; size = high })
+
+    pub hear-again : Again ((hearCall s bytes) .station)
+    hear-again =
+        again ((hearCall s bytes) .station) (subst Shaped (sym (hear-is .1)) (heard-keeps .shape)) (subst Fitting (sym (hear-is .1)) (heard-keeps .fitting))
+        (hear-call-inside s shape hear-inside bytes)
+
+-- ---- the calls on bytes
+
+module _ (b : List ℕ) (small : AllBytes b) where
+  abbrev now : Station
+  now = decodeStation b 0
+
+  pub after-post : (body : Body) → BodyFits body → (postCall now body) .refusal ≡ done → Again ((postCall now body) .station)
+  after-post body g fine = post-again now (station-shaped b small 0) (station-fitting b small 0) body g fine
+
+  pub after-turn : (turnCall now) .refusal ≡ done → Again ((turnCall now) .station)
+  after-turn fine = turn-again now (station-shaped b small 0) (station-fitting b small 0) fine
+
+  pub after-hear : (frame : List ℕ) → AllBytes frame → (hearCall now frame) .refusal ≡ done → Again ((hearCall now frame) .station)
+  after-hear frame h fine = hear-again now (station-shaped b small 0) (station-fitting b small 0) frame h fine

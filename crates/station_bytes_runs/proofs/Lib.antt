@@ -1,0 +1,4 @@
+pub mod Bodies
+pub mod Typed
+pub mod Decoded
+pub mod Again

@@ -1,0 +1,7 @@
+pub mod Bytes
+pub mod Body
+pub mod Station
+pub mod Group
+pub mod Inside
+pub mod Reports
+pub mod Documented

@@ -1,0 +1,5 @@
+pub mod Bytes
+pub mod Body
+pub mod Station
+pub mod Group
+pub mod Reports

@@ -1,0 +1,21 @@
+-- `station_decoder::body_of_words` meets its contract: the third number is read back from its bits.
+use Rattle.station_decoder.proofs.Reading.{body-made}
+use borrow.Author.Needs.{needs}
+use Rattle.station_decoder.proofs.body_of_words.Statement.{statement}
+use Rattle.station_decoder.proofs.body_of_words.Tie as tie
+use Rattle.station_decoder.proofs.body_of_words.Reads as reads
+use Rattle.station_decoder.proofs.body_of_words.Lts as lts
+use Rattle.kinds.proofs.body_of.Reads as body-of-reads
+use Rattle.record_reader.proofs.signed.Reads as signed-reads
+
+signed-requires : tie.Need-signed-requires
+signed-requires c κs = search needs
+
+body-of-requires : tie.Need-body-of-requires
+body-of-requires c κs = search needs
+
+returns : tie.Need-returns
+returns c = body-made _ _ _ (c .before .signed .result) _ (record { sfits = c .before .signed .ok }) (c .body-of .ensures) (c .before .signed .ensures)
+
+pub body-of-words-spec : {M : Type 1} → statement M
+body-of-words-spec = tie.close (tie.spec signed-requires body-of-requires returns)

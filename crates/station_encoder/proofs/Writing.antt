@@ -1,0 +1,146 @@
+-- Writing from a place on: a write where the one before ended makes one longer write, so that every writer leaves the encoding of what it was given.
+use mathlib.Core.Path.{_≡_, refl, sym, ap, _∙_}
+use mathlib.Core.Bool.{Bool, cond}
+use mathlib.Core.List.{List, [], _∷_, _++_}
+use Prim.Native.Nat.{ℕ, _+_, _*_, _<_, _≤_}
+use native.Mathlib.Numerals.{add-one}
+use native.Mathlib.Nat.{zero-add}
+use native.Mathlib.Omega.{arith}
+use lib.IntN.{ℤ}
+use lib.ListN.{getD, set, length, length-append}
+use lib.Seq.{sets, length-sets}
+use mir.Syntax.{w32}
+use mir.Val.{SFits, toZ, ofZ}
+use mir.ValLaws.{toZ-ofZ}
+use Rattle.kinds.specs.declared.Body.{Body}
+use Rattle.kinds.specs.Body.{kindOf, eventOf, argumentOf}
+use Rattle.places.specs.Places.{tabulate}
+use Rattle.places.proofs.Laws.{length-tabulate}
+use Rattle.frame_rules.specs.Words.{wordBytes, unsigned}
+use Rattle.frame_rules.specs.declared.Record.{Record}
+use Rattle.lanes.specs.declared.Slot.{Slot}
+use Rattle.lanes.specs.declared.Lane.{Lane}
+use Rattle.lanes.specs.declared.Waiting.{Waiting}
+use Rattle.lanes.specs.Queue.{noSlot}
+use Rattle.lanes.specs.Waiting.{waitingCount, waitingAt}
+use Rattle.station_rules.specs.declared.Station.{Station}
+use Rattle.station_rules.specs.State.{Cell, cellOf}
+use Rattle.station_bytes_spec.specs.Bytes.{flagByte, asByte, joinedBelow}
+use Rattle.station_bytes_spec.specs.Body.{encodeBody, encodeRecord}
+use Rattle.station_bytes_spec.specs.Station.{cellWidth, encodeCell, encodeWaiting, cellsWidth, waitingPlace, encodeHead, encodeStation}
+use Rattle.station_bytes_spec.proofs.Bytes.{writes-meet, length-word, joined-long}
+use Rattle.station_bytes_spec.proofs.Body.{length-body}
+use Rattle.station_bytes_spec.proofs.Station.{length-cell}
+
+-- ---- one write after another
+
+module _ (l l₁ l₂ : List ℕ) (at : ℕ) where
+  pub written-more : (xs ys : List ℕ) (w : ℕ) → l₁ ≡ sets l at xs → length xs ≡ w → l₂ ≡ sets l₁ (at + w) ys → l₂ ≡ sets l at (xs ++ ys)
+  written-more xs ys w first long second = second ∙ ap (λ (r : List ℕ). sets r (at + w) ys) first ∙ writes-meet xs l ys at w long
+
+  -- one part more, of parts of one width
+  pub part-written :
+      (w k : ℕ) (part : ℕ → List ℕ) → ((j : ℕ) → length (part j) ≡ w) → l₁ ≡ sets l at (joinedBelow k part) → l₂ ≡ sets l₁ (at + w * k) (part k) →
+      l₂ ≡ sets l at (joinedBelow (k + 1) part)
+  unfolding joinedBelow
+  part-written w k part long first second =
+      written-more (joinedBelow k part) (part k) (w * k) first (joined-long k w part (λ j m. long j)) second
+      ∙ ap (λ (n : ℕ). sets l at (joinedBelow n part)) (sym (add-one k))
+
+-- one part more, of parts that begin at the front
+pub part-at-front :
+    (l l₁ l₂ : List ℕ) (w k : ℕ) (part : ℕ → List ℕ) → ((j : ℕ) → length (part j) ≡ w) → l₁ ≡ sets l 0 (joinedBelow k part) → l₂ ≡ sets l₁ (w * k) (part k) →
+    l₂ ≡ sets l 0 (joinedBelow (k + 1) part)
+part-at-front l l₁ l₂ w k part long first second =
+    part-written l l₁ l₂ 0 w k part long first (second ∙ ap (λ (at : ℕ). sets l₁ at (part k)) (sym (zero-add (w * k))))
+
+-- four writes, one behind the other
+pub four-written :
+    (l l₁ l₂ l₃ l₄ : List ℕ) (at : ℕ) (a b c d : List ℕ) (w₁ w₂ w₃ v₂ v₃ : ℕ) → length a ≡ w₁ → length b ≡ v₂ → length c ≡ v₃ → w₁ + v₂ ≡ w₂ → w₂ + v₃ ≡ w₃ →
+    l₁ ≡ sets l at a → l₂ ≡ sets l₁ (at + w₁) b → l₃ ≡ sets l₂ (at + w₂) c → l₄ ≡ sets l₃ (at + w₃) d → l₄ ≡ sets l at (a ++ b ++ c ++ d)
+four-written l l₁ l₂ l₃ l₄ at a b c d w₁ w₂ w₃ v₂ v₃ la lb lc e₂ e₃ s₁ s₂ s₃ s₄ =
+    let long₂ : length (a ++ b) ≡ w₂ = omega (arith, length-append a b) in
+    let long₃ : length (a ++ b ++ c) ≡ w₃ = omega (arith, length-append (a ++ b) c, long₂) in
+    let two = written-more l l₁ l₂ at a b w₁ s₁ la s₂ in
+    let three = written-more l l₂ l₃ at (a ++ b) c w₂ two long₂ s₃ in
+    written-more l l₃ l₄ at (a ++ b ++ c) d w₃ three long₃ s₄
+
+pub none-written : (l : List ℕ) (at : ℕ) (part : ℕ → List ℕ) → l ≡ sets l at (joinedBelow 0 part)
+unfolding joinedBelow
+none-written l at part = refl
+
+pub all-written :
+    (l l₁ : List ℕ) (at n k : ℕ) (part : ℕ → List ℕ) → k ≡ n → l₁ ≡ sets l at (joinedBelow k part) → l₁ ≡ sets l at (joinedBelow n part)
+all-written l l₁ at n k part e h = h ∙ ap (λ (j : ℕ). sets l at (joinedBelow j part)) e
+
+-- ---- the parts of a station
+
+module _ (l : List ℕ) (at : ℕ) where
+  pub body-written :
+      (b : Body) (k e : ℕ) (z : ℤ) (u : ℕ) (l₁ l₂ l₃ : List ℕ) → k ≡ kindOf b → e ≡ eventOf b → SFits w32 z → z ≡ argumentOf b →
+      u ≡ unsigned (toZ w32 (ofZ w32 z)) → l₁ ≡ sets l at (wordBytes k) → l₂ ≡ sets l₁ (at + 4) (wordBytes e) → l₃ ≡ sets l₂ (at + 8) (wordBytes u) →
+      l₃ ≡ sets l at (encodeBody b)
+  unfolding encodeBody
+  body-written b k e z u l₁ l₂ l₃ kind event f argument number s₁ s₂ s₃ =
+      let u-is : u ≡ unsigned (argumentOf b) = number ∙ ap unsigned (toZ-ofZ w32 z f ∙ argument) in
+      let two = written-more l l₁ l₂ at (wordBytes k) (wordBytes e) 4 s₁ (length-word k) s₂ in
+      let long : length (wordBytes k ++ wordBytes e) ≡ 8 = omega (arith, length-append (wordBytes k) (wordBytes e), length-word k, length-word e) in
+      written-more l l₂ l₃ at (wordBytes k ++ wordBytes e) (wordBytes u) 8 two long s₃
+      ∙ (λ i. sets l at (wordBytes (kind i) ++ wordBytes (event i) ++ wordBytes (u-is i)))
+
+  -- one entry more
+  pub entry-next :
+      (f : ℕ → ℕ) (l₁ : List ℕ) (i : ℕ) → l₁ ≡ sets l at (tabulate i f) → set l₁ (at + i) (f i) ≡ sets l at (tabulate (i + 1) f)
+  unfolding tabulate
+  entry-next f l₁ i h =
+      written-more l l₁ (set l₁ (at + i) (f i)) at (tabulate i f) (f i ∷ []) i h (length-tabulate i f) refl
+      ∙ ap (λ (n : ℕ). sets l at (tabulate n f)) (sym (add-one i))
+
+  pub entry-none : (f : ℕ → ℕ) → l ≡ sets l at (tabulate 0 f)
+  unfolding tabulate
+  entry-none f = refl
+
+  pub entries-written : (f : ℕ → ℕ) (l₁ : List ℕ) (n i : ℕ) → i ≡ n → l₁ ≡ sets l at (tabulate i f) → l₁ ≡ sets l at (tabulate n f)
+  entries-written f l₁ n i e h = h ∙ ap (λ (j : ℕ). sets l at (tabulate j f)) e
+
+  pub record-written :
+      (r : Record) (k e : ℕ) (z : ℤ) (u : ℕ) (l₁ l₂ l₃ l₄ : List ℕ) → k ≡ kindOf (r .body) → e ≡ eventOf (r .body) → SFits w32 z → z ≡ argumentOf (r .body) →
+      u ≡ unsigned (toZ w32 (ofZ w32 z)) → l₁ ≡ sets l at (r .station ∷ r .count ∷ k ∷ 0 ∷ []) → l₂ ≡ sets l₁ (at + 4) (wordBytes e) →
+      l₃ ≡ sets l₂ (at + 8) (wordBytes u) → l₄ ≡ sets l₃ (at + 12) (wordBytes (r .labels)) → l₄ ≡ sets l at (encodeRecord r)
+  unfolding encodeRecord
+  record-written r k e z u l₁ l₂ l₃ l₄ kind event f argument number s₁ s₂ s₃ s₄ =
+      let u-is : u ≡ unsigned (argumentOf (r .body)) = number ∙ ap unsigned (toZ-ofZ w32 z f ∙ argument) in
+      four-written l l₁ l₂ l₃ l₄ at (r .station ∷ r .count ∷ k ∷ 0 ∷ []) (wordBytes e) (wordBytes u) (wordBytes (r .labels)) 4 8 12 4 4 refl (length-word e) (length-word u)
+      refl refl s₁ s₂ s₃ s₄
+      ∙ (λ i. sets l at ((r .station ∷ r .count ∷ kind i ∷ 0 ∷ []) ++ wordBytes (event i) ++ wordBytes (u-is i) ++ wordBytes (r .labels)))
+
+  pub cell-written :
+      (c : Cell) (a h : ℕ) (l₁ l₂ l₃ l₄ : List ℕ) → a ≡ flagByte (c .acked) → h ≡ flagByte (c .held) → l₁ ≡ sets l at (a ∷ h ∷ c .label ∷ c .lane .len ∷ []) →
+      l₂ ≡ sets l₁ (at + 4) (encodeBody (c .lane .first)) → l₃ ≡ sets l₂ (at + 16) (encodeBody (c .lane .second)) →
+      l₄ ≡ sets l₃ (at + 28) (encodeRecord (c .entry)) → l₄ ≡ sets l at (encodeCell c)
+  unfolding encodeCell
+  cell-written c a h l₁ l₂ l₃ l₄ acked held s₁ s₂ s₃ s₄ =
+      four-written l l₁ l₂ l₃ l₄ at (a ∷ h ∷ c .label ∷ c .lane .len ∷ []) (encodeBody (c .lane .first)) (encodeBody (c .lane .second)) (encodeRecord (c .entry)) 4 16 28 12 12
+      refl (length-body (c .lane .first)) (length-body (c .lane .second)) refl refl s₁ s₂ s₃ s₄
+      ∙ (λ i. sets l at ((acked i ∷ held i ∷ c .label ∷ c .lane .len ∷ []) ++ encodeBody (c .lane .first) ++ encodeBody (c .lane .second) ++ encodeRecord (c .entry)))
+
+  pub station-written :
+      (s : Station) (n own : ℕ) (l₁ l₂ l₃ l₄ : List ℕ) → n ≡ asByte (s .n) → own ≡ asByte (s .own) → l₁ ≡ sets l at (n ∷ own ∷ s .count ∷ 0 ∷ []) →
+      l₂ ≡ sets l₁ (at + 4) (encodeBody (s .body)) → l₃ ≡ sets l₂ (at + 16) (joinedBelow 16 (λ k. encodeCell (cellOf s k))) →
+      l₄ ≡ sets l₃ (at + waitingPlace) (encodeWaiting (s .waiting)) → l₄ ≡ sets l at (encodeStation s)
+  unfolding encodeStation encodeHead
+  station-written s n own l₁ l₂ l₃ l₄ en eo s₁ s₂ s₃ s₄ =
+      let cells = joinedBelow 16 (λ k. encodeCell (cellOf s k)) in
+      four-written l l₁ l₂ l₃ l₄ at (n ∷ own ∷ s .count ∷ 0 ∷ []) (encodeBody (s .body)) cells (encodeWaiting (s .waiting)) 4 16 waitingPlace 12 cellsWidth refl
+      (length-body (s .body)) (joined-long 16 cellWidth (λ k. encodeCell (cellOf s k)) (λ k m. length-cell (cellOf s k))) refl refl s₁ s₂ s₃ s₄
+      ∙ (λ i. sets l at ((en i ∷ eo i ∷ s .count ∷ 0 ∷ []) ++ encodeBody (s .body) ++ cells ++ encodeWaiting (s .waiting)))
+
+  -- the waiting edits: their number, and then the bodies
+  pub waiting-written :
+      (w : Waiting) (c : ℕ) (l₁ l₂ : List ℕ) (i : ℕ) → c ≡ asByte (w .queue .len) → i ≡ 32 → l₁ ≡ sets l at (wordBytes c) →
+      l₂ ≡ sets l₁ (at + 4) (joinedBelow i (λ j. encodeBody ((getD (w .queue .slots) j noSlot) .body))) → l₂ ≡ sets l at (encodeWaiting w)
+  unfolding encodeWaiting waitingCount waitingAt
+  waiting-written w c l₁ l₂ i count e first second =
+      let edits : ℕ → List ℕ = λ j. encodeBody ((getD (w .queue .slots) j noSlot) .body) in
+      written-more l l₁ l₂ at (wordBytes c) (joinedBelow 32 edits) 4 first (length-word c) (all-written l₁ l₂ (at + 4) 32 i edits e second)
+      ∙ ap (λ (x : ℕ). sets l at (wordBytes x ++ joinedBelow 32 edits)) count

@@ -1,0 +1,173 @@
+// Stations and groups written as bytes, from a place on; all other bytes are kept.
+
+ghost use mathlib.Core.Path.{_≡_};
+ghost use mathlib.Core.List.{[], _∷_};
+ghost use Prim.Native.Nat.{_+_, _≤_};
+ghost use lib.ListN.{length};
+ghost use lib.Seq.{sets};
+ghost use Rattle.station_rules.specs.State.{cellOf};
+ghost use Rattle.station_bytes_spec.specs.Bytes.{flagByte, asByte, joinedBelow};
+ghost use Rattle.station_bytes_spec.specs.Body.{encodeBody, recordWidth, encodeRecord};
+ghost use Rattle.station_bytes_spec.specs.Station.{cellWidth, encodeCell, waitingWidth, encodeWaiting, cellsWidth, stationWidth, encodeHead, encodeStation};
+ghost use Rattle.station_bytes_spec.specs.Group.{groupWidth, encodeGroup};
+use frame_rules::Record;
+use kinds::Body;
+use lanes::Lane;
+use lanes::Waiting;
+use record_writer::put_word;
+use station_rules::Station;
+
+const BODY_WIDTH: usize = 12;
+
+const CELL_WIDTH: usize = 44;
+
+const WAITING_PLACE: usize = 720;
+
+const STATION_WIDTH: usize = 1108;
+
+// A flag as a byte.
+pub fn flag_byte(flag: bool) -> u8
+    ensures { λ r. ⌜ r ≡ flagByte flag ⌝ }
+{
+    if flag { 1 } else { 0 }
+}
+
+// A number as a byte, 255 for all greater ones.
+pub fn as_byte(number: usize) -> u8
+    ensures { λ r. ⌜ r ≡ asByte number ⌝ }
+{
+    if number < 256 { number as u8 } else { 255 }
+}
+
+// Four bytes, put at a place.
+pub fn put_four(bytes: &mut [u8], at: usize, a: u8, b: u8, c: u8, d: u8)
+    requires { ⌜ at + 4 ≤ length (now bytes) ⌝ }
+    ensures { λ _. ⌜ now (bytes .exit) ≡ sets (now (bytes .entry)) at (a ∷ b ∷ c ∷ d ∷ []) ⌝ }
+{
+    bytes[at] = a;
+    bytes[at + 1] = b;
+    bytes[at + 2] = c;
+    bytes[at + 3] = d;
+}
+
+// A body, put at a place.
+pub fn put_body(bytes: &mut [u8], at: usize, body: Body)
+    requires { ⌜ at + 12 ≤ length (now bytes) ⌝ }
+    ensures { λ _. ⌜ now (bytes .exit) ≡ sets (now (bytes .entry)) at (encodeBody body) ⌝ }
+{
+    put_word(bytes, at, kinds::kind_of(body));
+    put_word(bytes, at + 4, kinds::event_of(body));
+    put_word(
+        bytes,
+        at + 8,
+        record_writer::unsigned(kinds::argument_of(body)),
+    );
+}
+
+// A record, put at a place.
+fn put_record(bytes: &mut [u8], at: usize, r: Record)
+    requires { ⌜ at + recordWidth ≤ length (now bytes) ⌝ }
+    ensures { λ _. ⌜ now (bytes .exit) ≡ sets (now (bytes .entry)) at (encodeRecord r) ⌝ }
+{
+    let body = r.body;
+    put_four(bytes, at, r.station, r.count, kinds::kind_of(body) as u8, 0);
+    put_word(bytes, at + 4, kinds::event_of(body));
+    put_word(
+        bytes,
+        at + 8,
+        record_writer::unsigned(kinds::argument_of(body)),
+    );
+    put_word(bytes, at + 12, r.labels);
+}
+
+// What a station has of one station, put at a place.
+fn put_cell(
+    bytes: &mut [u8],
+    at: usize,
+    acked: bool,
+    held: bool,
+    label: u8,
+    lane: Lane,
+    entry: Record,
+)
+    requires { ⌜ at + cellWidth ≤ length (now bytes) ⌝ }
+    ensures { λ _. ⌜ now (bytes .exit) ≡ sets (now (bytes .entry)) at
+        (encodeCell (record { label = label; acked = acked; held = held; entry = entry; lane = lane })) ⌝ }
+{
+    let first = lane.first;
+    let second = lane.second;
+    put_four(
+        bytes,
+        at,
+        flag_byte(acked),
+        flag_byte(held),
+        label,
+        lane.len,
+    );
+    put_body(bytes, at + 4, first);
+    put_body(bytes, at + 16, second);
+    put_record(bytes, at + 28, entry);
+}
+
+// The sixteen cells of a station, put from a place on.
+fn put_cells(bytes: &mut [u8], at: usize, s: Station)
+    requires { ⌜ at + cellsWidth ≤ length (now bytes) ⌝ }
+    ensures { λ _. ⌜ now (bytes .exit)
+        ≡ sets (now (bytes .entry)) at (joinedBelow 16 (λ k. encodeCell (cellOf s k))) ⌝ }
+{
+    let mut k: usize = 0;
+    while k < 16 {
+        put_cell(
+            bytes,
+            at + CELL_WIDTH * k,
+            s.acked[k],
+            s.held[k],
+            s.labels[k],
+            s.lanes[k],
+            s.table[k],
+        );
+        k += 1;
+    }
+}
+
+// The waiting edits, put at a place.
+fn put_waiting(bytes: &mut [u8], at: usize, waiting: Waiting)
+    requires { ⌜ at + waitingWidth ≤ length (now bytes) ⌝ }
+    ensures { λ _. ⌜ now (bytes .exit) ≡ sets (now (bytes .entry)) at (encodeWaiting waiting) ⌝ }
+{
+    let queue = waiting.queue;
+    let slots = queue.slots;
+    put_word(bytes, at, as_byte(queue.len) as u32);
+    let mut i: usize = 0;
+    while i < 32 {
+        let slot = slots[i];
+        let body = slot.body;
+        put_body(bytes, at + 4 + BODY_WIDTH * i, body);
+        i += 1;
+    }
+}
+
+// A station, put at a place.
+pub fn put_station(bytes: &mut [u8], at: usize, s: Station)
+    requires { ⌜ at + stationWidth ≤ length (now bytes) ⌝ }
+    ensures { λ _. ⌜ now (bytes .exit) ≡ sets (now (bytes .entry)) at (encodeStation s) ⌝ }
+{
+    let body = s.body;
+    let waiting = s.waiting;
+    put_four(bytes, at, as_byte(s.n), as_byte(s.own), s.count, 0);
+    put_body(bytes, at + 4, body);
+    put_cells(bytes, at + 16, s);
+    put_waiting(bytes, at + WAITING_PLACE, waiting);
+}
+
+// A group, put at the front.
+pub fn put_group(bytes: &mut [u8], group: [Station; 16])
+    requires { ⌜ groupWidth ≤ length (now bytes) ⌝ }
+    ensures { λ _. ⌜ now (bytes .exit) ≡ sets (now (bytes .entry)) 0 (encodeGroup group) ⌝ }
+{
+    let mut k: usize = 0;
+    while k < 16 {
+        put_station(bytes, STATION_WIDTH * k, group[k]);
+        k += 1;
+    }
+}
