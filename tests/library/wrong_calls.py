@@ -234,7 +234,7 @@ ENGINE = {
     "a body left in the unused place of a lane": by_model(lane_without_oldest=oldest_left),
     "waiting slots past the number cleared by a post": by_model(put_last=slots_cleared),
     "waiting slots past the number moved by a start": by_model(without_oldest=one_slot_more),
-    "a queue of 31 is full": by_model(queue_full=lambda one: one.waiting.length >= 31),
+    "a queue of 31 is full": by_model(queue_full=lambda one, desk: one.waiting.length >= 31),
     "counts up to one more": by_model(count_limit=lambda n: 2 * n - 1),
     "counts up to one less": by_model(count_limit=lambda n: max(0, 2 * n - 3)),
     "the last label not judged": by_model(labels_in_limits=last_label_not_judged),

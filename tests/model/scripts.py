@@ -134,6 +134,20 @@ def seeded_calls(seed, shape=None):
     return shape.n, random_calls(random.Random(f"calls {seed}"), shape)
 
 
+def seeded_desks(seed, shape=None):
+    """The same with a desk for each post, now and then none that there is."""
+    n, calls = seeded_calls(seed, shape)
+    rng = random.Random(f"desks {seed}")
+    lean = rng.random()      # how often desk 1 posts
+
+    def with_desk(call):
+        if not isinstance(call, PostLine):
+            return call
+        desk = int(rng.random() < lean)
+        return call._replace(desk=desk if rng.random() < 0.97 else rng.choice((2, 3, 255, 2**32 - 1)))
+    return n, [with_desk(call) for call in calls]
+
+
 def seeded_limit(seed):
     """The limit of waiting edits that belongs to a seed, of all from 1 to 32; often the least, the default or the most."""
     rng = random.Random(f"limit {seed}")

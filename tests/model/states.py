@@ -88,7 +88,7 @@ def random_station(rng, n, own):
     if rng.random() < 0.2:
         table[own] = table[own]._replace(count=rng.randint(0, LARGEST_COUNT))
     limit = rng.choice((1, 8, CAPACITY, rng.randint(1, CAPACITY)))
-    waiting = [random_edit(rng) for _ in range(rng.choice((0, 1, rng.randint(0, limit), limit)))]
+    waiting = random_waiting(rng, limit)
     rest = PLACES - n
     return Station(
         n, own,
@@ -101,8 +101,19 @@ def random_station(rng, n, own):
         table=tuple(table + [any_record(rng) for _ in range(rest)]),
         lanes=tuple([random_lane(rng, 1 if k == own else LANE_LIMIT) for k in range(n)]
                     + [any_lane(rng) for _ in range(rest)]),
-        waiting=Queue(len(waiting), any_slots(rng, waiting, CAPACITY)),
+        waiting=waiting,
         limit=limit)
+
+
+def random_waiting(rng, limit):
+    """A queue inside a limit, with anything in its slots past the length."""
+    bodies = [random_edit(rng) for _ in range(rng.choice((0, 1, rng.randint(0, limit), limit)))]
+    return Queue(len(bodies), any_slots(rng, bodies, CAPACITY))
+
+
+def with_desk_1(rng, station):
+    """The station with waiting edits of desk 1 too, and either desk first."""
+    return station._replace(waiting_1=random_waiting(rng, station.limit), first=rng.choice((0, 1)))
 
 
 def random_group(rng, n):
@@ -148,7 +159,8 @@ def state_part(station):
         held=station.held[:n] + (False,) * rest,
         table=tuple(clear_record(k) for k in range(n)) + (NO_RECORD,) * rest,
         lanes=tuple(map(clear_slots, station.lanes[:n])) + (NO_LANE,) * rest,
-        waiting=clear_slots(station.waiting))
+        waiting=clear_slots(station.waiting),
+        waiting_1=clear_slots(station.waiting_1))
 
 
 def carried_part(station, held):

@@ -33,7 +33,7 @@ use Rattle.group_rules.proofs.PostsAccounted.{post-first, round-first, 
 first-append : (p f : ℕ) (xs ys : List Post) → firstAfter p f (xs ++ ys) ≡ firstAfter p (firstAfter p f xs) ys
 unfolding firstAfter
 first-append p f [] ys = refl
-first-append p f (x ∷ xs) ys = first-append p (cond (eqb (x .station) p) (otherDesk (x .desk)) f) xs ys
+first-append p f (x ∷ xs) ys = first-append p _ xs ys
 
 module _ (test : ℕ → Bool) (desk : ℕ → ℕ) (body : ℕ → Body) (p f : ℕ) where
   abbrev made : ℕ → List Post

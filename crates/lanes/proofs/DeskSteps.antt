@@ -1,9 +1,10 @@
 -- What the code makes of the waiting edits, desk by desk, is what the definitions say: each step is told which desk it is about by a test on its number.
-use Prim.Native.Nat.{ℕ, _≤_, _<_}
-use mathlib.Core.Bool.{true, false}
+use Prim.Native.Nat.{ℕ}
+use native.Mathlib.Omega.{arith}
+use mathlib.Core.Bool.{Bool, true, false, cond, not}
 use mathlib.Core.Path.{_≡_, refl, sym, ap, _∙_}
 use lib.Dec.{ltb}
-use borrow.Author.Tests.{eq-eqb, ne-eqb, lt-ltb, le-ltb}
+use borrow.Author.Tests.{eq-eqb, ne-eqb}
 use Rattle.kinds.specs.declared.Body.{Body}
 use Rattle.lanes.specs.declared.Queue.{Queue}
 use Rattle.lanes.specs.declared.Waiting.{Waiting}
@@ -39,33 +40,43 @@ pub posted-one :
 unfolding withPosted
 posted-one w d b q e f = rw (queue-one w d e, ne-eqb d 0 e, f)
 
--- the desk that is next
-pub next-first : (w : Waiting) (f : ℕ) → f ≡ firstDesk w → 0 < deskCount w f → f ≡ nextDesk w
-unfolding nextDesk
-next-first w f e l = rw (sym e, lt-ltb 0 (deskCount w f) l)
+-- the desk that is next, by who goes first and what each has waiting
+next-of :
+    (f : Bool) (count : ℕ → ℕ) →
+    let first : ℕ = cond f 1 0 in
+    _≡_ {A = ℕ} (cond (ltb 0 (count first)) first (otherDesk first)) (cond (cond f (ltb 0 (count 1)) (not (ltb 0 (count 0)))) 1 0)
+next-of true count = refl
+next-of false count = go (ltb 0 (count 0))
+  where
+    go : (t : Bool) → _≡_ {A = ℕ} (cond t 0 1) (cond (not t) 1 0)
+    go true = refl
+    go false = refl
 
-pub next-other : (w : Waiting) (f : ℕ) → f ≡ firstDesk w → deskCount w f ≤ 0 → otherDesk f ≡ nextDesk w
-unfolding nextDesk
-next-other w f e l = rw (sym e, le-ltb 0 (deskCount w f) l)
+pub next-is :
+    (w : Waiting) (t : Bool) → t ≡ cond (w .«one_first») (ltb 0 (w .queue1 .len)) (not (ltb 0 (w .queue0 .len))) → nextDesk w ≡ cond t 1 0
+unfolding nextDesk firstDesk deskCount queueOf
+next-is w t e = next-of (w .«one_first») (deskCount w) ∙ ap (λ (x : Bool). cond x 1 0) (sym e)
 
 -- its oldest edit
-pub edit-zero : (w : Waiting) (d : ℕ) → d ≡ nextDesk w → d ≡ 0 → oldest (w .queue0) ≡ nextEdit w
+pub edit-zero : (w : Waiting) → nextDesk w ≡ 0 → oldest (w .queue0) ≡ nextEdit w
 unfolding nextEdit
-edit-zero w d e z = rw (sym e, queue-zero w d z)
+edit-zero w z = ap oldest (sym (queue-zero w (nextDesk w) z))
 
-pub edit-one : (w : Waiting) (d : ℕ) → d ≡ nextDesk w → (d ≡ 0 → ⊥) → oldest (w .queue1) ≡ nextEdit w
+pub edit-one : (w : Waiting) → nextDesk w ≡ 1 → oldest (w .queue1) ≡ nextEdit w
 unfolding nextEdit
-edit-one w d e z = rw (sym e, queue-one w d z)
+edit-one w o = ap oldest (sym (queue-one w (nextDesk w) (λ z. omega arith)))
 
 -- that edit started
 pub started-zero :
-    (w : Waiting) (d : ℕ) (q : Queue) → d ≡ nextDesk w → d ≡ 0 → q ≡ unqueued (w .queue0) →
+    (w : Waiting) (q : Queue) → nextDesk w ≡ 0 → q ≡ unqueued (w .queue0) →
     record { limit = w .limit; queue0 = q; queue1 = w .queue1; «one_first» = true } ≡ withoutNext w
 unfolding withoutNext
-started-zero w d q e z f = rw (sym e, queue-zero w d z, eq-eqb d 0 z, f)
+started-zero w q z f = rw (queue-zero w (nextDesk w) z, eq-eqb (nextDesk w) 0 z, f)
 
 pub started-one :
-    (w : Waiting) (d : ℕ) (q : Queue) → d ≡ nextDesk w → (d ≡ 0 → ⊥) → q ≡ unqueued (w .queue1) →
+    (w : Waiting) (q : Queue) → nextDesk w ≡ 1 → q ≡ unqueued (w .queue1) →
     record { limit = w .limit; queue0 = w .queue0; queue1 = q; «one_first» = false } ≡ withoutNext w
 unfolding withoutNext
-started-one w d q e z f = rw (sym e, queue-one w d z, ne-eqb d 0 z, f)
+started-one w q o f =
+    let ne : nextDesk w ≡ 0 → ⊥ = λ z. omega arith in
+    rw (queue-one w (nextDesk w) ne, ne-eqb (nextDesk w) 0 ne, f)

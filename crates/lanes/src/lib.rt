@@ -1,7 +1,7 @@
 // A lane of at most two bodies, and the edits that wait to start: a queue for each of two desks, oldest first.
 
 ghost use mathlib.Core.Path.{_≡_};
-ghost use mathlib.Core.Bool.{true};
+ghost use mathlib.Core.Bool.{true, cond, not};
 ghost use Prim.Native.Nat.{_≤_, _<_};
 ghost use lib.Dec.{ltb};
 ghost use Rattle.lanes.specs.Lane as laneSpec;
@@ -164,26 +164,14 @@ pub fn is_desk(desk: usize) -> bool
     desk < 2
 }
 
-// How many edits of a desk wait.
-fn desk_count(waiting: Waiting, desk: usize) -> usize
-    ensures { λ r. ⌜ r ≡ waitingSpec.deskCount waiting desk ⌝ }
-{
-    if desk == 0 {
-        let queue = waiting.queue0;
-        return queue.len;
-    }
-    let queue = waiting.queue1;
-    queue.len
-}
-
 // Does an edit of either desk wait?
 pub fn any_waits(waiting: Waiting) -> bool
     ensures { λ r. ⌜ r ≡ ltb 0 (waitingSpec.waitingCount waiting) ⌝ }
 {
-    if 0 < desk_count(waiting, 0) {
+    if 0 < waiting.queue0.len {
         return true;
     }
-    0 < desk_count(waiting, 1)
+    0 < waiting.queue1.len
 }
 
 // Can this be a limit: 1 to 32?
@@ -200,7 +188,10 @@ pub fn limit_inside(limit: usize) -> bool
 pub fn has_room(waiting: Waiting, desk: usize) -> bool
     ensures { λ r. ⌜ r ≡ waitingSpec.hasRoom waiting desk ⌝ }
 {
-    desk_count(waiting, desk) < waiting.limit
+    if desk == 0 {
+        return waiting.queue0.len < waiting.limit;
+    }
+    waiting.queue1.len < waiting.limit
 }
 
 // The waiting edits once a desk has posted one more.
@@ -228,46 +219,25 @@ pub fn with_posted(waiting: Waiting, desk: usize, body: Body) -> Waiting
     }
 }
 
-// The desk that goes first where both wait.
-fn first_desk(waiting: Waiting) -> usize
-    ensures { λ r. ⌜ r ≡ waitingSpec.firstDesk waiting ⌝ }
+// Is the edit that starts next of desk 1, by who goes first and how many of each desk wait?
+fn one_next(one_first: bool, count0: usize, count1: usize) -> bool
+    ensures { λ r. ⌜ r ≡ cond «one_first» (ltb 0 count1) (not (ltb 0 count0)) ⌝ }
 {
-    if waiting.one_first {
-        return 1;
+    if one_first {
+        return 0 < count1;
     }
-    0
-}
-
-// The other desk.
-fn other_desk(desk: usize) -> usize
-    ensures { λ r. ⌜ r ≡ waitingSpec.otherDesk desk ⌝ }
-{
-    if desk == 0 {
-        return 1;
-    }
-    0
-}
-
-// The desk whose oldest edit starts next.
-fn next_desk(waiting: Waiting) -> usize
-    ensures { λ r. ⌜ r ≡ waitingSpec.nextDesk waiting ⌝ }
-{
-    let first = first_desk(waiting);
-    if 0 < desk_count(waiting, first) {
-        return first;
-    }
-    other_desk(first)
+    count0 == 0
 }
 
 // The edit that starts next.
 pub fn next_edit(waiting: Waiting) -> Body
     ensures { λ r. ⌜ r ≡ waitingSpec.nextEdit waiting ⌝ }
 {
-    if next_desk(waiting) == 0 {
-        let queue = waiting.queue0;
+    if one_next(waiting.one_first, waiting.queue0.len, waiting.queue1.len) {
+        let queue = waiting.queue1;
         return oldest(queue);
     }
-    let queue = waiting.queue1;
+    let queue = waiting.queue0;
     oldest(queue)
 }
 
@@ -278,21 +248,21 @@ pub fn without_next(waiting: Waiting) -> Waiting
 {
     let queue0 = waiting.queue0;
     let queue1 = waiting.queue1;
-    if next_desk(waiting) == 0 {
-        let shorter = unqueued(queue0);
+    if one_next(waiting.one_first, queue0.len, queue1.len) {
+        let shorter = unqueued(queue1);
         return Waiting {
             limit: waiting.limit,
-            queue0: shorter,
-            queue1: queue1,
-            one_first: true,
+            queue0: queue0,
+            queue1: shorter,
+            one_first: false,
         };
     }
-    let shorter = unqueued(queue1);
+    let shorter = unqueued(queue0);
     Waiting {
         limit: waiting.limit,
-        queue0: queue0,
-        queue1: shorter,
-        one_first: false,
+        queue0: shorter,
+        queue1: queue1,
+        one_first: true,
     }
 }
 

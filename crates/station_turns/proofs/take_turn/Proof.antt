@@ -70,8 +70,7 @@ waiting-after-requires c κs =
     let m = c .before .before in
     let e = m .before .before .before in
     let s = station e in
-    let may = eqb ((getD (e .before .before .before .air .result .left) (s .own) noLane) .len) 0 in
-    (
+    let may = eqb ((getD (e .before .before .before .air .result .left) (s .own) noLane) .len) 0 in (
       waits (e .all-acked .result) may (m .any-waits .result) (c .starts-edit .result) (waitingCount (s .waiting)) (m .any-waits .ensures) (c .starts-edit .ensures),
       inside e .waiting,
     )
