@@ -125,8 +125,8 @@ module _ (w : Waiting) (f : EditsFit w) where
   posted-fit b g =
       slots-fit (set (w .queue .slots) (w .queue .len) (record { body = b }))
       (λ i l.
-      set-keeps (λ (s : Slot). BodyFits (s .body)) (w .queue .slots) (w .queue .len) (record { body = b }) noSlot i
-      (rw (length-set (w .queue .slots) (w .queue .len) (record { body = b })) at l) (f .slot i) g)
+        set-keeps (λ (s : Slot). BodyFits (s .body)) (w .queue .slots) (w .queue .len) (record { body = b }) noSlot i
+        (rw (length-set (w .queue .slots) (w .queue .len) (record { body = b })) at l) (f .slot i) g)
 
   pub started-fit : EditsFit (withoutNext w)
   unfolding withoutNext unqueued

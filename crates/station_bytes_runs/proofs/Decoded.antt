@@ -60,9 +60,9 @@ module _ (b : List ℕ) (bytes : AllBytes b) where
   edits-typed at =
       slots-fit (tabulate 32 (λ i. record { body = decodeBody b (at + 4 + 12 * i) }))
       (λ i l.
-      subst (λ (s : Slot). BodyFits (s .body))
-      (sym (tabulate-at 32 (λ j. record { body = decodeBody b (at + 4 + 12 * j) }) i noSlot (omega (arith, length-tabulate {A = Slot} 32 (λ j. record { body = decodeBody b (at + 4 + 12 * j) })))))
-      (body-typed (at + 4 + 12 * i)))
+        subst (λ (s : Slot). BodyFits (s .body))
+        (sym (tabulate-at 32 (λ j. record { body = decodeBody b (at + 4 + 12 * j) }) i noSlot (omega (arith, length-tabulate {A = Slot} 32 (λ j. record { body = decodeBody b (at + 4 + 12 * j) })))))
+        (body-typed (at + 4 + 12 * i)))
 
   waiting-sized : (at : ℕ) → WaitingSized (decodeWaiting b at)
   unfolding decodeWaiting

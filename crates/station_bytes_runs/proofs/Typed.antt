@@ -69,7 +69,7 @@ module _ (s : Station) (f : Fitting s) where
             elim (ℕ-discrete j k) [
               | yes e ↦
                   subst (λ (i : ℕ). CellFits (cellOf (withCell s k c) i)) (sym e)
-                  (subst CellFits (sym (cell-here s k c shape (omega arith))) g)
+                      (subst CellFits (sym (cell-here s k c shape (omega arith))) g)
               | no d ↦ subst CellFits (sym (cell-other s k c j d)) (f .cells j l)
             ];
         edits = subst EditsFit (sym (cell-self s k c .waiting)) (f .edits);
@@ -212,10 +212,9 @@ module _ (s : Station) (shape : Shaped s) (f : Fitting s) (high : s .n ≤ 16) (
           (t : Bool) →
           ((cond t (withWaiting (takesOwn (begins a (startedBody s)) (startedBody s)) (cond (startsEdit s) (withoutNext (s .waiting)) (s .waiting))) a) .n ≡ s .n)
           × ((cond t (withWaiting (takesOwn (begins a (startedBody s)) (startedBody s)) (cond (startsEdit s) (withoutNext (s .waiting)) (s .waiting))) a) .own ≡ s .own)
-      go true = (
-        takesOwn-self (begins a (startedBody s)) (startedBody s) .0 ∙ begins-self a (startedBody s) .0 ∙ aired-self s .n,
-        takesOwn-self (begins a (startedBody s)) (startedBody s) .1 ∙ begins-self a (startedBody s) .1 ∙ aired-self s .own,
-      )
+      go true =
+          (takesOwn-self (begins a (startedBody s)) (startedBody s) .0 ∙ begins-self a (startedBody s) .0 ∙ aired-self s .n,
+          takesOwn-self (begins a (startedBody s)) (startedBody s) .1 ∙ begins-self a (startedBody s) .1 ∙ aired-self s .own)
       go false = (aired-self s .n, aired-self s .own)
 
 -- the own record rewritten: its labels are labels, for the station after its turn is inside its limits
@@ -226,7 +225,7 @@ label-kept t shape k l =
     elim (ℕ-discrete k (t .own)) [
       | yes e ↦
           subst (λ (i : ℕ). labelOf (withCell t (t .own) c) i ≡ labelOf t i) (sym e)
-          (ap (λ (x : Cell). x .label) (cell-here t (t .own) c shape (omega arith)))
+              (ap (λ (x : Cell). x .label) (cell-here t (t .own) c shape (omega arith)))
       | no d ↦ ap (λ (x : Cell). x .label) (cell-other t (t .own) c k d)
     ]
 
@@ -273,7 +272,7 @@ module _ (s : Station) (shape : Shaped s) (f : Fitting s) (inside : stationInsid
       record {
         labels-fit =
             over-less (t .n) 16 (labelOf t) ((recordOf t (t .own)) .labels) label-small (omega (arith, t-size, high))
-            (t-fitting .cells (t .own) t-own .entry-fits .labels-fit);
+                (t-fitting .cells (t .own) t-own .entry-fits .labels-fit);
         body-fits = t-fitting .body;
       }
 
