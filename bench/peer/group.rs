@@ -102,10 +102,10 @@ impl Group {
         })
     }
 
-    pub fn post(&mut self, place: usize, body: Body) -> Result<(), Refusal> {
+    pub fn post(&mut self, place: usize, desk: usize, body: Body) -> Result<(), Refusal> {
         require(self.in_limits(), OutsideLimits)?;
         require(numbers_valid(self.n(), place), BadNumber)?;
-        self.stations[place].append(body)
+        self.stations[place].append(desk, body)
     }
 
     /// One round: bit j of mask i lets station i hear station j. Reports are given anew; on a refusal they hold nothing.

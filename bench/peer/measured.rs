@@ -28,7 +28,7 @@ pub fn rounds(schedule: &[u8], n: u32, rounds: u32) -> u32 {
             let post = number / POST_EVERY;
             let event = 1 + post % 99_999_999;
             let start = (post % 1_000_000) as i32;
-            let _ = group.post((post % n) as usize, Body::Insert { event, start });
+            let _ = group.post((post % n) as usize, 0, Body::Insert { event, start });
         }
         let masks = masks_of(&schedule[number as usize % schedule.len()]);
         let _ = group.round(&masks, &mut reports);

@@ -15,6 +15,7 @@ pub enum Refusal {
     MalformedLine = 11,
     BadLinkLog = 12,
     BadLimit = 13,
+    BadDesk = 15,
     BadQuestion = 18,
 }
 

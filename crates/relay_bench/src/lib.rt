@@ -118,6 +118,7 @@ fn posted(g: [Station; 16], n: usize, post: u32) -> KeptGroup
 {
     let made = Post {
         station: place_of(post, n),
+        desk: 0,
         body: body_of(post),
     };
     group::post(g, made)
