@@ -138,7 +138,7 @@ def seeded_desks(seed, shape=None):
     """The same with a desk for each post, now and then none that there is."""
     n, calls = seeded_calls(seed, shape)
     rng = random.Random(f"desks {seed}")
-    lean = rng.random()      # how often desk 1 posts
+    lean = rng.choice((0.2, 0.5, 0.5, 0.8))   # how often desk 1 posts
 
     def with_desk(call):
         if not isinstance(call, PostLine):
