@@ -37,8 +37,8 @@ pub record History : Type 0 where
 abbrev pub reportIn : RoundDone → ℕ → Report
 reportIn r p = getD (r .reports) p noReport
 
--- the edits that the turns of a round report as started, in station order; each is of the desk that was next in the group before the round, for
--- hearing leaves the waiting edits as they are
+-- the edits that the turns of a round report as started, in station order; each is of the desk that was next in the group
+-- before the round, for hearing leaves the waiting edits as they are
 unfoldable pub startsIn : List Station → RoundDone → List Post
 startsIn g r =
     gather (sizeOf g) (λ p. isEdit ((reportIn r p) .turn .«started_body»))

@@ -1,5 +1,6 @@
--- Document 01, "A station and its calls", and document 02, A2 and A7: the edits of a station that wait to start, those of each of
--- two desks in the order posted; how many of a desk may wait, the station's limit; and which desk goes first where both wait.
+-- Document 01, "A station and its calls", and document 02, A2 and A7: the edits of a station that wait to start, those
+-- of each of two desks in the order posted; how many of a desk may wait, the station's limit; and which desk goes
+-- first where both wait.
 use Prim.Native.Nat.{ℕ, _+_}
 use mathlib.Core.Bool.{Bool, false, cond, _&&_}
 use mathlib.Core.List.{List, []}
@@ -24,7 +25,8 @@ noneWaiting limit = record { limit = limit; queue0 = emptyQueue; queue1 = emptyQ
 -- what a read of a station that is not there gives
 abbrev pub absentWaiting : Waiting
 absentWaiting =
-    record { limit = 0; queue0 = record { len = 0; slots = [] }; queue1 = record { len = 0; slots = [] }; «one_first» = false }
+    let absent : Queue = record { len = 0; slots = [] } in
+    record { limit = 0; queue0 = absent; queue1 = absent; «one_first» = false }
 
 -- the queue of a desk
 unfoldable pub queueOf : Waiting → ℕ → Queue

@@ -33,8 +33,8 @@ pub struct Queue {
     pub slots: [Slot; QUEUE_CAPACITY],
 }
 
-// The edits of a station that wait to start, those of desk 0 and those of desk 1; how many of a desk may wait, the station's limit;
-// and whether desk 1 goes first where both wait.
+// The edits of a station that wait to start, those of desk 0 and those of desk 1; how many of a desk may wait, the
+// station's limit; and whether desk 1 goes first where both wait.
 pub struct Waiting {
     pub limit: usize,
     pub queue0: Queue,
