@@ -3,6 +3,8 @@
 import itertools
 from array import array
 
+from drawn import conflicts
+from model.bodies import EMPTY, NEUTRAL
 from model import outside, states
 from model.group import fresh_group_state
 from model.queues import CAPACITY, DEFAULT_LIMIT, NO_LANE, Queue, replaced
@@ -15,7 +17,7 @@ from .cases import EDGES, NUMBERS, around, buffer, changed, no_stations, of_othe
 from .station_cases import first_of, lent
 
 FRESH, LIMITED, POST, ROUND = (f"relay_group_{name}" for name in ("fresh", "fresh_limited", "post", "round"))
-ORDERS = {FRESH: (1, 9), LIMITED: (1, 13, 9), POST: (2, 1, 4, 3), ROUND: (2, 10, 8, 9)}
+ORDERS = {FRESH: (1, 9), LIMITED: (1, 13, 9), POST: (2, 1, 4, 3), ROUND: (2, 10, 14, 8, 9)}
 BEYOND = (16, 17, 255, 256, 2 ** 16, 2 ** 31, 2 ** 32 - 1)
 
 
@@ -205,13 +207,33 @@ def overflowing(rng, group, i, j):
     return replaced(replaced(group, i, hearer), j, sender)
 
 
+def apart(group, n):
+    """The group in which each station holds its own record alone, so that no two hold records that conflict."""
+    return tuple(s._replace(held=tuple(held and (k == s.own or k >= n) for k, held in enumerate(s.held))) for s in group[:n]) + group[n:]
+
+
+def conflicting(rng, group, n, i, j):
+    """Station i holds a record of a third station that the frame of j shows with the same label and count, and another body."""
+    k = rng.choice([place for place in range(n) if place not in (i, j)])
+    shown = states.random_record(rng, n, k)
+    shown = shown._replace(count=min(shown.count, count_limit(n)))
+    held = shown._replace(body=NEUTRAL if shown.body == EMPTY else EMPTY)
+    put = lambda s, record: s._replace(held=replaced(s.held, k, True), table=replaced(s.table, k, record))
+    return replaced(replaced(group, i, put(group[i], held)), j, put(group[j], shown))
+
+
 def round_with(rng, faults):
     """Without a fault for 8 each station hears at most two frames, and so no lane gets a third body."""
-    n, group = inside(rng, 2)
+    n, group = inside(rng, 3 if "14" in faults else 2)
+    group = apart(group, n)
     masks = array("H", [1 << rng.randrange(PLACES) | 1 << rng.randrange(PLACES) for _ in range(PLACES)])
+    i, j = rng.sample(range(min(n, PLACES - 1)), 2) if n > 2 else (0, 1)
     if "8" in faults:
-        i, j = rng.sample(range(min(n, PLACES - 1)), 2) if n > 2 else (0, 1)
         group = overflowing(rng, group, i, j)
+    if "14" in faults:
+        group = conflicting(rng, group, n, i, j)
+    if "8" in faults or "14" in faults:
+        masks = array("H", [0] * PLACES)
         masks[i] = 1 << j
     if "10" in faults:
         place = rng.randrange(n)
@@ -225,7 +247,7 @@ def round_with(rng, faults):
 def missing_mask(rng, count):
     """8 is not given for a frame that only a mask that is not there would let be heard: 9 is."""
     for _ in range(count):
-        group = calm(rng, some_group(rng, PLACES), PLACES)
+        group = apart(calm(rng, some_group(rng, PLACES), PLACES), PLACES)
         i, j = rng.sample(range(PLACES), 2)
         data = formats.group_bytes(overflowing(rng, group, i, j))
         masks = array("H", [0] * PLACES)
@@ -235,8 +257,14 @@ def missing_mask(rng, count):
         yield 9, round_of(rng, data, masks[:i])
 
 
+def false_tables(rng, count):
+    """Request A4: stations whose tables do not fit together, each round with its refusal."""
+    for _, group, masks, refusal in conflicts.group_cases(rng, count):
+        yield refusal, round_of(rng, formats.group_bytes(group), array("H", masks))
+
+
 FAULTS = {FRESH: (fresh_with, ("1", "9")), LIMITED: (limited_with, ("1", "13", "9")), POST: (post_with, ("2", "1", "4", "3")),
-          ROUND: (round_with, ("2", "10", "8", "9, masks", "9, reports"))}
+          ROUND: (round_with, ("2", "10", "14", "8", "9, masks", "9, reports"))}
 
 
 def at_once(rng, name, times):

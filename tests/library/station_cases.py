@@ -2,8 +2,9 @@
 
 import itertools
 
-from drawn import frames as drawn_frames
+from drawn import conflicts, frames as drawn_frames
 from model import outside, states
+from model.bodies import EMPTY, NEUTRAL
 from model.frames import frame_bytes, numbers_valid
 from model.queues import CAPACITY, DEFAULT_LIMIT, NO_LANE, Queue, replaced
 from model.records import PLACES, count_limit, successor
@@ -16,7 +17,8 @@ from .cases import EDGES, NUMBERS, around, buffer, changed, lengths, no_stations
 LARGEST_FRAME = formats.SIZES["FRAME_MOST"]
 FRESH, LIMITED, POST, WRITE, HEAR, TURN = (f"relay_station_{name}" for name in (
     "fresh", "fresh_limited", "post", "write", "hear", "turn"))
-ORDERS = {FRESH: (1, 9), LIMITED: (1, 13, 9), POST: (2, 4, 3), WRITE: (2, 10, 9), HEAR: (2, 5, 6, 7, 8, 9), TURN: (2, 9)}
+ORDERS = {FRESH: (1, 9), LIMITED: (1, 13, 9), POST: (2, 4, 3), WRITE: (2, 10, 9),
+          HEAR: (2, 5, 6, 7, 14, 8, 9), TURN: (2, 9)}
 
 
 def lent(rng, data):
@@ -246,10 +248,25 @@ def write_with(rng, faults):
                  0 if "9, length" in faults else 1)
 
 
+def conflicting(rng, s, sender, records):
+    """The station holds a record of a third station with the label and count that the frame's has, and another body."""
+    k = rng.choice([place for place in range(s.n) if place not in (s.own, sender)])
+    shown = states.random_record(rng, s.n, k)
+    shown = shown._replace(count=min(shown.count, count_limit(s.n)), labels=shown.labels[:s.n] + (0,) * (PLACES - s.n))
+    held = shown._replace(body=NEUTRAL if shown.body == EMPTY else EMPTY)
+    s = s._replace(held=replaced(s.held, k, True), table=replaced(s.table, k, held))
+    return s, sorted([one for one in records if one.station != k] + [shown], key=lambda one: one.station)
+
+
 def hear_with(rng, faults):
     s = inside(rng)
+    while "14" in faults and s.n < 3:
+        s = inside(rng)
     sender = rng.choice([k for k in range(s.n) if k != s.own])
+    s = s._replace(held=tuple(held and (k == s.own or k >= s.n) for k, held in enumerate(s.held)))
     records = states.random_records(rng, s.n, sender)
+    if "14" in faults:
+        s, records = conflicting(rng, s, sender, records)
     if "8" in faults:
         s = s._replace(held=replaced(s.held, sender, False),
                        lanes=replaced(s.lanes, sender, Queue(2, (states.random_edit(rng), states.random_edit(rng)))))
@@ -270,9 +287,16 @@ def turn_with(rng, faults):
     return turn(rng, state_with(rng, inside(rng), faults), rng.choice((0, formats.TURN - 1)) if "9" in faults else formats.TURN)
 
 
-FAULTS = {FRESH: (fresh_with, ("1, n", "1, own", "9")), LIMITED: (limited_with, ("1, n", "1, own", "13", "9")), POST: (post_with, ("2", "4", "3")),
+def false_frames(rng, count):
+    """Request A4: records that conflict with a held one, and those that nearly do, each with its refusal."""
+    for _, s, frame, refusal in conflicts.station_cases(rng, count):
+        yield refusal, hear(rng, formats.station_bytes(s), frame)
+
+
+FAULTS = {FRESH: (fresh_with, ("1, n", "1, own", "9")), LIMITED: (limited_with, ("1, n", "1, own", "13", "9")),
+          POST: (post_with, ("2", "4", "3")),
           WRITE: (write_with, ("2", "10", "9, frame", "9, length")),
-          HEAR: (hear_with, ("2", "5", "6", "7", "8", "9")), TURN: (turn_with, ("2", "9"))}
+          HEAR: (hear_with, ("2", "5", "6", "7", "14", "8", "9")), TURN: (turn_with, ("2", "9"))}
 
 
 def first_of(order, faults):

@@ -9,7 +9,7 @@ import sys
 from array import array
 from unittest import mock
 
-from model import frames, group, hearing, queues, station, states, turns
+from model import frames, group, hearing, outside, queues, station, states, turns
 from model.bodies import EMPTY, NEUTRAL
 from model.queues import NO_LANE, Queue, replaced
 from model.records import PLACES, own_label
@@ -429,8 +429,20 @@ def busy_groups(rng, count):
         yield n, tuple(one._replace(table=replaced(one.table, one.own, one.table[one.own]._replace(count=0))) for one in some) + beyond
 
 
+def named_groups(rng):
+    """Groups that show one fault each: two stations exchanged; a station whose broadcast ends while its own lane is full and an edit waits."""
+    fresh = group.fresh_group_state(4)
+    yield fresh[:1] + (fresh[2], fresh[1]) + fresh[3:]
+    edit = states.random_edit(rng)
+    ends = station.post(outside.with_lane(fresh[1], 1, edit), edit).station
+    yield replaced(fresh, 1, ends._replace(acked=tuple(k < 4 or acked for k, acked in enumerate(ends.acked))))
+
+
 def group_cases(rng):
     found = []
+    for given in named_groups(rng):
+        found.append(groups.post(rng, formats.group_bytes(given), 1, states.random_edit(rng)))
+        found.append(groups.round_of(rng, formats.group_bytes(given), array("H", [0] * PLACES)))
     for name in (groups.FRESH, groups.LIMITED, groups.POST, groups.ROUND):
         found += [case for _, case in groups.at_once(rng, name, 1)]
     found += [(groups.LIMITED, groups.buffer(rng, formats.GROUP), n, limit) for n in (1, 3) for limit in (0, 1, 32, 33)]

@@ -1,14 +1,14 @@
--- What was heard, taken into the table station by station, as the loop goes: below k the table holds the newest record heard of each station, and from k up it is as it was. Where nothing is held of a
--- station its record stays, for it is put in the place of itself.
-use Prim.Native.Nat.{ℕ, _+_, _<_}
-use mathlib.Core.Bool.{Bool, true, false, cond, not}
+-- What was heard, taken into the table station by station, as the loop goes: below k the table
+-- holds the newest record heard of each station, and from k up it is as it was. Where nothing is
+-- held of a station its record stays, for it is put in the place of itself.
+use Prim.Native.Nat.{ℕ, _+_}
+use mathlib.Core.Bool.{Bool}
 use mathlib.Core.List.{List}
 use mathlib.Core.Path.{_≡_, refl, sym, ap, _∙_}
 use native.Mathlib.Omega.{arith}
-use lib.Dec.{eqb}
 use lib.ListN.{getD, set}
 use lib.Seq.{set-getD}
-use borrow.Author.Tests.{ne-eqb, eq-eqb}
+use borrow.Author.Tests.{ne-eqb}
 use Rattle.places.specs.Places.{fill}
 use Rattle.places.proofs.Laws.{fill-more, fill-above}
 use Rattle.frame_rules.specs.declared.Record.{Record}

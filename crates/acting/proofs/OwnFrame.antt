@@ -1,36 +1,29 @@
--- A station's own frame stands in the bytes that it hears from, so the places of its records tell what the station holds: that is what hearing begins with.
+-- A station's own frame stands in the bytes that it hears from, so the places of its records tell
+-- what the station holds: that is what hearing begins with.
 use Prim.Native.Nat.{ℕ, _+_, _*_, _≤_, _<_}
 use native.Mathlib.Omega.{arith}
-use mathlib.Core.Bool.{Bool, true, false, cond, not}
+use mathlib.Core.Bool.{Bool, true, false, not}
 use mathlib.Core.List.{List}
 use mathlib.Core.Path.{_≡_, refl, sym, ap, subst, _∙_}
 use lib.Dec.{eqb}
 use lib.ListN.{getD, take, drop, length, replicate}
-use lib.Seq.{getD-take, getD-drop, drop-drop}
+use lib.Seq.{getD-drop, drop-drop}
 use borrow.Author.Tests.{ne-eqb}
-use Rattle.places.specs.Places.{gather, tabulate}
+use Rattle.places.specs.Places.{gather}
 use Rattle.places.proofs.Laws.{length-tabulate, tabulate-at}
 use Rattle.frame_rules.specs.declared.Record.{Record}
 use Rattle.frame_rules.specs.Record.{noRecord, recordFrom, framed}
 use Rattle.frame_rules.specs.Frame.{part, recordsOf}
 use Rattle.station_rules.specs.declared.Station.{Station}
 use Rattle.station_rules.specs.State.{heldOf, recordOf, sentRecords}
+use Rattle.station_rules.proofs.Cells.{framed-station}
 use Rattle.station_rules.proofs.StationLimits.{Inside}
-use Rattle.hearing_spec.specs.Buffer.{sizeIn, recordAt, recordsAt}
+use Rattle.hearing_spec.specs.Buffer.{recordAt, recordsAt}
 use Rattle.hearing_spec.specs.StandsFor.{holdsAt, topAt}
 use Rattle.hearing_spec.specs.Room.{Written, FrameRoom}
+use Rattle.hearing_spec.proofs.FrameLoop.{station-at}
 use Rattle.acting.specs.Places.{recordPlace, placesOf}
 use Rattle.acting.proofs.OwnPlaces.{gather-entry, Placed, placed-all}
-
--- the station of a record is its first byte
-pub station-byte : (bytes : List ℕ) (at : ℕ) → (recordAt bytes at) .station ≡ getD bytes at 0
-unfolding recordFrom
-station-byte bytes at =
-    getD-take 16 (drop at bytes) 0 0 (omega arith) ∙ getD-drop at bytes 0 0 ∙ (let e : at + 0 ≡ at = omega arith in ap (λ (i : ℕ). getD bytes i 0) e)
-
-framed-station : (n : ℕ) (r : Record) → (framed n r) .station ≡ r .station
-unfolding framed
-framed-station n r = refl
 
 module _ (s : Station) (c : Inside s) (bytes : List ℕ) (start : ℕ) (frame : FrameRoom bytes start) (is : recordsAt bytes start ≡ sentRecords s) where
   abbrev size : ℕ
@@ -75,7 +68,7 @@ module _ (s : Station) (c : Inside s) (bytes : List ℕ) (start : ℕ) (frame : 
 
     held-station : getD bytes (recordPlace start number) 0 ≡ k
     held-station =
-        sym (station-byte bytes (recordPlace start number))
+        sym (station-at bytes (recordPlace start number))
         ∙ ap (λ (r : Record). r .station) held-record
         ∙ framed-station (s .n) (recordOf s k)
         ∙ c .places k l .held h .station

@@ -1,14 +1,15 @@
--- Where a frame has the records that a station sends, the places of its records tell what the station holds: of each station that it holds a record of, where that record begins,
--- and 0 of any other. By induction over the stations, for a frame has the held records in their order.
-use Prim.Native.Nat.{ℕ, zero, suc, _+_, _*_, _≤_, _<_}
+-- Where a frame has the records that a station sends, the places of its records tell what the
+-- station holds: of each station that it holds a record of, where that record begins, and 0 of any
+-- other. By induction over the stations, for a frame has the held records in their order.
+use Prim.Native.Nat.{ℕ, zero, suc, _+_, _≤_, _<_}
 use native.Mathlib.Decide.{ℕ-discrete}
 use native.Mathlib.Nat.{add-zero}
 use native.Mathlib.Numerals.{add-one}
 use native.Mathlib.Omega.{arith}
 use mathlib.Core.Bool.{Bool, true, false, cond, true≢false}
-use mathlib.Core.List.{List, [], _∷_, _++_, append-nil}
-use mathlib.Core.Path.{_≡_, refl, sym, ap, subst, _∙_}
-use lib.ListN.{getD, set, length, length-set, length-append, replicate, getD-replicate, List·getD-append}
+use mathlib.Core.List.{List, [], _∷_, append-nil}
+use mathlib.Core.Path.{_≡_, refl, sym, ap, _∙_}
+use lib.ListN.{getD, length, length-set, length-append, replicate, getD-replicate, List·getD-append}
 use lib.Seq.{getD-at, getD-set-same, getD-set-other}
 use Rattle.places.specs.Places.{gather}
 use Rattle.frame_rules.specs.declared.Record.{Record}

@@ -1,12 +1,12 @@
--- Takings read one after the other, as the loops go: the first i of them stand in the first i of thirty places, and are put into the lanes.
-use Prim.Native.Nat.{ℕ, suc, _+_, _-_, _≤_, _<_}
-use mathlib.Core.List.{List, [], _∷_, _++_, append-assoc, map, map-append}
-use mathlib.Core.Path.{_≡_, refl, sym, ap, _∙_}
+-- Takings read one after the other, as the loops go: the first i of them stand in the first i of
+-- thirty places, and are put into the lanes.
+use Prim.Native.Nat.{ℕ, suc, _+_, _-_, _<_}
+use mathlib.Core.List.{List, [], _∷_, _++_, append-assoc, map-append}
+use mathlib.Core.Path.{_≡_, sym, ap, _∙_}
 use native.Mathlib.Numerals.{add-one}
 use native.Mathlib.Omega.{arith}
 use lib.ListN.{getD, set, take, drop, length, length-map, replicate}
 use lib.Seq.{take-suc, set-at, length-take-le}
-use Rattle.frame_rules.specs.declared.Record.{Record}
 use Rattle.frame_rules.specs.Record.{recordFrom}
 use Rattle.lanes.specs.declared.Lane.{Lane}
 use Rattle.lanes.specs.Lane.{noLane, pushed}

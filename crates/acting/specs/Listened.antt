@@ -1,4 +1,5 @@
--- What a station has once it has heard, and before what it heard is taken into its state: the notes of hearing.
+-- What a station has once it has heard, and before what it heard is taken into its state: the notes
+-- of hearing.
 use Prim.Native.Nat.{ℕ, _+_, _≤_, _<_}
 use mathlib.Core.Path.{_≡_}
 use mathlib.Core.List.{List, [], map}
@@ -33,9 +34,11 @@ pub record Readable (bytes places taken : List ℕ) (len : ℕ) : Type 0 where
   pub places-in : (k : ℕ) → k < sizeIn bytes → getD places k 0 + 16 ≤ length bytes
   pub takings : TakenRoom bytes taken len
 
--- station s has heard, `f` being what its hearing makes of silence: the refusal is that of the hearing, and where there is none, its takings and the station
--- with all that was heard are those of the hearing
-pub record Listens (s : Station) (bytes : List ℕ) (f : Hearing → Hearing) (places taken : List ℕ) (e : Ear) : Type 0 where
+-- station s has heard, `f` being what its hearing makes of silence: the refusal is that of the
+-- hearing, and where there is none, its takings and the station with all that was heard are those
+-- of the hearing
+pub record Listens (s : Station) (bytes : List ℕ) (f : Hearing → Hearing) (places taken : List ℕ) (e : Ear) :
+    Type 0 where
   pub readable : Readable bytes places taken (e .len)
   pub refusal : e .refusal ≡ (f (silent s)) .refusal
   pub station : e .refusal ≡ done → actsOn s bytes (heardNotes places taken e) ≡ (f (silent s)) .station

@@ -7,7 +7,8 @@ use lib.ListN.{getD, set}
 abbrev pub recordPlace : ℕ → ℕ → ℕ
 recordPlace start r = start + 4 + 16 * r
 
--- where the first r records begin, each at the place of its station; at the other places stands what stood there
+-- where the first r records begin, each at the place of its station; at the other places stands
+-- what stood there
 unfoldable pub placesOf : List ℕ → ℕ → List ℕ → ℕ → List ℕ
 placesOf bytes start places zero = places
 placesOf bytes start places (suc r) =

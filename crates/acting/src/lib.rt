@@ -1,4 +1,5 @@
-// What stands before hearing and after it: where the records of a station's own frame begin, and what was heard, taken into the station.
+// What stands before hearing and after it: where the records of a station's own frame begin, and
+// what was heard, taken into the station.
 
 ghost use mathlib.Core.Path.{_≡_};
 ghost use mathlib.Core.List.{_++_};
@@ -24,7 +25,9 @@ use station_rules::Taking;
 pub fn own_places(places: &mut [u16], bytes: &[u8], start: usize)
     requires { ⌜ (length (now places) ≡ 16) × (sizeIn (now bytes) ≤ 16) × (length (now bytes) ≤ mostBytes) ⌝ ∗
         ⌜ FrameRoom (now bytes) start ⌝ }
-    ensures { λ _. ⌜ now (places .exit) ≡ placesOf (now (bytes .entry)) start (now (places .entry)) (getD (now (bytes .entry)) (start + 2) 0) ⌝ }
+    ensures { λ _.
+        ⌜ now (places .exit)
+        ≡ placesOf (now (bytes .entry)) start (now (places .entry)) (getD (now (bytes .entry)) (start + 2) 0) ⌝ }
 {
     let end = start + 4 + 16 * (bytes[start + 2] as usize);
     let mut at = start + 4;
@@ -73,7 +76,8 @@ pub fn takings_of(bytes: &[u8], taken: &[u16], len: usize) -> [Taking; 30]
     takings
 }
 
-// The lanes with the bodies of the records at the first places, each put last into the lane of its station.
+// The lanes with the bodies of the records at the first places, each put last into the lane of its
+// station.
 fn filled(lanes: [Lane; 16], bytes: &[u8], taken: &[u16], len: usize) -> [Lane; 16]
     requires { ⌜ (sizeIn (now bytes) ≤ 16) × TakenRoom (now bytes) (now taken) len ⌝ }
     ensures { λ r. ⌜ r ≡ pushedAll lanes (takingsAt (now (bytes .entry)) (now (taken .entry)) len) ⌝ }
@@ -108,7 +112,8 @@ fn record_over(bytes: &[u8], at: usize, n: usize, old: Record) -> Record
     }
 }
 
-// The station with all that it heard: its numbers, the records at their places, the bodies of the takings in their lanes.
+// The station with all that it heard: its numbers, the records at their places, the bodies of the
+// takings in their lanes.
 pub fn acted(heard: Ear, bytes: &[u8], places: &[u16], taken: &[u16], s: Station) -> Station
     requires { ⌜ (s .n ≡ sizeIn (now bytes)) × Readable (now bytes) (now places) (now taken) (heard .len) ⌝ }
     ensures { λ r. ⌜ r ≡ actsOn s (now (bytes .entry)) (heardNotes (now (places .entry)) (now (taken .entry)) heard) ⌝ }

@@ -1,4 +1,5 @@
--- The frames of a group inside its limits, where they stand: each begins at its start, and is read as the records that its station sends.
+-- The frames of a group inside its limits, where they stand: each begins at its start, and is read
+-- as the records that its station sends.
 use Prim.Native.Nat.{ℕ, _<_}
 use mathlib.Core.Bool.{true}
 use mathlib.Core.List.{List}

@@ -1,9 +1,10 @@
--- The frame of a station inside its limits: it fits into 260 bytes, and where it stands in a list of bytes it is heard as the very
--- records that the table sends. The bytes past the frame are in no record's part.
-use Prim.Native.Nat.{ℕ, zero, suc, _+_, _*_, _-_, _≤_, _<_}
+-- The frame of a station inside its limits: it fits into 260 bytes, and where it stands in a list
+-- of bytes it is heard as the very records that the table sends. The bytes past the frame are in no
+-- record's part.
+use Prim.Native.Nat.{ℕ, suc, _+_, _*_, _-_, _≤_, _<_}
 use mathlib.Core.Bool.{true}
 use mathlib.Core.List.{List, _++_}
-use mathlib.Core.Path.{_≡_, refl, sym, ap, subst, _∙_}
+use mathlib.Core.Path.{_≡_, refl, sym, ap, _∙_}
 use native.Mathlib.Omega.{arith}
 use lib.ListN.{getD, take, drop, length, length-drop, length-append, take-append-drop}
 use lib.Seq.{take-append-le, drop-append-le, getD-take, getD-drop, drop-drop}

@@ -1,5 +1,6 @@
--- A round's frames as they are sent, station after station: one more written into its part of the bytes leaves the frames before it, for their parts end
--- where its part begins. Where no station is refused, all frames stand.
+-- A round's frames as they are sent, station after station: one more written into its part of the
+-- bytes leaves the frames before it, for their parts end where its part begins. Where no station is
+-- refused, all frames stand.
 use Prim.Native.Nat.{ℕ, _+_, _*_, _≤_, _<_}
 use mathlib.Core.Bool.{true}
 use mathlib.Core.List.{List, _++_, append-assoc}

@@ -1,5 +1,6 @@
--- Document 01, "A group and its rounds": all frames of a round stand in one list of bytes before any station hears, that of station k from byte 260 × k on.
-use Prim.Native.Nat.{ℕ, _+_, _*_, _<_, _≤_}
+-- Document 01, "A group and its rounds": all frames of a round stand in one list of bytes before
+-- any station hears, that of station k from byte 260 × k on.
+use Prim.Native.Nat.{ℕ, _+_, _<_}
 use mathlib.Core.Path.{_≡_}
 use mathlib.Core.Bool.{cond, not, _&&_}
 use mathlib.Core.List.{List, _++_}

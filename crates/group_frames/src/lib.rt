@@ -9,7 +9,8 @@ use kinds::refusals::DONE;
 use kinds::refusals::OUTSIDE_LIMITS;
 use station_rules::Station;
 
-// Writes the frame of station k of a group of n into its part of the bytes; where it may not be written, answers why.
+// Writes the frame of station k of a group of n into its part of the bytes; where it may not be
+// written, answers why.
 fn write_part(bytes: &mut [u8], s: Station, n: usize, k: usize) -> u32
     requires { ⌜ length (now bytes) ≡ 4160 ⌝ }
     ensures { λ r. ⌜ (r ≡ spec.sendRefusal n k s) × (now (bytes .exit) ≡ spec.bytesAfter n k s (now (bytes .entry))) ⌝ }
@@ -41,7 +42,8 @@ fn worse(a: u32, b: u32) -> u32
     b
 }
 
-// Writes the frame of station k of a group of n, where it may be written; gives the refusal of the round, which was `refusal` before this station.
+// Writes the frame of station k of a group of n, where it may be written; gives the refusal of the
+// round, which was `refusal` before this station.
 pub fn send(bytes: &mut [u8], s: Station, n: usize, k: usize, refusal: u32) -> u32
     requires { ⌜ length (now bytes) ≡ 4160 ⌝ }
     ensures { λ r.

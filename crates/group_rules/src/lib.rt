@@ -24,7 +24,8 @@ pub struct KeptGroup {
     pub group: [Station; 16],
 }
 
-// The answer of a round. The refusal is as wide as the numbers of a station, so that nothing stands unused between it and the group.
+// The answer of a round. The refusal is as wide as the numbers of a station, so that nothing stands
+// unused between it and the group.
 pub struct RoundDone {
     pub refusal: usize,
     pub group: [Station; 16],

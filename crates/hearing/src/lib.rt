@@ -111,7 +111,8 @@ fn heed(
 // What is decided of the record of station k at a place, beside the one that the hearer holds at
 // another. The hearer's own counts as the same, for it does nothing.
 fn age_at(bytes: &[u8], held: usize, at: usize, k: usize, own: usize) -> Age
-    requires { ⌜ (held + 16 ≤ length (now bytes)) × (at + 16 ≤ length (now bytes)) × (length (now bytes) ≤ mostBytes) × (k < 16) ⌝ }
+    requires { ⌜ (held + 16 ≤ length (now bytes)) × (at + 16 ≤ length (now bytes)) ⌝ ∗
+        ⌜ (length (now bytes) ≤ mostBytes) × (k < 16) ⌝ }
     ensures { λ r. ⌜ r ≡ ageAt own (now (bytes .entry)) held at k ⌝ }
 {
     if k == own {
@@ -124,8 +125,8 @@ fn age_at(bytes: &[u8], held: usize, at: usize, k: usize, own: usize) -> Age
 }
 
 // The frame that begins at `start`, where none was refused before. A record with the bytes of the
-// one of its station heard last is passed over, one that conflicts ends the frame, and any other that
-// is not newer does nothing.
+// one of its station heard last is passed over, one that conflicts ends the frame, and any other
+// that is not newer does nothing.
 pub fn hear_frame(
     e: Ear,
     bytes: &[u8],

@@ -22,16 +22,18 @@ use Rattle.hearing_spec.specs.Buffer.{bytesAt, recordAt}
 unfoldable pub sameBytes : List ℕ → List ℕ → Bool
 sameBytes p q = allBelow 16 (λ i. eqb (getD p i 0) (getD q i 0))
 
--- what is decided of the record r of station k, beside `old`, where one is held; `equal` says whether all else is equal
+-- what is decided of the record r of station k, beside `old`, where one is held; `equal` says
+-- whether all else is equal
 abbrev pub ageBeside : Bool → Record → Record → ℕ → Bool → Age
 ageBeside held old r k equal = ageOf held (recordLabel old k) (old .count) (recordLabel r k) (r .count) equal
 
--- what is decided of the record of station k at a place, beside the one that is held at another. The
--- hearer's own counts as the same, for it does nothing
+-- what is decided of the record of station k at a place, beside the one that is held at another.
+-- The hearer's own counts as the same, for it does nothing
 unfoldable pub ageAt : ℕ → List ℕ → ℕ → ℕ → ℕ → Age
 ageAt own bytes held at k =
     cond (eqb k own) Same
-    (ageBeside (not (eqb held 0)) (recordAt bytes held) (recordAt bytes at) k (sameBytes (bytesAt bytes held) (bytesAt bytes at)))
+    (ageBeside (not (eqb held 0)) (recordAt bytes held) (recordAt bytes at) k
+    (sameBytes (bytesAt bytes held) (bytesAt bytes at)))
 
 -- the label for the record's station advances
 abbrev pub earAdvances : Ear → Record → Bool

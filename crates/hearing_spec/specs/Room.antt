@@ -1,4 +1,5 @@
--- What makes the accesses of hearing safe, and two records equal where their bytes are. It says nothing of a station.
+-- What makes the accesses of hearing safe, and two records equal where their bytes are. It says
+-- nothing of a station.
 use Prim.Native.Nat.{ℕ, _+_, _*_, _≤_, _<_}
 use mathlib.Core.Path.{_≡_}
 use mathlib.Core.Bool.{true, cond}
@@ -26,7 +27,8 @@ pub record LanesRoom (n own : ℕ) (lens taken : List ℕ) (len : ℕ) : Type 0 
   pub two : (k : ℕ) → k < n → getD lens k 0 ≤ 2
   pub few : len ≤ total n (λ k. cond (eqb k own) 0 (getD lens k 0))
 
--- the sixteen bytes at a place are those that are written of their record, as all bytes are that a frame check accepts
+-- the sixteen bytes at a place are those that are written of their record, as in every frame that
+-- the check accepts
 abbrev pub Written : List ℕ → ℕ → Type 0
 Written bytes at = recordBytes (sizeIn bytes) (recordAt bytes at) ≡ bytesAt bytes at
 

@@ -1,4 +1,5 @@
--- A record is settled at a station: heard now, it would do nothing, for it is neither newer nor conflicting.
+-- A record is settled at a station: heard now, it would do nothing, for it is neither newer nor
+-- conflicting.
 use Prim.Native.Nat.{ℕ, _<_}
 use mathlib.Core.Path.{_≡_}
 use mathlib.Core.Bool.{false}

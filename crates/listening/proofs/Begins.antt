@@ -1,31 +1,31 @@
--- How hearing begins, and what comes of it. The own frame has what the table holds, so the notes stand for silence; what the functions of hearing promise of all notes then gives what is heard.
+-- How hearing begins, and what comes of it. The own frame has what the table holds, so the notes
+-- stand for silence; what the functions of hearing promise of all notes then gives what is heard.
 use Prim.Native.Nat.{ℕ, _+_, _≤_, _<_}
 use mathlib.Core.Bool.{Bool, true, false, cond}
-use mathlib.Core.List.{List, [], map}
-use mathlib.Core.Path.{_≡_, refl, sym, ap, subst, _∙_}
+use mathlib.Core.List.{List}
+use mathlib.Core.Path.{_≡_, refl, sym, subst, _∙_}
 use native.Mathlib.Omega.{arith}
 use lib.Dec.{eqb}
-use lib.ListN.{getD, length, take, replicate}
-use Rattle.kinds.specs.Refusals.{done}
+use lib.ListN.{getD, length, replicate}
 use Rattle.places.specs.Places.{fill}
 use Rattle.places.proofs.Laws.{fill-below, length-fill}
 use Rattle.lanes.specs.Lane.{noLane}
 use Rattle.station_rules.specs.declared.Station.{Station}
-use Rattle.station_rules.specs.State.{cellOf, heldOf, recordOf, laneAt}
+use Rattle.station_rules.specs.State.{cellOf, laneAt}
 use Rattle.station_rules.specs.Hearing.{Hearing, silent}
 use Rattle.station_rules.proofs.Setters.{Shaped}
 use Rattle.station_rules.proofs.StationLimits.{Inside, inside-open}
 use Rattle.station_rules.proofs.LimitsLane.{lane-most}
 use Rattle.hearing_spec.specs.declared.Ear.{Ear}
 use Rattle.hearing_spec.specs.Buffer.{sizeIn}
-use Rattle.hearing_spec.specs.Room.{takingsRoom, LanesRoom, RecordRoom, Room, LastRoom}
+use Rattle.hearing_spec.specs.Room.{takingsRoom, Room, LastRoom}
 use Rattle.hearing_spec.specs.StandsFor.{Notes, notes, StandsFor}
 use Rattle.hearing_spec.specs.Promises.{Hears}
 use Rattle.hearing_spec.proofs.Standing.{stands-first}
 use Rattle.hearing_spec.proofs.Heeding.{takings-most}
 use Rattle.hearing_spec.proofs.Acting.{heard-and-acted}
 use Rattle.acting.specs.Places.{placesOf}
-use Rattle.acting.specs.Listened.{heardNotes, takingsAt, TakenRoom, Readable, Listens}
+use Rattle.acting.specs.Listened.{Listens}
 use Rattle.acting.proofs.OwnFrame.{own-long, own-held, own-top, own-room, own-station, own-written}
 use Rattle.listening.specs.Listening.{MayListen}
 

@@ -12,13 +12,15 @@ use hearing_spec::FRAME_ROOM;
 use kinds::refusals::DONE;
 use station_rules::Station;
 
-// What a station hears of its mask. The frames of all stations stand in the bytes, its own among them.
+// What a station hears of its mask. The frames of all stations stand in the bytes, its own among
+// them.
 pub fn listen(bytes: &[u8], mask: u16, places: &mut [u16], taken: &mut [u16], s: Station) -> Ear
     requires { ⌜ MayListen s (now bytes) (frameStart (s .own)) ⌝ ∗
         ⌜ ((j : ℕ) → j < sizeIn (now bytes) → FrameRoom (now bytes) (frameStart j)) ⌝ ∗
         ⌜ (now places ≡ replicate 16 0) × (length (now taken) ≡ takingsRoom) ⌝ }
     ensures { λ r.
-        ⌜ Listens s (now (bytes .entry)) (maskHeard s (now (bytes .entry)) mask) (now (places .exit)) (now (taken .exit)) r ⌝ }
+        ⌜ Listens s (now (bytes .entry)) (maskHeard s (now (bytes .entry)) mask)
+        (now (places .exit)) (now (taken .exit)) r ⌝ }
 {
     let n = s.n;
     let own = s.own;
@@ -61,7 +63,8 @@ pub fn listen_to(
     requires { ⌜ MayListen s (now bytes) 0 ⌝ ∗ ⌜ FrameRoom (now bytes) start ⌝ ∗
         ⌜ (now places ≡ replicate 16 0) × (length (now taken) ≡ takingsRoom) ⌝ }
     ensures { λ r.
-        ⌜ Listens s (now (bytes .entry)) (frameHeard (now (bytes .entry)) start) (now (places .exit)) (now (taken .exit)) r ⌝ }
+        ⌜ Listens s (now (bytes .entry)) (frameHeard (now (bytes .entry)) start)
+        (now (places .exit)) (now (taken .exit)) r ⌝ }
 {
     let own = s.own;
     let mut last = [0u16; 16];

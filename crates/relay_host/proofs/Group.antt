@@ -11,11 +11,10 @@ use lib.Seq.{sets}
 use borrow.Author.Tests.{eqb-true}
 use Rattle.kinds.specs.declared.Body.{Body}
 use Rattle.kinds.specs.Refusals.{done, outsideLimits, shortBuffer}
-use Rattle.places.specs.Places.{allBelow, fill, tabulate}
+use Rattle.places.specs.Places.{allBelow, fill}
 use Rattle.places.proofs.Laws.{and-left}
 use Rattle.planning_spec.specs.Merge.{frontWritten}
 use Rattle.station_rules.specs.declared.Station.{Station}
-use Rattle.group_rules.specs.declared.Post.{Post}
 use Rattle.group_rules.specs.declared.KeptGroup.{KeptGroup}
 use Rattle.group_rules.specs.declared.RoundDone.{RoundDone}
 use Rattle.group_rules.specs.Calls.{groupPostCall, roundCall}

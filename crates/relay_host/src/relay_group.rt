@@ -131,8 +131,9 @@ pub extern "C" fn relay_group_round(state: &mut [u8], masks: &[u16], reports: &m
     let stations = station_decoder::read_group(state);
     let sixteen = sixteen_masks(masks);
     let done = rounds::round(stations, sixteen);
-    if done.refusal != DONE {
-        return done.refusal;
+    let refusal = done.refusal as u32;
+    if refusal != DONE {
+        return refusal;
     }
     if masks.len() < 16 {
         return SHORT_BUFFER;

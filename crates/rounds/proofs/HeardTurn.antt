@@ -1,16 +1,16 @@
--- One station of a round, as the code goes: what it hears from the bytes is what it hears by definition, so what it then takes into its state is inside its limits for its turn,
--- and what it reports is its report.
-use Prim.Native.Nat.{ℕ, _-_, _<_, min}
+-- One station of a round, as the code goes: what it hears from the bytes is what it hears by
+-- definition, so what it then takes into its state is inside its limits for its turn, and what it
+-- reports is its report.
+use Prim.Native.Nat.{ℕ, _-_, _<_}
 use mathlib.Core.Bool.{true}
 use mathlib.Core.List.{List, _++_}
-use mathlib.Core.Path.{_≡_, sym, ap, subst, _∙_}
+use mathlib.Core.Path.{_≡_, sym, ap, _∙_}
 use native.Mathlib.Omega.{arith}
 use lib.ListN.{getD, length, length-map, length-take, take, replicate}
 use Rattle.kinds.specs.Refusals.{done}
 use Rattle.station_rules.specs.declared.Station.{Station}
 use Rattle.station_rules.specs.declared.Taking.{Taking}
 use Rattle.station_rules.specs.declared.Turned.{Turned}
-use Rattle.station_rules.specs.State.{sentRecords}
 use Rattle.station_rules.specs.Limits.{stationInside}
 use Rattle.station_rules.specs.Hearing.{Hearing, noTaking, silent}
 use Rattle.station_rules.specs.Turn.{afterTurn, turnReport}
@@ -22,7 +22,6 @@ use Rattle.hearing_spec.specs.StandsFor.{actsOn}
 use Rattle.hearing_spec.specs.declared.Ear.{Ear}
 use Rattle.acting.specs.Listened.{heardNotes, takingsAt, Listens}
 use Rattle.listening.specs.Listening.{MayListen, maskHeard}
-use Rattle.group_rules.specs.declared.Report.{Report}
 use Rattle.group_rules.specs.State.{stationAt, sizeOf}
 use Rattle.group_rules.specs.Calls.{heard, reportOf}
 use Rattle.group_rules.proofs.Members.{Member, GroupShaped, member-at, members-open}

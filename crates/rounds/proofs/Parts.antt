@@ -1,7 +1,8 @@
--- A part of a list, replaced: it stands where it was put, the parts before it stay, and so does what follows it.
+-- A part of a list, replaced: it stands where it was put, the parts before it stay, and so does
+-- what follows it.
 use Prim.Native.Nat.{ℕ, _+_, _-_, _≤_}
 use mathlib.Core.List.{List, _++_}
-use mathlib.Core.Path.{_≡_, refl, sym, ap, _∙_}
+use mathlib.Core.Path.{_≡_, sym, ap, _∙_}
 use native.Mathlib.Omega.{arith}
 use lib.ListN.{take, drop, length, replicate, length-append, length-drop, length-replicate, replicate-append-replicate}
 use lib.Seq.{length-take-le, take-at, drop-at, drop-drop}

@@ -1,6 +1,7 @@
--- A round's bytes and its definition say the same: hearing the frames of a mask where they stand in the bytes is hearing the tables of its senders. By induction over the senders.
+-- A round's bytes and its definition say the same: hearing the frames of a mask where they stand in
+-- the bytes is hearing the tables of its senders. By induction over the senders.
 use Prim.Native.Nat.{ℕ, zero, suc, _≤_, _<_}
-use mathlib.Core.Bool.{Bool, true, cond}
+use mathlib.Core.Bool.{cond}
 use mathlib.Core.List.{List}
 use mathlib.Core.Path.{_≡_, refl, sym}
 use native.Mathlib.Omega.{arith}
@@ -8,11 +9,10 @@ use lib.ListN.{getD}
 use borrow.Author.Tests.{lt-ltb}
 use Rattle.links.specs.Log.{hearsIn}
 use Rattle.station_rules.specs.declared.Station.{Station}
-use Rattle.station_rules.specs.State.{sentRecords}
 use Rattle.station_rules.specs.Hearing.{silent, hearFrame}
 use Rattle.group_rules.specs.State.{stationAt, sizeOf}
 use Rattle.group_rules.specs.Calls.{heardBelow}
-use Rattle.hearing_spec.specs.Buffer.{frameStart, recordsAt, hearsSender, hearSenders}
+use Rattle.hearing_spec.specs.Buffer.{hearsSender, hearSenders}
 use Rattle.group_frames.proofs.GroupFrames.{records-of}
 use Rattle.group_frames.proofs.WrittenFrames.{AllSent}
 

@@ -1,5 +1,7 @@
--- The two loops after the frames are written. First each station hears: those passed have heard, and none of them was refused. Then each takes what it heard into its state and takes its turn:
--- those passed stand as the definition says, with their reports, and the others are as they were given.
+-- The two loops after the frames are written. First each station hears: those passed have heard,
+-- and none of them was refused. Then each takes what it heard into its state and takes its turn:
+-- those passed stand as the definition says, with their reports, and the others are as they were
+-- given.
 use Prim.Native.Nat.{ℕ, _+_, _-_, _*_, _≤_, _<_}
 use mathlib.Core.Bool.{true}
 use mathlib.Core.List.{List, []}
@@ -45,7 +47,8 @@ pub record Begun (g : List Station) (none : Report) (bytes : List ℕ) : Type 0 
 abbrev pub noEar : Ear
 noEar = record { refusal = 0; count = 0; acked = []; labels = []; len = 0 }
 
--- the stations below j have heard, each with its own part of the places, and no frame was refused; the other parts of the places are zeros
+-- the stations below j have heard, each with its own part of the places, and no frame was refused;
+-- the other parts of the places are zeros
 pub record Listening (g : List Station) (masks bytes : List ℕ) (ears : List Ear) (places taken : List ℕ) (j : ℕ) : Type 0 where
   pub ears-long : length ears ≡ 16
   pub places-long : length places ≡ 256
@@ -166,7 +169,8 @@ module _ (g : List Station) (masks : List ℕ) (none : Report) (bytes : List ℕ
             (w v : ℕ) → w ≡ 16 → v ≡ 30 → Listening g masks bytes all (withPart w (16 * j) places places') (withPart v (30 * j) taken taken') (j + 1)
         listening-next w v p q = rw (p, q) listening-more
 
--- the station k that has taken what it heard into its state, and what the round reports of it, as the loop of turns sees them
+-- the station k that has taken what it heard into its state, and what the round reports of it, as
+-- the loop of turns sees them
 abbrev pub actedAt : List Station → List ℕ → List Ear → List ℕ → List ℕ → ℕ → Station
 actedAt g bytes ears places taken k =
     actsOn (stationAt g k) bytes (heardNotes (part 16 (16 * k) places) (part 30 (30 * k) taken) (getD ears k noEar))

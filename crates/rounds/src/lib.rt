@@ -28,8 +28,9 @@ fn no_report() -> Report
     }
 }
 
-// Round: all frames are sent. Then each station hears those of its mask, on numbers alone; and where no frame is refused, each takes what it heard into its state and takes its turn. Until
-// then the group is as it was given, so that a refusal has nothing to undo.
+// Round: all frames are sent. Then each station hears those of its mask, on numbers alone; and
+// where no frame is refused, each takes what it heard into its state and takes its turn. Until then
+// the group is as it was given, so that a refusal has nothing to undo.
 pub fn round(g: [Station; 16], masks: [u16; 16]) -> RoundDone
     ensures { λ r. ⌜ r ≡ roundCall g masks ⌝ }
 {
@@ -96,13 +97,8 @@ pub fn round(g: [Station; 16], masks: [u16; 16]) -> RoundDone
         let b = 30 * i;
         let heard = ears[i];
         let takings = acting::takings_of(&bytes, &taken[b..b + 30], heard.len);
-        let acted = acting::acted(
-            heard,
-            &bytes,
-            &places[a..a + 16],
-            &taken[b..b + 30],
-            group[i],
-        );
+        let before = group[i];
+        let acted = acting::acted(heard, &bytes, &places[a..a + 16], &taken[b..b + 30], before);
         let turned = station_turns::take_turn(acted);
         let turn = turned.report;
         reports[i] = Report {

@@ -1,23 +1,18 @@
 -- Calls on bytes one after the other. What a call that is done leaves is accepted by the next call, and decoded to just the station that the call gave; so calls on bytes are the calls of document 01, one after the other, on the
 -- station itself, and a state that the library made is never refused with 2.
-use mathlib.Core.Path.{_≡_, refl, sym, ap, subst, _∙_}
-use mathlib.Core.Bool.{Bool, true, false, cond, not, _&&_, false≢true}
+use mathlib.Core.Path.{_≡_, refl, sym, subst, _∙_}
+use mathlib.Core.Bool.{Bool, true, false, not, false≢true}
 use mathlib.Core.List.{List}
-use Prim.Native.Nat.{ℕ, _<_, _≤_}
+use Prim.Native.Nat.{ℕ}
 use native.Mathlib.Omega.{arith}
 use lib.Dec.{eqb}
-use lib.ListN.{getD}
-use borrow.Author.Tests.{eqb-true, eq-eqb, ne-eqb}
+use borrow.Author.Tests.{eqb-true, eq-eqb}
 use Rattle.kinds.specs.declared.Body.{Body}
 use Rattle.kinds.specs.Refusals.{done, outsideLimits, refuse}
-use Rattle.kind_limits.specs.Limits.{postable}
 use Rattle.frame_rules.specs.Frame.{validNumber, frameRefusal, recordsOf, recordsInside, shapeWrong, addressWrong}
 use Rattle.lanes.specs.Waiting.{limitInside, hasRoom}
 use Rattle.station_rules.specs.declared.Setup.{Setup}
 use Rattle.station_rules.specs.declared.Station.{Station}
-use Rattle.station_rules.specs.declared.Heard.{Heard}
-use Rattle.station_rules.specs.declared.Turned.{Turned}
-use Rattle.station_rules.specs.declared.Kept.{Kept}
 use Rattle.station_rules.specs.Limits.{stationInside}
 use Rattle.station_rules.specs.Hearing.{Hearing, silent, hearFrame}
 use Rattle.station_rules.specs.Turn.{afterTurn}

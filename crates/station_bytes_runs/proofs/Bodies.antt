@@ -1,8 +1,8 @@
 -- Bodies whose numbers have 32 bits: in lanes, in waiting edits, and in what a body of three numbers is.
 use mathlib.Core.Path.{_≡_, refl, sym, ap, subst, _∙_}
-use mathlib.Core.Bool.{Bool, true, false, cond}
+use mathlib.Core.Bool.{Bool, true, false}
 use mathlib.Core.List.{List, [], _∷_, _++_}
-use Prim.Native.Nat.{ℕ, zero, suc, _+_, _-_, _<_, _≤_}
+use Prim.Native.Nat.{ℕ, zero, suc, _+_, _-_, _<_}
 use native.Mathlib.Omega.{arith}
 use lib.Dec.{eqb, ltb}
 use lib.IntN.{ℤ}
@@ -18,11 +18,10 @@ use Rattle.places.proofs.Keeps.{cond-keeps, set-keeps}
 use Rattle.frame_rules.specs.Words.{signed}
 use Rattle.lanes.specs.declared.Lane.{Lane}
 use Rattle.lanes.specs.declared.Slot.{Slot}
-use Rattle.lanes.specs.declared.Queue.{Queue}
 use Rattle.lanes.specs.declared.Waiting.{Waiting}
 use Rattle.lanes.specs.Lane.{bodies, laneOf, pushed, popped}
 use Rattle.lanes.specs.Queue.{noSlot, emptyQueue, queued, oldest, unqueued}
-use Rattle.lanes.specs.Waiting.{noneWaiting, waitingCount, waitingAt, withPosted, nextEdit, withoutNext}
+use Rattle.lanes.specs.Waiting.{noneWaiting, waitingAt, withPosted, nextEdit, withoutNext}
 use Rattle.lanes.proofs.WaitingLaws.{WaitingSized}
 use Rattle.station_bytes_spec.proofs.Body.{BodyFits}
 

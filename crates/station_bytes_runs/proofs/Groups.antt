@@ -7,11 +7,10 @@ use Prim.Native.Nat.{ℕ, zero, suc, _+_, _<_, _≤_}
 use native.Mathlib.Decide.{decLe}
 use native.Mathlib.Omega.{arith}
 use lib.Dec.{eqb}
-use lib.ListN.{getD, set, length, replicate, getD-replicate}
+use lib.ListN.{replicate, getD-replicate}
 use lib.Seq.{getD-set-other}
-use Rattle.kinds.specs.declared.Body.{Body}
 use Rattle.kinds.specs.Refusals.{done}
-use Rattle.places.specs.Places.{fill, gather}
+use Rattle.places.specs.Places.{gather}
 use Rattle.places.proofs.Laws.{fill-below, fill-above}
 use Rattle.places.proofs.Keeps.{set-keeps}
 use Rattle.label_words.proofs.Laws.{label-less, over-less}
@@ -23,18 +22,17 @@ use Rattle.lanes.proofs.WaitingLaws.{limit-most, inside-limit, inside-most}
 use Rattle.station_rules.specs.declared.Setup.{Setup}
 use Rattle.station_rules.specs.declared.Station.{Station}
 use Rattle.station_rules.specs.State.{heldOf, recordOf, sentRecords, aloneSetup, freshStation, noStation}
-use Rattle.station_rules.specs.Hearing.{silent, hearFrame}
-use Rattle.station_rules.specs.Turn.{afterTurn}
-use Rattle.station_rules.specs.Calls.{ownCountInside, posted}
+use Rattle.station_rules.specs.Hearing.{hearFrame}
+use Rattle.station_rules.specs.Calls.{posted}
 use Rattle.station_rules.proofs.Setters.{Shaped}
 use Rattle.station_rules.proofs.StationLimits.{Inside, inside-make, inside-open}
 use Rattle.station_rules.proofs.LimitsFresh.{fresh-inside}
 use Rattle.station_rules.proofs.LimitsSent.{sent-carried}
 use Rattle.group_rules.specs.declared.Post.{Post}
 use Rattle.group_rules.specs.State.{stationAt, sizeOf, freshGroup}
-use Rattle.group_rules.specs.Calls.{afterPost, groupPostCall, heardBelow, heard, roundRefusal, afterRound, roundCall}
+use Rattle.group_rules.specs.Calls.{groupPostCall, heardBelow, heard, roundRefusal, afterRound, roundCall}
 use Rattle.group_rules.proofs.Setups.{Accepts}
-use Rattle.group_rules.proofs.Members.{Member, GroupShaped, Members, members-inside, fresh-members}
+use Rattle.group_rules.proofs.Members.{Members, fresh-members}
 use Rattle.group_rules.proofs.MembersPost.{Accepted, accepted, post-accepted, post-refused, post-refusal, post-members}
 use Rattle.group_rules.proofs.MembersRound.{Runs, runs, run-hears, run-room, after-at, after-above, round-done, round-refused, round-members}
 use Rattle.station_bytes_spec.specs.Group.{encodeGroup, decodeGroup, isGroup}

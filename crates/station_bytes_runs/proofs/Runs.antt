@@ -8,14 +8,12 @@ use Rattle.kinds.specs.Refusals.{done}
 use Rattle.station_rules.specs.declared.Setup.{Setup}
 use Rattle.station_rules.specs.declared.Station.{Station}
 use Rattle.group_rules.specs.declared.Post.{Post}
-use Rattle.group_rules.specs.declared.KeptGroup.{KeptGroup}
-use Rattle.group_rules.specs.declared.RoundDone.{RoundDone}
 use Rattle.group_rules.specs.State.{freshGroup}
 use Rattle.group_rules.specs.Calls.{groupFreshRefusal, groupPostCall, roundCall, roundRefusal}
 use Rattle.group_rules.specs.History.{Call, post, round, History, next, begun, continued, historyOf}
 use Rattle.group_rules.proofs.Setups.{accepts}
 use Rattle.group_rules.proofs.MembersPost.{post-refused}
-use Rattle.group_rules.proofs.MembersRound.{round-done, round-refused}
+use Rattle.group_rules.proofs.MembersRound.{round-refused}
 use Rattle.station_bytes_spec.specs.Group.{encodeGroup, decodeGroup, isGroup}
 use Rattle.station_bytes_spec.proofs.Body.{BodyFits}
 use Rattle.station_bytes_runs.specs.Runs.{nextBytes, continuedBytes}

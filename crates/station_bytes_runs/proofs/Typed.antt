@@ -1,19 +1,18 @@
 -- Every step of a station keeps what its types say: the lengths of its arrays, that the numbers of its bodies have 32 bits, and that the labels of its records are a word. Each step is made of setters, and a setter puts
 -- in what fits already.
 use mathlib.Core.Path.{_≡_, refl, sym, ap, subst, _∙_}
-use mathlib.Core.Bool.{Bool, true, false, cond, not, _&&_}
+use mathlib.Core.Bool.{Bool, true, false, cond}
 use mathlib.Core.List.{List, [], _∷_, _++_}
 use Prim.Native.Nat.{ℕ, _+_, _-_, _<_, _≤_}
 use native.Mathlib.Decide.{ℕ-discrete}
 use native.Mathlib.Omega.{arith}
 use lib.Dec.{eqb, ltb}
-use lib.ListN.{getD, length}
+use lib.ListN.{getD}
 use borrow.Author.Tests.{ltb-true, ltb-false, leb-true}
 use Rattle.kinds.specs.declared.Body.{Body}
 use Rattle.kinds.specs.declared.Body.the-variants.{Empty, Neutral}
 use Rattle.kinds.specs.Body.{isEmpty}
 use Rattle.places.proofs.Keeps.{cond-keeps}
-use Rattle.label_words.specs.Packing.{labelsOver}
 use Rattle.label_words.proofs.Laws.{label-less, over-less}
 use Rattle.labels.specs.Label.{isLabel}
 use Rattle.frame_rules.specs.declared.Record.{Record}
@@ -21,11 +20,10 @@ use Rattle.frame_rules.specs.Record.{recordLabel}
 use Rattle.lanes.specs.declared.Lane.{Lane}
 use Rattle.lanes.specs.declared.Waiting.{Waiting}
 use Rattle.lanes.specs.Lane.{pushed, popped}
-use Rattle.lanes.specs.Waiting.{waitingCount, waitingAt, withPosted, nextEdit, withoutNext}
-use Rattle.lanes.proofs.WaitingLaws.{WaitingSized}
+use Rattle.lanes.specs.Waiting.{waitingCount, withPosted, nextEdit, withoutNext}
 use Rattle.station_rules.specs.declared.Station.{Station}
 use Rattle.station_rules.specs.declared.Setup.{Setup}
-use Rattle.station_rules.specs.State.{freshLabels, freshRecord, freshStation, Cell, cellOf, labelOf, recordOf, laneAt, withLabel, withEntry, withLane, withWaiting, withBroadcast, withCell, withAcked, withLanes}
+use Rattle.station_rules.specs.State.{freshLabels, freshRecord, freshStation, Cell, cellOf, labelOf, recordOf, laneAt, withEntry, withLane, withWaiting, withBroadcast, withCell, withAcked, withLanes}
 use Rattle.station_rules.specs.Limits.{stationInside}
 use Rattle.kinds.specs.Refusals.{done}
 use Rattle.labels.specs.declared.Age.{Age}
@@ -33,8 +31,8 @@ use Rattle.labels.specs.declared.Age.the-variants.{Newer, Same, Conflicting, Ol
 use Rattle.station_rules.specs.Hearing.{Hearing, takes, replaced, ageIn, heardAs, heardNewer, hearRecord, hearRecords, hearFrame}
 use Rattle.station_rules.specs.Turn.{airs, afterAiring, broadcastEnds, mayStart, startsEdit, startedBody, begins, takesOwn, passed, ownRecord, rewritten, afterTurn}
 use Rattle.station_rules.specs.Calls.{posted}
-use Rattle.station_rules.proofs.Setters.{Shaped, fresh-at, fresh-word, fresh-self, fresh-own, fresh-other, SameSelf, withAck, waiting-cell, broadcast-cell, cell-self, cell-here, cell-other, acked-self, acked-below, acked-above, acked-shaped, lanes-self, lanes-below, lanes-above, broadcast-shaped, cell-shaped}
-use Rattle.station_rules.proofs.Shape.{posted-shaped, heardNewer-shaped, aired-self, aired-shaped, begins-shaped, passed-shaped, rewritten-shaped}
+use Rattle.station_rules.proofs.Setters.{Shaped, fresh-at, fresh-word, fresh-self, fresh-own, fresh-other, withAck, waiting-cell, broadcast-cell, cell-self, cell-here, cell-other, acked-self, acked-below, acked-above, acked-shaped, lanes-self, lanes-below, lanes-above, broadcast-shaped}
+use Rattle.station_rules.proofs.Shape.{heardNewer-shaped, aired-self, aired-shaped, begins-shaped, passed-shaped, rewritten-shaped}
 use Rattle.station_rules.proofs.StationLimits.{inside-open}
 use Rattle.station_rules.proofs.LimitsTurn.{turn-inside}
 use Rattle.station_bytes_spec.proofs.Body.{BodyFits, RecordFits}

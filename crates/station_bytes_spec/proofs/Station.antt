@@ -1,15 +1,15 @@
 -- A station there and back. Each part has four laws: its length; what stands in a list as its encoding is decoded to it, and is accepted; accepted bytes are the encoding of
 -- what they are decoded to. The station's laws are made of those of its parts, at any place of a list, so that a group's are made of them.
 use mathlib.Core.Path.{_≡_, refl, sym, ap, ap₂, _∙_}
-use mathlib.Core.Bool.{Bool, true, false, _&&_}
+use mathlib.Core.Bool.{true, false, _&&_}
 use mathlib.Core.List.{List, [], _∷_, _++_}
 use Prim.Native.Nat.{ℕ, _+_, _*_, _<_, _≤_}
 use native.Mathlib.Omega.{arith}
 use lib.Dec.{eqb, leb, ltb}
-use lib.ListN.{getD, take, drop, length, length-append, drop-of-length-le}
+use lib.ListN.{length, length-append}
 use lib.Seq.{take-all}
 use borrow.Author.Tests.{eqb-true, eq-eqb, ltb-true, lt-ltb}
-use Rattle.places.specs.Places.{allBelow, tabulate}
+use Rattle.places.specs.Places.{allBelow}
 use Rattle.places.proofs.Laws.{and-both, both, allBelow-at, allBelow-make, tabulate-at}
 use Rattle.frame_rules.specs.Words.{wordAt, wordBytes}
 use Rattle.frame_rules.specs.Record.{noRecord}
@@ -21,8 +21,8 @@ use Rattle.lanes.specs.Waiting.{waitingCount, waitingAt}
 use Rattle.lanes.proofs.WaitingLaws.{WaitingSized}
 use Rattle.station_rules.specs.declared.Station.{Station}
 use Rattle.station_rules.specs.State.{Cell, cellOf}
-use Rattle.station_bytes_spec.specs.Bytes.{byteAt, flagAt, flagByte, asByte, span, joinedBelow}
-use Rattle.station_bytes_spec.specs.Body.{encodeBody, decodeBody, isBody, recordWidth, encodeRecord, decodeRecord, isRecord}
+use Rattle.station_bytes_spec.specs.Bytes.{byteAt, flagByte, asByte, span, joinedBelow}
+use Rattle.station_bytes_spec.specs.Body.{encodeBody, decodeBody, isBody, recordWidth, encodeRecord, isRecord}
 use Rattle.station_bytes_spec.specs.Station.{cellWidth, encodeCell, decodeLane, decodeCell, isCell, waitingWidth, encodeWaiting, decodeWaiting, isWaiting, cellsWidth, waitingPlace, stationWidth, encodeHead, encodeStation, cellIn, decodeStation, isStationAt, isStation}
 use Rattle.station_bytes_spec.proofs.Bytes.{Stands, AllBytes, stands-whole, stands-left, stands-right, first-byte, stands-word, joined-long, joined-ext, stands-joined, span-join, spans-joined, four-span, word-span, length-word, flag-read, flag-small, flag-back, byte-same, byte-small, tabulate-is}
 use Rattle.station_bytes_spec.proofs.Body.{BodyFits, length-body, body-decoded, body-accepted, body-encoded, RecordFits, length-record, record-decoded, record-accepted, record-encoded}

@@ -1,14 +1,12 @@
 -- What the tests and the reads of the code come to: each return is a case of the definition, by the tests on its way.
 use mathlib.Core.Path.{_≡_, refl, sym, ap, _∙_}
-use mathlib.Core.Bool.{Bool, true, false, not}
+use mathlib.Core.Bool.{Bool, true, false}
 use mathlib.Core.List.{List}
 use Prim.Native.Nat.{ℕ, _+_, _*_, _<_, _≤_}
 use native.Mathlib.Numerals.{add-one}
-use native.Mathlib.Nat.{zero-add}
-use native.Mathlib.Omega.{arith}
 use lib.Dec.{eqb}
 use lib.IntN.{ℤ}
-use lib.ListN.{getD, set, length, replicate}
+use lib.ListN.{set, length, replicate}
 use mir.Syntax.{w32}
 use mir.Val.{SFits, toZ, ofZ}
 use mir.ValLaws.{toZ-ofZ}
@@ -16,7 +14,7 @@ use borrow.Author.Tests.{lt-leb, le-leb, eq-eqb, ne-eqb}
 use Rattle.kinds.specs.declared.Body.{Body}
 use Rattle.kinds.specs.Body.{kindOf, eventOf, argumentOf, bodyOf}
 use Rattle.places.specs.Places.{allBelow, fill, tabulate}
-use Rattle.places.proofs.Laws.{allBelow-fails, allBelow-ext}
+use Rattle.places.proofs.Laws.{allBelow-fails}
 use Rattle.frame_rules.specs.Words.{wordAt, signed, unsigned}
 use Rattle.station_bytes_spec.specs.Bytes.{byteAt, flagAt}
 use Rattle.frame_rules.specs.declared.Record.{Record}

@@ -1,14 +1,13 @@
 -- Writing from a place on: a write where the one before ended makes one longer write, so that every writer leaves the encoding of what it was given.
 use mathlib.Core.Path.{_≡_, refl, sym, ap, _∙_}
-use mathlib.Core.Bool.{Bool, cond}
 use mathlib.Core.List.{List, [], _∷_, _++_}
-use Prim.Native.Nat.{ℕ, _+_, _*_, _<_, _≤_}
+use Prim.Native.Nat.{ℕ, _+_, _*_}
 use native.Mathlib.Numerals.{add-one}
 use native.Mathlib.Nat.{zero-add}
 use native.Mathlib.Omega.{arith}
 use lib.IntN.{ℤ}
 use lib.ListN.{getD, set, length, length-append}
-use lib.Seq.{sets, length-sets}
+use lib.Seq.{sets}
 use mir.Syntax.{w32}
 use mir.Val.{SFits, toZ, ofZ}
 use mir.ValLaws.{toZ-ofZ}
@@ -18,8 +17,6 @@ use Rattle.places.specs.Places.{tabulate}
 use Rattle.places.proofs.Laws.{length-tabulate}
 use Rattle.frame_rules.specs.Words.{wordBytes, unsigned}
 use Rattle.frame_rules.specs.declared.Record.{Record}
-use Rattle.lanes.specs.declared.Slot.{Slot}
-use Rattle.lanes.specs.declared.Lane.{Lane}
 use Rattle.lanes.specs.declared.Waiting.{Waiting}
 use Rattle.lanes.specs.Queue.{noSlot}
 use Rattle.lanes.specs.Waiting.{waitingCount, waitingAt}

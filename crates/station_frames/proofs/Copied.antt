@@ -1,12 +1,11 @@
 -- Bytes copied to the beginning of others, one after the other, and frames put into their rooms.
-use Prim.Native.Nat.{ℕ, suc, _+_, _-_, _*_, _≤_, _<_}
+use Prim.Native.Nat.{ℕ, suc, _+_, _-_, _≤_, _<_}
 use native.Mathlib.Numerals.{add-one}
 use native.Mathlib.Omega.{arith}
-use mathlib.Core.Bool.{true, false}
-use mathlib.Core.List.{List, [], _∷_, _++_, append-nil, append-assoc}
-use mathlib.Core.Path.{_≡_, refl, sym, ap, _∙_}
-use lib.ListN.{getD, set, take, drop, length, length-append, length-drop, length-replicate, replicate, replicate-append-replicate}
-use lib.Seq.{take-suc, drop-cons, set-at, append-snoc, length-take-le, take-at, drop-at, take-length, drop-length}
+use mathlib.Core.List.{List, _++_, append-nil}
+use mathlib.Core.Path.{_≡_, sym, ap, _∙_}
+use lib.ListN.{getD, set, take, drop, length, length-append, length-replicate, replicate, replicate-append-replicate}
+use lib.Seq.{take-suc, drop-cons, set-at, append-snoc, length-take-le, take-at, drop-at, take-length}
 use borrow.Author.Tests.{le-ltb}
 use Rattle.frame_rules.specs.Calls.{bufferWith}
 use Rattle.station_frames.specs.Beside.{roomed}
@@ -17,9 +16,6 @@ copied-more s d i low room =
     rw (drop-cons d i 0 (omega arith), add-one i, take-suc s i 0 low)
     (set-at (take i s) (getD d i 0) (drop (suc i) d) (getD s i 0) i (length-take-le i s (omega arith))
     ∙ sym (append-snoc (take i s) (getD s i 0) (drop (suc i) d)))
-
-pub copied-length : (s d : List ℕ) (i : ℕ) → i ≤ length s → length s ≤ length d → length (take i s ++ drop i d) ≡ length d
-copied-length s d i low room = omega (arith, length-append (take i s) (drop i d), length-take-le i s low, length-drop i d)
 
 pub copied-all : (s d : List ℕ) (i : ℕ) → i ≡ length s → take i s ++ drop i d ≡ s ++ drop (length s) d
 copied-all s d i e = rw (e, take-length s)
@@ -60,6 +56,3 @@ both-are f h x y lf lh xe ye =
     let put : y ≡ roomed h = ye ∙ ap (λ (l : List ℕ). h ++ drop (length h) (take 260 l)) rest ∙ put-roomed h lh in
     (λ i. take-at x z 260 size i ++ (put i ++ drop 260 (rest i)))
     ∙ (λ i. is i ++ append-nil (roomed h) i)
-
-pub table-roomed : (f : List ℕ) → length f ≤ 260 → (t : List ℕ) → t ≡ f → length t ≤ 260
-table-roomed f l t e = rw e l

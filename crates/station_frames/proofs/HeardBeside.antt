@@ -1,12 +1,12 @@
--- A station may listen to a frame that it accepts, beside its own frame; what it hears there is what it hears of the frame alone.
-use Prim.Native.Nat.{ℕ, _+_, _-_, _*_, _≤_, _<_}
+-- A station may listen to a frame that it accepts, beside its own frame; what it hears there is
+-- what it hears of the frame alone.
+use Prim.Native.Nat.{ℕ, _+_, _-_, _≤_, _<_}
 use native.Mathlib.Omega.{arith}
 use mathlib.Core.Bool.{true}
 use mathlib.Core.List.{List, _++_, append-assoc}
-use mathlib.Core.Path.{_≡_, refl, sym, ap, subst, _∙_}
+use mathlib.Core.Path.{_≡_, sym, ap, subst, _∙_}
 use lib.ListN.{getD, drop, length, replicate, length-append, List·getD-append}
 use lib.Seq.{drop-at}
-use Rattle.kinds.specs.Refusals.{done}
 use Rattle.places.proofs.Laws.{and-left, allBelow-at}
 use Rattle.frame_rules.specs.Record.{recordFrom, recordBytes, bytesInside}
 use Rattle.frame_rules.specs.Frame.{part, recordsOf, recordsInside, frameRefusal}
@@ -14,12 +14,11 @@ use Rattle.frame_rules.proofs.Limits.{bytes-open}
 use Rattle.frame_rules.proofs.FrameTrip.{part-written}
 use Rattle.frame_rules.proofs.Check.{Shape, accepted-frame, shape}
 use Rattle.station_rules.specs.declared.Station.{Station}
-use Rattle.station_rules.specs.State.{sentRecords}
 use Rattle.station_rules.specs.Limits.{stationInside}
-use Rattle.station_rules.specs.Hearing.{Hearing, silent, hearFrame}
+use Rattle.station_rules.specs.Hearing.{silent, hearFrame}
 use Rattle.station_rules.specs.Calls.{frameOf}
 use Rattle.station_rules.proofs.StationLimits.{Inside, inside-open}
-use Rattle.hearing_spec.specs.Buffer.{sizeIn, recordsAt}
+use Rattle.hearing_spec.specs.Buffer.{sizeIn}
 use Rattle.hearing_spec.specs.Room.{FrameRoom}
 use Rattle.listening.specs.Listening.{MayListen, frameHeard}
 use Rattle.station_frames.specs.Beside.{roomed, beside}

@@ -1,35 +1,34 @@
--- The own frame of a station and a heard one beside each other: each is read where it stands as it is read alone. The own record's count may be one that no frame may carry, and its frame is
--- read back all the same.
+-- The own frame of a station and a heard one beside each other: each is read where it stands as it
+-- is read alone. The own record's count may be one that no frame may carry, and its frame is read
+-- back all the same.
 use Prim.Native.Nat.{ℕ, zero, suc, _+_, _-_, _*_, _≤_, _<_}
 use native.Mathlib.Omega.{arith}
 use native.Mathlib.Decide.{ℕ-discrete}
 use mathlib.Core.Bool.{Bool, true, false, cond}
-use mathlib.Core.List.{List, [], _∷_, _++_, map, append-nil}
+use mathlib.Core.List.{List, [], _∷_, _++_}
 use mathlib.Core.Path.{_≡_, refl, sym, ap, subst, _∙_}
-use lib.ListN.{getD, take, drop, length, replicate, length-append, length-drop, length-replicate, List·getD-append}
+use lib.ListN.{getD, take, drop, length, length-append, length-drop, List·getD-append}
 use lib.Seq.{getD-at, getD-take, getD-drop, drop-drop, take-append-le, drop-append-le, ext-getD}
-use borrow.Author.Tests.{lt-ltb, le-leb}
+use borrow.Author.Tests.{le-leb}
 use Rattle.kind_limits.specs.Limits.{bodyInside}
 use Rattle.places.specs.Places.{gather, tabulate}
-use Rattle.places.proofs.Laws.{and-left, and-both, allBelow-at, tabulate-ext, tabulate-at, length-tabulate}
+use Rattle.places.proofs.Laws.{tabulate-ext, tabulate-at, length-tabulate}
 use Rattle.frame_rules.specs.declared.Record.{Record}
 use Rattle.labels.specs.Label.{isLabel}
 use Rattle.frame_rules.specs.Words.{wordAt}
 use Rattle.frame_rules.specs.Record.{noRecord, recordLabel, recordFrom, recordBytes, framed}
-use Rattle.frame_rules.specs.Frame.{part, recordsOf, recordsInside, frameRefusal, frameBytes}
+use Rattle.frame_rules.specs.Frame.{part, recordsOf, frameBytes}
 use Rattle.frame_rules.proofs.Labels.{framed-label, framed-twice}
 use Rattle.frame_rules.proofs.Limits.{fits-make}
 use Rattle.frame_rules.proofs.RecordTrip.{record-read}
 use Rattle.frame_rules.proofs.FrameTrip.{part-of-frame}
 use Rattle.frame_rules.proofs.Bytes.{length-frame}
-use Rattle.frame_rules.proofs.Check.{accepted-frame, shape}
 use Rattle.station_rules.specs.declared.Station.{Station}
 use Rattle.station_rules.specs.State.{heldOf, recordOf, sentRecords}
 use Rattle.station_rules.specs.Calls.{frameOf}
 use Rattle.station_rules.proofs.StationLimits.{Inside}
 use Rattle.hearing_spec.specs.Buffer.{sizeIn, recordsAt}
 use Rattle.hearing_spec.specs.Room.{FrameRoom}
-use Rattle.station_frames.specs.Beside.{roomed, beside}
 
 -- ---- what is gathered
 

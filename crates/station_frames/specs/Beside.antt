@@ -1,4 +1,5 @@
--- A station hears one frame beside its own: both stand in one list of bytes, each in the room of a frame.
+-- A station hears one frame beside its own: both stand in one list of bytes, each in the room of a
+-- frame.
 use Prim.Native.Nat.{ℕ, _-_}
 use mathlib.Core.List.{List, _++_}
 use lib.ListN.{length, replicate}

@@ -47,7 +47,8 @@ pub fn write(s: Station, buffer: &mut [u8]) -> Written
 // Puts a frame at the beginning of a buffer, whose bytes past it are kept.
 fn put_frame(buffer: &mut [u8], frame: &[u8])
     requires { ⌜ length (now frame) ≤ length (now buffer) ⌝ }
-    ensures { λ _. ⌜ now (buffer .exit) ≡ now (frame .entry) ++ drop (length (now (frame .entry))) (now (buffer .entry)) ⌝ }
+    ensures { λ _.
+        ⌜ now (buffer .exit) ≡ now (frame .entry) ++ drop (length (now (frame .entry))) (now (buffer .entry)) ⌝ }
 {
     let mut i: usize = 0;
     while i < frame.len() {

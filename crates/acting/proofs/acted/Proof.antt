@@ -1,10 +1,8 @@
--- `acting::acted` meets its contract: below k the table holds what was heard. Then the takings are put into their lanes, and the numbers are stored.
+-- `acting::acted` meets its contract: below k the table holds what was heard. Then the takings are
+-- put into their lanes, and the numbers are stored.
 use Prim.Native.Nat.{ℕ, _+_, _-_, _≤_, _<_}
-use mathlib.Core.Bool.{Bool, not}
-use mathlib.Core.Path.{_≡_, refl, sym, ap, _∙_}
-use mathlib.Core.List.{List}
+use mathlib.Core.Path.{_≡_, refl, ap, _∙_}
 use native.Mathlib.Omega.{arith}
-use lib.Dec.{eqb}
 use lib.ListN.{getD, set, length}
 use Rattle.places.proofs.Laws.{length-fill}
 use Rattle.frame_rules.specs.Record.{noRecord}

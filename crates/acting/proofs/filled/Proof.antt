@@ -1,16 +1,14 @@
 -- `acting::filled` meets its contract: the first i takings are in their lanes.
 use Prim.Native.Nat.{ℕ, _+_, _-_, _≤_, _<_}
-use mathlib.Core.Path.{_≡_, refl, sym, ap, _∙_}
-use mathlib.Core.List.{List}
+use mathlib.Core.Path.{_≡_, refl, ap, _∙_}
 use native.Mathlib.Omega.{arith}
 use lib.ListN.{getD, set, length, length-set, length-take, length-drop}
 use Rattle.frame_rules.specs.declared.Record.{Record}
-use Rattle.lanes.specs.declared.Lane.{Lane}
 use Rattle.lanes.specs.Lane.{noLane, pushed}
-use Rattle.hearing_spec.specs.Buffer.{sizeIn, recordAt, takingAt}
+use Rattle.hearing_spec.specs.Buffer.{recordAt}
 use Rattle.hearing_spec.specs.Gathered.{pushedAll}
 use Rattle.acting.specs.Listened.{takingsAt}
-use Rattle.acting.proofs.OwnFrame.{station-byte}
+use Rattle.hearing_spec.proofs.FrameLoop.{station-at}
 use Rattle.acting.proofs.TakingSteps.{read-at, filled-more}
 use Rattle.acting.proofs.filled.Statement.{statement}
 use Rattle.acting.proofs.filled.Tie as tie
@@ -58,7 +56,7 @@ module _ (c : tie.After-read-record Inv-loop μ-loop) where
   seen-is = c .read-record .ensures ∙ read-at (z turn .args .bytes .now) (at turn)
 
   k-low : seen .station < 16
-  k-low = omega (arith, ap (λ (r : Record). r .station) seen-is ∙ station-byte (z turn .args .bytes .now) (at turn), low turn)
+  k-low = omega (arith, ap (λ (r : Record). r .station) seen-is ∙ station-at (z turn .args .bytes .now) (at turn), low turn)
 
 loop-again : tie.Need-loop-again Inv-loop μ-loop
 loop-again c =

@@ -1,13 +1,13 @@
 -- `acting::lane_lens` meets its contract: the first k lanes have their lengths.
-use Prim.Native.Nat.{ℕ, _+_, _-_, _≤_, _<_}
-use mathlib.Core.Path.{_≡_, refl, sym, ap, _∙_}
+use Prim.Native.Nat.{ℕ, _-_, _≤_}
+use mathlib.Core.Path.{_≡_, refl, ap, _∙_}
 use mathlib.Core.List.{List}
 use native.Mathlib.Omega.{arith}
-use lib.ListN.{getD, set, length, replicate}
+use lib.ListN.{getD, set, replicate}
 use borrow.Author.Needs.{needs}
 use Rattle.lanes.specs.Lane.{noLane}
 use Rattle.places.specs.Places.{fill}
-use Rattle.places.proofs.Laws.{fill-more, length-fill}
+use Rattle.places.proofs.Laws.{fill-more}
 use Rattle.acting.proofs.lane_lens.Statement.{statement}
 use Rattle.acting.proofs.lane_lens.Tie as tie
 

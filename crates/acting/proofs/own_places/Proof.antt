@@ -1,11 +1,8 @@
 -- `acting::own_places` meets its contract: at the place of record r the first r records are placed.
-use Prim.Native.Nat.{ℕ, _+_, _-_, _*_, _≤_, _<_}
-use mathlib.Core.Path.{_≡_, refl, sym, ap, _∙_}
-use mathlib.Core.List.{List}
+use Prim.Native.Nat.{ℕ, _+_, _-_, _≤_, _<_}
+use mathlib.Core.Path.{sym, ap, _∙_}
 use native.Mathlib.Omega.{arith}
-use native.Mathlib.Numerals.{add-one}
-use lib.ListN.{getD, length, length-set}
-use Rattle.acting.specs.Places.{recordPlace, placesOf}
+use lib.ListN.{getD, length}
 use Rattle.acting.proofs.PlacesLoop.{Placing, placing-none, placing-more, placing-all}
 use Rattle.acting.proofs.own_places.Statement.{statement}
 use Rattle.acting.proofs.own_places.Tie as tie

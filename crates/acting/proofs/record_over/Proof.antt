@@ -1,7 +1,6 @@
 -- `acting::record_over` meets its contract.
-use mathlib.Core.Path.{_≡_, sym, ap, _∙_}
+use mathlib.Core.Path.{_∙_}
 use borrow.Author.Needs.{needs}
-use Rattle.frame_rules.specs.declared.Record.{Record}
 use Rattle.label_words.specs.Packing.{labelsOver}
 use Rattle.frame_rules.specs.Record.{recordLabel}
 use Rattle.frame_rules.proofs.Labels.{labels-of}

@@ -1,11 +1,9 @@
 -- `acting::takings_of` meets its contract: the first i takings stand in their places.
 use Prim.Native.Nat.{ℕ, _+_, _-_, _≤_, _<_}
-use mathlib.Core.Path.{_≡_, refl, sym, ap, _∙_}
+use mathlib.Core.Path.{_≡_, refl, ap, _∙_}
 use mathlib.Core.List.{List, _++_}
 use native.Mathlib.Omega.{arith}
 use lib.ListN.{getD, set, length, length-set, length-take, length-drop, replicate}
-use borrow.Author.Needs.{needs}
-use Rattle.frame_rules.specs.declared.Record.{Record}
 use Rattle.station_rules.specs.declared.Taking.{Taking}
 use Rattle.station_rules.specs.Hearing.{noTaking}
 use Rattle.hearing_spec.specs.Buffer.{takingAt}

@@ -259,7 +259,7 @@ hear-frame-spec =
     (λ c. omega (arith, low (c .before .before .before .before .before .before)))
     (λ c. omega (arith, low (c .before .before .before .before .before .before .before)))
     (λ c. omega (arith, low (c .before .before .before .before .before .before .before)))
-    (λ c κs. let l = low (c .before .before .before .before .before .before .before) in (l .5, l .0, l .1, l .2))
+    (λ c κs. let l = low (c .before .before .before .before .before .before .before) in ((l .5, l .0), (l .1, l .2)))
     (λ c. search needs)
     (λ c. omega (arith, low (c .before .before .before .before .before .before .before .before .before .before)))
     (λ c. omega (arith, low (c .before .before .before .before .before .before .before .before .before .before)))

@@ -1,4 +1,5 @@
--- `listening::listen` meets its contract: the places of the own records are put twice, as what is held and as what was heard last; then the frames of the mask are heard.
+-- `listening::listen` meets its contract: the places of the own records are put twice, as what is
+-- held and as what was heard last; then the frames of the mask are heard.
 use Prim.Native.Nat.{ℕ, _+_, _*_}
 use mathlib.Core.List.{List}
 use mathlib.Core.Path.{_≡_, refl, sym, ap, _∙_}

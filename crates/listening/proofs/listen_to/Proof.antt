@@ -1,5 +1,6 @@
--- `listening::listen_to` meets its contract: the places of the own records are put twice, as what is held and as what was heard last; then the frame is heard.
-use Prim.Native.Nat.{ℕ, _+_, _*_}
+-- `listening::listen_to` meets its contract: the places of the own records are put twice, as what
+-- is held and as what was heard last; then the frame is heard.
+use Prim.Native.Nat.{ℕ, _+_}
 use mathlib.Core.List.{List}
 use mathlib.Core.Path.{_≡_, refl, sym, ap, _∙_}
 use native.Mathlib.Omega.{arith}

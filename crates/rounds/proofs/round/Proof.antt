@@ -1,21 +1,21 @@
--- `rounds::round` meets its contract. First the frames: those of the stations below k stand, where none of them is refused. Then the stations hear, and those below j have heard. Then each acts and takes its
--- turn, and those below i have. The lemmas of `RoundLoop` say what one more station does in each loop.
+-- `rounds::round` meets its contract. First the frames: those of the stations below k stand, where
+-- none of them is refused. Then the stations hear, and those below j have heard. Then each acts and
+-- takes its turn, and those below i have. The lemmas of `RoundLoop` say what one more station does
+-- in each loop.
 use Prim.Native.Nat.{ℕ, _+_, _-_, _*_, _≤_, _<_}
-use mathlib.Core.Bool.{true, false}
 use mathlib.Core.List.{List}
 use mathlib.Core.Path.{_≡_, refl, sym, ap, subst, _∙_}
 use native.Mathlib.Omega.{arith}
 use borrow.Author.Needs.{needs}
 use borrow.Author.Tests.{not-true, not-false}
-use lib.ListN.{getD, take, drop, length, length-take, length-drop}
+use lib.ListN.{getD, length}
 use Rattle.station_rules.specs.declared.Station.{Station}
 use Rattle.station_rules.proofs.CallSteps.{valid-parts}
 use Rattle.hearing_spec.specs.declared.Ear.{Ear}
 use Rattle.hearing_spec.specs.StandsFor.{actsOn}
 use Rattle.acting.specs.Listened.{heardNotes, Readable}
-use Rattle.group_rules.specs.declared.Report.{Report}
 use Rattle.group_rules.specs.State.{stationAt, sizeOf}
-use Rattle.group_frames.proofs.WrittenFrames.{SentBelow, AllSent, sent-none, sent-more, all-sent}
+use Rattle.group_frames.proofs.WrittenFrames.{SentBelow, sent-none, sent-more, all-sent}
 use Rattle.group_rules.proofs.CallSteps.{round-outside}
 use Rattle.rounds.proofs.GroupLengths.{group-lengths}
 use Rattle.rounds.proofs.Parts.{part}

@@ -1,5 +1,6 @@
--- `station_frames::hear` meets its contract, refusal by refusal; where none applies, the frame is heard beside the own one, and what was heard is taken into the station.
-use Prim.Native.Nat.{ℕ, _-_, _≤_}
+-- `station_frames::hear` meets its contract, refusal by refusal; where none applies, the frame is
+-- heard beside the own one, and what was heard is taken into the station.
+use Prim.Native.Nat.{ℕ, _-_}
 use mathlib.Core.Path.{_≡_, refl, sym, ap, subst, _∙_}
 use mathlib.Core.Bool.{true}
 use mathlib.Core.List.{List, _++_}
@@ -18,7 +19,7 @@ use Rattle.station_rules.proofs.StationLimits.{inside-open}
 use Rattle.station_rules.proofs.CallSteps.{hear-outside, hear-refused, hear-stopped, hear-done}
 use Rattle.hearing_spec.specs.Buffer.{sizeIn, takingAt}
 use Rattle.hearing_spec.specs.Room.{FrameRoom}
-use Rattle.acting.specs.Listened.{takingsAt, Listens}
+use Rattle.acting.specs.Listened.{takingsAt}
 use Rattle.listening.specs.Listening.{MayListen, frameHeard}
 use Rattle.station_frames.specs.Beside.{beside}
 use Rattle.station_frames.proofs.HeardBeside.{heard-fits, may-listen, heard-room, heard-is, heard-size}

@@ -1,11 +1,11 @@
 -- `station_frames::put_frame` meets its contract: the first i bytes are those of the frame.
-use Prim.Native.Nat.{ℕ, _+_, _-_, _≤_, _<_}
+use Prim.Native.Nat.{ℕ, _+_, _-_, _≤_}
 use mathlib.Core.List.{List, _++_}
-use mathlib.Core.Path.{_≡_, refl, sym, ap, _∙_}
+use mathlib.Core.Path.{_≡_, refl, ap, _∙_}
 use native.Mathlib.Omega.{arith}
 use borrow.Author.Needs.{needs}
 use lib.ListN.{getD, set, take, drop, length, length-set}
-use Rattle.station_frames.proofs.Copied.{copied-more, copied-length, copied-all}
+use Rattle.station_frames.proofs.Copied.{copied-more, copied-all}
 use Rattle.station_frames.proofs.put_frame.Statement.{statement}
 use Rattle.station_frames.proofs.put_frame.Tie as tie
 
