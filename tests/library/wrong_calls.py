@@ -431,7 +431,7 @@ def busy_groups(rng, count):
 
 def named_groups(rng):
     """Groups that show one fault each: two stations exchanged; a station whose broadcast ends while its own lane is full and an edit waits."""
-    fresh = group.fresh_group_state(4)
+    fresh = group.fresh_group_state(4, 8)
     yield fresh[:1] + (fresh[2], fresh[1]) + fresh[3:]
     edit = states.random_edit(rng)
     ends = station.post(outside.with_lane(fresh[1], 1, edit), edit).station
