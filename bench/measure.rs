@@ -6,9 +6,9 @@ use std::hint::black_box;
 use std::process::ExitCode;
 use std::time::{Duration, Instant};
 
-use relay_peer::{forecast, frames, load, measured, merge, questions, recorded, refusals};
+use relay_peer::{air_logs, forecast, frames, load, measured, merge, questions, recorded, refusals};
 
-/// A slice and two numbers in, a number out: the form of everything that is measured but the forecast, the merge and the questions.
+/// A slice and two numbers in, a number out: the form of everything that is measured but the forecast, the merge, the questions and the comparison of air logs.
 type Function = unsafe extern "C" fn(*const u8, usize, u32, u32) -> u32;
 
 /// The forecast: a log and N in, the counts of ends and the rounds of the last into two buffers.
@@ -20,10 +20,20 @@ type Merge = unsafe extern "C" fn(*const u16, usize, *const u16, usize, u32, *mu
 /// The questions: a log, N and a page in, an answer a question into a buffer.
 type Questions = unsafe extern "C" fn(*const u16, usize, u32, *const u32, usize, *mut u32, usize) -> u32;
 
+/// The comparison of air logs: two listings with their stations in, the answer and its position into a buffer.
+type Compare = unsafe extern "C" fn(*const u8, usize, u32, *const u8, usize, u32, *mut u64, usize) -> u32;
+
+/// The comparison of air logs of crate relay_host.
+#[cfg(relay_host)]
+const PROJECT_COMPARE: Option<Compare> = Some(relay_compare);
+#[cfg(not(relay_host))]
+const PROJECT_COMPARE: Option<Compare> = None;
+
 /// A station's rounds beside recorded frames, and N: a checksum.
 type StationRounds = fn(&[Vec<Vec<u8>>], usize) -> u32;
 
 /// The codec of a station: bytes, how often they are read and written, and whether they are judged before.
+#[cfg(all(relay_host, relay_bench))]
 type Codec = unsafe extern "C" fn(*mut u8, usize, u32, u32) -> u32;
 
 /// The frame check of crate relay_host.
@@ -55,12 +65,6 @@ const PROJECT_QUESTIONS: Option<Questions> = None;
 const PROJECT_ROUNDS: Option<Function> = Some(relay_bench_rounds);
 #[cfg(not(relay_bench))]
 const PROJECT_ROUNDS: Option<Function> = None;
-
-/// The codec, from crate relay_bench.
-#[cfg(relay_bench)]
-const PROJECT_CODEC: Option<Codec> = Some(relay_bench_codec);
-#[cfg(not(relay_bench))]
-const PROJECT_CODEC: Option<Codec> = None;
 
 /// A station's rounds through the calls of crate relay_host.
 #[cfg(relay_host)]
@@ -113,30 +117,27 @@ unsafe extern "C" {
         answers_len: usize,
     ) -> u32;
     #[cfg(relay_host)]
+    fn relay_compare(
+        first: *const u8,
+        first_len: usize,
+        p: u32,
+        second: *const u8,
+        second_len: usize,
+        q: u32,
+        answer: *mut u64,
+        answer_len: usize,
+    ) -> u32;
+    #[cfg(relay_host)]
     fn relay_station_fresh(state: *mut u8, state_len: usize, n: u32, own: u32) -> u32;
     #[cfg(relay_host)]
     fn relay_station_post(state: *mut u8, state_len: usize, kind: u32, event: u32, argument: i32) -> u32;
     #[cfg(relay_host)]
-    fn relay_station_write(
-        state: *const u8,
-        state_len: usize,
-        frame: *mut u8,
-        frame_len: usize,
-        length: *mut u32,
-        length_len: usize,
-    ) -> u32;
+    fn relay_station_write(state: *const u8, state_len: usize, frame: *mut u8, frame_len: usize, length: *mut u32, length_len: usize) -> u32;
     #[cfg(relay_host)]
-    fn relay_station_hear(
-        state: *mut u8,
-        state_len: usize,
-        frame: *const u8,
-        frame_len: usize,
-        taken: *mut u8,
-        taken_len: usize,
-    ) -> u32;
+    fn relay_station_hear(state: *mut u8, state_len: usize, frame: *const u8, frame_len: usize, taken: *mut u8, taken_len: usize) -> u32;
     #[cfg(relay_host)]
     fn relay_station_turn(state: *mut u8, state_len: usize, report: *mut u8, report_len: usize) -> u32;
-    #[cfg(relay_bench)]
+    #[cfg(all(relay_host, relay_bench))]
     fn relay_bench_codec(state: *mut u8, state_len: usize, times: u32, judged: u32) -> u32;
     #[cfg(relay_bench)]
     fn relay_bench_rounds(schedule: *const u8, len: usize, n: u32, rounds: u32) -> u32;
@@ -155,6 +156,11 @@ extern "C" fn frame_check_rust(bytes: *const u8, len: usize, n: u32, own: u32) -
 extern "C" fn rounds_rust(schedule: *const u8, len: usize, n: u32, rounds: u32) -> u32 {
     // SAFETY: as above.
     measured::rounds(unsafe { std::slice::from_raw_parts(schedule, len) }, n, rounds)
+}
+
+extern "C" fn rounds_by_value(schedule: *const u8, len: usize, n: u32, rounds: u32) -> u32 {
+    // SAFETY: as above.
+    measured::rounds_by_value(unsafe { std::slice::from_raw_parts(schedule, len) }, n, rounds)
 }
 
 extern "C" fn forecast_rust(log: *const u16, len: usize, n: u32, ends: *mut u16, _: usize, last: *mut u16, _: usize) -> u32 {
@@ -283,11 +289,38 @@ extern "C" fn questions_rust(
     refusals::number(&questions::answer(log, n as usize, page, answers))
 }
 
+#[allow(clippy::too_many_arguments)]
+extern "C" fn compare_rust(
+    first: *const u8,
+    first_len: usize,
+    p: u32,
+    second: *const u8,
+    second_len: usize,
+    q: u32,
+    answer: *mut u64,
+    answer_len: usize,
+) -> u32 {
+    // SAFETY: the measures below hand in two whole slices and a whole buffer.
+    let (first, second, answer) = unsafe {
+        (
+            std::slice::from_raw_parts(first, first_len),
+            std::slice::from_raw_parts(second, second_len),
+            std::slice::from_raw_parts_mut(answer, answer_len),
+        )
+    };
+    let compared = air_logs::compare(first, p as usize, second, q as usize);
+    if let Ok(compared) = compared {
+        answer.copy_from_slice(&compared.numbers());
+    }
+    refusals::number(&compared)
+}
+
 /// What one sample runs: about a millisecond, so that on a busy machine some samples stay undisturbed.
 const CHECKS: u32 = 25_600;
 const STATION_ROUNDS: u32 = 2_048;
 const LOAD_STATIONS: u32 = 65_536;
 const RECORDED_ROUNDS: usize = 64;
+#[cfg(all(relay_host, relay_bench))]
 const CODED: u32 = 2_048;
 
 fn call(function: Function, bytes: &[u8], first: u32, second: u32) -> u32 {
@@ -341,6 +374,38 @@ fn ask(function: Questions, log: &[u16], n: u32, page: &[u32]) -> u32 {
         function(log.as_ptr(), log.len(), n, page.as_ptr(), page.len(), black_box(answers.as_mut_ptr()), answers.len())
     };
     answers.iter().fold(refusal, |sum, &answer| sum.wrapping_mul(31).wrapping_add(answer))
+}
+
+/// The answer of a comparison, as one number.
+fn compare(function: Compare, first: &[u8], p: u32, second: &[u8], q: u32) -> u32 {
+    let mut answer = [0u64; 2];
+    // SAFETY: the listings are slices that live through the call, and the buffer has its length.
+    let refusal = unsafe {
+        function(first.as_ptr(), first.len(), p, second.as_ptr(), second.len(), q, black_box(answer.as_mut_ptr()), answer.len())
+    };
+    answer.iter().fold(refusal, |sum, &number| sum.wrapping_mul(31).wrapping_add(number as u32))
+}
+
+/// A listing of so many lines of the letters D, A and E, as sixteen stations print them: widths of numbers and letters are drawn. Every station airs the same
+/// edits, the last of them another one where `other` is set.
+fn drawn_listing(lines: usize, other: bool) -> Vec<u8> {
+    let mut listing = Vec::with_capacity(lines * 35 + 4);
+    let (mut state, mut aired) = (1u32, [0u32; 16]);
+    let mut draw = || {
+        state = state.wrapping_mul(1_664_525).wrapping_add(1_013_904_223);
+        state >> 16
+    };
+    for line in 0..lines {
+        let (station, letter) = (draw() % 16, ['D', 'A', 'D', 'A', 'E'][draw() as usize % 5]);
+        let number = if letter == 'A' { &mut aired[station as usize] } else { &mut draw() };
+        *number += 1;
+        let mixed = number.wrapping_mul(2_654_435_769) >> (*number % 24);
+        let (event, argument) = (1 + mixed % 99_999_999, (mixed % 180_001) as i32 - if mixed % 3 == 0 { 90_000 } else { 0 });
+        let event = event + u32::from(other && line + 16 > lines);
+        listing.extend(format!("{:6} {letter}{station:3}{:3}{:2}{event:9}{argument:9}\n", line / 30, mixed % 16, 2 + mixed % 3).bytes());
+    }
+    listing.extend(b"END\n");
+    listing
 }
 
 /// Sixty-four questions about n stations, with numbers up to a most.
@@ -398,6 +463,7 @@ impl<F: Copy> Measure<'_, F> {
 }
 
 /// Prints the time of reading a station's bytes and writing them again, which the project alone does; false if the bytes change.
+#[cfg(all(relay_host, relay_bench))]
 fn print_codec(name: &str, codec: Codec, state: &[u8], judged: u32, span: Duration) -> bool {
     let mut bytes = state.to_vec();
     let mut best = Duration::MAX;
@@ -472,8 +538,10 @@ fn main() -> ExitCode {
             let schedule = schedule(n as usize);
             let rounds = STATION_ROUNDS / n;
             let work = |function| call(function, &schedule, n, rounds);
-            let name = format!("{links} round, N = {n}");
-            agree &= Measure { name, units: rounds, work: &work }.print(PROJECT_ROUNDS, rounds_rust, span);
+            for (peer, function) in [("", rounds_rust as Function), (", peer by value", rounds_by_value)] {
+                let name = format!("{links} round, N = {n}{peer}");
+                agree &= Measure { name, units: rounds, work: &work }.print(PROJECT_ROUNDS, function, span);
+            }
         }
     }
     for (links, rounds, n) in [
@@ -527,16 +595,27 @@ fn main() -> ExitCode {
         let name = format!("load of a round, N = {n}");
         agree &= Measure { name, units: rounds, work: &work }.print(PROJECT_LOAD, load_rust, span);
     }
+    let lines = if quick { 300_000 } else { 3_000_000 };
+    let (first, second) = (drawn_listing(lines, false), drawn_listing(lines, true));
+    let megabytes = (first.len() + second.len()) as f64 / 1e6;
+    for (p, q) in [(0, 0), (3, 12)] {
+        let work = |function| compare(function, &first, p, &second, q);
+        let name = format!("comparison of two listings, {megabytes:.0} MB together, stations {p} and {q}, a kilobyte");
+        let units = (first.len() + second.len()) as u32 / 1_000;
+        agree &= Measure { name, units, work: &work }.print(PROJECT_COMPARE, compare_rust as Compare, span);
+    }
     for n in [16, 8, 2] {
         let frames = recorded::record(n, RECORDED_ROUNDS);
-        let work = |function: StationRounds| function(&frames, n);
+        let times = 1024 / (n * n);
+        let work = |function: StationRounds| (0..times).fold(0, |sum, _| recorded::mix(sum, function(black_box(&frames), n)));
         let name = format!("a station's round from C, N = {n}: write, {} hears, turn", n - 1);
-        agree &= Measure { name, units: RECORDED_ROUNDS as u32, work: &work }.print(PROJECT_STATION, recorded::rounds as StationRounds, span);
+        let units = (times * RECORDED_ROUNDS) as u32;
+        agree &= Measure { name, units, work: &work }.print(PROJECT_STATION, recorded::rounds as StationRounds, span);
     }
-    #[cfg(relay_host)]
-    if let (Some(codec), Some((state, _))) = (PROJECT_CODEC, play(&recorded::record(16, RECORDED_ROUNDS), 16)) {
+    #[cfg(all(relay_host, relay_bench))]
+    if let Some((state, _)) = play(&recorded::record(16, RECORDED_ROUNDS), 16) {
         for (judged, name) in [(0, "a station read and written, N = 16"), (1, "a station judged, read and written, N = 16")] {
-            agree &= print_codec(name, codec, &state, judged, span);
+            agree &= print_codec(name, relay_bench_codec, &state, judged, span);
         }
     }
     if agree { ExitCode::SUCCESS } else { ExitCode::FAILURE }

@@ -3,6 +3,7 @@
 //! A body is its kind, its event and its argument, 1, 4 and 4 bytes, the lowest first; every other number is one byte. A station is N, own number, limit, count,
 //! body, labels, acknowledged, held, table, lanes, waiting edits of both desks, the desk that goes first; a record is station, count, body, labels; a lane or queue is its length and its bodies.
 
+use relay_peer::air_logs;
 use relay_peer::bodies::Body;
 use relay_peer::frames::{self, Record};
 use relay_peer::group::{Group, Report};
@@ -203,4 +204,20 @@ pub unsafe extern "C" fn peer_load(state: u32, n: u32, due: u32, head: u32, out:
     // SAFETY: by the condition above.
     let (out, next) = unsafe { (std::slice::from_raw_parts_mut(out, out_len), std::slice::from_raw_parts_mut(next, next_len)) };
     load::call(state, n, due, head, out, next)
+}
+
+/// The comparison of two air logs, as relay_compare of relay_host; the answer has two places.
+///
+/// # Safety
+/// The pointers are those of slices of the lengths given, and of two places.
+#[unsafe(no_mangle)]
+pub unsafe extern "C" fn peer_compare(first: *const u8, first_len: usize, p: u32, second: *const u8, second_len: usize, q: u32, answer: *mut u64) -> u32 {
+    // SAFETY: by the condition above.
+    let (first, second) = unsafe { (std::slice::from_raw_parts(first, first_len), std::slice::from_raw_parts(second, second_len)) };
+    let compared = air_logs::compare(first, p as usize, second, q as usize);
+    if let Ok(compared) = compared {
+        // SAFETY: by the condition above.
+        unsafe { answer.cast::<[u64; 2]>().write(compared.numbers()) };
+    }
+    number(&compared)
 }

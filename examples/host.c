@@ -21,7 +21,7 @@
 #include <sys/wait.h>
 #include <unistd.h>
 
-#include "relay_host.h"
+#include "relay.h"
 
 enum {
     N = 4,

@@ -1,11 +1,12 @@
 /* The edit relay for C: a station and a group that the host holds as bytes, with all their calls; the
    frame check; for planners the forecast, the merge of link logs, a page of questions and the link
-   contest; and the load generator. Link with the archive that `rt staticlib relay_host` makes,
-   target/staticlib/librelay_host.a; it needs no other library.
+   contest; the load generator; and the comparison of two air logs. Link with the archive that
+   `rt staticlib relay_host` makes, target/staticlib/librelay_host.a; it needs no other library.
 
    The library has no state of its own and allocates nothing. A call reads and writes the memory that it
    is lent, and no other; it keeps no pointer. So any number of threads may call at once, as long as no
-   two of them lend the same memory, unless both only read it.
+   two of them lend the same memory, unless both only read it. A call of a station takes at most 16 KiB
+   of the thread's stack, one of a group at most 128 KiB, as the compiler lays them out today.
 
    Lent memory is a pointer and a length, which counts elements and not bytes. A pointer is not null,
    also where its length is 0. Two buffers of one call must not overlap. Beyond that every argument may
@@ -32,7 +33,7 @@ enum relay_refusal {
     RELAY_DONE = 0,           /* nothing is wrong */
     RELAY_BAD_NUMBER = 1,     /* n is not 1 to 16, a station is not below n, or too many rounds are due */
     RELAY_OUTSIDE_LIMITS = 2, /* the bytes are no state, or the state is outside its limits */
-    RELAY_QUEUE_FULL = 3,     /* 32 edits wait already */
+    RELAY_QUEUE_FULL = 3,     /* as many edits wait already as the station's limit */
     RELAY_NOT_AN_EDIT = 4,    /* the posted numbers are no edit of the kind table */
     RELAY_BAD_SHAPE = 5,      /* the length, byte 2 or byte 3 of a frame is wrong */
     RELAY_BAD_ADDRESS = 6,    /* the frame is for another n, or its sender is own or not below n */
@@ -41,6 +42,9 @@ enum relay_refusal {
     RELAY_SHORT_BUFFER = 9,   /* a lent buffer is too short */
     RELAY_COUNT_TOO_HIGH = 10, /* the own record's count is above 2 * (n - 1), at writing */
     RELAY_BAD_LINK_LOG = 12,  /* a link log is not whole rounds, or has more than 2,048 */
+    RELAY_BAD_LIMIT = 13,     /* a limit of waiting edits is not 1 to 32 */
+    RELAY_CONFLICT = 14,      /* a heard record has the label and the count of the held one, and differs from it */
+    RELAY_BAD_LISTING = 16,   /* a listing has a line of another form, or does not end with its last line */
     RELAY_BAD_QUESTION = 18,  /* a question is bad, is not whole, or is past the 64th */
     RELAY_BAD_CONTEST = 20    /* a contest has too many stations, sets or rounds, or no whole sets of masks */
 };
@@ -103,7 +107,8 @@ uint32_t relay_frame_check(const uint8_t *bytes, size_t len, uint32_t n, uint32_
            + 16 to 27     the lane's second body
            + 28 to 43     record of station k
        720              number of waiting edits
-       721 to 723       zero
+       721              limit of waiting edits
+       722, 723         zero
        724 + 12 i       waiting edit i, oldest first, for i = 0 to 31
 
    Every field is there, also for stations from n up, past the length of a lane, past the number of waiting
@@ -143,7 +148,11 @@ uint32_t relay_frame_check(const uint8_t *bytes, size_t len, uint32_t n, uint32_
 #define RELAY_REPORT_BYTES 704
 #define RELAY_ROUND_BYTES 11264
 
-/* Makes a fresh station.
+/* The limit of waiting edits where none is named, and the largest. */
+#define RELAY_DEFAULT_LIMIT 8
+#define RELAY_MOST_LIMIT 32
+
+/* Makes a fresh station, with no limit named: RELAY_DEFAULT_LIMIT edits may wait at it.
 
    state, state_len  where the station goes: room for at least RELAY_STATION_BYTES
    n                 the number of stations, 1 to 16
@@ -160,6 +169,28 @@ uint32_t relay_frame_check(const uint8_t *bytes, size_t len, uint32_t n, uint32_
        printf("%u %d %d\n", (unsigned)refusal, state[0], state[1]);   prints 0 4 1 */
 uint32_t relay_station_fresh(uint8_t *state, size_t state_len, uint32_t n, uint32_t own);
 
+/* Makes a fresh station at which so many edits may wait. It keeps its limit; no call changes it.
+
+   state, state_len  where the station goes: room for at least RELAY_STATION_BYTES
+   n                 the number of stations, 1 to 16
+   own               the station's own number, below n
+   limit             how many edits may wait, 1 to RELAY_MOST_LIMIT
+
+   Returns 0, or, and then nothing changes, in this order:
+       1    n is not 1 to 16, or own is not below n
+       13   limit is not 1 to 32
+       9    state_len is less than RELAY_STATION_BYTES
+
+   Example: a station alone with room for one edit; the second post is refused.
+
+       uint8_t state[RELAY_STATION_BYTES];
+       relay_station_fresh_limited(state, sizeof state, 1, 0, 1);
+       uint32_t first = relay_station_post(state, sizeof state, 2, 7, 100);
+       uint32_t second = relay_station_post(state, sizeof state, 2, 8, 100);
+       printf("%u %u %d\n", (unsigned)first, (unsigned)second, state[721]);   prints 0 3 1 */
+uint32_t relay_station_fresh_limited(uint8_t *state, size_t state_len, uint32_t n, uint32_t own,
+                                     uint32_t limit);
+
 /* Posts an edit at a station: it waits behind those that wait already.
 
    state, state_len        the station, RELAY_STATION_BYTES bytes; it becomes the station with the edit
@@ -168,7 +199,7 @@ uint32_t relay_station_fresh(uint8_t *state, size_t state_len, uint32_t n, uint3
    Returns 0, or, and then nothing changes, in this order:
        2    the bytes are no station, or it is outside its limits
        4    the three numbers are no edit of the kind table
-       3    32 edits wait already
+       3    as many edits wait already as the station's limit
 
    Example: an insert at frame 100, and what is no edit.
 
@@ -217,6 +248,8 @@ uint32_t relay_station_write(const uint8_t *state, size_t state_len, uint8_t *fr
        5    the frame's length, byte 2 or byte 3 is wrong
        6    the frame is for another n, or its sender is the hearer or not below n
        7    a record of the frame is outside its limits
+       14   a record of another station has the own label and the count of the held one, and another body
+            or other labels
        8    a lane that holds two bodies would get a third
        9    taken_len is less than 16
 
@@ -253,7 +286,8 @@ uint32_t relay_station_hear(uint8_t *state, size_t state_len, const uint8_t *fra
        printf("%d %d %d\n", report[0], report[28], report[32]);   prints 1 2 7 */
 uint32_t relay_station_turn(uint8_t *state, size_t state_len, uint8_t *report, size_t report_len);
 
-/* Makes a fresh group: stations 0 to n - 1, fresh. From n up stands the fresh station 0 of n = 1.
+/* Makes a fresh group: stations 0 to n - 1, fresh, with no limit named. From n up stands the fresh station
+   0 of n = 1.
 
    state, state_len  where the group goes: room for at least RELAY_GROUP_BYTES
    n                 the number of stations, 1 to 16
@@ -269,6 +303,26 @@ uint32_t relay_station_turn(uint8_t *state, size_t state_len, uint8_t *report, s
        printf("%u %d\n", (unsigned)refusal, group[2 * RELAY_STATION_BYTES + 1]);   prints 0 2 */
 uint32_t relay_group_fresh(uint8_t *state, size_t state_len, uint32_t n);
 
+/* Makes a fresh group with so many edits that may wait at each of its stations. From n up stands the fresh
+   station 0 of n = 1 with RELAY_DEFAULT_LIMIT, whatever limit is named.
+
+   state, state_len  where the group goes: room for at least RELAY_GROUP_BYTES
+   n                 the number of stations, 1 to 16
+   limit             how many edits may wait at a station, 1 to RELAY_MOST_LIMIT
+
+   Returns 0, or, and then nothing changes, in this order:
+       1    n is not 1 to 16
+       13   limit is not 1 to 32
+       9    state_len is less than RELAY_GROUP_BYTES
+
+   Example: a group of two, and what stands behind it.
+
+       static uint8_t group[RELAY_GROUP_BYTES];
+       uint32_t refusal = relay_group_fresh_limited(group, sizeof group, 2, 32);
+       printf("%u %d %d\n", (unsigned)refusal, group[RELAY_STATION_BYTES + 721],
+              group[2 * RELAY_STATION_BYTES + 721]);   prints 0 32 8 */
+uint32_t relay_group_fresh_limited(uint8_t *state, size_t state_len, uint32_t n, uint32_t limit);
+
 /* Posts an edit at a station of a group.
 
    state, state_len        the group, RELAY_GROUP_BYTES bytes; it becomes the group with the edit
@@ -280,7 +334,7 @@ uint32_t relay_group_fresh(uint8_t *state, size_t state_len, uint32_t n);
             number is not its place
        1    station is not below n
        4    the three numbers are no edit of the kind table
-       3    32 edits wait at the station already
+       3    as many edits wait at the station already as its limit
 
    Example: a post at station 1, and one at a station that is not there.
 
@@ -305,10 +359,13 @@ uint32_t relay_group_post(uint8_t *state, size_t state_len, uint32_t station, ui
        2    the bytes are no group, or it is outside its limits: a station is, or has another n, or its own
             number is not its place
        10   the count of a station's own record is above 2 * (n - 1)
-       8    a lane that holds two bodies would get a third. Masks that are not there count as 0 here.
+       14 or 8, whichever the first refused frame gives, stations in order and then senders; one that meets
+            both gives 14. 14: a record conflicts with the one that the hearer holds when the frame is
+            heard. 8: a lane that holds two bodies would get a third. Masks that are not there count as 0
+            here.
        9    masks_len is less than 16, or reports_len is less than RELAY_ROUND_BYTES
 
-   From a fresh group a round is not refused with 2, 10 or 8.
+   From a fresh group a round is not refused with 2, 10, 14 or 8.
 
    Example: two stations that hear each other; in round 2 each ends its first broadcast.
 
@@ -463,6 +520,46 @@ uint32_t relay_questions(const uint16_t *log, size_t log_len, uint32_t n,
            printf("%u %u\n", answer[0], answer[1]);   prints 1 1: the keeper, by picking set 1 */
 uint32_t relay_contest(uint32_t n, uint32_t s, const uint16_t *sets, size_t sets_len, uint32_t rounds,
                        uint32_t *answer, size_t answer_len);
+
+/* What relay_compare answers. */
+enum relay_compared {
+    RELAY_EQUAL = 0,         /* the two logs are equal */
+    RELAY_FIRST_BEGINS = 1,  /* the first log is a beginning of the second, which goes on */
+    RELAY_SECOND_BEGINS = 2, /* the second log is a beginning of the first, which goes on */
+    RELAY_DIFFERENT = 3      /* at some position the two have different edits */
+};
+
+/* Compares two air logs. The log of a station in a listing is its A lines, in their order; of each the
+   source, the kind, the event and the argument are compared, and rounds may differ.
+
+   first, first_len    a listing: any bytes, which are judged whole and not changed
+   p                   the station of its log, 0 to 15; a station that is not in the listing has an
+                       empty log
+   second, second_len  another listing, which may be the same memory
+   q                   the station of its log
+   answer, answer_len  where the answer goes: room for at least 2 numbers. Number 0 becomes one of
+                       relay_compared, and number 1 the position of the first different edit, counted
+                       from 1 in each log, or 0 where there is none. Numbers past the second are not
+                       touched.
+
+   Two logs of one listing that the relay's program printed are never RELAY_DIFFERENT.
+
+   Returns 0, or, and then the buffer does not change, in this order:
+       1    p or q is above 15
+       16   a line of a listing, with its line end, does not have the listing's form, the last line is
+            not END, or something follows it
+       9    answer_len is less than 2
+
+   Example: a listing with one edit, aired by stations 0 and 1 in different rounds.
+
+       const uint8_t listing[] = "     3 A  0  0 2        7      100\n"
+                                 "     4 A  1  0 2        7      100\nEND\n";
+       uint64_t answer[2];
+       size_t len = sizeof listing - 1;
+       if (relay_compare(listing, len, 0, listing, len, 1, answer, 2) == RELAY_DONE)
+           printf("%d\n", answer[0] == RELAY_EQUAL);   prints 1: the two logs are equal */
+uint32_t relay_compare(const uint8_t *first, size_t first_len, uint32_t p, const uint8_t *second,
+                       size_t second_len, uint32_t q, uint64_t *answer, size_t answer_len);
 
 #ifdef __cplusplus
 }

@@ -15,15 +15,19 @@ def crates():
     return {name: rest.split() for name, rest in pairs}
 
 
-def reached(name, below):
-    """Everything below a crate."""
-    return set(below.get(name, [])).union(*(reached(other, below) for other in below.get(name, [])))
+def reached(below):
+    """Name -> everything below the crate; those below it stand before it in crates.txt."""
+    found = {}
+    for name, names in below.items():
+        found[name] = set(names).union(*(found.get(other, set()) for other in names))
+    return found
 
 
 def direct():
     """Name -> what it stands on, without what another of these stands on already."""
     below = crates()
-    return {name: sorted(set(names).difference(*(reached(other, below) for other in names))) for name, names in below.items()}
+    found = reached(below)
+    return {name: sorted(set(names).difference(*(found.get(other, set()) for other in names))) for name, names in below.items()}
 
 
 def paragraphs():

@@ -63,13 +63,13 @@ impl Report {
 
 /// A frame of one round.
 #[derive(Clone, Copy)]
-struct Frame {
+pub(crate) struct Frame {
     len: usize,
     bytes: [u8; LARGEST_FRAME],
 }
 
 impl Frame {
-    const NONE: Frame = Frame { len: 0, bytes: [0; LARGEST_FRAME] };
+    pub(crate) const NONE: Frame = Frame { len: 0, bytes: [0; LARGEST_FRAME] };
 }
 
 #[derive(Clone)]
@@ -96,50 +96,75 @@ impl Group {
     }
 
     pub fn in_limits(&self) -> bool {
-        let n = self.n();
-        self.stations.get(..n).is_some_and(|stations| {
-            n > 0 && stations.iter().enumerate().all(|(place, station)| station.n == n && station.own == place && station.in_limits())
-        })
+        in_limits(&self.stations)
     }
 
     pub fn post(&mut self, place: usize, desk: usize, body: Body) -> Result<(), Refusal> {
-        require(self.in_limits(), OutsideLimits)?;
-        require(numbers_valid(self.n(), place), BadNumber)?;
-        self.stations[place].append(desk, body)
+        post(&mut self.stations, place, desk, body)
     }
 
     /// One round: bit j of mask i lets station i hear station j. Reports are given anew; on a refusal they hold nothing.
     pub fn round(&mut self, masks: &[u16; PLACES], reports: &mut [Report; PLACES]) -> Result<(), Refusal> {
         reports.iter_mut().for_each(Report::clear);
-        require(self.in_limits(), OutsideLimits)?;
-        let n = self.n();
-        require(self.stations[..n].iter().all(Station::count_writable), CountTooHigh)?;
+        let n = judged(&self.stations)?;
         self.before[..n].copy_from_slice(&self.stations[..n]);
-        if let Err(refusal) = self.hear_all(masks, reports) {
+        if let Err(refusal) = hear_all(&mut self.stations, &mut self.frames, masks, reports) {
             self.stations[..n].copy_from_slice(&self.before[..n]);
             reports.iter_mut().for_each(Report::clear);
             return Err(refusal);
         }
-        for (station, report) in self.stations[..n].iter_mut().zip(reports) {
-            station.close_round(&mut report.turn);
-        }
+        turn_all(&mut self.stations, reports);
         Ok(())
     }
+}
 
-    /// All frames are written before any station hears.
-    fn hear_all(&mut self, masks: &[u16; PLACES], reports: &mut [Report; PLACES]) -> Result<(), Refusal> {
-        let n = self.n();
-        for (frame, station) in self.frames.iter_mut().zip(&self.stations[..n]) {
-            frame.len = station.write_records(&mut frame.bytes);
+fn in_limits(stations: &[Station; PLACES]) -> bool {
+    let n = stations[0].n;
+    stations.get(..n).is_some_and(|stations| {
+        n > 0 && stations.iter().enumerate().all(|(place, station)| station.n == n && station.own == place && station.in_limits())
+    })
+}
+
+pub(crate) fn post(stations: &mut [Station; PLACES], place: usize, desk: usize, body: Body) -> Result<(), Refusal> {
+    require(in_limits(stations), OutsideLimits)?;
+    require(numbers_valid(stations[0].n, place), BadNumber)?;
+    stations[place].append(desk, body)
+}
+
+/// What a round judges before any station hears; gives N.
+pub(crate) fn judged(stations: &[Station; PLACES]) -> Result<usize, Refusal> {
+    require(in_limits(stations), OutsideLimits)?;
+    let n = stations[0].n;
+    require(stations[..n].iter().all(Station::count_writable), CountTooHigh)?;
+    Ok(n)
+}
+
+/// All frames are written before any station hears.
+pub(crate) fn hear_all(
+    stations: &mut [Station; PLACES],
+    frames: &mut [Frame; PLACES],
+    masks: &[u16; PLACES],
+    reports: &mut [Report; PLACES],
+) -> Result<(), Refusal> {
+    let n = stations[0].n;
+    for (frame, station) in frames.iter_mut().zip(&stations[..n]) {
+        frame.len = station.write_records(&mut frame.bytes);
+    }
+    for (place, station) in stations[..n].iter_mut().enumerate() {
+        let report = &mut reports[place];
+        for sender in senders(masks[place], place, n) {
+            let frame = &frames[sender];
+            station.hear_records(&frame.bytes[..frame.len], |source, body| report.push(Taking { source, body }))?;
         }
-        for (place, station) in self.stations[..n].iter_mut().enumerate() {
-            let report = &mut reports[place];
-            for sender in senders(masks[place], place, n) {
-                let frame = &self.frames[sender];
-                station.hear_records(&frame.bytes[..frame.len], |source, body| report.push(Taking { source, body }))?;
-            }
-        }
-        Ok(())
+    }
+    Ok(())
+}
+
+/// Every station takes its turn, into a report that holds its takings alone.
+pub(crate) fn turn_all(stations: &mut [Station; PLACES], reports: &mut [Report; PLACES]) {
+    let n = stations[0].n;
+    for (station, report) in stations[..n].iter_mut().zip(reports) {
+        station.close_round(&mut report.turn);
     }
 }
 

@@ -2,8 +2,8 @@
 
 use crate::bodies::Body;
 use crate::frames::{self, Part};
-use crate::labels::{newer, successor, unpacked};
-use crate::refusals::Refusal::{self, LaneFull, OutsideLimits};
+use crate::labels::{Age, age, pack, successor, unpacked};
+use crate::refusals::Refusal::{self, Conflict, LaneFull, OutsideLimits};
 use crate::refusals::require;
 use crate::station::Station;
 
@@ -19,13 +19,20 @@ impl Station {
         Ok(taken)
     }
 
-    /// Hears a frame that was checked, and names each body taken. On a refusal the station is left half changed.
+    /// Hears a frame that was checked, and names each body taken. On a refusal the station is left half changed. A full lane does not end the frame: a conflict
+    /// after it goes first.
     pub(crate) fn hear_records(&mut self, frame: &[u8], mut taken: impl FnMut(usize, Body)) -> Result<(), Refusal> {
         let own = self.own;
+        let mut answer = Ok(());
         for part in frames::parts(frame) {
             let k = part.station();
-            if k == own || !self.is_newer(part) {
+            if k == own {
                 continue;
+            }
+            match self.age_of(part) {
+                Age::Newer => {}
+                Age::Same | Age::Older => continue,
+                Age::Conflicting => return Err(Conflict),
             }
             self.hold(part);
             if unpacked(part.labels(), self.own) == self.labels[self.own] {
@@ -37,19 +44,28 @@ impl Station {
             self.labels[k] = successor(self.labels[k]);
             self.count = self.count.saturating_add(1);
             let body = self.table[k].body;
-            if !body.is_empty() {
-                require(!self.lanes[k].is_full(), LaneFull)?;
-                self.lanes[k].push(body);
-                taken(k, body);
+            if body.is_empty() {
+                continue;
             }
+            if self.lanes[k].is_full() {
+                answer = Err(LaneFull);
+                continue;
+            }
+            self.lanes[k].push(body);
+            taken(k, body);
         }
-        Ok(())
+        answer
     }
 
-    fn is_newer(&self, part: Part) -> bool {
+    fn age_of(&self, part: Part) -> Age {
         let k = part.station();
         let held = &self.table[k];
-        !self.held[k] | newer((unpacked(part.labels(), k), part.count()), (held.labels[k], held.count))
+        if !self.held[k] {
+            return Age::Newer;
+        }
+        age((unpacked(part.labels(), k), part.count()), (held.labels[k], held.count), || {
+            part.body() == held.body && part.labels() == pack(&held.labels, self.n)
+        })
     }
 
     /// Puts a record into its place of the table; its label entries from N up stay what they were.

@@ -1,4 +1,4 @@
-//! Labels: the successor, sixteen of them in a word, and the newer decision.
+//! Labels: the successor, sixteen of them in a word, and what a seen record is beside a held one.
 
 pub const PLACES: usize = 16;
 
@@ -30,6 +30,27 @@ pub fn word_in_limits(word: u32, n: usize) -> bool {
 }
 
 /// Whether a seen record is newer than a held one of the same station, both given by own label and count.
-pub fn newer(seen: (u8, u8), held: (u8, u8)) -> bool {
+fn newer(seen: (u8, u8), held: (u8, u8)) -> bool {
     (seen.0 == successor(held.0)) | (seen.0 == held.0) & (seen.1 > held.1)
+}
+
+#[derive(Clone, Copy, Debug, PartialEq, Eq)]
+pub enum Age {
+    Newer,
+    Same,
+    Conflicting,
+    Older,
+}
+
+/// What a seen record is beside a held one, both given by own label and count; `agrees` tells whether all else is equal.
+pub fn age(seen: (u8, u8), held: (u8, u8), agrees: impl FnOnce() -> bool) -> Age {
+    if newer(seen, held) {
+        Age::Newer
+    } else if seen != held {
+        Age::Older
+    } else if agrees() {
+        Age::Same
+    } else {
+        Age::Conflicting
+    }
 }

@@ -3,7 +3,9 @@
 //! It gives the answers of document 01 with the same checks and the same frames, over state that is changed in place. No part of it is proved;
 //! `tests/check-peer` compares it with the model.
 
+pub mod air_logs;
 pub mod bodies;
+pub mod by_value;
 pub mod forecast;
 pub mod frames;
 pub mod group;

@@ -1,6 +1,7 @@
 //! The work of one measurement of rounds: `relay_bench_rounds` of bench/README.md.
 
 use crate::bodies::Body;
+use crate::by_value;
 use crate::group::{Group, MOST_TAKINGS, Report};
 use crate::labels::PLACES;
 use crate::queues::CAPACITY;
@@ -24,23 +25,50 @@ pub fn rounds(schedule: &[u8], n: u32, rounds: u32) -> u32 {
     let mut reports = [Report::NONE; PLACES];
     let mut sum = 0;
     for number in 0..rounds {
-        if number % POST_EVERY == 0 {
-            let post = number / POST_EVERY;
-            let event = 1 + post % 99_999_999;
-            let start = (post % 1_000_000) as i32;
-            let _ = group.post((post % n) as usize, 0, Body::Insert { event, start });
+        if let Some((place, body)) = post_before(number, n) {
+            let _ = group.post(place, 0, body);
         }
         let masks = masks_of(&schedule[number as usize % schedule.len()]);
         let _ = group.round(&masks, &mut reports);
-        for report in &reports[..n as usize] {
-            sum = mix_report(sum, report, number as usize);
-        }
+        sum = mix_reports(sum, &reports[..n as usize], number as usize);
     }
     (sum % LOW) as u32
 }
 
+/// The same work with calls by value.
+pub fn rounds_by_value(schedule: &[u8], n: u32, rounds: u32) -> u32 {
+    let (schedule, rest) = schedule.as_chunks::<MASKS_SIZE>();
+    let Ok(group) = Group::fresh(n as usize) else { return 0 };
+    if schedule.is_empty() || !rest.is_empty() {
+        return 0;
+    }
+    let mut stations = group.stations;
+    let mut sum = 0;
+    for number in 0..rounds {
+        if let Some((place, body)) = post_before(number, n) {
+            stations = by_value::post(stations, place, 0, body).stations;
+        }
+        let masks = masks_of(&schedule[number as usize % schedule.len()]);
+        let done = by_value::round(stations, masks);
+        stations = done.stations;
+        sum = mix_reports(sum, &done.reports[..n as usize], number as usize);
+    }
+    (sum % LOW) as u32
+}
+
+/// The post that comes before a round, if one does: where, and what.
+fn post_before(number: u32, n: u32) -> Option<(usize, Body)> {
+    let post = number / POST_EVERY;
+    let insert = Body::Insert { event: 1 + post % 99_999_999, start: (post % 1_000_000) as i32 };
+    (number % POST_EVERY == 0).then_some(((post % n) as usize, insert))
+}
+
 fn masks_of(bytes: &[u8; MASKS_SIZE]) -> [u16; PLACES] {
     std::array::from_fn(|i| u16::from_le_bytes([bytes[2 * i], bytes[2 * i + 1]]))
+}
+
+fn mix_reports(sum: u64, reports: &[Report], number: usize) -> u64 {
+    reports.iter().fold(sum, |sum, report| mix_report(sum, report, number))
 }
 
 /// The numbers of one report. One taking and one entry of the row, others in each round, stand for all.

@@ -15,7 +15,9 @@ pub enum Refusal {
     MalformedLine = 11,
     BadLinkLog = 12,
     BadLimit = 13,
+    Conflict = 14,
     BadDesk = 15,
+    BadListing = 16,
     BadQuestion = 18,
 }
 

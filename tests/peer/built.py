@@ -49,3 +49,12 @@ def load(state, n, due, head, buffer, places):
         lent += ctypes.c_void_p(address), ctypes.c_size_t(length)
     peer.restype = ctypes.c_uint32
     return peer(*map(ctypes.c_uint32, (state, n, due, head)), *lent)
+
+
+def compare(first, p, second, q):
+    """The refusal of the comparison of two air logs, its answer and its position."""
+    peer = ctypes.CDLL(BUILT / "libpeer_calls.so").peer_compare
+    answer = (ctypes.c_uint64 * 2)()
+    peer.argtypes = (ctypes.c_char_p, ctypes.c_size_t, ctypes.c_uint32) * 2 + (ctypes.c_void_p,)
+    peer.restype = ctypes.c_uint32
+    return peer(first, len(first), p, second, len(second), q, answer), *answer

@@ -2,6 +2,7 @@
 
 import random
 
+from drawn import conflicts
 from model import group, hearing, outside, states, station, turns
 from model.queues import NO_LANE, replaced
 from model.records import PLACES
@@ -25,6 +26,7 @@ def compare():
     for name, s in outside.stations_outside(inside).items():
         agree(name, calls(s, states.ANY_BODIES[2], 1, bytes(260), b""))
     compare_rounds()
+    compare_conflicts()
 
 
 def compare_fresh():
@@ -80,13 +82,31 @@ def compare_rounds():
         masks = tuple(rng.choice((0, 1 << rng.randrange(PLACES), rng.getrandbits(PLACES))) for _ in range(PLACES))
         expected = group.round_of(given, masks)
         refusals.add(expected.refusal)
-        refusal, _, after = built.call("r", group_bytes(given) + b"".join(mask.to_bytes(2, "little") for mask in masks))
+        refusal, _, after = built.call("r", group_bytes(given) + mask_bytes(masks))
         agree(f"round of group {seed}", [
             ("refusal", expected.refusal, refusal),
             ("group", visible_group(given, expected), visible_group(given, expected._replace(group=after.group()))),
             ("reports", expected.reports, after.several(after.report, PLACES))])
         agree(f"post to group {seed}", [group_post(given, rng.randrange(18), rng.randrange(3), states.random_edit(rng))])
-    agree("rounds", [("refusals met", {0, 2, 8, 10}, refusals)])
+    agree("rounds", [("refusals met", {0, 2, 8, 10, 14}, refusals)])
+
+
+def compare_conflicts():
+    for name, s, frame, refusal in conflicts.station_cases(random.Random("conflicts"), 12):
+        expected = hearing.hear(s, frame)
+        got, taken, after = built.call("h", station_bytes(s) + frame)
+        agree(name, [("the case", refusal, expected.refusal),
+                     ("hear", (expected.refusal, expected.taken, visible(s, expected.station)), (got, taken, visible(s, after.station())))])
+    for name, given, masks, refusal in conflicts.group_cases(random.Random("conflicts"), 12):
+        expected = group.round_of(given, masks)
+        got, _, after = built.call("r", group_bytes(given) + mask_bytes(masks))
+        agree(name, [("the case", refusal, expected.refusal), ("refusal", expected.refusal, got),
+                     ("group", visible_group(given, expected), visible_group(given, expected._replace(group=after.group()))),
+                     ("reports", expected.reports, after.several(after.report, PLACES))])
+
+
+def mask_bytes(masks):
+    return b"".join(mask.to_bytes(2, "little") for mask in masks)
 
 
 def group_post(given, place, desk, body):

@@ -4,6 +4,7 @@
     faults.py     what is wrong, for the user
     library.py    the C library: finds or makes it, and one function for each call
     plans.py      link plans: the N and R lines of a script
+    listings.py   listings, mapped into memory, and the words for their faults
 
 A subcommand is a module with `arguments(parser)` and `run(given)`. Its docstring is its help: the first line is the
 summary in the list of subcommands.

@@ -124,3 +124,15 @@ def load(state, n, due, head, buffer):
     """Writes the next lines of a generated script into the buffer, an array; gives their length and the next state."""
     after = array("I", [0, 0])
     return call("relay_load", state, n, due, int(head), buffer, after), (after[1], after[0])
+
+
+ANSWERS = "equal", "first begins second", "second begins first", "different"   # by the number of C
+
+
+def compare(first, p, second, q):
+    """How the log of station p in one listing compares with that of q in another: a place in ANSWERS, and the position.
+
+    A listing is an array of bytes, or the pair of an address and a length.
+    """
+    answer = array("Q", [0, 0])
+    return call("relay_compare", first, p, second, q, answer), tuple(answer)

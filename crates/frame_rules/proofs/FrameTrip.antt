@@ -184,6 +184,10 @@ module _ (bytes : List ℕ) (n own : ℕ) (h : frameRefusal bytes n own ≡ done
           | no b ↦ rw (List·getD-eq-default (part bytes k) 0 {n = i} (omega (arith, part-length k l))) (omega arith)
         ]
 
+    -- each part is what is written of the record that it holds
+    pub part-written : (k : ℕ) → k < count → recordBytes n (recordFrom (part bytes k)) ≡ part bytes k
+    part-written k l = bytes-written (part bytes k) (part-small k l) n (part-length k l) (part-inside k l)
+
     -- the first c records are written as the first c parts
     parts-written : (c : ℕ) → c ≤ count → recordsBytes n (tabulate c (λ k. recordFrom (part bytes k))) ≡ take (16 * c) (drop 4 bytes)
     unfolding tabulate recordsBytes
@@ -191,8 +195,7 @@ module _ (bytes : List ℕ) (n own : ℕ) (h : frameRefusal bytes n own ≡ done
     parts-written (suc c) l =
         let f : ℕ → Record = λ k. recordFrom (part bytes k) in
         let one : recordBytes n (f c) ≡ take 16 (drop (16 * c) (drop 4 bytes)) =
-        bytes-written (part bytes c) (part-small c (omega arith)) n (part-length c (omega arith)) (part-inside c (omega arith))
-        ∙ ap (take 16) (sym (drop-drop (16 * c) 4 bytes)) in
+        part-written c (omega arith) ∙ ap (take 16) (sym (drop-drop (16 * c) 4 bytes)) in
         let e : 16 * c + 16 ≡ 16 * suc c = omega arith in
         records-append n (tabulate c f) (f c ∷ [])
         ∙ (λ i. parts-written c (omega arith) i ++ (append-nil (recordBytes n (f c)) ∙ one) i)

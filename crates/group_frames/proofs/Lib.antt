@@ -2,4 +2,3 @@ pub mod SendSteps
 pub mod SentFrame
 pub mod GroupFrames
 pub mod WrittenFrames
-pub mod WrittenMarks

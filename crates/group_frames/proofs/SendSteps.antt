@@ -1,4 +1,5 @@
--- The answers of sending one station's frame, each with the tests on its way decided; and what the round answers of all stations below a place.
+-- The answers of sending one station's frame, each with the tests on its way decided; and what the
+-- round answers of all stations below a place.
 use Prim.Native.Nat.{ℕ, _+_, _*_, _≤_, _<_}
 use native.Mathlib.Numerals.{add-one}
 use native.Mathlib.Omega.{arith}

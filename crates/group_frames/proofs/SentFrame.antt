@@ -1,31 +1,30 @@
--- The frame of a station inside its limits: it fits into 260 bytes, and where it stands in a list of bytes it is heard as the very
--- records that the table sends. The bytes past the frame are in no record's part.
-use Prim.Native.Nat.{ℕ, zero, suc, _+_, _*_, _-_, _≤_, _<_}
+-- The frame of a station inside its limits: it fits into 260 bytes, and where it stands in a list
+-- of bytes it is heard as the very records that the table sends. The bytes past the frame are in no
+-- record's part.
+use Prim.Native.Nat.{ℕ, suc, _+_, _*_, _-_, _≤_, _<_}
 use mathlib.Core.Bool.{true}
 use mathlib.Core.List.{List, _++_}
-use mathlib.Core.Path.{_≡_, refl, sym, ap, subst, _∙_}
-use native.Mathlib.Decide.{ℕ-discrete}
+use mathlib.Core.Path.{_≡_, refl, sym, ap, _∙_}
 use native.Mathlib.Omega.{arith}
 use lib.ListN.{getD, take, drop, length, length-drop, length-append, take-append-drop}
-use lib.Seq.{take-append-le, drop-append-le}
-use borrow.Author.Tests.{ltb-true, ne-eqb}
-use Rattle.places.proofs.Laws.{and-left, and-right, allBelow-at, allBelow-make, tabulate-ext}
+use lib.Seq.{take-append-le, drop-append-le, getD-take, getD-drop, drop-drop}
+use Rattle.places.proofs.Laws.{and-left, allBelow-at, tabulate-at, tabulate-ext}
 use Rattle.frame_rules.specs.declared.Record.{Record}
-use Rattle.frame_rules.specs.Record.{recordFrom, bytesInside}
-use Rattle.frame_rules.specs.Frame.{part, recordStation, recordsInside, recordsOf, frameBytes}
+use Rattle.frame_rules.specs.Record.{noRecord, recordFrom, recordBytes, bytesInside}
+use Rattle.frame_rules.specs.Frame.{part, recordsInside, recordsOf, frameBytes}
 use Rattle.frame_rules.specs.Calls.{tableRecords}
 use Rattle.frame_rules.proofs.Bytes.{length-frame}
+use Rattle.frame_rules.proofs.Limits.{bytes-open}
 use Rattle.frame_rules.proofs.Check.{accepted-frame}
-use Rattle.frame_rules.proofs.FrameTrip.{at-most}
+use Rattle.frame_rules.proofs.FrameTrip.{at-most, part-of-frame}
 use Rattle.frame_rules.proofs.TableTrip.{table-fits}
 use Rattle.station_rules.specs.declared.Station.{Station}
 use Rattle.station_rules.specs.State.{cellOf, sentRecords}
 use Rattle.station_rules.specs.Calls.{ownCountInside, frameOf}
-use Rattle.station_rules.specs.Inner.Frames.{FrameAt}
+use Rattle.hearing_spec.specs.Buffer.{sizeIn}
+use Rattle.hearing_spec.specs.Room.{FrameRoom}
 use Rattle.station_rules.proofs.StationLimits.{Inside}
 use Rattle.station_rules.proofs.SentFrame.{place, record-fits, sent-read, sent-accepted}
-use Rattle.frame_marks.specs.Marks.{recordAt}
-use Rattle.frame_changes.specs.Changes.{Ascending}
 
 module _ (s : Station) (c : Inside s) where
   abbrev records : List Record
@@ -61,24 +60,17 @@ module _ (s : Station) (c : Inside s) where
         .records-right in
         and-left (bytesInside (s .n) (part (frameOf s) k)) _ (allBelow-at (getD (frameOf s) 2 0) _ (and-left _ _ ok) k (rw amount l))
 
-    ascends-next : (k : ℕ) → suc k < length records → recordStation (frameOf s) k < recordStation (frameOf s) (suc k)
-    unfolding recordsInside
-    ascends-next k l =
-        let ok =
-        accepted-frame (frameOf s) (s .n) (suc (s .own))
-        (sent-accepted s c fits (suc (s .own)) (λ e. absurd (omega arith)))
-        .records-right in
-        let next =
-        and-right (bytesInside (s .n) (part (frameOf s) (suc k))) _ (allBelow-at (getD (frameOf s) 2 0) _ (and-left _ _ ok) (suc k) (rw amount l)) in
-        ltb-true (recordStation (frameOf s) k) (recordStation (frameOf s) (suc k)) (rw (ne-eqb (suc k) 0 (omega arith)) at next)
+    -- each part is what is written of its record
+    part-read : (k : ℕ) → k < length records → recordFrom (part (frameOf s) k) ≡ getD records k noRecord
+    unfolding cellOf sentRecords tableRecords recordsOf
+    part-read k l =
+        sym (tabulate-at (getD (frameOf s) 2 0) (λ k. recordFrom (part (frameOf s) k)) k noRecord (rw amount l))
+        ∙ ap (λ (rs : List Record). getD rs k noRecord) (sent-read s c fits)
 
-    ascends-to : (r q : ℕ) → q < r → r < length records → recordStation (frameOf s) q < recordStation (frameOf s) r
-    ascends-to zero q l b = absurd (omega arith)
-    ascends-to (suc r) q l b =
-        elim (ℕ-discrete q r) [
-          | yes e ↦ subst (λ (i : ℕ). recordStation (frameOf s) i < recordStation (frameOf s) (suc r)) (sym e) (ascends-next r b)
-          | no d ↦ omega (arith, ascends-next r b, ascends-to r q (omega arith) (omega arith))
-        ]
+    written-part : (k : ℕ) → k < length records → recordBytes (s .n) (recordFrom (part (frameOf s) k)) ≡ part (frameOf s) k
+    written-part k l =
+        ap (recordBytes (s .n)) (part-read k l) ∙ sym (part-of-frame (s .n) (s .own) records k l)
+        ∙ ap (λ (f : List ℕ). part f k) (sym frame-is)
 
     -- where the frame stands
     module _ (bytes : List ℕ) (start : ℕ) (here : take (length (frameOf s)) (drop start bytes) ≡ frameOf s) where
@@ -109,30 +101,39 @@ module _ (s : Station) (c : Inside s) where
           (λ k l. ap recordFrom (part-is k l))
           ∙ rw (← amount) (sent-read s c fits))
 
-      pub frame-few : getD (drop start bytes) 2 0 ≤ 16
-      frame-few = rw counted records-few
+      station-is : (k : ℕ) → getD (part (drop start bytes) k) 0 0 ≡ getD bytes (start + 4 + 16 * k) 0
+      station-is k =
+          let place : start + (4 + 16 * k + 0) ≡ start + 4 + 16 * k = omega arith in
+          getD-take 16 (drop (4 + 16 * k) (drop start bytes)) 0 0 (omega arith)
+          ∙ getD-drop (4 + 16 * k) (drop start bytes) 0 0
+          ∙ getD-drop start bytes (4 + 16 * k + 0) 0
+          ∙ ap (λ (i : ℕ). getD bytes i 0) place
 
-      pub frame-at : FrameAt (s .n) bytes start
-      frame-at =
+      part-at : (k : ℕ) → k < length records → take 16 (drop (start + 4 + 16 * k) bytes) ≡ part (frameOf s) k
+      part-at k l =
+          let place : start + 4 + 16 * k ≡ start + (4 + 16 * k) = omega arith in
+          ap (λ (m : ℕ). take 16 (drop m bytes)) place ∙ ap (take 16) (sym (drop-drop (4 + 16 * k) start bytes)) ∙ part-is k l
+
+      size-is : getD bytes (start + 2) 0 ≡ length records
+      size-is = sym (getD-drop start bytes 2 0) ∙ counted
+
+      pub frame-room : sizeIn bytes ≡ s .n → FrameRoom bytes start
+      frame-room n-is =
           record {
-            room =
-                rw counted
-                (omega (arith, frame-length, length-drop start bytes, simp length-append at (ap length stands)));
-            inside =
-                rw counted
-                (allBelow-make (length records) (λ k. bytesInside (s .n) (part (drop start bytes) k))
-                (λ k l. ap (bytesInside (s .n)) (part-is k l) ∙ inside-parts k l));
+            room = omega (arith, size-is, frame-length, length-drop start bytes, simp length-append at (ap length stands));
+            stations =
+                λ r l.
+                let low : r < length records = rw size-is at l in
+                let h = bytes-open (s .n) (part (frameOf s) r) (inside-parts r low) .station in
+                omega (arith, n-is, h, sym (station-is r) ∙ ap (λ (p : List ℕ). getD p 0 0) (part-is r low));
+            written =
+                λ r l.
+                let low : r < length records = rw size-is at l in
+                (λ i. recordBytes (n-is i) (recordFrom (part-at r low i))) ∙ written-part r low ∙ sym (part-at r low);
           }
 
-      station-is : (k : ℕ) → k < length records → (recordAt bytes start k) .station ≡ recordStation (frameOf s) k
-      unfolding recordFrom
-      station-is k l = ap (λ (b : List ℕ). getD b 0 0) (part-is k l)
-
-      pub frame-ascending : Ascending bytes start
-      frame-ascending =
-          record {
-            ascends =
-                λ q r l b.
-                let low : r < length records = rw counted at b in
-                omega (arith, station-is q (omega arith), station-is r low, ascends-to r q l low);
-          }
+      pub first-byte : getD bytes (start + 0) 0 ≡ s .n
+      first-byte = sym (getD-drop start bytes 0 0) ∙ ap (λ (b : List ℕ). getD b 0 0) stands ∙ front
+        where
+          front : getD (frameOf s ++ rest) 0 0 ≡ s .n
+          front = unfold frameOf in unfold frameBytes in refl

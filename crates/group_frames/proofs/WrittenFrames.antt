@@ -1,5 +1,6 @@
--- A round's frames as they are sent, station after station: one more written into its part of the bytes leaves the frames before it, for their parts end
--- where its part begins. Where no station is refused, all frames stand.
+-- A round's frames as they are sent, station after station: one more written into its part of the
+-- bytes leaves the frames before it, for their parts end where its part begins. Where no station is
+-- refused, all frames stand.
 use Prim.Native.Nat.{ℕ, _+_, _*_, _≤_, _<_}
 use mathlib.Core.Bool.{true}
 use mathlib.Core.List.{List, _++_, append-assoc}
@@ -21,7 +22,7 @@ use Rattle.group_frames.proofs.SentFrame.{frame-fits}
 use Rattle.group_frames.proofs.SendSteps.{part-frame, length-after, worse-done, judged-none, judged-more, judged-right}
 
 -- bytes that end by place a stay where what follows from a on is replaced
-before-part :
+pub before-part :
     (m k a : ℕ) (bytes rest : List ℕ) → k + m ≤ a → a ≤ length bytes → take m (drop k (take a bytes ++ rest)) ≡ take m (drop k bytes)
 before-part m k a bytes rest l h = front rest ∙ sym (front (drop a bytes)) ∙ ap (λ (b : List ℕ). take m (drop k b)) (take-append-drop a bytes)
   where

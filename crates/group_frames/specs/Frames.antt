@@ -1,5 +1,6 @@
--- Document 01, "A group and its rounds": all frames of a round stand in one list of bytes before any station hears, that of station k from byte 260 × k on.
-use Prim.Native.Nat.{ℕ, _+_, _*_, _<_, _≤_}
+-- Document 01, "A group and its rounds": all frames of a round stand in one list of bytes before
+-- any station hears, that of station k from byte 260 × k on.
+use Prim.Native.Nat.{ℕ, _+_, _<_}
 use mathlib.Core.Path.{_≡_}
 use mathlib.Core.Bool.{cond, not, _&&_}
 use mathlib.Core.List.{List, _++_}
@@ -11,14 +12,9 @@ use Rattle.places.specs.Places.{allBelow}
 use Rattle.station_rules.specs.declared.Station.{Station}
 use Rattle.station_rules.specs.Limits.{stationInside}
 use Rattle.station_rules.specs.Calls.{frameOf, ownCountInside}
-use Rattle.station_rules.specs.Inner.Frames.{FrameAt}
-use Rattle.frame_marks.specs.Marks.{sizeAt, MarksAt}
-use Rattle.frame_changes.specs.Changes.{Ascending, ChangesAt}
+use Rattle.hearing_spec.specs.Buffer.{sizeIn, frameStart}
+use Rattle.hearing_spec.specs.Room.{FrameRoom}
 use Rattle.group_rules.specs.State.{stationAt, memberInside}
-
--- where the frame of station k begins; 260 bytes hold sixteen records
-abbrev pub frameStart : ℕ → ℕ
-frameStart k = 260 * k
 
 -- what a round judges of station k of a group of n before its frame is written: 2, 10
 unfoldable pub sendRefusal : ℕ → ℕ → Station → ℕ
@@ -51,21 +47,8 @@ pub record FramesBelow (g : List Station) (m : ℕ) (bytes : List ℕ) : Type 0 
   pub long : length bytes ≡ 4160
   pub frame : (k : ℕ) → k < m → take (length (frameOf (stationAt g k))) (drop (frameStart k) bytes) ≡ frameOf (stationAt g k)
 
--- the frames of a group of n begin at their starts, each of at most sixteen records of ascending stations
+-- the frames of a group of n begin at their starts, the first with n
 pub record FramesAt (n : ℕ) (bytes : List ℕ) : Type 0 where
-  pub frame : (k : ℕ) → k < n → FrameAt n bytes (frameStart k)
-  pub few : (k : ℕ) → k < n → sizeAt bytes (frameStart k) ≤ 16
-  pub ascending : (k : ℕ) → k < n → Ascending bytes (frameStart k)
-
--- the marks of the frames of the stations below m stand, those of each frame from its start on
-abbrev pub MarkedBelow : ℕ → List ℕ → List ℕ → Type 0
-MarkedBelow m bytes marks = (k : ℕ) → k < m → MarksAt bytes marks (frameStart k)
-
--- beside those of each but the first stands what its frame says anew after the one before
-abbrev pub ChangedBelow : ℕ → List ℕ → List ℕ → Type 0
-ChangedBelow m bytes marks = (k : ℕ) → k + 1 < m → ChangesAt bytes marks (frameStart k) (frameStart (k + 1))
-
--- both
-pub record MarksBelow (m : ℕ) (bytes marks : List ℕ) : Type 0 where
-  pub marked : MarkedBelow m bytes marks
-  pub changed : ChangedBelow m bytes marks
+  pub long : length bytes ≡ 4160
+  pub size : sizeIn bytes ≡ n
+  pub frame : (k : ℕ) → k < n → FrameRoom bytes (frameStart k)

@@ -52,3 +52,4 @@ pub mod MarkedStatement
 pub mod Marked
 pub mod RunLines
 pub mod RunExamples
+pub mod RoundExamples

@@ -80,7 +80,7 @@ firstRefusal zero refusal = done
 firstRefusal (suc k) refusal =
     cond (eqb (firstRefusal k refusal) done) (refusal k) (firstRefusal k refusal)
 
--- 2, 10, then the first refused frame's: 8
+-- 2, 10, then the first refused frame's: 14 or 8
 unfoldable pub roundRefusal : List Station → List ℕ → ℕ
 roundRefusal g masks =
     refuse (not (groupInside g)) outsideLimits

@@ -25,9 +25,10 @@ pub struct KeptGroup {
     pub group: [Station; 16],
 }
 
-// The answer of a round.
+// The answer of a round. The refusal is as wide as the numbers of a station, so that nothing stands
+// unused between it and the group.
 pub struct RoundDone {
-    pub refusal: u32,
+    pub refusal: usize,
     pub group: [Station; 16],
     pub reports: [Report; 16],
 }

@@ -6,7 +6,7 @@ use native.Mathlib.Omega.{arith}
 use mathlib.Core.Bool.{Bool, true, false, _&&_, false≢true}
 use mathlib.Core.Path.{_≡_, refl, ap, _∙_}
 use lib.Dec.{ltb, leb}
-use lib.IntN.{ℤ, pos, negsuc}
+use lib.IntN.{ℤ, pos, negsuc, natAbs}
 use lib.ListN.{length}
 use lib.Signed.{leZ, mag}
 use mir.Syntax.{w32}
@@ -117,6 +117,39 @@ module _ (b : Body) (h : bodyInside b ≡ true) where
   body-argument-fits =
       let s = small (kindOf b) in
       between-fits (limitsOf (kindOf b) .«least_argument») (argumentOf b) (limitsOf (kindOf b) .«most_argument») (s .least) (s .most) (facts .argument)
+
+-- the limits of every row have few digits: an event at most nine, an argument at most eight and its sign
+record Short (k : ℕ) : Type 0 where
+  event : limitsOf k .«most_event» < 1_000_000_000
+  least : natAbs (limitsOf k .«least_argument») < 100_000_000
+  most : natAbs (limitsOf k .«most_argument») < 100_000_000
+
+short : (k : ℕ) → Short k
+short zero = record { event = omega arith; least = omega arith; most = omega arith }
+short (suc zero) = record { event = omega arith; least = omega arith; most = omega arith }
+short (suc (suc zero)) = record { event = omega arith; least = omega arith; most = omega arith }
+short (suc (suc (suc zero))) = record { event = omega arith; least = omega arith; most = omega arith }
+short (suc (suc (suc (suc zero)))) = record { event = omega arith; least = omega arith; most = omega arith }
+short (suc (suc (suc (suc (suc k))))) = record { event = omega arith; least = omega arith; most = omega arith }
+
+between-short : (low a high : ℤ) → natAbs low < 100_000_000 → natAbs high < 100_000_000 → (leZ low a && leZ a high) ≡ true → natAbs a < 100_000_000
+between-short low (pos m) (pos h) p q e = omega (arith, leb-true m h (both (leZ low (pos m)) (leb m h) e .1))
+between-short low (pos m) (negsuc h) p q e = absurd (false≢true (both (leZ low (pos m)) false e .1))
+between-short (pos l) (negsuc m) high p q e = absurd (false≢true (both false (leZ (negsuc m) high) e .0))
+between-short (negsuc l) (negsuc m) high p q e = omega (arith, leb-true m l (both (leb m l) (leZ (negsuc m) high) e .0))
+
+module _ (b : Body) (h : bodyInside b ≡ true) where
+  pub body-kind-short : kindOf b < 10
+  body-kind-short = omega (arith, facts b h .known)
+
+  pub body-event-short : eventOf b < 1_000_000_000
+  body-event-short = omega (arith, facts b h .most, (short (kindOf b)) .event)
+
+  pub body-argument-short : natAbs (argumentOf b) < 100_000_000
+  body-argument-short =
+      let s = short (kindOf b) in
+      between-short (limitsOf (kindOf b) .«least_argument») (argumentOf b) (limitsOf (kindOf b) .«most_argument») (s .least) (s .most)
+      (facts b h .argument)
 
 -- what may be posted is an edit, and inside its limits
 pub postable-edit : (b : Body) → postable b ≡ true → isEdit b ≡ true

@@ -65,6 +65,10 @@ conflict = 14
 abbrev pub badDesk : ℕ
 badDesk = 15
 
+-- a listing has a line that is not of the listing's form, or does not end with its last line (document 02, A8)
+abbrev pub badListing : ℕ
+badListing = 16
+
 -- a question names a station that is not among N, has a number below 1, is not whole, or is past the 64th (document 02, A11)
 abbrev pub badQuestion : ℕ
 badQuestion = 18

@@ -32,6 +32,8 @@ pub const CONFLICT: u32 = 14;
 
 pub const BAD_DESK: u32 = 15;
 
+pub const BAD_LISTING: u32 = 16;
+
 pub const BAD_QUESTION: u32 = 18;
 
 pub const BAD_CONTEST: u32 = 20;

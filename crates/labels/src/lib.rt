@@ -1,4 +1,4 @@
-// Labels: the successor, and which of two records is newer.
+// Labels: the successor, and what a seen record is beside the held one.
 
 ghost use mathlib.Core.Path.{_≡_};
 ghost use Rattle.labels.specs.Label.{successor};

@@ -5,3 +5,4 @@ pub mod Stopped
 pub mod Overlong
 pub mod Commands
 pub mod ScriptCalls
+pub mod LineEnds

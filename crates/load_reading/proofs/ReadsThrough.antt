@@ -31,11 +31,12 @@ use Rattle.script.specs.declared.Command.the-variants.{Size, Post, Round, Malfo
 use Rattle.script.specs.Line.{commandOf, masksOf}
 use Rattle.listing_rules.specs.declared.Session.{Session}
 use Rattle.listing_rules.specs.Listing.{sessionBegun, setupOf, postOf, postedBody, sizedBy, postedBy, roundedBy, halted, obeyed, after, malformedText, restText, lastRound}
+use Rattle.listing_rules.proofs.LineEnds.{noEnd}
 use Rattle.load_spec.specs.Draws.{postDraw, posts, afterRound}
 use Rattle.load_spec.specs.Script.{sizeLine, postLine, maskLine, postLines, roundLines, roundsLines, scriptLines, scriptOf, lineOf}
 use Rattle.load_spec.proofs.Draws.{post-draw-small}
 use Rattle.load_reading.specs.Reading.{postAnswer, Fine, Through, at-end, past, ReadWhole, LoadsRead}
-use Rattle.load_reading.proofs.Ends.{noEnd, NoEnds, no-line, one-more, noEnds-append, noEnd-line, allLines, lines-found}
+use Rattle.load_reading.proofs.Ends.{NoEnds, no-line, one-more, noEnds-append, noEnd-line, allLines, lines-found}
 use Rattle.load_reading.proofs.Commands.{size-said, post-said, round-said}
 
 -- a session of n stations that has done r rounds

@@ -1,5 +1,6 @@
-pub mod Contest
+pub mod Pair
 pub mod Refusals
 pub mod Station
 pub mod Write
 pub mod Group
+pub mod RoundRefusals

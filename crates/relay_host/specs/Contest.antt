@@ -1,13 +1,11 @@
 -- What `relay_contest` returns and writes: the answer of the contest as numbers.
-use mathlib.Core.Bool.{cond, not}
-use mathlib.Core.List.{List, [], _∷_, _++_}
+use mathlib.Core.List.{List}
 use Prim.Native.Nat.{ℕ}
-use lib.Dec.{eqb, ltb}
-use lib.ListN.{length, drop}
-use Rattle.kinds.specs.Refusals.{done, shortBuffer, refuse}
+use Rattle.kinds.specs.Refusals.{done}
 use Rattle.contest_spec.specs.declared.ContestAnswer.{ContestAnswer}
 use Rattle.contest_spec.specs.declared.ContestAnswer.the-variants.{Refused, Breaker, Keeper}
 use Rattle.contest_spec.specs.Answer.{contestCall}
+use Rattle.relay_host.specs.Pair.{pairReturned, pairBuffer}
 
 -- an answer's refusal, or 0
 unfoldable pub answerRefusal : ContestAnswer → ℕ
@@ -28,14 +26,11 @@ answerPick Breaker = 0
 answerPick (Keeper pick) = pick
 
 -- 1, 20, 9
-unfoldable pub contestReturned : ℕ → ℕ → List ℕ → ℕ → List ℕ → ℕ
-contestReturned n s masks rounds buffer =
-    refuse (not (eqb (answerRefusal (contestCall n s masks rounds)) done)) (answerRefusal (contestCall n s masks rounds))
-    (refuse (ltb (length buffer) 2) shortBuffer done)
+abbrev pub contestReturned : ℕ → ℕ → List ℕ → ℕ → List ℕ → ℕ
+contestReturned n s masks rounds buffer = pairReturned (answerRefusal (contestCall n s masks rounds)) buffer
 
--- the buffer afterwards: the winner, its pick, and then what stood past them; or as it was
-unfoldable pub contestBuffer : ℕ → ℕ → List ℕ → ℕ → List ℕ → List ℕ
+-- the buffer afterwards: the winner, and its pick
+abbrev pub contestBuffer : ℕ → ℕ → List ℕ → ℕ → List ℕ → List ℕ
 contestBuffer n s masks rounds buffer =
-    cond (eqb (contestReturned n s masks rounds buffer) done)
-    (answerWinner (contestCall n s masks rounds) ∷ answerPick (contestCall n s masks rounds) ∷ drop 2 buffer)
-    buffer
+    let answer = contestCall n s masks rounds in
+    pairBuffer (answerRefusal answer) (answerWinner answer) (answerPick answer) buffer

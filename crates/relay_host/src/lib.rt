@@ -1,8 +1,9 @@
-// What C programs call. The declarations for C are in include/relay_host.h.
+// What C programs call. The declarations for C are in include/relay.h.
 
 ghost use mathlib.Core.Path.{_≡_};
 ghost use Rattle.frame_rules.specs.Frame.{checkRefusal};
 
+mod relay_compare;
 mod relay_contest;
 mod relay_forecast;
 mod relay_group;

@@ -1,4 +1,4 @@
-// The link contest for C (document 02, A13). The declaration for C is in include/relay_host.h.
+// The link contest for C (document 02, A13). The declaration for C is in include/relay.h.
 
 ghost use mathlib.Core.Path.{_≡_};
 ghost use Rattle.relay_host.specs.Contest.{answerRefusal, answerWinner, answerPick, contestReturned, contestBuffer};

@@ -2,7 +2,7 @@
 use mathlib.Core.Path.{_≡_, refl, sym, ap, _∙_}
 use mathlib.Core.Bool.{Bool, false}
 use mathlib.Core.List.{List, [], _∷_, _++_}
-use Prim.Native.Nat.{ℕ, _+_, _*_}
+use Prim.Native.Nat.{ℕ, _+_}
 use native.Mathlib.Nat.{zero-add}
 use native.Mathlib.Omega.{arith}
 use lib.ListN.{getD, set, length, length-append}
@@ -16,7 +16,7 @@ use Rattle.station_rules.specs.Hearing.{noTaking}
 use Rattle.group_rules.specs.declared.Report.{Report}
 use Rattle.station_bytes_spec.specs.Bytes.{flagByte, asByte, joinedBelow}
 use Rattle.station_bytes_spec.specs.Body.{encodeBody}
-use Rattle.station_bytes_spec.specs.Reports.{encodeFlags, encodeTurn, takingWidth, encodeTaking, encodeReport}
+use Rattle.station_bytes_spec.specs.Reports.{encodeFlags, encodeTurn, encodeTaking, encodeReport}
 use Rattle.station_bytes_spec.proofs.Bytes.{length-word}
 use Rattle.station_bytes_spec.proofs.Body.{length-body}
 use Rattle.station_bytes_spec.proofs.Reports.{length-takings}

@@ -1,4 +1,5 @@
--- The lengths that a group's arrays have by their types, out of what owning the group tells: it has sixteen stations, and each of them is owned.
+-- The lengths that a group's arrays have by their types, out of what owning the group tells: it has
+-- sixteen stations, and each of them is owned.
 use mathlib.Core.List.{List, [], _∷_}
 use mathlib.Core.Path.{_≡_}
 use native.Mathlib.Omega.{arith}

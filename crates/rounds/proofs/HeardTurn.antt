@@ -1,46 +1,47 @@
--- One station of a round, as the code goes: what it hears from the bytes is what it hears by definition, so it is inside its limits for its turn, and what it
+-- One station of a round, as the code goes: what it hears from the bytes is what it hears by
+-- definition, so what it then takes into its state is inside its limits for its turn, and what it
 -- reports is its report.
 use Prim.Native.Nat.{ℕ, _-_, _<_}
-use mathlib.Core.Bool.{true, false}
+use mathlib.Core.Bool.{true}
 use mathlib.Core.List.{List, _++_}
-use mathlib.Core.Path.{_≡_, sym, ap, subst, _∙_}
+use mathlib.Core.Path.{_≡_, sym, ap, _∙_}
 use native.Mathlib.Omega.{arith}
-use lib.ListN.{drop, length, replicate}
-use Rattle.frame_rules.specs.Frame.{recordsOf}
+use lib.ListN.{getD, length, length-map, length-take, take, replicate}
+use Rattle.kinds.specs.Refusals.{done}
 use Rattle.station_rules.specs.declared.Station.{Station}
-use Rattle.station_rules.specs.declared.HeardAll.{HeardAll}
+use Rattle.station_rules.specs.declared.Taking.{Taking}
 use Rattle.station_rules.specs.declared.Turned.{Turned}
-use Rattle.station_rules.specs.State.{sentRecords}
 use Rattle.station_rules.specs.Limits.{stationInside}
-use Rattle.station_rules.specs.Hearing.{Hearing, silent}
-use Rattle.station_rules.specs.Inner.Frames.{hearFrames, HearsAll}
+use Rattle.station_rules.specs.Hearing.{Hearing, noTaking, silent}
 use Rattle.station_rules.specs.Turn.{afterTurn, turnReport}
 use Rattle.station_rules.specs.Calls.{turnDone}
 use Rattle.station_rules.proofs.StationLimits.{inside-make}
-use Rattle.group_rules.specs.declared.Report.{Report}
+use Rattle.hearing_spec.specs.Buffer.{sizeIn, frameStart, takingAt, hearSenders}
+use Rattle.hearing_spec.specs.Room.{FrameRoom}
+use Rattle.hearing_spec.specs.StandsFor.{actsOn}
+use Rattle.hearing_spec.specs.declared.Ear.{Ear}
+use Rattle.acting.specs.Listened.{heardNotes, takingsAt, Listens}
+use Rattle.listening.specs.Listening.{MayListen, maskHeard}
 use Rattle.group_rules.specs.State.{stationAt, sizeOf}
-use Rattle.group_rules.specs.Calls.{heard, noTaking, reportOf}
-use Rattle.group_rules.proofs.Members.{Member, GroupShaped, group-high, member-at, members-open}
+use Rattle.group_rules.specs.Calls.{heard, reportOf}
+use Rattle.group_rules.proofs.Members.{Member, GroupShaped, member-at, members-open}
 use Rattle.group_rules.proofs.MembersRound.{hears-all}
-use Rattle.group_frames.specs.Frames.{frameStart, FramesAt, MarksBelow}
+use Rattle.group_frames.specs.Frames.{FramesAt}
 use Rattle.group_frames.proofs.WrittenFrames.{AllSent}
 use Rattle.group_frames.proofs.GroupFrames.{frames-at, records-of}
-use Rattle.mask_hearing.specs.Mask.{heardCount, heardStarts}
-use Rattle.rounds.proofs.RoundFrames.{heard-below}
+use Rattle.rounds.proofs.RoundBytes.{heard-below}
 
--- what hearing by the mask asks for
-abbrev pub MayHear : List ℕ → List ℕ → Station → Type 0
-MayHear bytes marks x =
-    (stationInside x ≡ true)
-    × (FramesAt (x .n) bytes × (MarksBelow (x .n) bytes marks × (recordsOf (drop (frameStart (x .own)) bytes) ≡ sentRecords x)))
+-- what a station of a round has heard of its mask
+abbrev pub HeardMask : List ℕ → List ℕ → ℕ → Station → List ℕ → List ℕ → Ear → Type 0
+HeardMask masks bytes i s places taken e = Listens s bytes (maskHeard s bytes (getD masks i 0)) places taken e
 
--- what it tells
-abbrev pub HearsMask : List ℕ → List ℕ → HeardAll → Station → Type 0
-HearsMask masks bytes r x = HearsAll x bytes (heardStarts (x .n) masks (x .own) (x .n)) (heardCount (x .n) masks (x .own) (x .n)) r
+-- what hearing asks for
+abbrev pub MayHear : List ℕ → Station → Type 0
+MayHear bytes s = MayListen s bytes (frameStart (s .own)) × ((j : ℕ) → j < sizeIn bytes → FrameRoom bytes (frameStart j))
 
--- what the round reports of a station, by what it heard and by its turn
-abbrev pub reported : HeardAll → Turned → Report
-reported r t = record { «takings_len» = r .«takings_len»; takings = r .takings; turn = t .report }
+-- the takings as a report has them
+abbrev pub takingsIn : List ℕ → List ℕ → ℕ → List Taking
+takingsIn bytes taken len = takingsAt bytes taken len ++ replicate (30 - len) noTaking
 
 module _ (g : List Station) (masks bytes : List ℕ) (sent : AllSent g bytes) (i : ℕ) (below : i < sizeOf g) where
   abbrev s : Station
@@ -49,49 +50,60 @@ module _ (g : List Station) (masks bytes : List ℕ) (sent : AllSent g bytes) (i
   member : Member (sizeOf g) g i
   member = member-at g (sent .inside) i below
 
-  pub may-hear : (marks : List ℕ) → MarksBelow (sizeOf g) bytes marks → MayHear bytes marks s
-  may-hear marks marked =
-      let size = sym (member .size) in (
-        inside-make s (member .inside),
-        (
-          subst (λ (n : ℕ). FramesAt n bytes) size (frames-at g (sent .inside) (sent .counts) bytes (sent .frames)),
-          (
-            subst (λ (n : ℕ). MarksBelow n bytes marks) size marked,
-            subst (λ (k : ℕ). recordsOf (drop (frameStart k) bytes) ≡ sentRecords s) (sym (member .own))
-                (records-of g (sent .inside) (sent .counts) bytes (sent .frames) i below),
-          ),
-        ),
-      )
+  frames : FramesAt (sizeOf g) bytes
+  frames = frames-at g (sent .inside) (sent .counts) bytes (sent .frames)
 
-  frames-heard :
-      hearFrames (silent s) bytes (heardStarts (s .n) masks (s .own) (s .n)) (heardCount (s .n) masks (s .own) (s .n)) ≡ heard g masks i
-  frames-heard =
-      let m = member in
-      (λ t. hearFrames (silent s) bytes (heardStarts (m .size t) masks (m .own t) (m .size t)) (heardCount (m .size t) masks (m .own t) (m .size t)))
-      ∙ heard-below g (sent .inside) (sent .counts) masks bytes (sent .frames) i (sizeOf g) (omega arith) (group-high g (sent .inside))
+  pub may-hear : MayHear bytes s
+  may-hear = (
+    record {
+      inside = inside-make s (member .inside);
+      short = omega (arith, frames .long);
+      size = member .size ∙ sym (frames .size);
+      own-room = rw (member .own) (frames .frame i below);
+      own-frame = rw (member .own) (records-of g (sent .inside) (sent .counts) bytes (sent .frames) i below);
+    },
+    λ j l. frames .frame j (omega (arith, frames .size)),
+  )
 
-  module _ (r : HeardAll) (h : HearsMask masks bytes r s) where
-    pub full-is : r .overfull ≡ (heard g masks i) .overfull
-    full-is = h .overfull ∙ ap (λ (x : Hearing). x .overfull) frames-heard
+  heard-is : maskHeard s bytes (getD masks i 0) (silent s) ≡ heard g masks i
+  heard-is =
+      (λ t. hearSenders (silent s) bytes (member .own t) (getD masks i 0) (frames .size t))
+      ∙ heard-below g masks bytes sent i below (sizeOf g) (omega arith)
 
-    module _ (shape : GroupShaped g) (room : r .overfull ≡ false) where
-      station-is : r .station ≡ (heard g masks i) .station
-      station-is = h .station room ∙ ap (λ (x : Hearing). x .station) frames-heard
+  module _ (places taken : List ℕ) (e : Ear) (h : HeardMask masks bytes i s places taken e) where
+    pub refusal-is : e .refusal ≡ (heard g masks i) .refusal
+    refusal-is = h .refusal ∙ ap (λ (y : Hearing). y .refusal) heard-is
 
-      pub may-turn : stationInside (r .station) ≡ true
+    module _ (shape : GroupShaped g) (fine : e .refusal ≡ done) where
+      station-is : actsOn s bytes (heardNotes places taken e) ≡ (heard g masks i) .station
+      station-is = h .station fine ∙ ap (λ (y : Hearing). y .station) heard-is
+
+      pub may-turn : stationInside (actsOn s bytes (heardNotes places taken e)) ≡ true
       may-turn =
           let hs = hears-all (sizeOf g) g (members-open g shape (sent .inside)) masks (sent .counts) i below in
-          rw station-is (inside-make ((heard g masks i) .station) (hs .inside (sym full-is ∙ room)))
+          rw station-is (inside-make ((heard g masks i) .station) (hs .inside (sym refusal-is ∙ fine)))
 
-      module _ (t : Turned) (turned : t ≡ turnDone (r .station)) where
+      module _ (t : Turned) (turned : t ≡ turnDone (actsOn s bytes (heardNotes places taken e))) where
         pub after-is : t .station ≡ afterTurn ((heard g masks i) .station)
-        after-is = ap (λ (x : Turned). x .station) turned ∙ ap afterTurn station-is
+        after-is = ap (λ (y : Turned). y .station) turned ∙ ap afterTurn station-is
 
-        pub report-is : reported r t ≡ reportOf g masks i
+        takings-are : takingsAt bytes taken (e .len) ≡ (heard g masks i) .takings
+        takings-are = h .takings fine ∙ ap (λ (y : Hearing). y .takings) heard-is
+
+        len-is : e .len ≡ length ((heard g masks i) .takings)
+        len-is =
+            let all : length (take (e .len) taken) ≡ e .len =
+            omega (arith, length-take (e .len) taken, h .readable .takings .long, h .readable .takings .few) in
+            sym all ∙ sym (length-map (take (e .len) taken) (takingAt bytes)) ∙ ap length takings-are
+
+        pub report-is :
+            (ts : List Taking) → ts ≡ takingsIn bytes taken (e .len) → record { «takings_len» = e .len; takings = ts; turn = t .report } ≡ reportOf g masks i
         unfolding reportOf
-        report-is =
-            let len : r .«takings_len» ≡ length ((heard g masks i) .takings) = h .len room ∙ ap (λ (x : Hearing). length (x .takings)) frames-heard in
-            let takings : r .takings ≡ (heard g masks i) .takings ++ replicate (30 - length ((heard g masks i) .takings)) noTaking =
-            h .takings room ∙ ap (λ (x : Hearing). x .takings ++ replicate (30 - length (x .takings)) noTaking) frames-heard in
-            ap (reported r) turned
-            ∙ (λ j. record { «takings_len» = len j; takings = takings j; turn = turnReport (station-is j) })
+        report-is ts is =
+            (λ j. record { «takings_len» = e .len; takings = is j; turn = (turned j) .report })
+            ∙ (λ j.
+            record {
+              «takings_len» = len-is j;
+              takings = takings-are j ++ replicate (30 - len-is j) noTaking;
+              turn = turnReport (station-is j);
+            })

@@ -1,5 +1,6 @@
 pub mod GroupLengths
+pub mod RoundBytes
+pub mod Parts
 pub mod HeardTurn
-pub mod RoundFrames
 pub mod RoundSteps
 pub mod RoundLoop

@@ -1,11 +1,11 @@
 -- The answers of a round, each with the tests on its way decided.
-use Prim.Native.Nat.{ℕ, _+_, _≤_, _<_}
-use native.Mathlib.Numerals.{add-one}
+use Prim.Native.Nat.{ℕ, _≤_}
 use mathlib.Core.Bool.{Bool, true, false, false≢true}
 use mathlib.Core.List.{List}
 use mathlib.Core.Path.{_≡_, refl, sym, ap, _∙_}
+use native.Mathlib.Omega.{arith}
 use borrow.Author.Tests.{le-leb, lt-ltb}
-use Rattle.places.specs.Places.{allBelow, anyBelow}
+use Rattle.places.specs.Places.{allBelow}
 use Rattle.places.proofs.Laws.{and-both}
 use Rattle.frame_rules.specs.Frame.{validNumber}
 use Rattle.station_rules.specs.declared.Station.{Station}
@@ -18,10 +18,6 @@ use Rattle.group_frames.specs.Frames.{judgedBelow}
 use Rattle.group_limits.proofs.GroupLimits.{group-judged}
 use Rattle.group_frames.proofs.SendSteps.{judged-is}
 
-pub anyBelow-more : (n : ℕ) (test : ℕ → Bool) → anyBelow n test ≡ false → test n ≡ false → anyBelow (n + 1) test ≡ false
-unfolding anyBelow
-anyBelow-more n test h e = rw (add-one n, h, e)
-
 -- a group of a number of stations that there is not
 pub size-outside : (g : List Station) → validNumber (sizeOf g) 0 ≡ false → groupInside g ≡ false
 size-outside g v = go (groupInside g) refl
@@ -33,6 +29,16 @@ size-outside g v = go (groupInside g) refl
         (sym v
         ∙ and-both (and-both (le-leb 1 (sizeOf g) (group-low g e)) (le-leb (sizeOf g) 16 (group-high g e))) (lt-ltb 0 (sizeOf g) (group-low g e))))
     go false e = e
+
+-- what is judged of the stations is a small number
+pub judged-small : (g : List Station) (k : ℕ) → judgedBelow g k ≤ 10
+judged-small g k = go (allBelow k (memberInside g)) refl (allBelow k (λ j. ownCountInside (stationAt g j))) refl
+  where
+    go :
+        (a : Bool) → allBelow k (memberInside g) ≡ a → (b : Bool) → allBelow k (λ j. ownCountInside (stationAt g j)) ≡ b → judgedBelow g k ≤ 10
+    go true p true q = omega (arith, judged-is g k true p true q)
+    go true p false q = omega (arith, judged-is g k true p false q)
+    go false p b q = omega (arith, judged-is g k false p b q)
 
 module _ (g : List Station) (masks : List ℕ) where
   -- a group of which a station is refused

@@ -4,9 +4,9 @@ ghost use mathlib.Core.Path.{_≡_};
 ghost use Rattle.group_rules.specs.Calls.{noReport, roundCall};
 use group_rules::Report;
 use group_rules::RoundDone;
+use hearing_spec::Ear;
 use kinds::Body;
 use kinds::refusals::DONE;
-use kinds::refusals::LANE_FULL;
 use kinds::refusals::OUTSIDE_LIMITS;
 use station_rules::Station;
 use station_rules::Taking;
@@ -28,56 +28,91 @@ fn no_report() -> Report
     }
 }
 
-// Round: every frame is written and marked, then each station hears those of its mask and takes its turn.
+// Round: all frames are sent. Then each station hears those of its mask, on numbers alone; and
+// where no frame is refused, each takes what it heard into its state and takes its turn. Until then
+// the group is as it was given, so that a refusal has nothing to undo.
 pub fn round(g: [Station; 16], masks: [u16; 16]) -> RoundDone
     ensures { λ r. ⌜ r ≡ roundCall g masks ⌝ }
 {
+    let mut group = g;
     let none = no_report();
-    let mut bytes = [0u8; 4160];
-    let mut marks = [0u8; 4160];
-    let mut z = RoundDone {
+    let mut reports = [none; 16];
+    let quiet = Ear {
         refusal: DONE,
-        group: g,
-        reports: [none; 16],
+        count: 0,
+        acked: [false; 16],
+        labels: [0u8; 16],
+        len: 0,
     };
-    let first = z.group[0];
+    let mut ears = [quiet; 16];
+    let mut bytes = [0u8; 4160];
+    let mut places = [0u16; 256];
+    let mut taken = [0u16; 480];
+    let first = group[0];
     let n = first.n;
     if !numbers::valid_number(n, 0) {
-        z.refusal = OUTSIDE_LIMITS;
-        return z;
+        return RoundDone {
+            refusal: OUTSIDE_LIMITS as usize,
+            group: group,
+            reports: reports,
+        };
     }
     let mut refusal = DONE;
     let mut k: usize = 0;
     while k < n {
-        refusal = group_frames::send(&mut bytes, z.group[k], n, k, refusal);
+        refusal = group_frames::send(&mut bytes, group[k], n, k, refusal);
         k += 1;
     }
     if refusal != DONE {
-        z.refusal = refusal;
-        return z;
+        return RoundDone {
+            refusal: refusal as usize,
+            group: group,
+            reports: reports,
+        };
     }
-    group_frames::mark_frames(&mut marks, &bytes, n);
+    let mut j: usize = 0;
+    while j < n {
+        let a = 16 * j;
+        let b = 30 * j;
+        let heard = listening::listen(
+            &bytes,
+            masks[j],
+            &mut places[a..a + 16],
+            &mut taken[b..b + 30],
+            group[j],
+        );
+        if heard.refusal != DONE {
+            return RoundDone {
+                refusal: heard.refusal as usize,
+                group: group,
+                reports: reports,
+            };
+        }
+        ears[j] = heard;
+        j += 1;
+    }
     let mut i: usize = 0;
     while i < n {
-        let heard = mask_hearing::hear_mask(z.group[i], &bytes, &marks, masks);
-        if heard.overfull {
-            z.refusal = LANE_FULL;
-            z.group = g;
-            z.reports = [none; 16];
-            return z;
-        }
-        let station = heard.station;
-        let turned = station_turns::take_turn(station);
-        let takings = heard.takings;
-        let after = turned.station;
+        let a = 16 * i;
+        let b = 30 * i;
+        let heard = ears[i];
+        let takings = acting::takings_of(&bytes, &taken[b..b + 30], heard.len);
+        let before = group[i];
+        let acted = acting::acted(heard, &bytes, &places[a..a + 16], &taken[b..b + 30], before);
+        let turned = station_turns::take_turn(acted);
         let turn = turned.report;
-        z.group[i] = after;
-        z.reports[i] = Report {
-            takings_len: heard.takings_len,
+        reports[i] = Report {
+            takings_len: heard.len,
             takings: takings,
             turn: turn,
         };
+        let after = turned.station;
+        group[i] = after;
         i += 1;
     }
-    z
+    RoundDone {
+        refusal: DONE as usize,
+        group: group,
+        reports: reports,
+    }
 }

@@ -1,38 +1,35 @@
 -- Calls on bytes one after the other. What a call that is done leaves is accepted by the next call, and decoded to just the station that the call gave; so calls on bytes are the calls of document 01, one after the other, on the
 -- station itself, and a state that the library made is never refused with 2.
-use mathlib.Core.Path.{_≡_, refl, sym, ap, subst, _∙_}
-use mathlib.Core.Bool.{Bool, true, false, cond, not, _&&_, false≢true}
+use mathlib.Core.Path.{_≡_, refl, sym, subst, _∙_}
+use mathlib.Core.Bool.{Bool, true, false, not, false≢true}
 use mathlib.Core.List.{List}
-use Prim.Native.Nat.{ℕ, _<_, _≤_}
+use Prim.Native.Nat.{ℕ}
 use native.Mathlib.Omega.{arith}
 use lib.Dec.{eqb}
-use lib.ListN.{getD}
-use borrow.Author.Tests.{eqb-true, eq-eqb, ne-eqb}
+use borrow.Author.Tests.{eqb-true, eq-eqb}
 use Rattle.kinds.specs.declared.Body.{Body}
 use Rattle.kinds.specs.Refusals.{done, outsideLimits, refuse}
-use Rattle.kind_limits.specs.Limits.{postable}
-use Rattle.frame_rules.specs.Frame.{frameRefusal, recordsOf, recordsInside, shapeWrong, addressWrong}
-use Rattle.lanes.specs.Waiting.{hasRoom}
+use Rattle.frame_rules.specs.Frame.{validNumber, frameRefusal, recordsOf, recordsInside, shapeWrong, addressWrong}
+use Rattle.lanes.specs.Waiting.{limitInside, hasRoom}
 use Rattle.station_rules.specs.declared.Setup.{Setup}
 use Rattle.station_rules.specs.declared.Station.{Station}
-use Rattle.station_rules.specs.declared.Heard.{Heard}
-use Rattle.station_rules.specs.declared.Turned.{Turned}
-use Rattle.station_rules.specs.declared.Kept.{Kept}
 use Rattle.station_rules.specs.Limits.{stationInside}
 use Rattle.station_rules.specs.Hearing.{Hearing, silent, hearFrame}
 use Rattle.station_rules.specs.Turn.{afterTurn}
-use Rattle.station_rules.specs.Calls.{postRefusal, posted, postCall, hearCall, turnCall}
-use Rattle.station_rules.proofs.Setters.{Shaped}
+use Rattle.station_rules.specs.State.{aloneSetup, freshStation}
+use Rattle.station_rules.specs.Calls.{freshCall, postRefusal, posted, postCall, hearCall, turnCall}
+use Rattle.station_rules.proofs.Setters.{Shaped, fresh-shaped}
 use Rattle.station_rules.proofs.Shape.{posted-shaped}
 use Rattle.station_rules.proofs.StationLimits.{inside-open}
-use Rattle.station_rules.proofs.LimitsTurn.{turn-inside}
+use Rattle.station_rules.proofs.CallSteps.{valid-parts}
+use Rattle.station_rules.proofs.LimitsFresh.{fresh-inside}
 use Rattle.station_rules.proofs.LimitsCalls.{frame-carried, post-call-inside, turn-call-inside, hear-call-inside}
 use Rattle.station_bytes_spec.specs.Station.{encodeStation, decodeStation, isStation}
 use Rattle.station_bytes_spec.proofs.Bytes.{AllBytes}
 use Rattle.station_bytes_spec.proofs.Body.{BodyFits}
 use Rattle.station_bytes_spec.proofs.Inside.{Typed, inside-decoded, inside-accepted}
 use Rattle.station_bytes_runs.proofs.Bodies.{edit-fits}
-use Rattle.station_bytes_runs.proofs.Typed.{Fitting, posted-fitting, turn-fitting, turn-shaped, Keeps, frame-keeps}
+use Rattle.station_bytes_runs.proofs.Typed.{Fitting, fresh-fitting, posted-fitting, turn-fitting, turn-shaped, Keeps, frame-keeps}
 use Rattle.station_bytes_runs.proofs.Decoded.{station-fitting, station-shaped, frame-words, all-fit}
 
 -- a station that a call leaves: inside its limits, its bytes accepted, and decoded to it again
@@ -135,6 +132,21 @@ module _ (s : Station) (shape : Shaped s) (f : Fitting s) where
         (hear-call-inside s shape hear-inside bytes)
 
 -- ---- the calls on bytes
+
+-- fresh, also where it is refused: the answer is then the fresh station of N = 1
+pub after-fresh : (setup : Setup) (own : ℕ) → Again ((freshCall setup own) .station)
+unfolding freshCall
+after-fresh setup own = go (validNumber (setup .n) own) (limitInside (setup .limit)) refl refl
+  where
+    alone-again : Again (freshStation aloneSetup 0)
+    alone-again = again (freshStation aloneSetup 0) (fresh-shaped aloneSetup 0) (fresh-fitting aloneSetup 0 (omega arith)) (fresh-inside aloneSetup 0 refl refl)
+
+    go : (t u : Bool) → validNumber (setup .n) own ≡ t → limitInside (setup .limit) ≡ u → Again ((freshCall setup own) .station)
+    go true true e d =
+        let v = valid-parts (setup .n) own e in
+        rw (e, d) (again (freshStation setup own) (fresh-shaped setup own) (fresh-fitting setup own (omega (arith, v .1, v .2))) (fresh-inside setup own e d))
+    go true false e d = rw (e, d) alone-again
+    go false u e d = rw e alone-again
 
 module _ (b : List ℕ) (small : AllBytes b) where
   abbrev now : Station

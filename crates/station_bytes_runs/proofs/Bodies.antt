@@ -1,12 +1,12 @@
 -- Bodies whose numbers have 32 bits: in lanes, in waiting edits, and in what a body of three numbers is.
 use mathlib.Core.Path.{_≡_, refl, sym, ap, subst, _∙_}
-use mathlib.Core.Bool.{Bool, true, false, cond}
+use mathlib.Core.Bool.{Bool, true, false}
 use mathlib.Core.List.{List, [], _∷_, _++_}
-use Prim.Native.Nat.{ℕ, zero, suc, _+_, _-_, _<_, _≤_}
+use Prim.Native.Nat.{ℕ, zero, suc, _+_, _-_, _<_}
 use native.Mathlib.Omega.{arith}
 use lib.Dec.{eqb, ltb}
 use lib.IntN.{ℤ}
-use lib.ListN.{getD, set, take, drop, length, length-set, length-take, List·getD-append, List·getD-eq-default}
+use lib.ListN.{getD, set, take, drop, length, length-set, length-take, replicate, length-replicate, getD-replicate, List·getD-append, List·getD-eq-default}
 use lib.Seq.{take-nil, getD-take, getD-drop, getD-append-add}
 use mir.Syntax.{w32}
 use mir.Val.{SFits}
@@ -18,11 +18,10 @@ use Rattle.places.proofs.Keeps.{cond-keeps, set-keeps}
 use Rattle.frame_rules.specs.Words.{signed}
 use Rattle.lanes.specs.declared.Lane.{Lane}
 use Rattle.lanes.specs.declared.Slot.{Slot}
-use Rattle.lanes.specs.declared.Queue.{Queue}
 use Rattle.lanes.specs.declared.Waiting.{Waiting}
 use Rattle.lanes.specs.Lane.{bodies, laneOf, pushed, popped}
-use Rattle.lanes.specs.Queue.{noSlot, queued, oldest, unqueued}
-use Rattle.lanes.specs.Waiting.{waitingCount, waitingAt, withPosted, nextEdit, withoutNext}
+use Rattle.lanes.specs.Queue.{noSlot, emptyQueue, queued, oldest, unqueued}
+use Rattle.lanes.specs.Waiting.{noneWaiting, waitingAt, withPosted, nextEdit, withoutNext}
 use Rattle.lanes.proofs.WaitingLaws.{WaitingSized}
 use Rattle.station_bytes_spec.proofs.Body.{BodyFits}
 
@@ -125,8 +124,8 @@ module _ (w : Waiting) (f : EditsFit w) where
   posted-fit b g =
       slots-fit (set (w .queue .slots) (w .queue .len) (record { body = b }))
       (λ i l.
-        set-keeps (λ (s : Slot). BodyFits (s .body)) (w .queue .slots) (w .queue .len) (record { body = b }) noSlot i
-        (rw (length-set (w .queue .slots) (w .queue .len) (record { body = b })) at l) (f .slot i) g)
+      set-keeps (λ (s : Slot). BodyFits (s .body)) (w .queue .slots) (w .queue .len) (record { body = b }) noSlot i
+      (rw (length-set (w .queue .slots) (w .queue .len) (record { body = b })) at l) (f .slot i) g)
 
   pub started-fit : EditsFit (withoutNext w)
   unfolding withoutNext unqueued
@@ -142,6 +141,12 @@ module _ (w : Waiting) (f : EditsFit w) where
   pub edit-fits : (i : ℕ) → BodyFits (waitingAt w i)
   unfolding waitingAt
   edit-fits i = f .slot i
+
+pub none-fit : (limit : ℕ) → EditsFit (noneWaiting limit)
+unfolding noneWaiting emptyQueue
+none-fit limit =
+    slots-fit (replicate 32 noSlot)
+    (λ i l. subst (λ (s : Slot). BodyFits (s .body)) (sym (getD-replicate 32 i noSlot noSlot (rw (length-replicate 32 noSlot) at l))) empty-fits)
 
 pub edits-fit : (w : Waiting) → WaitingSized w → ((i : ℕ) → i < 32 → BodyFits (waitingAt w i)) → EditsFit w
 unfolding waitingAt

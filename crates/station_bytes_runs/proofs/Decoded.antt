@@ -1,14 +1,13 @@
 -- What bytes decode to is what the types of a station say; so are the records of a frame.
-use mathlib.Core.Path.{_≡_, refl, sym, ap, subst, _∙_}
+use mathlib.Core.Path.{_≡_, refl, sym, subst, _∙_}
 use mathlib.Core.Bool.{Bool, true, false}
 use mathlib.Core.List.{List, [], _∷_, _++_}
 use Prim.Native.Nat.{ℕ, zero, suc, _+_, _*_, _<_, _≤_}
 use native.Mathlib.Omega.{arith}
 use lib.Dec.{ltb}
-use lib.ListN.{getD, take, drop, length, length-take, List·getD-eq-default}
+use lib.ListN.{getD, drop, length-take, List·getD-eq-default}
 use lib.Seq.{getD-take, getD-drop}
 use borrow.Author.Tests.{ltb-true, ltb-false}
-use Rattle.kinds.specs.declared.Body.{Body}
 use Rattle.kinds.specs.Body.{bodyOf}
 use Rattle.places.specs.Places.{tabulate}
 use Rattle.places.proofs.Laws.{length-tabulate, tabulate-at}
@@ -19,12 +18,9 @@ use Rattle.frame_rules.specs.Frame.{part, recordsOf}
 use Rattle.lanes.specs.declared.Slot.{Slot}
 use Rattle.lanes.specs.Lane.{noLane}
 use Rattle.lanes.specs.Queue.{noSlot}
-use Rattle.lanes.specs.Waiting.{waitingCount, waitingAt}
 use Rattle.lanes.proofs.WaitingLaws.{WaitingSized}
-use Rattle.station_rules.specs.declared.Station.{Station}
-use Rattle.station_rules.specs.State.{Cell, cellOf}
+use Rattle.station_rules.specs.State.{cellOf}
 use Rattle.station_rules.proofs.Setters.{Shaped}
-use Rattle.station_rules.proofs.LimitsHear.{Carried}
 use Rattle.station_rules.proofs.LimitsHearing.{AllCarried}
 use Rattle.station_bytes_spec.specs.Bytes.{byteAt}
 use Rattle.station_bytes_spec.specs.Body.{decodeBody, decodeRecord}
@@ -32,7 +28,7 @@ use Rattle.station_bytes_spec.specs.Station.{cellWidth, decodeLane, decodeCell,
 use Rattle.station_bytes_spec.proofs.Bytes.{AllBytes, word-small}
 use Rattle.station_bytes_spec.proofs.Body.{BodyFits, RecordFits}
 use Rattle.station_bytes_spec.proofs.Station.{CellFits}
-use Rattle.station_bytes_runs.proofs.Bodies.{signed-fits, numbers-fit, SlotsFit, slots-fit, EditsFit}
+use Rattle.station_bytes_runs.proofs.Bodies.{signed-fits, numbers-fit, slots-fit, EditsFit}
 use Rattle.station_bytes_runs.proofs.Typed.{Fitting, AllFit, none, more}
 
 module _ (b : List ℕ) (bytes : AllBytes b) where
@@ -60,9 +56,9 @@ module _ (b : List ℕ) (bytes : AllBytes b) where
   edits-typed at =
       slots-fit (tabulate 32 (λ i. record { body = decodeBody b (at + 4 + 12 * i) }))
       (λ i l.
-        subst (λ (s : Slot). BodyFits (s .body))
-        (sym (tabulate-at 32 (λ j. record { body = decodeBody b (at + 4 + 12 * j) }) i noSlot (omega (arith, length-tabulate {A = Slot} 32 (λ j. record { body = decodeBody b (at + 4 + 12 * j) })))))
-        (body-typed (at + 4 + 12 * i)))
+      subst (λ (s : Slot). BodyFits (s .body))
+      (sym (tabulate-at 32 (λ j. record { body = decodeBody b (at + 4 + 12 * j) }) i noSlot (omega (arith, length-tabulate {A = Slot} 32 (λ j. record { body = decodeBody b (at + 4 + 12 * j) })))))
+      (body-typed (at + 4 + 12 * i)))
 
   waiting-sized : (at : ℕ) → WaitingSized (decodeWaiting b at)
   unfolding decodeWaiting
@@ -132,7 +128,7 @@ pub data AllWords : List Record → Type 0 where
   no-words : AllWords []
   more-words : {r : Record} {rs : List Record} → RecordFits r → AllWords rs → AllWords (r ∷ rs)
 
-words-append : (rs : List Record) (r : Record) → AllWords rs → RecordFits r → AllWords (rs ++ (r ∷ []))
+pub words-append : (rs : List Record) (r : Record) → AllWords rs → RecordFits r → AllWords (rs ++ (r ∷ []))
 words-append [] r no-words g = more-words g no-words
 words-append (x ∷ rs) r (more-words f all) g = more-words f (words-append rs r all g)
 

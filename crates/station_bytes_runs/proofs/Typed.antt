@@ -1,19 +1,18 @@
 -- Every step of a station keeps what its types say: the lengths of its arrays, that the numbers of its bodies have 32 bits, and that the labels of its records are a word. Each step is made of setters, and a setter puts
 -- in what fits already.
 use mathlib.Core.Path.{_≡_, refl, sym, ap, subst, _∙_}
-use mathlib.Core.Bool.{Bool, true, false, cond, not, _&&_}
+use mathlib.Core.Bool.{Bool, true, false, cond}
 use mathlib.Core.List.{List, [], _∷_, _++_}
 use Prim.Native.Nat.{ℕ, _+_, _-_, _<_, _≤_}
 use native.Mathlib.Decide.{ℕ-discrete}
 use native.Mathlib.Omega.{arith}
 use lib.Dec.{eqb, ltb}
-use lib.ListN.{getD, length}
+use lib.ListN.{getD}
 use borrow.Author.Tests.{ltb-true, ltb-false, leb-true}
 use Rattle.kinds.specs.declared.Body.{Body}
 use Rattle.kinds.specs.declared.Body.the-variants.{Empty, Neutral}
 use Rattle.kinds.specs.Body.{isEmpty}
 use Rattle.places.proofs.Keeps.{cond-keeps}
-use Rattle.label_words.specs.Packing.{labelsOver}
 use Rattle.label_words.proofs.Laws.{label-less, over-less}
 use Rattle.labels.specs.Label.{isLabel}
 use Rattle.frame_rules.specs.declared.Record.{Record}
@@ -21,22 +20,24 @@ use Rattle.frame_rules.specs.Record.{recordLabel}
 use Rattle.lanes.specs.declared.Lane.{Lane}
 use Rattle.lanes.specs.declared.Waiting.{Waiting}
 use Rattle.lanes.specs.Lane.{pushed, popped}
-use Rattle.lanes.specs.Waiting.{waitingCount, waitingAt, withPosted, nextEdit, withoutNext}
-use Rattle.lanes.proofs.WaitingLaws.{WaitingSized}
+use Rattle.lanes.specs.Waiting.{waitingCount, withPosted, nextEdit, withoutNext}
 use Rattle.station_rules.specs.declared.Station.{Station}
-use Rattle.station_rules.specs.State.{Cell, cellOf, labelOf, recordOf, laneAt, withLabel, withEntry, withLane, withWaiting, withBroadcast, withCell, withAcked, withLanes}
+use Rattle.station_rules.specs.declared.Setup.{Setup}
+use Rattle.station_rules.specs.State.{freshLabels, freshRecord, freshStation, Cell, cellOf, labelOf, recordOf, laneAt, withEntry, withLane, withWaiting, withBroadcast, withCell, withAcked, withLanes}
 use Rattle.station_rules.specs.Limits.{stationInside}
-use Rattle.kinds.specs.Refusals.{done, laneFull, refuse}
-use Rattle.station_rules.specs.Hearing.{Hearing, heeds, takes, overfills, replaced, heardNewer, hearRecord, hearRecords, hearFrame}
+use Rattle.kinds.specs.Refusals.{done}
+use Rattle.labels.specs.declared.Age.{Age}
+use Rattle.labels.specs.declared.Age.the-variants.{Newer, Same, Conflicting, Older}
+use Rattle.station_rules.specs.Hearing.{Hearing, takes, replaced, ageIn, heardAs, heardNewer, hearRecord, hearRecords, hearFrame}
 use Rattle.station_rules.specs.Turn.{airs, afterAiring, broadcastEnds, mayStart, startsEdit, startedBody, begins, takesOwn, passed, ownRecord, rewritten, afterTurn}
 use Rattle.station_rules.specs.Calls.{posted}
-use Rattle.station_rules.proofs.Setters.{Shaped, SameSelf, withAck, waiting-cell, broadcast-cell, cell-self, cell-here, cell-other, acked-self, acked-below, acked-above, acked-shaped, lanes-self, lanes-below, lanes-above, broadcast-shaped, cell-shaped}
-use Rattle.station_rules.proofs.Shape.{posted-shaped, heardNewer-shaped, aired-self, aired-shaped, begins-shaped, passed-shaped, rewritten-shaped}
+use Rattle.station_rules.proofs.Setters.{Shaped, fresh-at, fresh-word, fresh-self, fresh-own, fresh-other, withAck, waiting-cell, broadcast-cell, cell-self, cell-here, cell-other, acked-self, acked-below, acked-above, acked-shaped, lanes-self, lanes-below, lanes-above, broadcast-shaped}
+use Rattle.station_rules.proofs.Shape.{heardNewer-shaped, aired-self, aired-shaped, begins-shaped, passed-shaped, rewritten-shaped}
 use Rattle.station_rules.proofs.StationLimits.{inside-open}
 use Rattle.station_rules.proofs.LimitsTurn.{turn-inside}
 use Rattle.station_bytes_spec.proofs.Body.{BodyFits, RecordFits}
 use Rattle.station_bytes_spec.proofs.Station.{CellFits}
-use Rattle.station_bytes_runs.proofs.Bodies.{empty-fits, neutral-fits, LaneFits, pushed-fits, popped-fits, EditsFit, posted-fit, started-fit, next-fits}
+use Rattle.station_bytes_runs.proofs.Bodies.{empty-fits, neutral-fits, none-fit, LaneFits, pushed-fits, popped-fits, EditsFit, posted-fit, started-fit, next-fits}
 
 -- the numbers of a station's bodies and records fit
 pub record Fitting (s : Station) : Type 0 where
@@ -69,7 +70,7 @@ module _ (s : Station) (f : Fitting s) where
             elim (ℕ-discrete j k) [
               | yes e ↦
                   subst (λ (i : ℕ). CellFits (cellOf (withCell s k c) i)) (sym e)
-                      (subst CellFits (sym (cell-here s k c shape (omega arith))) g)
+                  (subst CellFits (sym (cell-here s k c shape (omega arith))) g)
               | no d ↦ subst CellFits (sym (cell-other s k c j d)) (f .cells j l)
             ];
         edits = subst EditsFit (sym (cell-self s k c .waiting)) (f .edits);
@@ -102,6 +103,40 @@ module _ (s : Station) (f : Fitting s) where
           subst CellFits (sym (lanes-below s lane shape high k (ltb-true k (s .n) e)))
           (cell-of (withLane (cellOf s k) (lane k)) (f .cells k l .entry-fits) (g k l))
       go k l false e = subst CellFits (sym (lanes-above s lane k (ltb-false k (s .n) e))) (f .cells k l)
+
+-- ---- fresh
+
+pub fresh-fitting : (setup : Setup) (own : ℕ) → own < 16 → Fitting (freshStation setup own)
+fresh-fitting setup own l =
+    record {
+      body = subst BodyFits (sym (fresh-self setup own .body)) empty-fits;
+      cells = go;
+      edits = subst EditsFit (sym (fresh-self setup own .waiting)) (none-fit (setup .limit));
+    }
+  where
+    own-fits : RecordFits (freshRecord own)
+    own-fits =
+        record {
+          labels-fit =
+              subst (λ (w : ℕ). w < 4_294_967_296) (sym (fresh-word own))
+              (over-less 16 16 (λ k. getD (freshLabels own) k 0) 0 (λ j m. omega (arith, fresh-at own j m)) (omega arith) (omega arith));
+          body-fits = empty-fits;
+        }
+
+    go : (k : ℕ) → k < 16 → CellFits (cellOf (freshStation setup own) k)
+    go k m =
+        elim (ℕ-discrete k own) [
+          | yes e ↦
+              subst (λ (i : ℕ). CellFits (cellOf (freshStation setup own) i)) (sym e)
+              (subst CellFits (sym (fresh-own setup own l)) (record { entry-fits = own-fits; first-fits = empty-fits; second-fits = empty-fits }))
+          | no d ↦
+              subst CellFits (sym (fresh-other setup own k m d))
+              (record {
+                entry-fits = record { labels-fit = omega arith; body-fits = empty-fits };
+                first-fits = empty-fits;
+                second-fits = empty-fits;
+              })
+        ]
 
 -- ---- post
 
@@ -212,9 +247,10 @@ module _ (s : Station) (shape : Shaped s) (f : Fitting s) (high : s .n ≤ 16) (
           (t : Bool) →
           ((cond t (withWaiting (takesOwn (begins a (startedBody s)) (startedBody s)) (cond (startsEdit s) (withoutNext (s .waiting)) (s .waiting))) a) .n ≡ s .n)
           × ((cond t (withWaiting (takesOwn (begins a (startedBody s)) (startedBody s)) (cond (startsEdit s) (withoutNext (s .waiting)) (s .waiting))) a) .own ≡ s .own)
-      go true =
-          (takesOwn-self (begins a (startedBody s)) (startedBody s) .0 ∙ begins-self a (startedBody s) .0 ∙ aired-self s .n,
-          takesOwn-self (begins a (startedBody s)) (startedBody s) .1 ∙ begins-self a (startedBody s) .1 ∙ aired-self s .own)
+      go true = (
+        takesOwn-self (begins a (startedBody s)) (startedBody s) .0 ∙ begins-self a (startedBody s) .0 ∙ aired-self s .n,
+        takesOwn-self (begins a (startedBody s)) (startedBody s) .1 ∙ begins-self a (startedBody s) .1 ∙ aired-self s .own,
+      )
       go false = (aired-self s .n, aired-self s .own)
 
 -- the own record rewritten: its labels are labels, for the station after its turn is inside its limits
@@ -225,7 +261,7 @@ label-kept t shape k l =
     elim (ℕ-discrete k (t .own)) [
       | yes e ↦
           subst (λ (i : ℕ). labelOf (withCell t (t .own) c) i ≡ labelOf t i) (sym e)
-              (ap (λ (x : Cell). x .label) (cell-here t (t .own) c shape (omega arith)))
+          (ap (λ (x : Cell). x .label) (cell-here t (t .own) c shape (omega arith)))
       | no d ↦ ap (λ (x : Cell). x .label) (cell-other t (t .own) c k d)
     ]
 
@@ -272,7 +308,7 @@ module _ (s : Station) (shape : Shaped s) (f : Fitting s) (inside : stationInsid
       record {
         labels-fit =
             over-less (t .n) 16 (labelOf t) ((recordOf t (t .own)) .labels) label-small (omega (arith, t-size, high))
-                (t-fitting .cells (t .own) t-own .entry-fits .labels-fit);
+            (t-fitting .cells (t .own) t-own .entry-fits .labels-fit);
         body-fits = t-fitting .body;
       }
 
@@ -309,23 +345,20 @@ heard-keeps s k r low g =
       size = omega (arith, k .size, heard-size s r);
     }
 
+age-keeps : (h : Hearing) → Keeps (h .station) → (r : Record) → r .station < 16 → RecordFits r → (a : Age) → Keeps ((heardAs h r a) .station)
+unfolding heardAs
+age-keeps h k r low g Newer = heard-keeps (h .station) k r low g
+age-keeps h k r low g Same = k
+age-keeps h k r low g Conflicting = k
+age-keeps h k r low g Older = k
+
 record-keeps : (h : Hearing) → Keeps (h .station) → (r : Record) → r .station < 16 → RecordFits r → Keeps ((hearRecord h r) .station)
 unfolding hearRecord
-record-keeps h k r low g = go (heeds (h .station) r)
+record-keeps h k r low g = go (eqb (r .station) (h .station .own))
   where
-    go :
-        (t : Bool) →
-        Keeps
-        ((cond {A = Hearing} t
-        (record {
-          station = heardNewer (h .station) r;
-          takings = h .takings ++ cond (takes (h .station) r) (record { source = r .station; body = r .body } ∷ []) [];
-          refusal = refuse (overfills (h .station) r) laneFull (h .refusal);
-        })
-        h)
-        .station)
-    go true = heard-keeps (h .station) k r low g
-    go false = k
+    go : (t : Bool) → Keeps ((cond {A = Hearing} t h (heardAs h r (ageIn (h .station) r))) .station)
+    go true = k
+    go false = age-keeps h k r low g (ageIn (h .station) r)
 
 records-keep : (rs : List Record) (h : Hearing) → AllFit rs → Keeps (h .station) → Keeps ((hearRecords h rs) .station)
 unfolding hearRecords

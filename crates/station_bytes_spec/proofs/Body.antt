@@ -1,7 +1,7 @@
 -- A body and a record, there and back. The three numbers of a body are words, and the body of its own numbers is that body; bytes are accepted where they are the numbers
 -- of the body that they give.
 use mathlib.Core.Path.{_≡_, refl, sym, ap, ap₂, _∙_}
-use mathlib.Core.Bool.{Bool, true, false, _&&_}
+use mathlib.Core.Bool.{true, _&&_}
 use mathlib.Core.List.{List, [], _∷_, _++_}
 use Prim.Native.Nat.{ℕ, _+_, _<_, _≤_}
 use native.Mathlib.Omega.{arith}
@@ -15,7 +15,7 @@ use Rattle.kinds.specs.declared.Body.the-variants.{Empty, Neutral, Insert, Drop
 use Rattle.kinds.specs.Body.{kindOf, eventOf, argumentOf, bodyOf}
 use Rattle.kinds.proofs.Laws.{body-back}
 use Rattle.places.proofs.Laws.{and-both, both}
-use Rattle.frame_rules.specs.Words.{wordAt, wordBytes, signed, unsigned}
+use Rattle.frame_rules.specs.Words.{wordAt, wordBytes, unsigned}
 use Rattle.frame_rules.specs.declared.Record.{Record}
 use Rattle.frame_rules.proofs.Spelled.{signed-back, unsigned-small}
 use Rattle.station_bytes_spec.specs.Bytes.{byteAt, span}

@@ -2,7 +2,7 @@
 -- encoding is put together. To encode what was decoded, each part gives the span that it was read from, and spans that meet are one span. What is written
 -- from a place on by two writes, the second where the first ended, is written by one.
 use mathlib.Core.Path.{_≡_, refl, sym, ap, ap₂, _∙_}
-use mathlib.Core.Bool.{Bool, true, false, cond}
+use mathlib.Core.Bool.{Bool, true, false}
 use mathlib.Core.List.{List, [], _∷_, _++_}
 use Prim.Native.Nat.{ℕ, zero, suc, _+_, _*_, _%_, _<_, _≤_}
 use native.Mathlib.Decide.{ℕ-discrete}
@@ -17,7 +17,7 @@ use Rattle.places.specs.Places.{fill, tabulate}
 use Rattle.places.proofs.Laws.{fill-ext, fill-all, length-tabulate, tabulate-at}
 use Rattle.frame_rules.specs.Words.{wordAt, wordBytes}
 use Rattle.frame_rules.proofs.Spelled.{word-back, bytes-back}
-use Rattle.station_bytes_spec.specs.Bytes.{byteAt, flagAt, flagByte, asByte, span, joinedBelow}
+use Rattle.station_bytes_spec.specs.Bytes.{byteAt, flagByte, asByte, span, joinedBelow}
 
 -- the bytes xs stand in b from a place on
 pub record Stands (b : List ℕ) (at : ℕ) (xs : List ℕ) : Type 0 where

@@ -1,8 +1,8 @@
 -- A group there and back: a station of sixteen at each of sixteen places.
-use mathlib.Core.Path.{_≡_, refl, sym, ap, _∙_}
+use mathlib.Core.Path.{_≡_, sym, ap, _∙_}
 use mathlib.Core.Bool.{true}
 use mathlib.Core.List.{List}
-use Prim.Native.Nat.{ℕ, _+_, _*_, _<_, _≤_}
+use Prim.Native.Nat.{ℕ, _+_, _*_, _<_}
 use native.Mathlib.Nat.{zero-add}
 use native.Mathlib.Omega.{arith}
 use lib.Dec.{eqb}
@@ -14,7 +14,7 @@ use Rattle.places.proofs.Laws.{and-both, both, allBelow-at, allBelow-make, tabu
 use Rattle.station_rules.specs.declared.Station.{Station}
 use Rattle.station_rules.specs.State.{noStation}
 use Rattle.group_rules.specs.State.{stationAt}
-use Rattle.station_bytes_spec.specs.Bytes.{span, joinedBelow}
+use Rattle.station_bytes_spec.specs.Bytes.{span}
 use Rattle.station_bytes_spec.specs.Station.{stationWidth, encodeStation, decodeStation, isStationAt}
 use Rattle.station_bytes_spec.specs.Group.{groupWidth, encodeGroup, decodeGroup, isGroup}
 use Rattle.station_bytes_spec.proofs.Bytes.{Stands, AllBytes, stands-whole, joined-long, joined-ext, stands-joined, spans-joined, tabulate-is}

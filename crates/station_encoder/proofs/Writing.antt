@@ -1,14 +1,13 @@
 -- Writing from a place on: a write where the one before ended makes one longer write, so that every writer leaves the encoding of what it was given.
 use mathlib.Core.Path.{_≡_, refl, sym, ap, _∙_}
-use mathlib.Core.Bool.{Bool, cond}
 use mathlib.Core.List.{List, [], _∷_, _++_}
-use Prim.Native.Nat.{ℕ, _+_, _*_, _<_, _≤_}
+use Prim.Native.Nat.{ℕ, _+_, _*_}
 use native.Mathlib.Numerals.{add-one}
 use native.Mathlib.Nat.{zero-add}
 use native.Mathlib.Omega.{arith}
 use lib.IntN.{ℤ}
 use lib.ListN.{getD, set, length, length-append}
-use lib.Seq.{sets, length-sets}
+use lib.Seq.{sets}
 use mir.Syntax.{w32}
 use mir.Val.{SFits, toZ, ofZ}
 use mir.ValLaws.{toZ-ofZ}
@@ -18,8 +17,6 @@ use Rattle.places.specs.Places.{tabulate}
 use Rattle.places.proofs.Laws.{length-tabulate}
 use Rattle.frame_rules.specs.Words.{wordBytes, unsigned}
 use Rattle.frame_rules.specs.declared.Record.{Record}
-use Rattle.lanes.specs.declared.Slot.{Slot}
-use Rattle.lanes.specs.declared.Lane.{Lane}
 use Rattle.lanes.specs.declared.Waiting.{Waiting}
 use Rattle.lanes.specs.Queue.{noSlot}
 use Rattle.lanes.specs.Waiting.{waitingCount, waitingAt}
@@ -135,12 +132,12 @@ module _ (l : List ℕ) (at : ℕ) where
       (length-body (s .body)) (joined-long 16 cellWidth (λ k. encodeCell (cellOf s k)) (λ k m. length-cell (cellOf s k))) refl refl s₁ s₂ s₃ s₄
       ∙ (λ i. sets l at ((en i ∷ eo i ∷ s .count ∷ 0 ∷ []) ++ encodeBody (s .body) ++ cells ++ encodeWaiting (s .waiting)))
 
-  -- the waiting edits: their number, and then the bodies
+  -- the waiting edits: their number and their limit, and then the bodies
   pub waiting-written :
-      (w : Waiting) (c : ℕ) (l₁ l₂ : List ℕ) (i : ℕ) → c ≡ asByte (w .queue .len) → i ≡ 32 → l₁ ≡ sets l at (wordBytes c) →
+      (w : Waiting) (c m : ℕ) (l₁ l₂ : List ℕ) (i : ℕ) → c ≡ asByte (w .queue .len) → m ≡ asByte (w .limit) → i ≡ 32 → l₁ ≡ sets l at (c ∷ m ∷ 0 ∷ 0 ∷ []) →
       l₂ ≡ sets l₁ (at + 4) (joinedBelow i (λ j. encodeBody ((getD (w .queue .slots) j noSlot) .body))) → l₂ ≡ sets l at (encodeWaiting w)
   unfolding encodeWaiting waitingCount waitingAt
-  waiting-written w c l₁ l₂ i count e first second =
+  waiting-written w c m l₁ l₂ i count limit e first second =
       let edits : ℕ → List ℕ = λ j. encodeBody ((getD (w .queue .slots) j noSlot) .body) in
-      written-more l l₁ l₂ at (wordBytes c) (joinedBelow 32 edits) 4 first (length-word c) (all-written l₁ l₂ (at + 4) 32 i edits e second)
-      ∙ ap (λ (x : ℕ). sets l at (wordBytes x ++ joinedBelow 32 edits)) count
+      written-more l l₁ l₂ at (c ∷ m ∷ 0 ∷ 0 ∷ []) (joinedBelow 32 edits) 4 first refl (all-written l₁ l₂ (at + 4) 32 i edits e second)
+      ∙ (λ k. sets l at ((count k ∷ limit k ∷ 0 ∷ 0 ∷ []) ++ joinedBelow 32 edits))

@@ -1,16 +1,24 @@
 // The calls of a station that write or hear a frame.
 
 ghost use mathlib.Core.Path.{_≡_};
-ghost use lib.ListN.{length};
+ghost use mathlib.Core.Bool.{true};
+ghost use mathlib.Core.List.{_++_};
+ghost use Prim.Native.Nat.{_≤_};
+ghost use lib.ListN.{length, drop};
+ghost use Rattle.station_rules.specs.Limits.{stationInside};
 ghost use Rattle.station_rules.specs.Calls.{writeCall, bufferAfter, hearCall};
-use frame_marks::MARKS_ROOM;
+ghost use Rattle.hearing_spec.specs.Buffer.{frameRoom};
+ghost use Rattle.station_frames.specs.Beside as spec;
 use frame_rules::Written;
+use hearing_spec::FRAME_ROOM;
 use kinds::refusals::COUNT_TOO_HIGH;
 use kinds::refusals::DONE;
-use kinds::refusals::LANE_FULL;
 use kinds::refusals::OUTSIDE_LIMITS;
 use station_rules::Heard;
 use station_rules::Station;
+
+// The room of two frames.
+const BOTH_ROOM: usize = 520;
 
 // Write frame: the table's records into the buffer, whose bytes past the frame are kept.
 pub fn write(s: Station, buffer: &mut [u8]) -> Written
@@ -36,6 +44,32 @@ pub fn write(s: Station, buffer: &mut [u8]) -> Written
     frame_writer::write_table(buffer, held, table, n, own)
 }
 
+// Puts a frame at the beginning of a buffer, whose bytes past it are kept.
+fn put_frame(buffer: &mut [u8], frame: &[u8])
+    requires { ⌜ length (now frame) ≤ length (now buffer) ⌝ }
+    ensures { λ _.
+        ⌜ now (buffer .exit) ≡ now (frame .entry) ++ drop (length (now (frame .entry))) (now (buffer .entry)) ⌝ }
+{
+    let mut i: usize = 0;
+    while i < frame.len() {
+        buffer[i] = frame[i];
+        i += 1;
+    }
+}
+
+// The station's own frame, and then a heard one.
+fn beside(frame: &[u8], s: Station) -> [u8; BOTH_ROOM]
+    requires { ⌜ (stationInside s ≡ true) × (length (now frame) ≤ frameRoom) ⌝ }
+    ensures { λ r. ⌜ r ≡ spec.beside s (now (frame .entry)) ⌝ }
+{
+    let mut both = [0u8; BOTH_ROOM];
+    let held = s.held;
+    let table = s.table;
+    frame_writer::write_table(&mut both[0..FRAME_ROOM], held, table, s.n, s.own);
+    put_frame(&mut both[FRAME_ROOM..BOTH_ROOM], frame);
+    both
+}
+
 // Hear: one frame's records in order.
 pub fn hear(s: Station, bytes: &[u8]) -> Heard
     ensures { λ r. ⌜ r ≡ hearCall s (now (bytes .entry)) ⌝ }
@@ -58,24 +92,23 @@ pub fn hear(s: Station, bytes: &[u8]) -> Heard
             taken: none,
         };
     }
-    let starts = [0usize; 16];
-    let mut marks = [0u8; MARKS_ROOM];
-    frame_marks::put_marks(&mut marks, bytes, 0);
-    let bars = station_bars::bars_of(s);
-    let heard = station_hearing::hear_all(s, bars, bytes, &marks, &starts, 1);
-    if heard.overfull {
+    let both = beside(bytes, s);
+    let mut places = [0u16; 16];
+    let mut taken = [0u16; 30];
+    let heard = listening::listen_to(&both, FRAME_ROOM, &mut places, &mut taken, s);
+    if heard.refusal != DONE {
         return Heard {
-            refusal: LANE_FULL,
+            refusal: heard.refusal,
             station: s,
             taken: none,
         };
     }
-    let station = heard.station;
-    let takings = heard.takings;
-    let taken = heard_sources::sources(takings, heard.takings_len);
+    let takings = acting::takings_of(&both, &taken, heard.len);
+    let sources = heard_sources::sources(takings, heard.len);
+    let station = acting::acted(heard, &both, &places, &taken, s);
     Heard {
         refusal: DONE,
         station: station,
-        taken: taken,
+        taken: sources,
     }
 }

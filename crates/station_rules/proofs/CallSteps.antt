@@ -1,27 +1,20 @@
 -- The answers of the open calls, each with the tests on its way decided.
 use Prim.Native.Nat.{ℕ, _-_, _≤_, _<_}
-use mathlib.Core.Path.{_≡_, refl, sym, _∙_}
+use mathlib.Core.Path.{_≡_, _∙_}
 use mathlib.Core.Bool.{Bool, true, false, _&&_}
-use native.Mathlib.Omega.{arith}
-use mathlib.Core.List.{List, _++_}
-use lib.ListN.{getD, take, length, replicate}
-use lib.Seq.{take-at}
+use mathlib.Core.List.{List}
+use lib.ListN.{replicate}
 use lib.Dec.{leb, ltb, eqb}
-use borrow.Author.Tests.{leb-true, ltb-true, le-leb, lt-leb, ne-eqb}
+use borrow.Author.Tests.{leb-true, ltb-true, ne-eqb}
 use Rattle.kinds.specs.declared.Body.{Body}
 use Rattle.kind_limits.specs.Limits.{postable}
-use Rattle.frame_rules.specs.Record.{bytesInside}
 use Rattle.kinds.specs.Refusals.{done}
-use Rattle.frame_rules.specs.Frame.{validNumber, part, recordsInside, frameRefusal, recordsOf}
-use Rattle.frame_rules.proofs.Check.{accepted-frame, shape}
-use Rattle.places.proofs.Laws.{and-left, and-right, allBelow-at, allBelow-make}
+use Rattle.frame_rules.specs.Frame.{validNumber, frameRefusal, recordsOf}
+use Rattle.places.proofs.Laws.{and-left, and-right}
 use Rattle.lanes.specs.Waiting.{isDesk, limitInside, hasRoom}
 use Rattle.station_rules.specs.declared.Setup.{Setup}
 use Rattle.station_rules.specs.declared.Station.{Station}
-use Rattle.station_rules.specs.declared.Taking.{Taking}
 use Rattle.station_rules.specs.Hearing.{Hearing, silent, hearFrame}
-use Rattle.station_rules.specs.Inner.Frames.{FrameAt}
-use Rattle.station_rules.specs.Hearing.{noTaking}
 use Rattle.station_rules.specs.State.{aloneSetup, freshStation}
 use Rattle.station_rules.specs.Limits.{stationInside}
 use Rattle.station_rules.specs.Calls.{freshCall, posted, postCall, sourcesOf, hearCall}
@@ -101,19 +94,3 @@ module _ (s : Station) (bytes : List ℕ) where
         record { refusal = 0; station = x; taken = t } ≡ hearCall s bytes
     unfolding hearCall
     hear-done x t f a b = rw (i, e, f, a, b)
-
-pub frame-at : (bytes : List ℕ) (n own : ℕ) → frameRefusal bytes n own ≡ 0 → FrameAt n bytes 0
-unfolding recordsInside
-frame-at bytes n own e =
-    let a = accepted-frame bytes n own e in
-    let h = shape bytes (a .shape-right) in
-    record {
-      room = omega (arith, h .long);
-      inside =
-          allBelow-make (getD bytes 2 0) (λ k. bytesInside n (part bytes k))
-          (λ k l. and-left _ _ (allBelow-at (getD bytes 2 0) _ (and-left _ _ (a .records-right)) k l));
-    }
-
-pub takings-are :
-    (t u : List Taking) (len : ℕ) → len ≡ length u → t ≡ u ++ replicate (30 - length u) noTaking → take len t ≡ u
-takings-are t u len l e = rw e (take-at u _ len (sym l))

@@ -4,6 +4,7 @@ use mathlib.Core.Bool.{true, false, cond, _||_}
 use mathlib.Core.List.{List, [], _∷_, _++_}
 use mathlib.Core.Path.{_≡_, refl, _∙_}
 use lib.Dec.{eqb}
+use lib.ListN.{set}
 use borrow.Author.Tests.{eq-eqb, ne-eqb}
 use Rattle.labels.specs.Label.{successor}
 use Rattle.labels.specs.Newer.{isNewer}
@@ -14,7 +15,7 @@ use Rattle.frame_rules.specs.Record.{recordLabel, framed}
 use Rattle.frame_rules.proofs.Labels.{label-fits, label-below, label-above, labels-kept, framed-label}
 use Rattle.station_rules.specs.declared.Station.{Station}
 use Rattle.lanes.specs.Lane.{pushed}
-use Rattle.station_rules.specs.State.{cellOf, labelOf, ackedOf, heldOf, recordOf, laneAt, ownLabel, withBroadcast}
+use Rattle.station_rules.specs.State.{cellOf, labelOf, ackedOf, heldOf, recordOf, laneAt, ownLabel, withBroadcast, withCell}
 use Rattle.station_rules.specs.Hearing.{Hearing, advances, takes, raised, replaced, heardNewer, hearRecord, hearRecords}
 use Rattle.station_rules.proofs.HearRecord.{heeds, conflicts}
 use Rattle.station_rules.proofs.Setters.{Shaped, broadcast-cell, broadcast-shaped, cell-self, cell-here, cell-other}
@@ -102,6 +103,25 @@ module _ (s : Station) (r : Record) where
       }
   unfolding heardNewer
   heard-here shape l = cell-here counted (r .station) _ (broadcast-shaped s (s .body) _ shape) l
+
+  -- the arrays of which a cell has one entry
+  pub heard-acked :
+      (heardNewer s r) .acked
+      ≡ set (s .acked) (r .station) (ackedOf s (r .station) || eqb (recordLabel r (s .own)) (labelOf s (s .own)))
+  unfolding heardNewer withCell
+  heard-acked = refl
+
+  pub heard-labels :
+      (heardNewer s r) .labels
+      ≡ set (s .labels) (r .station) (cond (advances s r) (successor (labelOf s (r .station))) (labelOf s (r .station)))
+  unfolding heardNewer withCell
+  heard-labels = refl
+
+  pub heard-lanes :
+      (heardNewer s r) .lanes
+      ≡ set (s .lanes) (r .station) (cond (takes s r) (pushed (laneAt s (r .station)) (r .body)) (laneAt s (r .station)))
+  unfolding heardNewer withCell
+  heard-lanes = refl
 
   -- what is no cell
   pub heard-n : (heardNewer s r) .n ≡ s .n

@@ -22,7 +22,7 @@ use Rattle.station_rules.proofs.Cells.{heard-n, heard-own, heard-other}
 pub record-most : (h : Hearing) (r : Record) → h .refusal ≤ conflict → (hearRecord h r) .refusal ≤ conflict
 unfolding heardOne
 record-most h r p =
-    hearRecord-cases (λ x. x .refusal ≤ conflict) h r (λ e. newer (overfills (h .station) r)) (λ e. omega arith) (λ e. p)
+    hearRecord-cases (λ x. x .refusal ≤ conflict) h r (λ e. newer (overfills (h .station) r)) (λ e. omega arith) (λ e f. p)
   where
     newer : (full : Bool) → max (h .refusal) (refuse full laneFull done) ≤ conflict
     newer true = omega arith
@@ -37,7 +37,7 @@ record-stops h r p =
     hearRecord-cases (λ x. eqb (x .refusal) conflict ≡ (eqb (h .refusal) conflict || conflicts (h .station) r)) h r
     (λ e. rw (heeded-calm (h .station) r e) (newer (overfills (h .station) r) ∙ sym (or-false (eqb (h .refusal) conflict))))
     (λ e. rw e (sym (or-true (eqb (h .refusal) conflict))))
-    (λ e. rw e (sym (or-false (eqb (h .refusal) conflict))))
+    (λ e f. rw f (sym (or-false (eqb (h .refusal) conflict))))
   where
     newer : (full : Bool) → eqb (max (h .refusal) (refuse full laneFull done)) conflict ≡ eqb (h .refusal) conflict
     newer full =
@@ -53,6 +53,11 @@ record-stops h r p =
         below : (f : Bool) → (h .refusal ≡ conflict → ⊥) → max (h .refusal) (refuse f laneFull done) ≡ conflict → ⊥
         below true d e = d (omega arith)
         below false d e = d (omega arith)
+
+-- once the refusal is 14 it stays, whatever records follow
+pub conflict-stays : (h : Hearing) (r : Record) → h .refusal ≡ conflict → (hearRecord h r) .refusal ≡ conflict
+conflict-stays h r e =
+    eqb-true ((hearRecord h r) .refusal) conflict (record-stops h r (omega (arith, e)) ∙ rw (eq-eqb (h .refusal) conflict e))
 
 -- some record of the list conflicts with what the station holds
 unfoldable pub anyConflict : Station → List Record → Bool
@@ -80,21 +85,23 @@ conflicts-cell : (s : Station) (r : Record) → conflicts s r ≡ cell-conflicts
 unfolding cell-conflicts
 conflicts-cell s r = refl
 
+-- so a newer record of one station changes nothing for a record of another
+pub newer-leaves :
+    (s : Station) (r q : Record) → (q .station ≡ r .station → ⊥) → conflicts (heardNewer s r) q ≡ conflicts s q
+newer-leaves s r q d =
+    let t = heardNewer s r in
+    conflicts-cell t q
+    ∙ ap (λ (n : ℕ). cell-conflicts n (t .own) (cellOf t (q .station)) q) (heard-n s r)
+    ∙ ap (λ (own : ℕ). cell-conflicts (s .n) own (cellOf t (q .station)) q) (heard-own s r)
+    ∙ ap (λ (c : Cell). cell-conflicts (s .n) (s .own) c q) (heard-other s r (q .station) d)
+    ∙ sym (conflicts-cell s q)
+
 conflicts-other :
     (h : Hearing) (r q : Record) → (q .station ≡ r .station → ⊥) → conflicts ((hearRecord h r) .station) q ≡ conflicts (h .station) q
 unfolding heardOne
 conflicts-other h r q d =
-    hearRecord-cases (λ x. conflicts (x .station) q ≡ conflicts (h .station) q) h r (λ e. newer) (λ e. refl) (λ e. refl)
-  where
-    newer : conflicts (heardNewer (h .station) r) q ≡ conflicts (h .station) q
-    newer =
-        let s = h .station in
-        let t = heardNewer s r in
-        conflicts-cell t q
-        ∙ ap (λ (n : ℕ). cell-conflicts n (t .own) (cellOf t (q .station)) q) (heard-n s r)
-        ∙ ap (λ (own : ℕ). cell-conflicts (s .n) own (cellOf t (q .station)) q) (heard-own s r)
-        ∙ ap (λ (c : Cell). cell-conflicts (s .n) (s .own) c q) (heard-other s r (q .station) d)
-        ∙ sym (conflicts-cell s q)
+    hearRecord-cases (λ x. conflicts (x .station) q ≡ conflicts (h .station) q) h r (λ e. newer-leaves (h .station) r q d) (λ e. refl)
+    (λ e f. refl)
 
 any-other :
     (h : Hearing) (r : Record) (rs : List Record) → Without (r .station) rs →
@@ -112,6 +119,11 @@ records-stop h (r ∷ rs) w p =
     records-stop (hearRecord h r) rs (w .1) (record-most h r p)
     ∙ ap₂ _||_ (record-stops h r p) (any-other h r rs (w .0))
     ∙ or-assoc (eqb (h .refusal) conflict) (conflicts (h .station) r) (anyConflict (h .station) rs)
+
+-- the first refused frame decides: after it none is heard
+pub refused-stays : (h : Hearing) (rs : List Record) → (h .refusal ≡ done → ⊥) → hearFrame h rs ≡ h
+unfolding hearFrame
+refused-stays h rs d = rw (ne-eqb (h .refusal) done d)
 
 -- a frame heard while nothing was refused gives 14 exactly if one of its records conflicts with what is held as it comes
 pub frame-conflicts :

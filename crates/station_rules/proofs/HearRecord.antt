@@ -5,7 +5,7 @@ use mathlib.Core.List.{List, [], _∷_, _++_}
 use mathlib.Core.Path.{_≡_, refl, sym, ap, _∙_}
 use native.Mathlib.Omega.{arith}
 use lib.Dec.{eqb}
-use borrow.Author.Tests.{ne-eqb}
+use borrow.Author.Tests.{eq-eqb, ne-eqb}
 use Rattle.kinds.specs.Refusals.{done, laneFull, conflict, refuse}
 use Rattle.labels.specs.declared.Age.{Age}
 use Rattle.labels.specs.declared.Age.the-variants.{Newer, Same, Conflicting, Older}
@@ -93,13 +93,13 @@ not-refused false refusal e = (refl, omega (arith, e))
 pub hearRecord-cases :
     (P : Hearing → Type 0) (h : Hearing) (r : Record) →
     (heeds (h .station) r ≡ true → P (heardOne h r)) → (conflicts (h .station) r ≡ true → P (stopped h)) →
-    (conflicts (h .station) r ≡ false → P h) → P (hearRecord h r)
+    (heeds (h .station) r ≡ false → conflicts (h .station) r ≡ false → P h) → P (hearRecord h r)
 hearRecord-cases P h r newer conflicting other = go (heeds (h .station) r) (conflicts (h .station) r) refl refl
   where
     go : (t u : Bool) → heeds (h .station) r ≡ t → conflicts (h .station) r ≡ u → P (hearRecord h r)
     go true u e f = rw (hearRecord-heeds h r e) (newer e)
     go false true e f = rw (hearRecord-conflicts h r e f) (conflicting f)
-    go false false e f = rw (hearRecord-skips h r e f) (other f)
+    go false false e f = rw (hearRecord-skips h r e f) (other e f)
 
 record-not-refused : (h : Hearing) (r : Record) → (hearRecord h r) .refusal ≡ done → h .refusal ≡ done
 unfolding heardOne
@@ -107,7 +107,7 @@ record-not-refused h r =
     hearRecord-cases (λ x. x .refusal ≡ done → h .refusal ≡ done) h r
     (λ e q. not-refused (overfills (h .station) r) (h .refusal) q .1)
     (λ e q. absurd (omega (arith, q)))
-    (λ e q. q)
+    (λ e f q. q)
 
 -- a hearing that is not refused after some records was not refused before them
 pub records-not-refused : (h : Hearing) (rs : List Record) → (hearRecords h rs) .refusal ≡ done → h .refusal ≡ done
@@ -146,3 +146,30 @@ heeded-calm s r e =
     let k = r .station in
     let newer = isNewer (heldOf s k) (recordLabel (recordOf s k) k) ((recordOf s k) .count) (ownLabel r) (r .count) in
     rw (and-right (not (eqb k (s .own))) newer e) (and-false (not (eqb k (s .own))))
+
+-- what a record of another station does, by its age
+module _ (h : Hearing) (r : Record) (other : r .station ≡ h .station .own → ⊥) where
+  as-aged : hearRecord h r ≡ heardAs h r (ageIn (h .station) r)
+  unfolding hearRecord
+  as-aged = rw (ne-eqb (r .station) (h .station .own) other)
+
+  pub hear-newer : ageIn (h .station) r ≡ Newer → hearRecord h r ≡ heardOne h r
+  unfolding heardAs heardOne
+  hear-newer e = as-aged ∙ ap (heardAs h r) e
+
+  pub hear-same : ageIn (h .station) r ≡ Same → hearRecord h r ≡ h
+  unfolding heardAs
+  hear-same e = as-aged ∙ ap (heardAs h r) e
+
+  pub hear-older : ageIn (h .station) r ≡ Older → hearRecord h r ≡ h
+  unfolding heardAs
+  hear-older e = as-aged ∙ ap (heardAs h r) e
+
+  pub hear-conflicting : ageIn (h .station) r ≡ Conflicting → hearRecord h r ≡ stopped h
+  unfolding heardAs
+  hear-conflicting e = as-aged ∙ ap (heardAs h r) e
+
+-- a record of the hearer itself
+pub hear-own : (h : Hearing) (r : Record) → r .station ≡ h .station .own → hearRecord h r ≡ h
+unfolding hearRecord
+hear-own h r e = rw (eq-eqb (r .station) (h .station .own) e)

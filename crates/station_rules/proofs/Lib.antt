@@ -17,6 +17,7 @@ pub mod Bodies
 pub mod HearRecord
 pub mod FrameConflicts
 pub mod Cells
+pub mod Agree
 pub mod TurnCells
 pub mod TurnLaws
 pub mod TurnParts

@@ -177,7 +177,7 @@ module _ (a : Hearing) (c : Inside (a .station)) where
         }
 
     pub hears-record : Hears a (hearRecord h r)
-    hears-record = hearRecord-cases (Hears a) h r hears-newer (λ e. hears-stopped) (λ e. hs)
+    hears-record = hearRecord-cases (Hears a) h r hears-newer (λ e. hears-stopped) (λ e f. hs)
 
   pub hears-records : (h : Hearing) (rs : List Record) → Hears a h → AllCarried (a .station .n) rs → Hears a (hearRecords h rs)
   unfolding hearRecords
@@ -191,7 +191,7 @@ module _ (a : Hearing) (c : Inside (a .station)) where
 -- the shape is kept whether or not the station is inside its limits
 pub hearRecord-shaped : (h : Hearing) (r : Record) → Shaped (h .station) → Shaped ((hearRecord h r) .station)
 unfolding heardOne
-hearRecord-shaped h r c = hearRecord-cases (λ x. Shaped (x .station)) h r (λ e. heardNewer-shaped (h .station) r c) (λ e. c) (λ e. c)
+hearRecord-shaped h r c = hearRecord-cases (λ x. Shaped (x .station)) h r (λ e. heardNewer-shaped (h .station) r c) (λ e. c) (λ e f. c)
 
 pub hearRecords-shaped : (h : Hearing) (rs : List Record) → Shaped (h .station) → Shaped ((hearRecords h rs) .station)
 unfolding hearRecords

@@ -1,6 +1,6 @@
 -- Runs of a station that are computed, so that a definition which does nothing, or too much, is refused by what it gives. A station alone is M12, and with a full
--- queue M11; with two desks they take turns. Station 0 of two hears the frame of station 1, and records of it: a new one, one that is not newer, one that acknowledges, and one that comes
--- while its own lane is full.
+-- queue M11; with two desks they take turns. Station 0 of two hears the frame of station 1, and records of it: a new one, one that is not newer, one that conflicts,
+-- one that acknowledges, and one that comes while its own lane is full.
 use mathlib.Core.Bool.{true, false}
 use mathlib.Core.List.{[], _∷_}
 use mathlib.Core.Path.{_≡_, refl}
@@ -8,8 +8,8 @@ use Prim.Native.Nat.{ℕ, zero, suc}
 use lib.IntN.{pos}
 use lib.ListN.{set, replicate}
 use Rattle.kinds.specs.declared.Body.{Body}
-use Rattle.kinds.specs.declared.Body.the-variants.{Empty, Neutral, Insert, Drop}
-use Rattle.kinds.specs.Refusals.{done, conflict, queueFull, notAnEdit, badDesk}
+use Rattle.kinds.specs.declared.Body.the-variants.{Empty, Neutral, Insert, Drop, Shift}
+use Rattle.kinds.specs.Refusals.{done, conflict, laneFull, queueFull, notAnEdit, badDesk}
 use Rattle.label_words.specs.Packing.{packed}
 use Rattle.frame_rules.specs.declared.Record.{Record}
 use Rattle.lanes.specs.Lane.{bodies}
@@ -17,8 +17,8 @@ use Rattle.lanes.specs.Queue.{queueCapacity, noSlot}
 use Rattle.lanes.specs.Waiting.{waitingEdits}
 use Rattle.station_rules.specs.declared.Station.{Station}
 use Rattle.station_rules.specs.declared.TurnReport.{TurnReport}
-use Rattle.station_rules.specs.State.{sized, aloneSetup, freshStation, labelOf, ackedOf, heldOf, laneAt}
-use Rattle.station_rules.specs.Hearing.{Hearing, silent, hearRecord}
+use Rattle.station_rules.specs.State.{sized, aloneSetup, freshStation, cellOf, labelOf, ackedOf, heldOf, laneAt, withEntry, withCell}
+use Rattle.station_rules.specs.Hearing.{Hearing, silent, hearRecord, hearRecords, hearFrame}
 use Rattle.station_rules.specs.Turn.{afterTurn, turnReport}
 use Rattle.station_rules.specs.Calls.{postCall, frameOf, hearCall}
 use Rattle.station_rules.proofs.Computing.{stationRuns, frameRuns}
@@ -163,6 +163,59 @@ pub record Pair : Type 0 where
   -- M3: 0 comes after 2
   pub wraps : fifth .takings ≡ record { source = 1; body = other } ∷ []
 
+-- station 0 of three, once it has heard of station 1 a shift with label 1 and count 2
+abbrev one-held : Record
+one-held = record { station = 1; count = 2; body = Shift 9 (pos 5); labels = packed (2 ∷ 1 ∷ 0 ∷ []) }
+
+abbrev holds-one : Hearing
+holds-one = hearRecord (silent (freshStation (sized 3) 0)) one-held
+
+-- the record with another body, other labels, or another station
+abbrev with-body : Body → Record
+with-body b = record { station = 1; count = 2; body = b; labels = one-held .labels }
+
+abbrev with-labels : ℕ → ℕ → ℕ → Record
+with-labels a b c = record { station = 1; count = 2; body = one-held .body; labels = packed (a ∷ b ∷ c ∷ []) }
+
+-- what a conflict leaves
+abbrev refused : Hearing → Hearing
+refused h = record { station = h .station; takings = h .takings; refusal = conflict }
+
+-- the same station where labels from N up stand in what it holds of station 1
+abbrev above : Station
+above = let s = holds-one .station in withCell s 1 (withEntry (cellOf s 1) (record { station = 1; count = 2; body = one-held .body; labels = packed (2 ∷ 1 ∷ 0 ∷ 2 ∷ 1 ∷ []) }))
+
+-- three bodies of station 2 one after the other: the third finds its lane full
+abbrev of-two : ℕ → Body → ℕ → Record
+of-two count b own-label = record { station = 2; count = count; body = b; labels = packed (0 ∷ 0 ∷ own-label ∷ []) }
+
+abbrev lane-full : Hearing
+lane-full = hearRecord (hearRecord holds-one (of-two 0 edit 1)) (of-two 0 edit 2)
+
+pub record Conflicts : Type 0 where
+  -- each other field changed alone
+  pub kind : hearRecord holds-one (with-body (Insert 9 (pos 5))) ≡ refused holds-one
+  pub event : hearRecord holds-one (with-body (Shift 10 (pos 5))) ≡ refused holds-one
+  pub argument : hearRecord holds-one (with-body (Shift 9 (pos 6))) ≡ refused holds-one
+  pub label-of-zero : hearRecord holds-one (with-labels 1 1 0) ≡ refused holds-one
+  pub label-of-two : hearRecord holds-one (with-labels 2 1 1) ≡ refused holds-one
+  -- the same, an older and a newer one with another body
+  pub same : hearRecord holds-one one-held ≡ holds-one
+  pub older : hearRecord holds-one (record { station = 1; count = 1; body = edit; labels = one-held .labels }) ≡ holds-one
+  pub newer : (hearRecord holds-one (record { station = 1; count = 3; body = edit; labels = one-held .labels })) .refusal ≡ done
+  -- labels from N up of the held record play no part, and the own record never conflicts
+  pub from-n-up : hearRecord (silent above) one-held ≡ silent above
+  pub own : hearRecord holds-one (record { station = 0; count = 0; body = edit; labels = packed (1 ∷ 0 ∷ 0 ∷ []) }) ≡ holds-one
+  -- a full lane and a conflict in one frame, in either order; in two frames the first decides
+  pub full : (hearRecord lane-full (of-two 0 edit 0)) .refusal ≡ laneFull
+  pub full-first : (hearRecords lane-full (of-two 0 edit 0 ∷ with-body edit ∷ [])) .refusal ≡ conflict
+  pub conflict-first : (hearRecords lane-full (with-body edit ∷ of-two 0 edit 0 ∷ [])) .refusal ≡ conflict
+  pub full-frame : (hearFrame (hearFrame lane-full (of-two 0 edit 0 ∷ [])) (with-body edit ∷ [])) .refusal ≡ laneFull
+  pub conflict-frame : (hearFrame (hearFrame lane-full (with-body edit ∷ [])) (of-two 0 edit 0 ∷ [])) .refusal ≡ conflict
+  -- a conflict with a record that came in the frame before
+  pub frame-before :
+      (hearFrame (hearFrame (silent (freshStation (sized 3) 0)) (one-held ∷ [])) (with-body edit ∷ [])) .refusal ≡ conflict
+
 -- by computation
 pub alone-runs : Alone
 unfolding stationRuns
@@ -208,4 +261,26 @@ pair-runs =
       row = refl;
       one-left = refl;
       wraps = refl;
+    }
+
+pub conflicts-run : Conflicts
+unfolding stationRuns
+conflicts-run =
+    record {
+      kind = refl;
+      event = refl;
+      argument = refl;
+      label-of-zero = refl;
+      label-of-two = refl;
+      same = refl;
+      older = refl;
+      newer = refl;
+      from-n-up = refl;
+      own = refl;
+      full = refl;
+      full-first = refl;
+      conflict-first = refl;
+      full-frame = refl;
+      conflict-frame = refl;
+      frame-before = refl;
     }

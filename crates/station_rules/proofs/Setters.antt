@@ -2,10 +2,12 @@
 -- name. A station has sixteen places by its type, and setters keep them. Only these laws open the arrays of a station; all others cite them.
 use Prim.Native.Nat.{ℕ, _≤_, _<_}
 use mathlib.Core.Bool.{Bool, true, false}
+use mathlib.Core.List.{List}
 use mathlib.Core.Path.{_≡_, refl, sym, _∙_}
+use native.Mathlib.Decide.{decLt}
 use native.Mathlib.Omega.{arith}
 use lib.ListN.{getD, set, length, replicate, length-set, getD-replicate}
-use lib.Seq.{getD-set-same, getD-set-other, set-getD}
+use lib.Seq.{getD-set-same, getD-set-other, set-getD, ext-getD}
 use Rattle.kinds.specs.declared.Body.{Body}
 use Rattle.kinds.specs.declared.Body.the-variants.{Empty}
 use Rattle.labels.specs.Label.{allLabels}
@@ -16,6 +18,7 @@ use Rattle.frame_rules.specs.declared.Record.{Record}
 use Rattle.frame_rules.specs.Record.{recordLabel, noRecord}
 use Rattle.frame_rules.specs.Calls.{tableRecords}
 use Rattle.frame_rules.proofs.Labels.{label-packed}
+use Rattle.places.specs.Places.{fill}
 use Rattle.places.proofs.Laws.{length-fill, fill-below, fill-above}
 use Rattle.places.proofs.Keeps.{set-keeps}
 use Rattle.lanes.specs.declared.Lane.{Lane}
@@ -25,7 +28,7 @@ use Rattle.lanes.specs.Waiting.{noneWaiting}
 use Rattle.lanes.proofs.WaitingLaws.{WaitingSized, none-sized}
 use Rattle.station_rules.specs.declared.Setup.{Setup}
 use Rattle.station_rules.specs.declared.Station.{Station}
-use Rattle.station_rules.specs.State.{Cell, cellOf, withLabel, withEntry, withLane, withWaiting, withBroadcast, withArrays, withCell, withAcked, withLanes, sentRecords, freshLabels, freshRecord, freshStation}
+use Rattle.station_rules.specs.State.{Cell, cellOf, labelOf, ackedOf, heldOf, recordOf, laneAt, withLabel, withEntry, withLane, withWaiting, withBroadcast, withArrays, withCell, withAcked, withLanes, sentRecords, freshLabels, freshRecord, freshStation}
 
 -- the lengths that a station's arrays have by their types: sixteen places, and the slots of the waiting edits
 pub record Shaped (s : Station) : Type 0 where
@@ -304,3 +307,63 @@ module _ (setup : Setup) (own : ℕ) where
 pub sent-table : (s : Station) → sentRecords s ≡ tableRecords (s .n) (s .held) (s .table)
 unfolding cellOf sentRecords tableRecords
 sent-table s = refl
+
+-- what the arrays have at place k is what the cell of k has
+module _ (s : Station) (k : ℕ) where
+  pub acked-at : getD (s .acked) k false ≡ ackedOf s k
+  unfolding cellOf
+  acked-at = refl
+
+  pub label-at : getD (s .labels) k 0 ≡ labelOf s k
+  unfolding cellOf
+  label-at = refl
+
+  pub lane-at : getD (s .lanes) k noLane ≡ laneAt s k
+  unfolding cellOf
+  lane-at = refl
+
+-- a list that is f below n, and as another from n up
+list-made :
+    {A : Type 0} (n : ℕ) (f : ℕ → A) (l m : List A) (d : A) → length m ≡ length l → ((k : ℕ) → k < n → getD m k d ≡ f k) →
+    ((k : ℕ) → n ≤ k → getD m k d ≡ getD l k d) → m ≡ fill n f l
+list-made n f l m d e below above = ext-getD d m (fill n f l) (e ∙ sym (length-fill n f l)) each
+  where
+    each : (i : ℕ) → i < length m → getD m i d ≡ getD (fill n f l) i d
+    each i b =
+        elim (decLt i n) [
+          | yes c ↦ below i c ∙ sym (fill-below n f l i d c (omega arith))
+          | no up ↦ above i (omega arith) ∙ sym (fill-above n f l i d (omega arith))
+        ]
+
+-- a station t that has below n these records, held or not, and from n up those of s: its arrays;
+-- and all of it, where it has else the body and the waiting edits of s
+module _ (s t : Station) (shape-s : Shaped s) (shape-t : Shaped t) (n : ℕ) where
+  pub table-made :
+      (f : ℕ → Record) → ((k : ℕ) → k < n → recordOf t k ≡ f k) → ((k : ℕ) → n ≤ k → recordOf t k ≡ recordOf s k) →
+      t .table ≡ fill n f (s .table)
+  unfolding cellOf
+  table-made f below above = list-made n f (s .table) (t .table) noRecord (shape-t .table ∙ sym (shape-s .table)) below above
+
+  pub held-made :
+      (f : ℕ → Bool) → ((k : ℕ) → k < n → heldOf t k ≡ f k) → ((k : ℕ) → n ≤ k → heldOf t k ≡ heldOf s k) → t .held ≡ fill n f (s .held)
+  unfolding cellOf
+  held-made f below above = list-made n f (s .held) (t .held) false (shape-t .held ∙ sym (shape-s .held)) below above
+
+pub station-made :
+    (s t : Station) (held : List Bool) (table : List Record) (lanes : List Lane) →
+    Self t (s .n) (s .own) (s .waiting) (s .body) (t .count) → t .held ≡ held → t .table ≡ table → t .lanes ≡ lanes →
+    t ≡ withArrays (withBroadcast s (s .body) (t .count)) (t .acked) (t .labels) held table lanes
+station-made s t held table lanes self e₁ e₂ e₃ =
+    λ i.
+    record {
+      n = self .n i;
+      own = self .own i;
+      waiting = self .waiting i;
+      acked = t .acked;
+      body = self .body i;
+      count = t .count;
+      labels = t .labels;
+      held = e₁ i;
+      table = e₂ i;
+      lanes = e₃ i;
+    }

@@ -4,4 +4,3 @@ pub mod Bodies
 pub mod Hearing
 pub mod Turn
 pub mod Calls
-pub mod Inner

@@ -1,8 +1,7 @@
 -- `report_encoder::put_flags` meets its contract: the flags before k are written.
-use mathlib.Core.Path.{_≡_, refl, ap, _∙_}
-use Prim.Native.Nat.{ℕ, _≤_, _-_, _+_, _*_}
+use mathlib.Core.Path.{_≡_, refl}
+use Prim.Native.Nat.{_≤_, _-_}
 use native.Mathlib.Omega.{arith}
-use mathlib.Core.List.{List}
 use lib.ListN.{length}
 use lib.Seq.{sets}
 use lib.ListN.{length-set}
@@ -11,9 +10,6 @@ use Rattle.station_encoder.proofs.Writing.{entry-none}
 use Rattle.report_encoder.proofs.Writing.{flagOf, flag-next, flags-written}
 use Rattle.report_encoder.proofs.put_flags.Statement.{statement}
 use Rattle.report_encoder.proofs.put_flags.Tie as tie
-use Rattle.report_encoder.proofs.put_flags.Reads as reads
-use Rattle.report_encoder.proofs.put_flags.Lts as lts
-use Rattle.station_encoder.proofs.flag_byte.Reads as flag-byte-reads
 
 abbrev Inv-loop : tie.InvT-loop
 Inv-loop bytes₀ flags k₀ bytes k = (k ≤ 16) × (length bytes ≡ length bytes₀) × (bytes ≡ sets bytes₀ 0 (tabulate k (flagOf flags)))
@@ -23,21 +19,6 @@ abbrev μ-loop : tie.MeasureT-loop
 
 loop-holds : tie.Need-loop-holds Inv-loop μ-loop
 loop-holds c = (omega arith, refl, entry-none _ 0 (flagOf (c .before .args .t2)))
-
-array-read-flag-byte : tie.Need-array-read-flag-byte Inv-loop μ-loop
-array-read-flag-byte c = omega arith
-
-flag-byte-requires : tie.Need-flag-byte-requires Inv-loop μ-loop
-flag-byte-requires c κs = omega arith
-
-slice-write-bytes : tie.Need-slice-write-bytes Inv-loop μ-loop
-slice-write-bytes c = omega arith
-
-add-k : tie.Need-add-k Inv-loop μ-loop
-add-k c = omega arith
-
-loop-less : tie.Need-loop-less Inv-loop μ-loop
-loop-less c = omega arith
 
 loop-again : tie.Need-loop-again Inv-loop μ-loop
 loop-again c =
@@ -58,11 +39,11 @@ put-flags-spec =
     Inv-loop
     μ-loop
     loop-holds
-    array-read-flag-byte
-    flag-byte-requires
-    slice-write-bytes
-    add-k
-    loop-less
+    (λ c. omega arith)
+    (λ c κs. omega arith)
+    (λ c. omega arith)
+    (λ c. omega arith)
+    (λ c. omega arith)
     loop-again
     same-length
     returns)

@@ -1,8 +1,7 @@
 -- `report_encoder::put_reports` meets its contract: the reports before k are written.
-use mathlib.Core.Path.{_≡_, refl, ap, _∙_}
-use Prim.Native.Nat.{ℕ, _≤_, _-_, _+_, _*_}
+use mathlib.Core.Path.{_≡_, refl, _∙_}
+use Prim.Native.Nat.{_≤_, _-_}
 use native.Mathlib.Omega.{arith}
-use mathlib.Core.List.{List}
 use lib.ListN.{length}
 use lib.Seq.{sets}
 use lib.ListN.{getD}
@@ -12,9 +11,6 @@ use Rattle.station_bytes_spec.proofs.Reports.{length-report}
 use Rattle.station_encoder.proofs.Writing.{none-written, part-at-front, all-written}
 use Rattle.report_encoder.proofs.put_reports.Statement.{statement}
 use Rattle.report_encoder.proofs.put_reports.Tie as tie
-use Rattle.report_encoder.proofs.put_reports.Reads as reads
-use Rattle.report_encoder.proofs.put_reports.Lts as lts
-use Rattle.report_encoder.proofs.put_report.Reads as put-report-reads
 
 abbrev Inv-loop : tie.InvT-loop
 Inv-loop bytes₀ reports k₀ bytes k = (k ≤ 16) × (length bytes ≡ length bytes₀) × (bytes ≡ sets bytes₀ 0 (joinedBelow k (λ j. encodeReport (getD reports j absentReport))))
@@ -24,24 +20,6 @@ abbrev μ-loop : tie.MeasureT-loop
 
 loop-holds : tie.Need-loop-holds Inv-loop μ-loop
 loop-holds c = (omega arith, refl, none-written _ 0 (λ k. encodeReport (getD (c .before .args .t2) k absentReport)))
-
-mul-put-report : tie.Need-mul-put-report Inv-loop μ-loop
-mul-put-report c = omega arith
-
-mul-put-report-2 : tie.Need-mul-put-report-2 Inv-loop μ-loop
-mul-put-report-2 c = omega arith
-
-array-copy-out-put-report : tie.Need-array-copy-out-put-report Inv-loop μ-loop
-array-copy-out-put-report c = omega arith
-
-put-report-requires : tie.Need-put-report-requires Inv-loop μ-loop
-put-report-requires c κs = omega arith
-
-add-k : tie.Need-add-k Inv-loop μ-loop
-add-k c = omega arith
-
-loop-less : tie.Need-loop-less Inv-loop μ-loop
-loop-less c = omega arith
 
 loop-again : tie.Need-loop-again Inv-loop μ-loop
 loop-again c =
@@ -66,12 +44,12 @@ put-reports-spec =
     Inv-loop
     μ-loop
     loop-holds
-    mul-put-report
-    mul-put-report-2
-    array-copy-out-put-report
-    put-report-requires
-    add-k
-    loop-less
+    (λ c. omega arith)
+    (λ c. omega arith)
+    (λ c. omega arith)
+    (λ c κs. omega arith)
+    (λ c. omega arith)
+    (λ c. omega arith)
     loop-again
     same-length
     returns)

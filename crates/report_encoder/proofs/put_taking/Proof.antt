@@ -3,10 +3,6 @@ use Rattle.report_encoder.proofs.Writing.{taking-written}
 use borrow.Author.Needs.{needs}
 use Rattle.report_encoder.proofs.put_taking.Statement.{statement}
 use Rattle.report_encoder.proofs.put_taking.Tie as tie
-use Rattle.report_encoder.proofs.put_taking.Reads as reads
-use Rattle.report_encoder.proofs.put_taking.Lts as lts
-use Rattle.record_writer.proofs.put_word.Reads as put-word-reads
-use Rattle.station_encoder.proofs.put_body.Reads as put-body-reads
 
 cast-put-word : tie.Need-cast-put-word
 cast-put-word c = search needs

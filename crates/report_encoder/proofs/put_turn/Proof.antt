@@ -1,8 +1,7 @@
 -- `report_encoder::put_turn` meets its contract: three writes, and then the bodies of the row before k.
-use mathlib.Core.Path.{_≡_, refl, ap, _∙_}
-use Prim.Native.Nat.{ℕ, _≤_, _-_, _+_, _*_}
+use mathlib.Core.Path.{_≡_, refl, _∙_}
+use Prim.Native.Nat.{_≤_, _-_, _+_}
 use native.Mathlib.Omega.{arith}
-use mathlib.Core.List.{List}
 use lib.ListN.{length}
 use lib.Seq.{sets}
 use lib.ListN.{getD}
@@ -14,11 +13,6 @@ use Rattle.station_encoder.proofs.Writing.{none-written, part-written}
 use Rattle.report_encoder.proofs.Writing.{rowOf, turn-written}
 use Rattle.report_encoder.proofs.put_turn.Statement.{statement}
 use Rattle.report_encoder.proofs.put_turn.Tie as tie
-use Rattle.report_encoder.proofs.put_turn.Reads as reads
-use Rattle.report_encoder.proofs.put_turn.Lts as lts
-use Rattle.station_encoder.proofs.flag_byte.Reads as flag-byte-reads
-use Rattle.station_encoder.proofs.put_body.Reads as put-body-reads
-use Rattle.station_encoder.proofs.put_four.Reads as put-four-reads
 
 abbrev Inv-loop : tie.InvT-loop
 Inv-loop bytes₀ at row k₀ bytes k = (k ≤ 16) × (length bytes ≡ length bytes₀) × (bytes ≡ sets bytes₀ (at + 28) (joinedBelow k (λ j. encodeBody ((getD row j noSlot) .body))))
@@ -26,53 +20,8 @@ Inv-loop bytes₀ at row k₀ bytes k = (k ≤ 16) × (length bytes ≡ length b
 abbrev μ-loop : tie.MeasureT-loop
 μ-loop bytes₀ at row k₀ bytes k = 16 - k
 
-flag-byte-requires : tie.Need-flag-byte-requires Inv-loop μ-loop
-flag-byte-requires c κs = omega arith
-
-flag-byte-requires-2 : tie.Need-flag-byte-requires-2 Inv-loop μ-loop
-flag-byte-requires-2 c κs = omega arith
-
-put-four-requires : tie.Need-put-four-requires Inv-loop μ-loop
-put-four-requires c κs = omega arith
-
-add-put-body : tie.Need-add-put-body Inv-loop μ-loop
-add-put-body c = omega arith
-
-put-body-requires : tie.Need-put-body-requires Inv-loop μ-loop
-put-body-requires c κs = omega arith
-
-add-put-body-2 : tie.Need-add-put-body-2 Inv-loop μ-loop
-add-put-body-2 c = omega arith
-
-put-body-requires-2 : tie.Need-put-body-requires-2 Inv-loop μ-loop
-put-body-requires-2 c κs = omega arith
-
 loop-holds : tie.Need-loop-holds Inv-loop μ-loop
 loop-holds c = (omega arith, refl, none-written _ _ _)
-
-mul-slot : tie.Need-mul-slot Inv-loop μ-loop
-mul-slot c = omega arith
-
-array-copy-out-slot : tie.Need-array-copy-out-slot Inv-loop μ-loop
-array-copy-out-slot c = omega arith
-
-add-put-body-3 : tie.Need-add-put-body-3 Inv-loop μ-loop
-add-put-body-3 c = omega arith
-
-mul-put-body : tie.Need-mul-put-body Inv-loop μ-loop
-mul-put-body c = omega arith
-
-add-put-body-4 : tie.Need-add-put-body-4 Inv-loop μ-loop
-add-put-body-4 c = omega arith
-
-put-body-requires-3 : tie.Need-put-body-requires-3 Inv-loop μ-loop
-put-body-requires-3 c κs = omega arith
-
-add-k : tie.Need-add-k Inv-loop μ-loop
-add-k c = omega arith
-
-loop-less : tie.Need-loop-less Inv-loop μ-loop
-loop-less c = omega arith
 
 loop-again : tie.Need-loop-again Inv-loop μ-loop
 loop-again c =
@@ -101,22 +50,22 @@ put-turn-spec =
     (tie.spec
     Inv-loop
     μ-loop
-    flag-byte-requires
-    flag-byte-requires-2
-    put-four-requires
-    add-put-body
-    put-body-requires
-    add-put-body-2
-    put-body-requires-2
+    (λ c κs. omega arith)
+    (λ c κs. omega arith)
+    (λ c κs. omega arith)
+    (λ c. omega arith)
+    (λ c κs. omega arith)
+    (λ c. omega arith)
+    (λ c κs. omega arith)
     loop-holds
-    mul-slot
-    array-copy-out-slot
-    add-put-body-3
-    mul-put-body
-    add-put-body-4
-    put-body-requires-3
-    add-k
-    loop-less
+    (λ c. omega arith)
+    (λ c. omega arith)
+    (λ c. omega arith)
+    (λ c. omega arith)
+    (λ c. omega arith)
+    (λ c κs. omega arith)
+    (λ c. omega arith)
+    (λ c. omega arith)
     loop-again
     same-length
     returns)

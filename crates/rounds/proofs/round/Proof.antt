@@ -1,75 +1,66 @@
--- `rounds::round` meets its contract: the frames of the stations passed are sent, then the stations passed have heard and taken their turn, and no lane was
--- overfull.
-use Prim.Native.Nat.{_-_, _≤_}
+-- `rounds::round` meets its contract. First the frames: those of the stations below k stand, where
+-- none of them is refused. Then the stations hear, and those below j have heard. Then each acts and
+-- takes its turn, and those below i have. The lemmas of `RoundLoop` say what one more station does
+-- in each loop.
+use Prim.Native.Nat.{ℕ, _+_, _-_, _*_, _≤_, _<_}
+use mathlib.Core.List.{List}
+use mathlib.Core.Path.{_≡_, refl, sym, ap, subst, _∙_}
 use native.Mathlib.Omega.{arith}
-use mathlib.Core.Path.{_≡_, refl, sym, ap, _∙_}
 use borrow.Author.Needs.{needs}
 use borrow.Author.Tests.{not-true, not-false}
+use lib.ListN.{getD, length}
+use Rattle.station_rules.specs.declared.Station.{Station}
 use Rattle.station_rules.proofs.CallSteps.{valid-parts}
-use Rattle.group_rules.specs.State.{sizeOf}
-use Rattle.group_frames.proofs.WrittenFrames.{SentBelow, AllSent, sent-none, sent-more, all-sent}
-use Rattle.group_frames.proofs.GroupFrames.{frames-at}
-use Rattle.rounds.proofs.GroupLengths.{group-lengths}
+use Rattle.hearing_spec.specs.declared.Ear.{Ear}
+use Rattle.hearing_spec.specs.StandsFor.{actsOn}
+use Rattle.acting.specs.Listened.{heardNotes, Readable}
+use Rattle.group_rules.specs.State.{stationAt, sizeOf}
+use Rattle.group_frames.proofs.WrittenFrames.{SentBelow, sent-none, sent-more, all-sent}
 use Rattle.group_rules.proofs.CallSteps.{round-outside}
-use Rattle.rounds.proofs.RoundSteps.{size-outside, round-judged}
-use Rattle.rounds.proofs.RoundLoop.{unreported, Turning, turning-none, turning-done, turning-hears, turning-full, turning-turns, turning-more}
+use Rattle.rounds.proofs.GroupLengths.{group-lengths}
+use Rattle.rounds.proofs.Parts.{part}
+use Rattle.rounds.proofs.HeardTurn.{takingsIn}
+use Rattle.rounds.proofs.RoundSteps.{size-outside, judged-small, round-judged}
+use Rattle.rounds.proofs.RoundLoop.{refusedRound, Begun, noEar, Listening, listening-none, listening-hears, listening-zeros, listening-taken, listening-stopped, listening-next, MayTurn, Turning, turning-none, turning-size, turning-turns, turning-more, may-turn-all, turning-done}
 use Rattle.rounds.proofs.round.Statement.{statement}
 use Rattle.rounds.proofs.round.Tie as tie
 
 abbrev Inv-loop : tie.InvT-loop
-Inv-loop g masks none bytes₀ marks z n refusal₀ k₀ bytes refusal k =
-    (n ≡ sizeOf g) × (1 ≤ n) × (k ≤ n) × (n ≤ 16) × SentBelow g k refusal bytes
+Inv-loop masks group reports ears bytes₀ places taken n refusal₀ k₀ bytes refusal k =
+    (n ≡ sizeOf group) × (1 ≤ n) × (k ≤ n) × (n ≤ 16) × SentBelow group k refusal bytes
 
 abbrev μ-loop : tie.MeasureT-loop
-μ-loop g masks none bytes₀ marks z n refusal₀ k₀ bytes refusal k = n - k
+μ-loop masks group reports ears bytes₀ places taken n refusal₀ k₀ bytes refusal k = n - k
 
 abbrev Inv-loop2 : tie.InvT-loop2
-Inv-loop2 g masks none bytes marks z₀ n refusal k i₀ z i = (n ≡ sizeOf g) × (i ≤ n) × (n ≤ 16) × Turning g masks none bytes marks z i
+Inv-loop2 masks group reports ears₀ bytes places₀ taken₀ n refusal k j₀ ears places taken j =
+    (j ≤ n) × (n ≤ 16) × Listening group masks bytes ears places taken j
 
 abbrev μ-loop2 : tie.MeasureT-loop2
-μ-loop2 g masks none bytes marks z₀ n refusal k i₀ z i = n - i
+μ-loop2 masks group reports ears₀ bytes places₀ taken₀ n refusal k j₀ ears places taken j = n - j
 
-no-report-requires : tie.Need-no-report-requires Inv-loop μ-loop Inv-loop2 μ-loop2
-no-report-requires c κs = search needs
+abbrev Inv-loop3 : tie.InvT-loop3
+Inv-loop3 group₀ reports₀ ears bytes places taken n refusal k j i₀ group reports i =
+    (i ≤ n) × MayTurn group₀ bytes ears places taken n × Turning group₀ bytes ears places taken reports₀ group reports i
 
-element-copy-out-first : tie.Need-element-copy-out-first Inv-loop μ-loop Inv-loop2 μ-loop2
-element-copy-out-first c = search needs
+abbrev μ-loop3 : tie.MeasureT-loop3
+μ-loop3 group₀ reports₀ ears bytes places taken n refusal k j i₀ group reports i = n - i
 
-valid-number-requires : tie.Need-valid-number-requires Inv-loop μ-loop Inv-loop2 μ-loop2
-valid-number-requires c κs = search needs
+-- ---- the frames
 
-returns : tie.Need-returns Inv-loop μ-loop Inv-loop2 μ-loop2
+returns : tie.Need-returns Inv-loop μ-loop Inv-loop2 μ-loop2 Inv-loop3 μ-loop3
 returns c =
-    let h = c .before .before .before in
-    let a = h .before .args in
-    ap (unreported 2 (a .g)) (h .no-report .ensures)
-    ∙ round-outside (a .g) (a .masks) (size-outside (a .g) (sym (c .before .valid-number .ensures) ∙ not-true _ (c .if1 .taken)))
+    let a = c .before .before .before .before .args in
+    ap (refusedRound 2 (a .g)) (c .before .before .before .no-report .ensures)
+    ∙ round-outside (a .g) (a .t2) (size-outside (a .g) (sym (c .before .valid-number .ensures) ∙ not-true _ (c .if1 .taken)))
 
-loop-holds : tie.Need-loop-holds Inv-loop μ-loop Inv-loop2 μ-loop2
+loop-holds : tie.Need-loop-holds Inv-loop μ-loop Inv-loop2 μ-loop2 Inv-loop3 μ-loop3
 loop-holds c =
     let g = c .before .before .before .before .args .g in
     let v = valid-parts (sizeOf g) 0 (sym (c .before .valid-number .ensures) ∙ not-false _ (c .if1 .left)) in
     (refl, v .0, omega arith, v .1, sent-none g _ refl)
 
-slice-aggregate-send : tie.Need-slice-aggregate-send Inv-loop μ-loop Inv-loop2 μ-loop2
-slice-aggregate-send c = search needs
-
-mul-send : tie.Need-mul-send Inv-loop μ-loop Inv-loop2 μ-loop2
-mul-send c = search needs
-
-element-copy-out-send : tie.Need-element-copy-out-send Inv-loop μ-loop Inv-loop2 μ-loop2
-element-copy-out-send c = search needs
-
-send-requires : tie.Need-send-requires Inv-loop μ-loop Inv-loop2 μ-loop2
-send-requires c κs = c .before .before .before .loop .inv .4 .long
-
-add-k : tie.Need-add-k Inv-loop μ-loop Inv-loop2 μ-loop2
-add-k c = search needs
-
-loop-less : tie.Need-loop-less Inv-loop μ-loop Inv-loop2 μ-loop2
-loop-less c = search needs
-
-loop-again : tie.Need-loop-again Inv-loop μ-loop Inv-loop2 μ-loop2
+loop-again : tie.Need-loop-again Inv-loop μ-loop Inv-loop2 μ-loop2 Inv-loop3 μ-loop3
 loop-again c =
     let l = c .before .before .before .before .before .loop in
     let sent = c .before .send in
@@ -82,109 +73,212 @@ loop-again c =
           (sent .ensures .0),
     )
 
-returns-2 : tie.Need-returns-2 Inv-loop μ-loop Inv-loop2 μ-loop2
+returns-2 : tie.Need-returns-2 Inv-loop μ-loop Inv-loop2 μ-loop2 Inv-loop3 μ-loop3
 returns-2 c =
-    let h = c .before .before .before .before .before .before in
-    let a = h .before .args in
+    let a = c .before .before .before .before .before .before .before .args in
     let l = c .before .before .loop in
-    ap (unreported (l .refusal) (a .g)) (h .no-report .ensures)
-    ∙ round-judged (a .g) (a .masks) (l .k) (l .refusal) (omega arith) (l .inv .1) (l .inv .4 .judged) (c .if2 .taken)
+    ap (refusedRound (l .refusal) (a .g)) (c .before .before .before .before .before .before .no-report .ensures)
+    ∙ round-judged (a .g) (a .t2) (l .k) (l .refusal) (omega (arith, l .inv .2, c .before .loop-test .left)) (l .inv .1) (l .inv .4 .judged) (c .if2 .taken)
 
 -- all frames stand
-all-frames : (c : tie.Else2 Inv-loop μ-loop Inv-loop2 μ-loop2) → AllSent (c .before .before .before .before .before .before .before .args .g) (c .before .before .loop .bytes)
-all-frames c =
+begun : (c : tie.Else2 Inv-loop μ-loop Inv-loop2 μ-loop2 Inv-loop3 μ-loop3) → Begun (c .before .before .before .before .before .before .before .args .g) (c .before .before .before .before .before .before .no-report .result) (c .before .before .loop .bytes)
+begun c =
     let l = c .before .before .loop in
-    all-sent (c .before .before .before .before .before .before .before .args .g) (l .k) (l .refusal) (l .bytes) (l .inv .4) (omega arith) (l .inv .1) (c .if2 .left)
+    let g = c .before .before .before .before .before .before .before .args .g in
+    record {
+      none-is = c .before .before .before .before .before .before .no-report .ensures;
+      sent = all-sent g (l .k) (l .refusal) (l .bytes) (l .inv .4) (omega (arith, l .inv .2, c .before .loop-test .left)) (l .inv .1) (c .if2 .left);
+      shape = group-lengths g _ (c .before .before .before .before .before .before .before .good .0);
+    }
 
-slice-aggregate-mark-frames : tie.Need-slice-aggregate-mark-frames Inv-loop μ-loop Inv-loop2 μ-loop2
-slice-aggregate-mark-frames c = search needs
+-- ---- hearing
 
-slice-aggregate-mark-frames-2 : tie.Need-slice-aggregate-mark-frames-2 Inv-loop μ-loop Inv-loop2 μ-loop2
-slice-aggregate-mark-frames-2 c = search needs
-
-mark-frames-requires : tie.Need-mark-frames-requires Inv-loop μ-loop Inv-loop2 μ-loop2
-mark-frames-requires c κs =
-    let d = c .before .before in
-    let l = d .before .before .loop in
-    let sent = all-frames d in
-    ((l .inv .3, refl), frames-at (d .before .before .before .before .before .before .before .args .g) (sent .inside) (sent .counts) (l .bytes) (sent .frames))
-
-loop2-holds : tie.Need-loop2-holds Inv-loop μ-loop Inv-loop2 μ-loop2
+loop2-holds : tie.Need-loop2-holds Inv-loop μ-loop Inv-loop2 μ-loop2 Inv-loop3 μ-loop3
 loop2-holds c =
+    let a = c .before .before .before .before .before .before .before .args in
+    (omega arith, c .before .before .loop .inv .3, listening-none (a .g) (a .t2) _ _ (begun c) _ refl)
+
+module _ (c : tie.In-loop2 Inv-loop μ-loop Inv-loop2 μ-loop2 Inv-loop3 μ-loop3) where
+  abbrev g : List Station
+  g = c .before .before .before .before .before .before .before .before .before .args .g
+
+  abbrev masks : List ℕ
+  masks = c .before .before .before .before .before .before .before .before .before .args .t2
+
+  abbrev j : ℕ
+  j = c .before .loop2 .j
+
+  ready : Begun g (c .before .before .before .before .before .before .before .before .no-report .result) (c .before .before .before .before .loop .bytes)
+  ready = begun (c .before .before)
+
+  heard-so-far : Listening g masks (c .before .before .before .before .loop .bytes) (c .before .loop2 .ears) (c .before .loop2 .places) (c .before .loop2 .taken) j
+  heard-so-far = c .before .loop2 .inv .2
+
+  low :
+      (j < 16)
+      × (j < sizeOf g)
+      × (length (c .before .loop2 .ears) ≡ 16)
+      × (length (c .before .loop2 .places) ≡ 256)
+      × (length (c .before .loop2 .taken) ≡ 480)
+      × (16 * j + 16 - 16 * j ≡ 16)
+      × (30 * j + 30 - 30 * j ≡ 30)
+  low =
+      let l = heard-so-far in (
+        omega (arith, c .loop2-test .taken, c .before .loop2 .inv .1),
+        c .loop2-test .taken,
+        l .ears-long,
+        l .places-long,
+        l .taken-long,
+        omega arith,
+        omega arith,
+      )
+
+listen-requires : tie.Need-listen-requires Inv-loop μ-loop Inv-loop2 μ-loop2 Inv-loop3 μ-loop3
+listen-requires c κs =
     let d = c .before .before .before .before in
-    let h = d .before .before .before .before .before .before in
-    let a = h .before in
-    let g = a .args .g in (
-      refl,
-      omega arith,
-      d .before .before .loop .inv .3,
-      turning-none g (a .args .masks) _ _ _ (h .no-report .ensures) (all-frames d) (c .before .mark-frames .ensures) (group-lengths g _ (a .good .0)),
+    let l = low d in
+    let h = listening-hears (g d) (masks d) _ _ (ready d) (j d) (l .1) in
+    let z = listening-zeros (g d) (masks d) _ _ (ready d) _ _ _ (j d) (heard-so-far d) (l .0) in
+    let t = listening-taken (g d) (masks d) _ _ (ready d) _ _ _ (j d) (heard-so-far d) (l .0) in (
+      h .0,
+      (
+        h .1,
+        (
+          ap (λ (m : ℕ). part m (16 * j d) (d .before .loop2 .places)) (l .5) ∙ z,
+          ap (λ (m : ℕ). length (part m (30 * j d) (d .before .loop2 .taken))) (l .6) ∙ t,
+        ),
+      ),
     )
 
-mul-hear-mask : tie.Need-mul-hear-mask Inv-loop μ-loop Inv-loop2 μ-loop2
-mul-hear-mask c = search needs
-
-element-copy-out-hear-mask : tie.Need-element-copy-out-hear-mask Inv-loop μ-loop Inv-loop2 μ-loop2
-element-copy-out-hear-mask c = search needs
-
-slice-aggregate-hear-mask : tie.Need-slice-aggregate-hear-mask Inv-loop μ-loop Inv-loop2 μ-loop2
-slice-aggregate-hear-mask c = search needs
-
-slice-aggregate-hear-mask-2 : tie.Need-slice-aggregate-hear-mask-2 Inv-loop μ-loop Inv-loop2 μ-loop2
-slice-aggregate-hear-mask-2 c = search needs
-
-hear-mask-requires : tie.Need-hear-mask-requires Inv-loop μ-loop Inv-loop2 μ-loop2
-hear-mask-requires c κs =
-    let l = c .before .before .before .before .loop2 in
-    turning-hears _ _ _ _ _ (l .z) (l .i) (l .inv .3) (c .before .before .before .loop2-test .taken)
-
-returns-3 : tie.Need-returns-3 Inv-loop μ-loop Inv-loop2 μ-loop2
+returns-3 : tie.Need-returns-3 Inv-loop μ-loop Inv-loop2 μ-loop2 Inv-loop3 μ-loop3
 returns-3 c =
-    let l = c .before .before .before .before .before .before .before .loop2 in
-    let r = c .before .before .hear-mask in
-    turning-full _ _ _ _ _ (l .z) (l .i) (l .inv .3) (c .before .before .before .before .before .before .loop2-test .taken) (r .result) (r .ensures) (c .before .if3 .taken)
+    let d = c .before .before .before .before .before .before .before .before .before .before in
+    let l = low d in
+    let h = c .before .before .before .before .before .listen in
+    listening-stopped (g d) (masks d) _ _ (ready d) _ _ _ (j d) (heard-so-far d) (l .0) (l .1) _ _ (h .result) (h .ensures) (c .before .if3 .taken)
 
-take-turn-requires : tie.Need-take-turn-requires Inv-loop μ-loop Inv-loop2 μ-loop2
-take-turn-requires c κs =
-    let l = c .before .before .before .before .before .before .before .loop2 in
-    let r = c .before .before .hear-mask in
-    turning-turns _ _ _ _ _ (l .z) (l .i) (l .inv .3) (c .before .before .before .before .before .before .loop2-test .taken) (r .result) (r .ensures) (c .before .if3 .left)
-
-mul-after : tie.Need-mul-after Inv-loop μ-loop Inv-loop2 μ-loop2
-mul-after c = search needs
-
-element-set-from-after : tie.Need-element-set-from-after Inv-loop μ-loop Inv-loop2 μ-loop2
-element-set-from-after c = search needs
-
-mul-t37 : tie.Need-mul-t37 Inv-loop μ-loop Inv-loop2 μ-loop2
-mul-t37 c = search needs
-
-element-set-from-z : tie.Need-element-set-from-z Inv-loop μ-loop Inv-loop2 μ-loop2
-element-set-from-z c = search needs
-
-add-i : tie.Need-add-i Inv-loop μ-loop Inv-loop2 μ-loop2
-add-i c = search needs
-
-loop2-less : tie.Need-loop2-less Inv-loop μ-loop Inv-loop2 μ-loop2
-loop2-less c = search needs
-
-loop2-again : tie.Need-loop2-again Inv-loop μ-loop Inv-loop2 μ-loop2
+loop2-again : tie.Need-loop2-again Inv-loop μ-loop Inv-loop2 μ-loop2 Inv-loop3 μ-loop3
 loop2-again c =
-    let l = c .before .before .before .before .before .before .before .before .before .before .before .loop2 in
-    let r = c .before .before .before .before .before .before .hear-mask in
-    let t = c .before .before .before .take-turn in
-    let below = c .before .before .before .before .before .before .before .before .before .before .loop2-test .taken in (
-      refl,
-      omega (arith, below),
-      l .inv .2,
-      turning-more _ _ _ _ _ (l .z) (l .i) (l .inv .3) below (r .result) (r .ensures) (c .before .before .before .before .before .if3 .left) (t .result)
-          (t .ensures),
+    let d = c .before .before .before .before .before .before .before .before .before in
+    let l = low d in
+    let h = c .before .before .before .before .listen in (
+      omega (arith, d .loop2-test .taken),
+      d .before .loop2 .inv .1,
+      listening-next (g d) (masks d) _ _ (ready d) _ _ _ (j d) (heard-so-far d) (l .0) (l .1) _ _ (h .result) (h .ensures) (c .if3 .left) _ _ (l .5) (l .6),
     )
 
-returns-4 : tie.Need-returns-4 Inv-loop μ-loop Inv-loop2 μ-loop2
-returns-4 c =
+-- ---- the turns
+
+-- all have heard
+all-heard :
+    (c : tie.After-loop2 Inv-loop μ-loop Inv-loop2 μ-loop2 Inv-loop3 μ-loop3) →
+    Listening (c .before .before .before .before .before .before .before .before .before .args .g) (c .before .before .before .before .before .before .before .before .before .args .t2) (c .before .before .before .before .loop .bytes) (c .before .loop2 .ears) (c .before .loop2 .places) (c .before .loop2 .taken)
+    (sizeOf (c .before .before .before .before .before .before .before .before .before .args .g))
+all-heard c =
     let l = c .before .loop2 in
-    turning-done _ _ _ _ _ (l .z) (l .i) (l .inv .3) (omega arith)
+    let e : l .j ≡ sizeOf (c .before .before .before .before .before .before .before .before .before .args .g) = omega (arith, l .inv .0, c .loop2-test .left) in
+    rw e at (l .inv .2)
+
+loop3-holds : tie.Need-loop3-holds Inv-loop μ-loop Inv-loop2 μ-loop2 Inv-loop3 μ-loop3
+loop3-holds c =
+    let a = c .before .before .before .before .before .before .before .before .before .args in (
+      omega arith,
+      may-turn-all (a .g) (a .t2) _ _ (begun (c .before .before)) _ _ _ (sizeOf (a .g)) refl (all-heard c),
+      turning-none _ _ _ _ _ _,
+    )
+
+module _ (c : tie.In-loop3 Inv-loop μ-loop Inv-loop2 μ-loop2 Inv-loop3 μ-loop3) where
+  abbrev i : ℕ
+  i = c .before .loop3 .i
+
+  may : MayTurn (c .before .before .before .before .before .before .before .before .before .before .before .args .g) (c .before .before .before .before .before .before .loop .bytes) (c .before .before .before .loop2 .ears) (c .before .before .before .loop2 .places) (c .before .before .before .loop2 .taken) (sizeOf (c .before .before .before .before .before .before .before .before .before .before .before .args .g))
+  may = c .before .loop3 .inv .1
+
+  low3 :
+      (i < 16)
+      × (length (c .before .before .before .loop2 .ears) ≡ 16)
+      × (length (c .before .before .before .loop2 .places) ≡ 256)
+      × (length (c .before .before .before .loop2 .taken) ≡ 480)
+      × (16 * i + 16 - 16 * i ≡ 16)
+      × (30 * i + 30 - 30 * i ≡ 30)
+  low3 = (omega (arith, c .loop3-test .taken, may .high), may .ears-long, may .places-long, may .taken-long, omega arith, omega arith)
+
+-- what the loop sees
+module _ (c : tie.In-loop3 Inv-loop μ-loop Inv-loop2 μ-loop2 Inv-loop3 μ-loop3) where
+  abbrev group₀ : List Station
+  group₀ = c .before .before .before .before .before .before .before .before .before .before .before .args .g
+
+  abbrev bytes : List ℕ
+  bytes = c .before .before .before .before .before .before .loop .bytes
+
+  abbrev ears : List Ear
+  ears = c .before .before .before .loop2 .ears
+
+  abbrev places : List ℕ
+  places = c .before .before .before .loop2 .places
+
+  abbrev taken : List ℕ
+  taken = c .before .before .before .loop2 .taken
+
+  abbrev group : List Station
+  group = c .before .loop3 .group
+
+  abbrev heard : Ear
+  heard = getD ears (i c) noEar
+
+  reads : Readable bytes (part 16 (16 * i c) places) (part 30 (30 * i c) taken) (heard .len)
+  reads = may c .readable (i c) (c .loop3-test .taken)
+
+  -- as the code has it
+  code-reads : Readable bytes (part (16 * i c + 16 - 16 * i c) (16 * i c) places) (part (30 * i c + 30 - 30 * i c) (30 * i c) taken) (heard .len)
+  code-reads =
+      subst (λ (w : ℕ). Readable bytes (part w (16 * i c) places) (part (30 * i c + 30 - 30 * i c) (30 * i c) taken) (heard .len)) (sym (low3 c .4))
+      (subst (λ (v : ℕ). Readable bytes (part 16 (16 * i c) places) (part v (30 * i c) taken) (heard .len)) (sym (low3 c .5)) reads)
+
+  code-acts :
+      actsOn (stationAt group (i c)) bytes
+      (heardNotes (part (16 * i c + 16 - 16 * i c) (16 * i c) places) (part (30 * i c + 30 - 30 * i c) (30 * i c) taken) heard)
+      ≡ actsOn (stationAt group (i c)) bytes (heardNotes (part 16 (16 * i c) places) (part 30 (30 * i c) taken) heard)
+  code-acts t =
+      actsOn (stationAt group (i c)) bytes (heardNotes (part (low3 c .4 t) (16 * i c) places) (part (low3 c .5 t) (30 * i c) taken) heard)
+
+  code-takings : takingsIn bytes (part (30 * i c + 30 - 30 * i c) (30 * i c) taken) (heard .len) ≡ takingsIn bytes (part 30 (30 * i c) taken) (heard .len)
+  code-takings t = takingsIn bytes (part (low3 c .5 t) (30 * i c) taken) (heard .len)
+
+takings-of-requires : tie.Need-takings-of-requires Inv-loop μ-loop Inv-loop2 μ-loop2 Inv-loop3 μ-loop3
+takings-of-requires c κs = code-reads (c .before .before .before .before) .takings
+
+acted-requires : tie.Need-acted-requires Inv-loop μ-loop Inv-loop2 μ-loop2 Inv-loop3 μ-loop3
+acted-requires c κs =
+    let d = c .before .before .before .before .before .before .before .before .before .before .before in (
+      turning-size (group₀ d) (bytes d) (ears d) (places d) (taken d) _ (group d) _ (i d) (d .before .loop3 .inv .2) (may d .size (i d) (d .loop3-test .taken)),
+      code-reads d,
+    )
+
+take-turn-requires : tie.Need-take-turn-requires Inv-loop μ-loop Inv-loop2 μ-loop2 Inv-loop3 μ-loop3
+take-turn-requires c κs =
+    let d = c .before .before .before .before .before .before .before .before .before .before .before .before in
+    turning-turns (group₀ d) (bytes d) (ears d) (places d) (taken d) _ (group d) _ (i d) (d .before .loop3 .inv .2) (c .acted .result)
+    (c .acted .ensures ∙ code-acts d) (may d .inside (i d) (d .loop3-test .taken))
+
+loop3-again : tie.Need-loop3-again Inv-loop μ-loop Inv-loop2 μ-loop2 Inv-loop3 μ-loop3
+loop3-again c =
+    let d = c .before .before .before .before .before .before .before .before .before .before .before .before .before .before .before in
+    let h = c .before .before .before .acted in
+    let t = c .before .before .take-turn in (
+      omega (arith, d .loop3-test .taken),
+      may d,
+      turning-more (group₀ d) (bytes d) (ears d) (places d) (taken d) _ (group d) _ (i d) (d .before .loop3 .inv .2) (h .result) (h .ensures ∙ code-acts d)
+          (t .result) (t .ensures) _ (c .before .before .before .before .before .before .before .before .before .before .takings-of .ensures ∙ code-takings d),
+    )
+
+returns-4 : tie.Need-returns-4 Inv-loop μ-loop Inv-loop2 μ-loop2 Inv-loop3 μ-loop3
+returns-4 c =
+    let a = c .before .before .before .before .before .before .before .before .before .before .before .args in
+    let l = c .before .loop3 in
+    let d = c .before .before in
+    turning-done (a .g) (a .t2) _ _ (begun (d .before .before)) _ _ _ (sizeOf (a .g)) refl (all-heard d) (l .group) (l .reports) (l .i) (l .inv .2)
+    (omega (arith, l .inv .0, c .loop3-test .left))
 
 pub round-spec : {M : Type 1} → statement M
 round-spec =
@@ -194,35 +288,82 @@ round-spec =
     μ-loop
     Inv-loop2
     μ-loop2
-    no-report-requires
-    element-copy-out-first
-    valid-number-requires
+    Inv-loop3
+    μ-loop3
+    (λ c κs. search needs)
+    (λ c. search needs)
+    (λ c κs. search needs)
+    (λ c. search needs)
     returns
     loop-holds
-    slice-aggregate-send
-    mul-send
-    element-copy-out-send
-    send-requires
-    add-k
-    loop-less
+    (λ c. search needs)
+    (λ c. search needs)
+    (λ c. search needs)
+    (λ c κs. c .before .before .before .loop .inv .4 .long)
+    (λ c. search needs)
+    (λ c. search needs)
     loop-again
+    (λ c. record { fits = omega (arith, c .before .before .loop .inv .4 .judged, judged-small (c .before .before .before .before .before .before .before .args .g) (c .before .before .loop .k)) })
     returns-2
-    slice-aggregate-mark-frames
-    slice-aggregate-mark-frames-2
-    mark-frames-requires
     loop2-holds
-    mul-hear-mask
-    element-copy-out-hear-mask
-    slice-aggregate-hear-mask
-    slice-aggregate-hear-mask-2
-    hear-mask-requires
+    (λ c. search needs)
+    (λ c. search needs)
+    (λ c. search needs)
+    (λ c. search needs)
+    (λ c. search needs)
+    (λ c. search needs)
+    (λ c. search needs)
+    (λ c. search needs)
+    (λ c. search needs)
+    (λ c. search needs)
+    (λ c. search needs)
+    (λ c. search needs)
+    (λ c. search needs)
+    (λ c. search needs)
+    (λ c. search needs)
+    (λ c. search needs)
+    (λ c. search needs)
+    listen-requires
+    (λ c. search needs)
     returns-3
-    take-turn-requires
-    mul-after
-    element-set-from-after
-    mul-t37
-    element-set-from-z
-    add-i
-    loop2-less
+    (λ c. search needs)
+    (λ c. search needs)
+    (λ c. search needs)
+    (λ c. search needs)
     loop2-again
+    loop3-holds
+    (λ c. search needs)
+    (λ c. search needs)
+    (λ c. search needs)
+    (λ c. search needs)
+    (λ c. search needs)
+    (λ c. search needs)
+    (λ c. search needs)
+    (λ c. search needs)
+    (λ c. search needs)
+    (λ c. search needs)
+    takings-of-requires
+    (λ c. search needs)
+    (λ c. search needs)
+    (λ c. search needs)
+    (λ c. search needs)
+    (λ c. search needs)
+    (λ c. search needs)
+    (λ c. search needs)
+    (λ c. search needs)
+    (λ c. search needs)
+    (λ c. search needs)
+    (λ c. search needs)
+    (λ c. search needs)
+    (λ c. search needs)
+    acted-requires
+    take-turn-requires
+    (λ c. record { fits = omega (arith, low3 (c .before .before .before .before .before .before .before .before .before .before .before .before .before .before)) })
+    (λ c. omega (arith, low3 (c .before .before .before .before .before .before .before .before .before .before .before .before .before .before)))
+    (λ c. record { fits = omega (arith, low3 (c .before .before .before .before .before .before .before .before .before .before .before .before .before .before .before)) })
+    (λ c. omega (arith, low3 (c .before .before .before .before .before .before .before .before .before .before .before .before .before .before .before)))
+    (λ c. record { fits = omega (arith, low3 (c .before .before .before .before .before .before .before .before .before .before .before .before .before .before .before)) })
+    (λ c. omega (arith, (c .before .before .before .before .before .before .before .before .before .before .before .before .before .before .before) .loop3-test .taken))
+    loop3-again
+    (λ c. search needs)
     returns-4)

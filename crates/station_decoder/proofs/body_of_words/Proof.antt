@@ -3,10 +3,6 @@ use Rattle.station_decoder.proofs.Reading.{body-made}
 use borrow.Author.Needs.{needs}
 use Rattle.station_decoder.proofs.body_of_words.Statement.{statement}
 use Rattle.station_decoder.proofs.body_of_words.Tie as tie
-use Rattle.station_decoder.proofs.body_of_words.Reads as reads
-use Rattle.station_decoder.proofs.body_of_words.Lts as lts
-use Rattle.kinds.proofs.body_of.Reads as body-of-reads
-use Rattle.record_reader.proofs.signed.Reads as signed-reads
 
 signed-requires : tie.Need-signed-requires
 signed-requires c κs = search needs

@@ -5,51 +5,20 @@ use Rattle.station_decoder.proofs.Reading.{no-flag, no-second, no-first
 use borrow.Author.Needs.{needs}
 use Rattle.station_decoder.proofs.cell_right.Statement.{statement}
 use Rattle.station_decoder.proofs.cell_right.Tie as tie
-use Rattle.station_decoder.proofs.cell_right.Reads as reads
-use Rattle.station_decoder.proofs.cell_right.Lts as lts
-use Rattle.station_decoder.proofs.body_right.Reads as body-right-reads
-use Rattle.station_decoder.proofs.record_right.Reads as record-right-reads
-
-shared-slice-read-if1 : tie.Need-shared-slice-read-if1
-shared-slice-read-if1 c = search needs
 
 returns : tie.Need-returns
 returns c = no-flag _ _ (c .if1 .taken)
 
-add-if2 : tie.Need-add-if2
-add-if2 c = search needs
-
-shared-slice-read-if2 : tie.Need-shared-slice-read-if2
-shared-slice-read-if2 c = search needs
-
 returns-2 : tie.Need-returns-2
 returns-2 c = no-second _ _ (c .before .before .if1 .left) (c .if2 .taken)
 
-add-body-right : tie.Need-add-body-right
-add-body-right c = search needs
-
-body-right-requires : tie.Need-body-right-requires
-body-right-requires c κs = search needs
-
 returns-3 : tie.Need-returns-3
 returns-3 c = no-first-body _ _ (c .before .before .before .before .if1 .left) (c .before .before .if2 .left) (sym (c .before .body-right .ensures) ∙ not-true _ (c .if3 .taken))
-
-add-body-right-2 : tie.Need-add-body-right-2
-add-body-right-2 c = search needs
-
-body-right-requires-2 : tie.Need-body-right-requires-2
-body-right-requires-2 c κs = search needs
 
 returns-4 : tie.Need-returns-4
 returns-4 c =
     no-second-body _ _ (c .before .before .before .before .before .before .if1 .left) (c .before .before .before .before .if2 .left)
     (sym (c .before .before .before .body-right .ensures) ∙ not-false _ (c .before .before .if3 .left)) (sym (c .before .body-right2 .ensures) ∙ not-true _ (c .if4 .taken))
-
-add-record-right : tie.Need-add-record-right
-add-record-right c = search needs
-
-record-right-requires : tie.Need-record-right-requires
-record-right-requires c κs = search needs
 
 returns-5 : tie.Need-returns-5
 returns-5 c =
@@ -62,17 +31,17 @@ pub cell-right-spec : {M : Type 1} → statement M
 cell-right-spec =
     tie.close
     (tie.spec
-    shared-slice-read-if1
+    (λ c. search needs)
     returns
-    add-if2
-    shared-slice-read-if2
+    (λ c. search needs)
+    (λ c. search needs)
     returns-2
-    add-body-right
-    body-right-requires
+    (λ c. search needs)
+    (λ c κs. search needs)
     returns-3
-    add-body-right-2
-    body-right-requires-2
+    (λ c. search needs)
+    (λ c κs. search needs)
     returns-4
-    add-record-right
-    record-right-requires
+    (λ c. search needs)
+    (λ c κs. search needs)
     returns-5)

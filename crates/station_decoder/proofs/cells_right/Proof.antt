@@ -10,9 +10,6 @@ use Rattle.station_bytes_spec.specs.Station.{cellWidth, isCell}
 use Rattle.station_decoder.proofs.Reading.{all-none, all-of}
 use Rattle.station_decoder.proofs.cells_right.Statement.{statement}
 use Rattle.station_decoder.proofs.cells_right.Tie as tie
-use Rattle.station_decoder.proofs.cells_right.Reads as reads
-use Rattle.station_decoder.proofs.cells_right.Lts as lts
-use Rattle.station_decoder.proofs.cell_right.Reads as cell-right-reads
 
 abbrev Inv-loop : tie.InvT-loop
 Inv-loop bytes at k₀ k = (k ≤ 16) × (allBelow k (λ j. isCell bytes (at + cellWidth * j)) ≡ true)
@@ -23,23 +20,8 @@ abbrev μ-loop : tie.MeasureT-loop
 loop-holds : tie.Need-loop-holds Inv-loop μ-loop
 loop-holds c = (omega arith, all-none _)
 
-mul-cell-right : tie.Need-mul-cell-right Inv-loop μ-loop
-mul-cell-right c = omega arith
-
-add-cell-right : tie.Need-add-cell-right Inv-loop μ-loop
-add-cell-right c = omega arith
-
-cell-right-requires : tie.Need-cell-right-requires Inv-loop μ-loop
-cell-right-requires c κs = omega arith
-
 returns : tie.Need-returns Inv-loop μ-loop
 returns c = sym (allBelow-fails 16 _ (c .before .before .before .loop .k) (omega arith) (sym (c .before .cell-right .ensures) ∙ not-true _ (c .if1 .taken)))
-
-add-k : tie.Need-add-k Inv-loop μ-loop
-add-k c = omega arith
-
-loop-less : tie.Need-loop-less Inv-loop μ-loop
-loop-less c = omega arith
 
 loop-again : tie.Need-loop-again Inv-loop μ-loop
 loop-again c = (omega arith, allBelow-more _ _ (c .before .before .before .loop .inv .1) (sym (c .before .cell-right .ensures) ∙ not-false _ (c .if1 .left)))
@@ -54,11 +36,11 @@ cells-right-spec =
     Inv-loop
     μ-loop
     loop-holds
-    mul-cell-right
-    add-cell-right
-    cell-right-requires
+    (λ c. omega arith)
+    (λ c. omega arith)
+    (λ c κs. omega arith)
     returns
-    add-k
-    loop-less
+    (λ c. omega arith)
+    (λ c. omega arith)
     loop-again
     returns-2)

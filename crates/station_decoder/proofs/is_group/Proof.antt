@@ -1,7 +1,7 @@
 -- `station_decoder::is_group` meets its contract: all stations before k are right.
 use mathlib.Core.Path.{_≡_, sym, _∙_}
 use mathlib.Core.Bool.{true}
-use Prim.Native.Nat.{_≤_, _-_, _+_, _*_}
+use Prim.Native.Nat.{_≤_, _-_, _*_}
 use native.Mathlib.Omega.{arith}
 use borrow.Author.Tests.{not-true, not-false}
 use Rattle.places.specs.Places.{allBelow}
@@ -10,9 +10,6 @@ use Rattle.station_bytes_spec.specs.Station.{stationWidth, isStationAt}
 use Rattle.station_decoder.proofs.Reading.{all-none, no-group, no-member, all-members}
 use Rattle.station_decoder.proofs.is_group.Statement.{statement}
 use Rattle.station_decoder.proofs.is_group.Tie as tie
-use Rattle.station_decoder.proofs.is_group.Reads as reads
-use Rattle.station_decoder.proofs.is_group.Lts as lts
-use Rattle.station_decoder.proofs.station_right.Reads as station-right-reads
 
 abbrev Inv-loop : tie.InvT-loop
 Inv-loop bytes k₀ k = (k ≤ 16) × (allBelow k (λ j. isStationAt bytes (stationWidth * j)) ≡ true)
@@ -26,22 +23,10 @@ returns c = no-group _ (c .if1 .taken)
 loop-holds : tie.Need-loop-holds Inv-loop μ-loop
 loop-holds c = (omega arith, all-none _)
 
-mul-station-right : tie.Need-mul-station-right Inv-loop μ-loop
-mul-station-right c = omega arith
-
-station-right-requires : tie.Need-station-right-requires Inv-loop μ-loop
-station-right-requires c κs = omega arith
-
 returns-2 : tie.Need-returns-2 Inv-loop μ-loop
 returns-2 c =
     let z = c .before .before .before in
     no-member _ (z .before .if1 .left) (z .loop .k) (omega arith) (sym (c .before .station-right .ensures) ∙ not-true _ (c .if2 .taken))
-
-add-k : tie.Need-add-k Inv-loop μ-loop
-add-k c = omega arith
-
-loop-less : tie.Need-loop-less Inv-loop μ-loop
-loop-less c = omega arith
 
 loop-again : tie.Need-loop-again Inv-loop μ-loop
 loop-again c = (omega arith, allBelow-more _ _ (c .before .before .before .loop .inv .1) (sym (c .before .station-right .ensures) ∙ not-false _ (c .if2 .left)))
@@ -57,10 +42,10 @@ is-group-spec =
     μ-loop
     returns
     loop-holds
-    mul-station-right
-    station-right-requires
+    (λ c. omega arith)
+    (λ c κs. omega arith)
     returns-2
-    add-k
-    loop-less
+    (λ c. omega arith)
+    (λ c. omega arith)
     loop-again
     returns-3)

@@ -4,9 +4,6 @@ use Rattle.station_decoder.proofs.Reading.{no-station, by-station}
 use borrow.Author.Needs.{needs}
 use Rattle.station_decoder.proofs.is_station.Statement.{statement}
 use Rattle.station_decoder.proofs.is_station.Tie as tie
-use Rattle.station_decoder.proofs.is_station.Reads as reads
-use Rattle.station_decoder.proofs.is_station.Lts as lts
-use Rattle.station_decoder.proofs.station_right.Reads as station-right-reads
 
 returns : tie.Need-returns
 returns c = no-station _ (c .if1 .taken)

@@ -4,28 +4,6 @@ use Rattle.station_bytes_spec.specs.Body.{bodyOfWords, decodeBody}
 use borrow.Author.Needs.{needs}
 use Rattle.station_decoder.proofs.read_body.Statement.{statement}
 use Rattle.station_decoder.proofs.read_body.Tie as tie
-use Rattle.station_decoder.proofs.read_body.Reads as reads
-use Rattle.station_decoder.proofs.read_body.Lts as lts
-use Rattle.record_reader.proofs.word_at.Reads as word-at-reads
-use Rattle.station_decoder.proofs.body_of_words.Reads as body-of-words-reads
-
-word-at-requires : tie.Need-word-at-requires
-word-at-requires c κs = search needs
-
-add-word-at : tie.Need-add-word-at
-add-word-at c = search needs
-
-word-at-requires-2 : tie.Need-word-at-requires-2
-word-at-requires-2 c κs = search needs
-
-add-word-at-2 : tie.Need-add-word-at-2
-add-word-at-2 c = search needs
-
-word-at-requires-3 : tie.Need-word-at-requires-3
-word-at-requires-3 c κs = search needs
-
-body-of-words-requires : tie.Need-body-of-words-requires
-body-of-words-requires c κs = search needs
 
 returns : tie.Need-returns
 unfolding decodeBody
@@ -35,10 +13,10 @@ pub read-body-spec : {M : Type 1} → statement M
 read-body-spec =
     tie.close
     (tie.spec
-    word-at-requires
-    add-word-at
-    word-at-requires-2
-    add-word-at-2
-    word-at-requires-3
-    body-of-words-requires
+    (λ c κs. search needs)
+    (λ c. search needs)
+    (λ c κs. search needs)
+    (λ c. search needs)
+    (λ c κs. search needs)
+    (λ c κs. search needs)
     returns)

@@ -1,4 +1,4 @@
--- `station_decoder::read_waiting` meets its contract: the edits before i are read, and then their number.
+-- `station_decoder::read_waiting` meets its contract: the edits before i are read, and then their number and their limit.
 use mathlib.Core.Path.{_≡_, refl}
 use Prim.Native.Nat.{_≤_, _-_, _+_}
 use native.Mathlib.Omega.{arith}
@@ -10,7 +10,8 @@ use Rattle.station_decoder.proofs.read_waiting.Statement.{statement}
 use Rattle.station_decoder.proofs.read_waiting.Tie as tie
 use Rattle.station_decoder.proofs.read_waiting.Reads as reads
 use Rattle.station_decoder.proofs.read_waiting.Lts as lts
-use Rattle.record_reader.proofs.word_at.Reads as word-at-reads
+use borrow.Author.Needs.{needs}
+use Rattle.record_reader.proofs.wide.Reads as wide-reads
 use Rattle.station_decoder.proofs.read_body.Reads as read-body-reads
 
 abbrev Inv-loop : tie.InvT-loop
@@ -52,14 +53,25 @@ loop-again c =
     let s = c .before .before .before .before .args in
     (omega arith, fill-next (l .i) (editIn (s .bytes .now) (s .at)) (replicate 32 noSlot) (l .slots) _ (l .inv .1) (λ j. record { body = c .read-body .ensures j }))
 
-word-at-requires : tie.Need-word-at-requires Inv-loop μ-loop
-word-at-requires c κs = omega arith
+shared-slice-read-wide : tie.Need-shared-slice-read-wide Inv-loop μ-loop
+shared-slice-read-wide c = omega arith
 
-cast-len : tie.Need-cast-len Inv-loop μ-loop
-cast-len c = omega arith
+wide-requires : tie.Need-wide-requires Inv-loop μ-loop
+wide-requires c κs = search needs
+
+add-wide : tie.Need-add-wide Inv-loop μ-loop
+add-wide c = omega arith
+
+shared-slice-read-wide-2 : tie.Need-shared-slice-read-wide-2 Inv-loop μ-loop
+shared-slice-read-wide-2 c = omega arith
+
+wide-requires-2 : tie.Need-wide-requires-2 Inv-loop μ-loop
+wide-requires-2 c κs = search needs
 
 returns : tie.Need-returns Inv-loop μ-loop
-returns c = waiting-read _ _ _ _ _ (c .word-at .ensures) (omega arith) (c .before .before .loop .inv .1)
+returns c =
+    let l = c .before .before .before .before .before .loop in
+    waiting-read _ _ _ _ _ _ (c .before .before .wide .ensures) (c .wide2 .ensures) (omega arith) (l .inv .1)
 
 pub read-waiting-spec : {M : Type 1} → statement M
 read-waiting-spec =
@@ -77,6 +89,9 @@ read-waiting-spec =
     add-i
     loop-less
     loop-again
-    word-at-requires
-    cast-len
+    shared-slice-read-wide
+    wide-requires
+    add-wide
+    shared-slice-read-wide-2
+    wide-requires-2
     returns)

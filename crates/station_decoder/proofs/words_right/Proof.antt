@@ -3,36 +3,14 @@ use Rattle.station_decoder.proofs.Reading.{other-kind, other-event, by-
 use borrow.Author.Needs.{needs}
 use Rattle.station_decoder.proofs.words_right.Statement.{statement}
 use Rattle.station_decoder.proofs.words_right.Tie as tie
-use Rattle.station_decoder.proofs.words_right.Reads as reads
-use Rattle.station_decoder.proofs.words_right.Lts as lts
-use Rattle.kinds.proofs.argument_of.Reads as argument-of-reads
-use Rattle.kinds.proofs.event_of.Reads as event-of-reads
-use Rattle.kinds.proofs.kind_of.Reads as kind-of-reads
-use Rattle.record_writer.proofs.unsigned.Reads as unsigned-reads
-use Rattle.station_decoder.proofs.body_of_words.Reads as body-of-words-reads
-
-body-of-words-requires : tie.Need-body-of-words-requires
-body-of-words-requires c κs = search needs
-
-kind-of-requires : tie.Need-kind-of-requires
-kind-of-requires c κs = search needs
 
 returns : tie.Need-returns
 returns c = other-kind _ _ _ _ (c .before .before .body-of-words .ensures) _ (c .before .kind-of .ensures) (c .if1 .taken)
-
-event-of-requires : tie.Need-event-of-requires
-event-of-requires c κs = search needs
 
 returns-2 : tie.Need-returns-2
 returns-2 c =
     other-event _ _ _ _ (c .before .before .before .before .body-of-words .ensures) _ (c .before .before .before .kind-of .ensures) (c .before .before .if1 .left) _
     (c .before .event-of .ensures) (c .if2 .taken)
-
-argument-of-requires : tie.Need-argument-of-requires
-argument-of-requires c κs = search needs
-
-unsigned-requires : tie.Need-unsigned-requires
-unsigned-requires c κs = search needs
 
 returns-3 : tie.Need-returns-3
 returns-3 c =
@@ -44,11 +22,11 @@ pub words-right-spec : {M : Type 1} → statement M
 words-right-spec =
     tie.close
     (tie.spec
-    body-of-words-requires
-    kind-of-requires
+    (λ c κs. search needs)
+    (λ c κs. search needs)
     returns
-    event-of-requires
+    (λ c κs. search needs)
     returns-2
-    argument-of-requires
-    unsigned-requires
+    (λ c κs. search needs)
+    (λ c κs. search needs)
     returns-3)

@@ -4,8 +4,6 @@ use Rattle.station_bytes_spec.specs.Bytes.{asByte}
 use borrow.Author.Needs.{needs}
 use Rattle.station_encoder.proofs.as_byte.Statement.{statement}
 use Rattle.station_encoder.proofs.as_byte.Tie as tie
-use Rattle.station_encoder.proofs.as_byte.Reads as reads
-use Rattle.station_encoder.proofs.as_byte.Lts as lts
 
 cast-result : tie.Need-cast-result
 cast-result c = search needs

@@ -3,42 +3,6 @@ use Rattle.station_encoder.proofs.Writing.{cell-written}
 use borrow.Author.Needs.{needs}
 use Rattle.station_encoder.proofs.put_cell.Statement.{statement}
 use Rattle.station_encoder.proofs.put_cell.Tie as tie
-use Rattle.station_encoder.proofs.put_cell.Reads as reads
-use Rattle.station_encoder.proofs.put_cell.Lts as lts
-use Rattle.station_encoder.proofs.flag_byte.Reads as flag-byte-reads
-use Rattle.station_encoder.proofs.put_body.Reads as put-body-reads
-use Rattle.station_encoder.proofs.put_four.Reads as put-four-reads
-use Rattle.station_encoder.proofs.put_record.Reads as put-record-reads
-
-flag-byte-requires : tie.Need-flag-byte-requires
-flag-byte-requires c κs = search needs
-
-flag-byte-requires-2 : tie.Need-flag-byte-requires-2
-flag-byte-requires-2 c κs = search needs
-
-put-four-requires : tie.Need-put-four-requires
-put-four-requires c κs = search needs
-
-add-put-body : tie.Need-add-put-body
-add-put-body c = search needs
-
-put-body-requires : tie.Need-put-body-requires
-put-body-requires c κs = search needs
-
-add-put-body-2 : tie.Need-add-put-body-2
-add-put-body-2 c = search needs
-
-put-body-requires-2 : tie.Need-put-body-requires-2
-put-body-requires-2 c κs = search needs
-
-add-put-record : tie.Need-add-put-record
-add-put-record c = search needs
-
-put-record-requires : tie.Need-put-record-requires
-put-record-requires c κs = search needs
-
-same-length : tie.Need-same-length
-same-length c = search needs
 
 returns : tie.Need-returns
 returns c =
@@ -54,14 +18,14 @@ pub put-cell-spec : {M : Type 1} → statement M
 put-cell-spec =
     tie.close
     (tie.spec
-    flag-byte-requires
-    flag-byte-requires-2
-    put-four-requires
-    add-put-body
-    put-body-requires
-    add-put-body-2
-    put-body-requires-2
-    add-put-record
-    put-record-requires
-    same-length
+    (λ c κs. search needs)
+    (λ c κs. search needs)
+    (λ c κs. search needs)
+    (λ c. search needs)
+    (λ c κs. search needs)
+    (λ c. search needs)
+    (λ c κs. search needs)
+    (λ c. search needs)
+    (λ c κs. search needs)
+    (λ c. search needs)
     returns)

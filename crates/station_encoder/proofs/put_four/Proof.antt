@@ -5,32 +5,15 @@ use lib.ListN.{length-set}
 use borrow.Author.Needs.{needs}
 use Rattle.station_encoder.proofs.put_four.Statement.{statement}
 use Rattle.station_encoder.proofs.put_four.Tie as tie
-use Rattle.station_encoder.proofs.put_four.Reads as reads
-use Rattle.station_encoder.proofs.put_four.Lts as lts
-
-slice-write-bytes : tie.Need-slice-write-bytes
-slice-write-bytes c = search needs
-
-add-bytes : tie.Need-add-bytes
-add-bytes c = search needs
 
 slice-write-bytes-2 : tie.Need-slice-write-bytes-2
 slice-write-bytes-2 c = simp length-set (omega arith)
 
-add-bytes-2 : tie.Need-add-bytes-2
-add-bytes-2 c = search needs
-
 slice-write-bytes-3 : tie.Need-slice-write-bytes-3
 slice-write-bytes-3 c = simp length-set (omega arith)
 
-add-bytes-3 : tie.Need-add-bytes-3
-add-bytes-3 c = search needs
-
 slice-write-bytes-4 : tie.Need-slice-write-bytes-4
 slice-write-bytes-4 c = simp length-set (omega arith)
-
-same-length : tie.Need-same-length
-same-length c = search needs
 
 returns : tie.Need-returns
 returns c = simp (add-one, add-two, add-three)
@@ -39,12 +22,12 @@ pub put-four-spec : {M : Type 1} → statement M
 put-four-spec =
     tie.close
     (tie.spec
-    slice-write-bytes
-    add-bytes
+    (λ c. search needs)
+    (λ c. search needs)
     slice-write-bytes-2
-    add-bytes-2
+    (λ c. search needs)
     slice-write-bytes-3
-    add-bytes-3
+    (λ c. search needs)
     slice-write-bytes-4
-    same-length
+    (λ c. search needs)
     returns)

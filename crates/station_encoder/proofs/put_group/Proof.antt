@@ -1,8 +1,7 @@
 -- `station_encoder::put_group` meets its contract: the stations before k are written.
-use mathlib.Core.Path.{_≡_, refl, ap, _∙_}
-use Prim.Native.Nat.{ℕ, _≤_, _-_, _+_, _*_}
+use mathlib.Core.Path.{_≡_, refl, _∙_}
+use Prim.Native.Nat.{_≤_, _-_}
 use native.Mathlib.Omega.{arith}
-use mathlib.Core.List.{List}
 use lib.ListN.{length}
 use lib.Seq.{sets}
 use Rattle.group_rules.specs.State.{stationAt}
@@ -13,9 +12,6 @@ use Rattle.station_bytes_spec.proofs.Station.{length-station}
 use Rattle.station_encoder.proofs.Writing.{none-written, part-at-front, all-written}
 use Rattle.station_encoder.proofs.put_group.Statement.{statement}
 use Rattle.station_encoder.proofs.put_group.Tie as tie
-use Rattle.station_encoder.proofs.put_group.Reads as reads
-use Rattle.station_encoder.proofs.put_group.Lts as lts
-use Rattle.station_encoder.proofs.put_station.Reads as put-station-reads
 
 abbrev Inv-loop : tie.InvT-loop
 Inv-loop bytes₀ group k₀ bytes k = (k ≤ 16) × (length bytes ≡ length bytes₀) × (bytes ≡ sets bytes₀ 0 (joinedBelow k (λ j. encodeStation (stationAt group j))))
@@ -25,24 +21,6 @@ abbrev μ-loop : tie.MeasureT-loop
 
 loop-holds : tie.Need-loop-holds Inv-loop μ-loop
 loop-holds c = (omega arith, refl, none-written _ 0 (λ k. encodeStation (stationAt (c .before .args .t2) k)))
-
-mul-put-station : tie.Need-mul-put-station Inv-loop μ-loop
-mul-put-station c = omega arith
-
-mul-put-station-2 : tie.Need-mul-put-station-2 Inv-loop μ-loop
-mul-put-station-2 c = omega arith
-
-array-copy-out-put-station : tie.Need-array-copy-out-put-station Inv-loop μ-loop
-array-copy-out-put-station c = omega arith
-
-put-station-requires : tie.Need-put-station-requires Inv-loop μ-loop
-put-station-requires c κs = omega arith
-
-add-k : tie.Need-add-k Inv-loop μ-loop
-add-k c = omega arith
-
-loop-less : tie.Need-loop-less Inv-loop μ-loop
-loop-less c = omega arith
 
 loop-again : tie.Need-loop-again Inv-loop μ-loop
 loop-again c =
@@ -67,12 +45,12 @@ put-group-spec =
     Inv-loop
     μ-loop
     loop-holds
-    mul-put-station
-    mul-put-station-2
-    array-copy-out-put-station
-    put-station-requires
-    add-k
-    loop-less
+    (λ c. omega arith)
+    (λ c. omega arith)
+    (λ c. omega arith)
+    (λ c κs. omega arith)
+    (λ c. omega arith)
+    (λ c. omega arith)
     loop-again
     same-length
     returns)

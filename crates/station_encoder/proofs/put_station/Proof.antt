@@ -3,43 +3,6 @@ use Rattle.station_encoder.proofs.Writing.{station-written}
 use borrow.Author.Needs.{needs}
 use Rattle.station_encoder.proofs.put_station.Statement.{statement}
 use Rattle.station_encoder.proofs.put_station.Tie as tie
-use Rattle.station_encoder.proofs.put_station.Reads as reads
-use Rattle.station_encoder.proofs.put_station.Lts as lts
-use Rattle.station_encoder.proofs.as_byte.Reads as as-byte-reads
-use Rattle.station_encoder.proofs.put_body.Reads as put-body-reads
-use Rattle.station_encoder.proofs.put_cells.Reads as put-cells-reads
-use Rattle.station_encoder.proofs.put_four.Reads as put-four-reads
-use Rattle.station_encoder.proofs.put_waiting.Reads as put-waiting-reads
-
-as-byte-requires : tie.Need-as-byte-requires
-as-byte-requires c κs = search needs
-
-as-byte-requires-2 : tie.Need-as-byte-requires-2
-as-byte-requires-2 c κs = search needs
-
-put-four-requires : tie.Need-put-four-requires
-put-four-requires c κs = search needs
-
-add-put-body : tie.Need-add-put-body
-add-put-body c = search needs
-
-put-body-requires : tie.Need-put-body-requires
-put-body-requires c κs = search needs
-
-add-put-cells : tie.Need-add-put-cells
-add-put-cells c = search needs
-
-put-cells-requires : tie.Need-put-cells-requires
-put-cells-requires c κs = search needs
-
-add-put-waiting : tie.Need-add-put-waiting
-add-put-waiting c = search needs
-
-put-waiting-requires : tie.Need-put-waiting-requires
-put-waiting-requires c κs = search needs
-
-same-length : tie.Need-same-length
-same-length c = search needs
 
 returns : tie.Need-returns
 returns c =
@@ -55,14 +18,14 @@ pub put-station-spec : {M : Type 1} → statement M
 put-station-spec =
     tie.close
     (tie.spec
-    as-byte-requires
-    as-byte-requires-2
-    put-four-requires
-    add-put-body
-    put-body-requires
-    add-put-cells
-    put-cells-requires
-    add-put-waiting
-    put-waiting-requires
-    same-length
+    (λ c κs. search needs)
+    (λ c κs. search needs)
+    (λ c κs. search needs)
+    (λ c. search needs)
+    (λ c κs. search needs)
+    (λ c. search needs)
+    (λ c κs. search needs)
+    (λ c. search needs)
+    (λ c κs. search needs)
+    (λ c. search needs)
     returns)

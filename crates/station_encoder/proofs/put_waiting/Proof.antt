@@ -1,4 +1,4 @@
--- `station_encoder::put_waiting` meets its contract: the number of edits is written, and then the edits before i.
+-- `station_encoder::put_waiting` meets its contract: the number of edits and their limit are written, and then the edits before i.
 use mathlib.Core.Path.{_≡_, refl, ap, _∙_}
 use Prim.Native.Nat.{ℕ, _≤_, _-_, _+_, _*_}
 use native.Mathlib.Omega.{arith}
@@ -15,7 +15,7 @@ use Rattle.station_encoder.proofs.put_waiting.Statement.{statement}
 use Rattle.station_encoder.proofs.put_waiting.Tie as tie
 use Rattle.station_encoder.proofs.put_waiting.Reads as reads
 use Rattle.station_encoder.proofs.put_waiting.Lts as lts
-use Rattle.record_writer.proofs.put_word.Reads as put-word-reads
+use Rattle.station_encoder.proofs.put_four.Reads as put-four-reads
 use Rattle.station_encoder.proofs.as_byte.Reads as as-byte-reads
 use Rattle.station_encoder.proofs.put_body.Reads as put-body-reads
 
@@ -31,11 +31,11 @@ abbrev μ-loop : tie.MeasureT-loop
 as-byte-requires : tie.Need-as-byte-requires Inv-loop μ-loop
 as-byte-requires c κs = omega arith
 
-cast-put-word : tie.Need-cast-put-word Inv-loop μ-loop
-cast-put-word c = omega arith
+as-byte-requires-2 : tie.Need-as-byte-requires-2 Inv-loop μ-loop
+as-byte-requires-2 c κs = omega arith
 
-put-word-requires : tie.Need-put-word-requires Inv-loop μ-loop
-put-word-requires c κs = omega arith
+put-four-requires : tie.Need-put-four-requires Inv-loop μ-loop
+put-four-requires c κs = omega arith
 
 loop-holds : tie.Need-loop-holds Inv-loop μ-loop
 loop-holds c = (omega arith, refl, none-written _ _ _)
@@ -68,17 +68,17 @@ loop-again : tie.Need-loop-again Inv-loop μ-loop
 loop-again c =
     let z = c .before .before in
     let l = z .before .before .before .before .loop in
-    let s = z .before .before .before .before .before .before .before .before .before .before .before .before .before .args in
+    let s = z .before .before .before .before .before .before .before .before .before .before .before .before .before .before .args in
     (omega arith, z .put-body .kept .0 ∙ l .inv .1, part-written _ (l .bytes) _ (s .at + 4) 12 (l .i) (edits (s .waiting .queue .slots)) (λ j. length-body _) (l .inv .2) (z .put-body .ensures))
 
 same-length : tie.Need-same-length Inv-loop μ-loop
-same-length c = c .before .loop .inv .1 ∙ c .before .before .before .before .put-word .kept .0
+same-length c = c .before .loop .inv .1 ∙ c .before .before .before .before .put-four .kept .0
 
 returns : tie.Need-returns Inv-loop μ-loop
 returns c =
     let z = c .before .before .before .before in
-    let s = z .before .before .before .before .before .before .args in
-    waiting-written (s .bytes .now) (s .at) (s .waiting) (z .before .as-byte .result) _ _ _ (z .before .as-byte .ensures) (omega arith) (z .put-word .ensures) (c .before .loop .inv .2)
+    let s = z .before .before .before .before .before .before .before .args in
+    waiting-written (s .bytes .now) (s .at) (s .waiting) (z .before .before .as-byte .result) (z .before .as-byte2 .result) _ _ _ (z .before .before .as-byte .ensures) (z .before .as-byte2 .ensures) (omega arith) (z .put-four .ensures) (c .before .loop .inv .2)
 
 pub put-waiting-spec : {M : Type 1} → statement M
 put-waiting-spec =
@@ -87,8 +87,8 @@ put-waiting-spec =
     Inv-loop
     μ-loop
     as-byte-requires
-    cast-put-word
-    put-word-requires
+    as-byte-requires-2
+    put-four-requires
     loop-holds
     mul-slot
     array-copy-out-slot

@@ -1,11 +1,9 @@
 -- `relay_group::mask_at` meets its contract: what is read past the end is 0.
-use mathlib.Core.Path.{_≡_, sym}
+use mathlib.Core.Path.{sym}
 use lib.ListN.{List·getD-eq-default}
 use borrow.Author.Needs.{needs}
 use Rattle.relay_host.proofs.relay_group.mask_at.Statement.{statement}
 use Rattle.relay_host.proofs.relay_group.mask_at.Tie as tie
-use Rattle.relay_host.proofs.relay_group.mask_at.Reads as reads
-use Rattle.relay_host.proofs.relay_group.mask_at.Lts as lts
 
 returns : tie.Need-returns
 returns c = sym (List·getD-eq-default (c .before .args .masks .now) 0 (c .if1 .taken))

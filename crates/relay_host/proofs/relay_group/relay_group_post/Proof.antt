@@ -1,5 +1,5 @@
 -- Each return is a case of the definition: no group, the group's refusal, or the group written over its bytes.
-use mathlib.Core.Path.{_≡_, sym, _∙_}
+use mathlib.Core.Path.{sym, _∙_}
 use native.Mathlib.Omega.{arith}
 use borrow.Author.Tests.{not-true, not-false}
 use mathlib.Core.Path.{ap}
@@ -12,34 +12,12 @@ use Rattle.relay_host.proofs.Group.{group-long, post-no-group, post-ref
 use borrow.Author.Needs.{needs}
 use Rattle.relay_host.proofs.relay_group.relay_group_post.Statement.{statement}
 use Rattle.relay_host.proofs.relay_group.relay_group_post.Tie as tie
-use Rattle.relay_host.proofs.relay_group.relay_group_post.Reads as reads
-use Rattle.relay_host.proofs.relay_group.relay_group_post.Lts as lts
-use Rattle.group.proofs.post.Reads as post-reads
-use Rattle.relay_host.proofs.relay_station.named_body.Reads as named-body-reads
-use Rattle.station_decoder.proofs.is_group.Reads as is-group-reads
-use Rattle.station_decoder.proofs.read_group.Reads as read-group-reads
-use Rattle.station_encoder.proofs.put_group.Reads as put-group-reads
-
-is-group-requires : tie.Need-is-group-requires
-is-group-requires c κs = search needs
-
-same-length : tie.Need-same-length
-same-length c = search needs
 
 returns : tie.Need-returns
 returns c = post-no-group _ (sym (c .before .is-group .ensures) ∙ not-true _ (c .if1 .taken)) _ _
 
 read-group-requires : tie.Need-read-group-requires
 read-group-requires c κs = omega (arith, group-long _ (sym (c .before .before .is-group .ensures) ∙ not-false _ (c .before .if1 .left)))
-
-named-body-requires : tie.Need-named-body-requires
-named-body-requires c κs = search needs
-
-post-requires : tie.Need-post-requires
-post-requires c κs = search needs
-
-same-length-2 : tie.Need-same-length-2
-same-length-2 c = search needs
 
 returns-2 : tie.Need-returns-2
 returns-2 c =
@@ -55,9 +33,6 @@ put-group-requires c κs =
     let r = c .before .before .before .before .before .before in
     omega (arith, group-long _ (sym (r .before .before .before .is-group .ensures) ∙ not-false _ (r .before .before .if1 .left)))
 
-same-length-3 : tie.Need-same-length-3
-same-length-3 c = search needs
-
 returns-3 : tie.Need-returns-3
 returns-3 c =
     let z = c .before .before .before .before .before .before .before in
@@ -71,14 +46,14 @@ pub relay-group-post-spec : {M : Type 1} → statement M
 relay-group-post-spec =
     tie.close
     (tie.spec
-    is-group-requires
-    same-length
+    (λ c κs. search needs)
+    (λ c. search needs)
     returns
     read-group-requires
-    named-body-requires
-    post-requires
-    same-length-2
+    (λ c κs. search needs)
+    (λ c κs. search needs)
+    (λ c. search needs)
     returns-2
     put-group-requires
-    same-length-3
+    (λ c. search needs)
     returns-3)

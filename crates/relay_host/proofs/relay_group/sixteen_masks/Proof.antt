@@ -7,9 +7,6 @@ use Rattle.places.specs.Places.{fill}
 use Rattle.relay_host.proofs.Group.{masks-none, masks-next, masks-all}
 use Rattle.relay_host.proofs.relay_group.sixteen_masks.Statement.{statement}
 use Rattle.relay_host.proofs.relay_group.sixteen_masks.Tie as tie
-use Rattle.relay_host.proofs.relay_group.sixteen_masks.Reads as reads
-use Rattle.relay_host.proofs.relay_group.sixteen_masks.Lts as lts
-use Rattle.relay_host.proofs.relay_group.mask_at.Reads as mask-at-reads
 
 abbrev Inv-loop : tie.InvT-loop
 Inv-loop masks sixteen₀ k₀ sixteen k = (k ≤ 16) × (sixteen ≡ fill k (λ j. getD masks j 0) (replicate 16 0))
@@ -19,21 +16,6 @@ abbrev μ-loop : tie.MeasureT-loop
 
 loop-holds : tie.Need-loop-holds Inv-loop μ-loop
 loop-holds c = (omega arith, masks-none (c .before .args .masks .now))
-
-mask-at-requires : tie.Need-mask-at-requires Inv-loop μ-loop
-mask-at-requires c κs = omega arith
-
-mul-sixteen : tie.Need-mul-sixteen Inv-loop μ-loop
-mul-sixteen c = omega arith
-
-array-write-sixteen : tie.Need-array-write-sixteen Inv-loop μ-loop
-array-write-sixteen c = omega arith
-
-add-k : tie.Need-add-k Inv-loop μ-loop
-add-k c = omega arith
-
-loop-less : tie.Need-loop-less Inv-loop μ-loop
-loop-less c = omega arith
 
 loop-again : tie.Need-loop-again Inv-loop μ-loop
 loop-again c = (omega arith, masks-next (c .before .before .before .before .args .masks .now) (c .before .before .loop .sixteen) (c .before .before .loop .k) _ (c .mask-at .ensures) (c .before .before .loop .inv .1))
@@ -48,10 +30,10 @@ sixteen-masks-spec =
     Inv-loop
     μ-loop
     loop-holds
-    mask-at-requires
-    mul-sixteen
-    array-write-sixteen
-    add-k
-    loop-less
+    (λ c κs. omega arith)
+    (λ c. omega arith)
+    (λ c. omega arith)
+    (λ c. omega arith)
+    (λ c. omega arith)
     loop-again
     returns)

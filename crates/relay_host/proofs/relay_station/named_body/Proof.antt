@@ -1,5 +1,5 @@
 -- `relay_station::named_body` meets its contract: the argument is read back from its bits.
-use mathlib.Core.Path.{_≡_, sym, ap, _∙_}
+use mathlib.Core.Path.{sym, ap, _∙_}
 use mir.Syntax.{w32}
 use mir.ValLaws.{toZ-ofZ}
 use Rattle.kinds.specs.Body.{bodyOf}
@@ -8,10 +8,6 @@ use Rattle.relay_host.proofs.Station.{body-named, body-none}
 use borrow.Author.Needs.{needs}
 use Rattle.relay_host.proofs.relay_station.named_body.Statement.{statement}
 use Rattle.relay_host.proofs.relay_station.named_body.Tie as tie
-use Rattle.relay_host.proofs.relay_station.named_body.Reads as reads
-use Rattle.relay_host.proofs.relay_station.named_body.Lts as lts
-use Rattle.kind_limits.proofs.numbers_inside.Reads as numbers-inside-reads
-use Rattle.kinds.proofs.body_of.Reads as body-of-reads
 
 numbers-inside-requires : tie.Need-numbers-inside-requires
 numbers-inside-requires c κs = search needs

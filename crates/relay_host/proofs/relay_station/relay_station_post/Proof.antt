@@ -1,5 +1,5 @@
 -- Each return is a case of the definition: no station, the station's refusal, or the station written over its bytes.
-use mathlib.Core.Path.{_≡_, sym, _∙_}
+use mathlib.Core.Path.{sym, _∙_}
 use native.Mathlib.Omega.{arith}
 use borrow.Author.Tests.{not-true, not-false}
 use mathlib.Core.Path.{ap}
@@ -11,34 +11,12 @@ use Rattle.relay_host.proofs.Station.{station-long, post-no-station, po
 use borrow.Author.Needs.{needs}
 use Rattle.relay_host.proofs.relay_station.relay_station_post.Statement.{statement}
 use Rattle.relay_host.proofs.relay_station.relay_station_post.Tie as tie
-use Rattle.relay_host.proofs.relay_station.relay_station_post.Reads as reads
-use Rattle.relay_host.proofs.relay_station.relay_station_post.Lts as lts
-use Rattle.relay_host.proofs.relay_station.named_body.Reads as named-body-reads
-use Rattle.station.proofs.post.Reads as post-reads
-use Rattle.station_decoder.proofs.is_station.Reads as is-station-reads
-use Rattle.station_decoder.proofs.read_station.Reads as read-station-reads
-use Rattle.station_encoder.proofs.put_station.Reads as put-station-reads
-
-is-station-requires : tie.Need-is-station-requires
-is-station-requires c κs = search needs
-
-same-length : tie.Need-same-length
-same-length c = search needs
 
 returns : tie.Need-returns
 returns c = post-no-station _ (sym (c .before .is-station .ensures) ∙ not-true _ (c .if1 .taken)) _
 
 read-station-requires : tie.Need-read-station-requires
 read-station-requires c κs = omega (arith, station-long _ (sym (c .before .before .is-station .ensures) ∙ not-false _ (c .before .if1 .left)))
-
-named-body-requires : tie.Need-named-body-requires
-named-body-requires c κs = search needs
-
-post-requires : tie.Need-post-requires
-post-requires c κs = search needs
-
-same-length-2 : tie.Need-same-length-2
-same-length-2 c = search needs
 
 returns-2 : tie.Need-returns-2
 returns-2 c =
@@ -54,9 +32,6 @@ put-station-requires c κs =
     let r = c .before .before .before .before .before .before in
     omega (arith, station-long _ (sym (r .before .before .before .is-station .ensures) ∙ not-false _ (r .before .before .if1 .left)))
 
-same-length-3 : tie.Need-same-length-3
-same-length-3 c = search needs
-
 returns-3 : tie.Need-returns-3
 returns-3 c =
     let z = c .before .before .before .before .before .before .before in
@@ -70,14 +45,14 @@ pub relay-station-post-spec : {M : Type 1} → statement M
 relay-station-post-spec =
     tie.close
     (tie.spec
-    is-station-requires
-    same-length
+    (λ c κs. search needs)
+    (λ c. search needs)
     returns
     read-station-requires
-    named-body-requires
-    post-requires
-    same-length-2
+    (λ c κs. search needs)
+    (λ c κs. search needs)
+    (λ c. search needs)
     returns-2
     put-station-requires
-    same-length-3
+    (λ c. search needs)
     returns-3)

@@ -1,24 +1,11 @@
 -- Each return is a case of the definition: no station, the station's refusal, no room, or both buffers written.
-use mathlib.Core.Path.{_≡_, sym, _∙_}
+use mathlib.Core.Path.{sym, _∙_}
 use native.Mathlib.Omega.{arith}
 use borrow.Author.Tests.{not-true, not-false}
 use Rattle.relay_host.proofs.Station.{station-long, turn-no-station, turn-refused, turn-short, turn-done}
 use borrow.Author.Needs.{needs}
 use Rattle.relay_host.proofs.relay_station.relay_station_turn.Statement.{statement}
 use Rattle.relay_host.proofs.relay_station.relay_station_turn.Tie as tie
-use Rattle.relay_host.proofs.relay_station.relay_station_turn.Reads as reads
-use Rattle.relay_host.proofs.relay_station.relay_station_turn.Lts as lts
-use Rattle.report_encoder.proofs.put_turn.Reads as put-turn-reads
-use Rattle.station.proofs.turn.Reads as turn-reads
-use Rattle.station_decoder.proofs.is_station.Reads as is-station-reads
-use Rattle.station_decoder.proofs.read_station.Reads as read-station-reads
-use Rattle.station_encoder.proofs.put_station.Reads as put-station-reads
-
-is-station-requires : tie.Need-is-station-requires
-is-station-requires c κs = search needs
-
-same-length : tie.Need-same-length
-same-length c = search needs
 
 returns : tie.Need-returns
 returns c = turn-no-station _ (sym (c .before .is-station .ensures) ∙ not-true _ (c .if1 .taken)) _
@@ -26,19 +13,10 @@ returns c = turn-no-station _ (sym (c .before .is-station .ensures) ∙ not-true
 read-station-requires : tie.Need-read-station-requires
 read-station-requires c κs = omega (arith, station-long _ (sym (c .before .before .is-station .ensures) ∙ not-false _ (c .before .if1 .left)))
 
-turn-requires : tie.Need-turn-requires
-turn-requires c κs = search needs
-
-same-length-2 : tie.Need-same-length-2
-same-length-2 c = search needs
-
 returns-2 : tie.Need-returns-2
 returns-2 c =
     let r = c .before .before .before in
     turn-refused _ (sym (r .before .before .before .is-station .ensures) ∙ not-false _ (r .before .before .if1 .left)) _ (r .read-station .ensures) _ _ (c .before .before .turn .ensures) (c .if2 .taken)
-
-same-length-3 : tie.Need-same-length-3
-same-length-3 c = search needs
 
 returns-3 : tie.Need-returns-3
 returns-3 c =
@@ -49,15 +27,6 @@ put-station-requires : tie.Need-put-station-requires
 put-station-requires c κs =
     let r = c .before .before .before .before .before .before .before in
     omega (arith, station-long _ (sym (r .before .before .before .is-station .ensures) ∙ not-false _ (r .before .before .if1 .left)))
-
-put-turn-requires : tie.Need-put-turn-requires
-put-turn-requires c κs = search needs
-
-same-length-4 : tie.Need-same-length-4
-same-length-4 c = search needs
-
-same-length-5 : tie.Need-same-length-5
-same-length-5 c = search needs
 
 returns-4 : tie.Need-returns-4
 returns-4 c =
@@ -70,17 +39,17 @@ pub relay-station-turn-spec : {M : Type 1} → statement M
 relay-station-turn-spec =
     tie.close
     (tie.spec
-    is-station-requires
-    same-length
+    (λ c κs. search needs)
+    (λ c. search needs)
     returns
     read-station-requires
-    turn-requires
-    same-length-2
+    (λ c κs. search needs)
+    (λ c. search needs)
     returns-2
-    same-length-3
+    (λ c. search needs)
     returns-3
     put-station-requires
-    put-turn-requires
-    same-length-4
-    same-length-5
+    (λ c κs. search needs)
+    (λ c. search needs)
+    (λ c. search needs)
     returns-4)

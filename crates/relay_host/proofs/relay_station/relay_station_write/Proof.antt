@@ -1,5 +1,5 @@
 -- Each return is a case of the definition: no station, no room for the number of bytes, the station's refusal, or both buffers written.
-use mathlib.Core.Path.{_≡_, sym, _∙_}
+use mathlib.Core.Path.{sym, _∙_}
 use native.Mathlib.Omega.{arith}
 use borrow.Author.Tests.{not-true, not-false}
 use Rattle.relay_host.proofs.Station.{station-long}
@@ -7,26 +7,12 @@ use Rattle.relay_host.proofs.Write.{write-no-station, write-none-refuse
 use borrow.Author.Needs.{needs}
 use Rattle.relay_host.proofs.relay_station.relay_station_write.Statement.{statement}
 use Rattle.relay_host.proofs.relay_station.relay_station_write.Tie as tie
-use Rattle.relay_host.proofs.relay_station.relay_station_write.Reads as reads
-use Rattle.relay_host.proofs.relay_station.relay_station_write.Lts as lts
-use Rattle.station_decoder.proofs.is_station.Reads as is-station-reads
-use Rattle.station_decoder.proofs.read_station.Reads as read-station-reads
-use Rattle.station_frames.proofs.write.Reads as write-reads
-
-is-station-requires : tie.Need-is-station-requires
-is-station-requires c κs = search needs
 
 returns : tie.Need-returns
 returns c = write-no-station _ _ _ (sym (c .before .is-station .ensures) ∙ not-true _ (c .if1 .taken))
 
 read-station-requires : tie.Need-read-station-requires
 read-station-requires c κs = omega (arith, station-long _ (sym (c .before .is-station .ensures) ∙ not-false _ (c .if1 .left)))
-
-slice-aggregate-write : tie.Need-slice-aggregate-write
-slice-aggregate-write c = search needs
-
-write-requires : tie.Need-write-requires
-write-requires c κs = search needs
 
 returns-2 : tie.Need-returns-2
 returns-2 c =
@@ -37,12 +23,6 @@ returns-3 : tie.Need-returns-3
 returns-3 c =
     let r = c .before .before .before .before .before .before in
     write-none _ _ _ (sym (r .before .before .is-station .ensures) ∙ not-false _ (r .before .if1 .left)) _ (r .read-station .ensures) (omega (arith, c .before .before .before .before .before .if2 .taken)) _ _ (c .before .before .before .write .ensures .0) (c .if3 .left)
-
-write-requires-2 : tie.Need-write-requires-2
-write-requires-2 c κs = search needs
-
-same-length : tie.Need-same-length
-same-length c = search needs
 
 returns-4 : tie.Need-returns-4
 returns-4 c =
@@ -64,15 +44,6 @@ cast-lengths c =
           );
     }
 
-slice-write-lengths : tie.Need-slice-write-lengths
-slice-write-lengths c = search needs
-
-same-length-2 : tie.Need-same-length-2
-same-length-2 c = search needs
-
-same-length-3 : tie.Need-same-length-3
-same-length-3 c = search needs
-
 returns-5 : tie.Need-returns-5
 returns-5 c =
     let w = c .before .before .before .before .before in
@@ -84,18 +55,18 @@ pub relay-station-write-spec : {M : Type 1} → statement M
 relay-station-write-spec =
     tie.close
     (tie.spec
-    is-station-requires
+    (λ c κs. search needs)
     returns
     read-station-requires
-    slice-aggregate-write
-    write-requires
+    (λ c. search needs)
+    (λ c κs. search needs)
     returns-2
     returns-3
-    write-requires-2
-    same-length
+    (λ c κs. search needs)
+    (λ c. search needs)
     returns-4
     cast-lengths
-    slice-write-lengths
-    same-length-2
-    same-length-3
+    (λ c. search needs)
+    (λ c. search needs)
+    (λ c. search needs)
     returns-5)

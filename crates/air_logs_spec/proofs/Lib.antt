@@ -1,0 +1,11 @@
+pub mod Fields
+pub mod Form
+pub mod ReadBack
+pub mod Prints
+pub mod Carried
+pub mod RoundLog
+pub mod CallsLog
+pub mod ScriptLog
+pub mod Meaning
+pub mod LogsFit
+pub mod Examples

@@ -1,2 +1,0 @@
-pub mod FrameBytes
-pub mod MarkLaws

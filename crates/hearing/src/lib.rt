@@ -1,0 +1,235 @@
+// Hearing, on the bytes of frames and on numbers alone: no station is touched. A record is told by
+// its place, where its sixteen bytes begin; no record begins at 0.
+//
+//   places[k]   the place of the record that the hearer holds of station k; 0 where it holds none
+//   last[k]     the place of the record of k heard last
+//   lens[k]     how many bodies lane k has
+//   taken       the places of the records whose bodies are taken, in the order heard
+
+ghost use mathlib.Core.Path.{_≡_};
+ghost use Prim.Native.Nat.{ℕ, _+_, _*_, _≤_, _<_};
+ghost use lib.ListN.{getD, length};
+ghost use Rattle.kinds.specs.Refusals.{done};
+ghost use Rattle.frame_rules.specs.Words.{wordAt};
+ghost use Rattle.station_rules.specs.Hearing.{raised};
+ghost use Rattle.hearing_spec.specs.Buffer.{sizeIn, frameStart, hearsSender};
+ghost use Rattle.hearing_spec.specs.StandsFor.{notes};
+ghost use Rattle.hearing_spec.specs.Heeding.{sameBytes, ageBeside, ageAt, earAfter, lensAfter, takenAfter};
+ghost use Rattle.hearing_spec.specs.Room.{takingsRoom, mostBytes, Room, LastRoom, FrameRoom};
+ghost use Rattle.hearing_spec.specs.Promises.{HearsFrame, HearsMask};
+use frame_rules::Record;
+use hearing_spec::Ear;
+use hearing_spec::FRAME_ROOM;
+use kinds::refusals::CONFLICT;
+use kinds::refusals::DONE;
+use kinds::refusals::LANE_FULL;
+use labels::Age;
+
+// The number of eight bytes from a place on.
+fn long_at(part: &[u8], at: usize) -> u64
+    requires { ⌜ at + 8 ≤ length (now part) ⌝ }
+    ensures { λ r. ⌜ r ≡ wordAt (now (part .entry)) at + 4_294_967_296 * wordAt (now (part .entry)) (at + 4) ⌝ }
+{
+    (record_reader::word_at(part, at) as u64)
+        + 4_294_967_296 * (record_reader::word_at(part, at + 4) as u64)
+}
+
+// Have two records the same sixteen bytes? They are compared as two numbers of eight.
+fn same(a: &[u8], b: &[u8]) -> bool
+    requires { ⌜ (length (now a) ≡ 16) × (length (now b) ≡ 16) ⌝ }
+    ensures { λ r. ⌜ r ≡ sameBytes (now (a .entry)) (now (b .entry)) ⌝ }
+{
+    let first = long_at(a, 0) == long_at(b, 0);
+    let second = long_at(a, 8) == long_at(b, 8);
+    first & second
+}
+
+// What is decided of a seen record of station k beside the old one, if that is held; `equal` says
+// whether their bytes are the same.
+fn age_of(held: bool, old: Record, seen: Record, k: usize, equal: bool) -> Age
+    requires { ⌜ k < 16 ⌝ }
+    ensures { λ r. ⌜ r ≡ ageBeside held old seen k equal ⌝ }
+{
+    let old_label = label_words::label_in(old.labels, k);
+    let seen_label = label_words::label_in(seen.labels, k);
+    labels::age_beside(held, old_label, old.count, seen_label, seen.count, equal)
+}
+
+// One more, and 255 stays 255.
+fn raised(count: u8) -> u8
+    ensures { λ r. ⌜ r ≡ raised count ⌝ }
+{
+    if count < 255 {
+        return count + 1;
+    }
+    255
+}
+
+// A newer record of station k, at a place: its station may be acknowledged, its label advances, the
+// count rises, its body is taken. A lane that has two refuses the frame, and the rest of it is
+// heard all the same.
+fn heed(
+    e: Ear,
+    seen: Record,
+    at: usize,
+    k: usize,
+    own: usize,
+    lens: &mut [u8],
+    taken: &mut [u16],
+) -> Ear
+    requires { ⌜ (k ≡ seen .station) × (k < 16) × (own < 16) × (at ≤ mostBytes) ⌝ ∗
+        ⌜ (length (now lens) ≡ 16) × (length (now taken) ≡ takingsRoom) ⌝ ∗
+        ⌜ (getD (now lens) k 0 < 2 → e .len < takingsRoom) ⌝ }
+    ensures { λ r.
+        ⌜ (r ≡ earAfter own (now (lens .entry)) e seen) × (now (lens .exit) ≡ lensAfter (now (lens .entry)) e seen)
+        × (now (taken .exit) ≡ takenAfter (now (lens .entry)) (now (taken .entry)) e seen at) ⌝ }
+{
+    let mut ear = e;
+    let acknowledges = label_words::label_in(seen.labels, own) == ear.labels[own];
+    ear.acked[k] = ear.acked[k] | acknowledges;
+    let next = labels::successor(ear.labels[k]);
+    if label_words::label_in(seen.labels, k) != next {
+        return ear;
+    }
+    ear.labels[k] = next;
+    ear.count = raised(ear.count);
+    let body = seen.body;
+    if kinds::is_empty(body) {
+        return ear;
+    }
+    if 2 <= lens[k] {
+        ear.refusal = LANE_FULL;
+        return ear;
+    }
+    let len = ear.len;
+    lens[k] = lens[k] + 1;
+    taken[len] = at as u16;
+    ear.len = len + 1;
+    ear
+}
+
+// What is decided of the record of station k at a place, beside the one that the hearer holds at
+// another. The hearer's own counts as the same, for it does nothing.
+fn age_at(bytes: &[u8], held: usize, at: usize, k: usize, own: usize) -> Age
+    requires { ⌜ (held + 16 ≤ length (now bytes)) × (at + 16 ≤ length (now bytes)) ⌝ ∗
+        ⌜ (length (now bytes) ≤ mostBytes) × (k < 16) ⌝ }
+    ensures { λ r. ⌜ r ≡ ageAt own (now (bytes .entry)) held at k ⌝ }
+{
+    if k == own {
+        return Age::Same;
+    }
+    let old = record_reader::read_record(&bytes[held..held + 16]);
+    let seen = record_reader::read_record(&bytes[at..at + 16]);
+    let equal = same(&bytes[held..held + 16], &bytes[at..at + 16]);
+    age_of(held != 0, old, seen, k, equal)
+}
+
+// The frame that begins at `start`, where none was refused before. A record with the bytes of the
+// one of its station heard last is passed over, one that conflicts ends the frame, and any other
+// that is not newer does nothing.
+pub fn hear_frame(
+    e: Ear,
+    bytes: &[u8],
+    start: usize,
+    own: usize,
+    last: &mut [u16],
+    places: &mut [u16],
+    lens: &mut [u8],
+    taken: &mut [u16],
+) -> Ear
+    requires { ⌜ Room own (now bytes) (notes (now places) (now lens) (now taken) e) ⌝ ∗
+        ⌜ LastRoom (now bytes) (now last) ⌝ ∗
+        ⌜ FrameRoom (now bytes) start ⌝ }
+    ensures { λ r.
+        ⌜ HearsFrame own (now (bytes .entry)) start (now (last .entry))
+        (notes (now (places .entry)) (now (lens .entry)) (now (taken .entry)) e) (now (last .exit))
+        (notes (now (places .exit)) (now (lens .exit)) (now (taken .exit)) r) ⌝ ∗
+        ⌜ Room own (now (bytes .entry)) (notes (now (places .exit)) (now (lens .exit)) (now (taken .exit)) r) ⌝ ∗
+        ⌜ LastRoom (now (bytes .entry)) (now (last .exit)) ⌝ }
+{
+    let mut ear = e;
+    let end = start + 4 + 16 * (bytes[start + 2] as usize);
+    let mut at = start + 4;
+    while at < end {
+        let k = bytes[at] as usize;
+        let before = last[k] as usize;
+        if same(&bytes[before..before + 16], &bytes[at..at + 16]) {
+            at += 16;
+            continue;
+        }
+        last[k] = at as u16;
+        let held = places[k] as usize;
+        let found = age_at(bytes, held, at, k, own);
+        match found {
+            Age::Newer => {
+                places[k] = at as u16;
+                let seen = record_reader::read_record(&bytes[at..at + 16]);
+                ear = heed(ear, seen, at, k, own, lens, taken);
+                at += 16;
+                continue;
+            }
+            Age::Same => {
+                at += 16;
+                continue;
+            }
+            Age::Conflicting => {
+                ear.refusal = CONFLICT;
+                return ear;
+            }
+            Age::Older => {
+                at += 16;
+                continue;
+            }
+        }
+    }
+    ear
+}
+
+// Does station `own` hear sender j: another station, whose bit its mask has?
+fn hears(mask: u16, own: usize, j: usize) -> bool
+    ensures { λ r. ⌜ r ≡ hearsSender own mask j ⌝ }
+{
+    if own == j {
+        return false;
+    }
+    links::set_at(mask, j)
+}
+
+// The frames of a mask, of those of n stations that stand in the bytes, by ascending sender, until
+// one is refused.
+pub fn hear_mask(
+    e: Ear,
+    bytes: &[u8],
+    n: usize,
+    own: usize,
+    mask: u16,
+    last: &mut [u16],
+    places: &mut [u16],
+    lens: &mut [u8],
+    taken: &mut [u16],
+) -> Ear
+    requires { ⌜ Room own (now bytes) (notes (now places) (now lens) (now taken) e) ⌝ ∗
+        ⌜ LastRoom (now bytes) (now last) ⌝ ∗
+        ⌜ ((j : ℕ) → j < n → FrameRoom (now bytes) (frameStart j)) ⌝ ∗
+        ⌜ (n ≡ sizeIn (now bytes)) × (e .refusal ≡ done) ⌝ }
+    ensures { λ r.
+        ⌜ HearsMask own (now (bytes .entry)) mask (now (last .entry))
+        (notes (now (places .entry)) (now (lens .entry)) (now (taken .entry)) e) (now (last .exit))
+        (notes (now (places .exit)) (now (lens .exit)) (now (taken .exit)) r) ⌝ ∗
+        ⌜ Room own (now (bytes .entry)) (notes (now (places .exit)) (now (lens .exit)) (now (taken .exit)) r) ⌝ }
+{
+    let mut ear = e;
+    let mut j: usize = 0;
+    while j < n {
+        if !hears(mask, own, j) {
+            j += 1;
+            continue;
+        }
+        ear = hear_frame(ear, bytes, FRAME_ROOM * j, own, last, places, lens, taken);
+        if ear.refusal != DONE {
+            return ear;
+        }
+        j += 1;
+    }
+    ear
+}

@@ -1,0 +1,154 @@
+-- How hearing begins, and what comes of it. The own frame has what the table holds, so the notes
+-- stand for silence; what the functions of hearing promise of all notes then gives what is heard.
+use Prim.Native.Nat.{ℕ, _+_, _≤_, _<_}
+use mathlib.Core.Bool.{Bool, true, false, cond}
+use mathlib.Core.List.{List}
+use mathlib.Core.Path.{_≡_, refl, sym, subst, _∙_}
+use native.Mathlib.Omega.{arith}
+use lib.Dec.{eqb}
+use lib.ListN.{getD, length, replicate}
+use Rattle.places.specs.Places.{fill}
+use Rattle.places.proofs.Laws.{fill-below, length-fill}
+use Rattle.lanes.specs.Lane.{noLane}
+use Rattle.station_rules.specs.declared.Station.{Station}
+use Rattle.station_rules.specs.State.{cellOf, laneAt}
+use Rattle.station_rules.specs.Hearing.{Hearing, silent}
+use Rattle.station_rules.proofs.Setters.{Shaped}
+use Rattle.station_rules.proofs.StationLimits.{Inside, inside-open}
+use Rattle.station_rules.proofs.LimitsLane.{lane-most}
+use Rattle.hearing_spec.specs.declared.Ear.{Ear}
+use Rattle.hearing_spec.specs.Buffer.{sizeIn}
+use Rattle.hearing_spec.specs.Room.{takingsRoom, Room, LastRoom}
+use Rattle.hearing_spec.specs.StandsFor.{Notes, notes, StandsFor}
+use Rattle.hearing_spec.specs.Promises.{Hears}
+use Rattle.hearing_spec.proofs.Standing.{stands-first}
+use Rattle.hearing_spec.proofs.Heeding.{takings-most}
+use Rattle.hearing_spec.proofs.Acting.{heard-and-acted}
+use Rattle.acting.specs.Places.{placesOf}
+use Rattle.acting.specs.Listened.{Listens}
+use Rattle.acting.proofs.OwnFrame.{own-long, own-held, own-top, own-room, own-station, own-written}
+use Rattle.listening.specs.Listening.{MayListen}
+
+-- the numbers of a station that has heard nothing
+abbrev pub quiet : Station → Ear
+quiet s = record { refusal = 0; count = s .count; acked = s .acked; labels = s .labels; len = 0 }
+
+-- how many bodies its lanes have
+abbrev pub lensOf : Station → List ℕ
+lensOf s = fill 16 (λ k. (getD (s .lanes) k noLane) .len) (replicate 16 0)
+
+-- where the records of its own frame begin
+abbrev pub ownPlaces : List ℕ → ℕ → List ℕ
+ownPlaces bytes start = placesOf bytes start (replicate 16 0) (getD bytes (start + 2) 0)
+
+module _ (s : Station) (bytes : List ℕ) (start : ℕ) (may : MayListen s bytes start) (shape : Shaped s) (taken : List ℕ) (taken-long : length taken ≡ takingsRoom) where
+  inside : Inside s
+  inside = inside-open s (may .inside)
+
+  abbrev places : List ℕ
+  places = ownPlaces bytes start
+
+  -- what hearing begins with
+  abbrev first : Notes
+  first = notes places (lensOf s) taken (quiet s)
+
+  lens-are : (k : ℕ) → k < 16 → getD (lensOf s) k 0 ≡ (laneAt s k) .len
+  unfolding cellOf
+  lens-are k l = fill-below 16 (λ j. (getD (s .lanes) j noLane) .len) (replicate 16 0) k 0 l (omega arith)
+
+  lane-two : (k : ℕ) → k < s .n → (laneAt s k) .len ≤ 2
+  lane-two k l = go (eqb k (s .own)) (lane-most (cond (eqb k (s .own)) 1 2) (laneAt s k) (inside .places k l .lane))
+    where
+      go : (t : Bool) → (laneAt s k) .len ≤ cond t 1 2 → (laneAt s k) .len ≤ 2
+      go true h = omega arith
+      go false h = h
+
+  first-room : Room (s .own) bytes first
+  first-room =
+      record {
+        high = omega (arith, may .size, inside .high);
+        own-below = omega (arith, may .size, inside .own);
+        short = may .short;
+        places-long = own-long s inside bytes start (may .own-room) (may .own-frame);
+        inside = λ k l. own-room s inside bytes start (may .own-room) (may .own-frame) k (omega (arith, may .size));
+        station = λ k l. own-station s inside bytes start (may .own-room) (may .own-frame) k (omega (arith, may .size));
+        written = λ k l. own-written s inside bytes start (may .own-room) (may .own-frame) k (omega (arith, may .size));
+        lanes =
+            record {
+              lens-long = length-fill 16 (λ k. (getD (s .lanes) k noLane) .len) (replicate 16 0);
+              taken-long = taken-long;
+              two = λ k l. two k (omega (arith, may .size));
+              few = omega arith;
+            };
+        taken = λ i l. absurd (omega arith);
+      }
+    where
+      two : (k : ℕ) → k < s .n → getD (lensOf s) k 0 ≤ 2
+      two k l = omega (arith, lens-are k (omega (arith, inside .high)), lane-two k l)
+
+  first-last : LastRoom bytes places
+  first-last =
+      record {
+        long = own-long s inside bytes start (may .own-room) (may .own-frame);
+        inside = λ k l. own-room s inside bytes start (may .own-room) (may .own-frame) k (omega (arith, may .size));
+      }
+
+  first-stands : StandsFor s bytes first (silent s)
+  first-stands =
+      stands-first s bytes first (inside .high)
+      (own-held s inside bytes start (may .own-room) (may .own-frame))
+      (own-top s inside bytes start (may .own-room) (may .own-frame))
+      (λ k l. lens-are k (omega (arith, inside .high)))
+      refl refl refl refl refl
+
+  pub own-places-long : length places ≡ 16
+  own-places-long = own-long s inside bytes start (may .own-room) (may .own-frame)
+
+  -- what was heard
+  heard-first :
+      (f : Hearing → Hearing) (last' places' lens' taken' : List ℕ) (e : Ear) →
+      Hears (s .own) bytes f places first last' (notes places' lens' taken' e) → Room (s .own) bytes (notes places' lens' taken' e) →
+      Listens s bytes f places' taken' e
+  heard-first f last' places' lens' taken' e does room =
+      let h =
+      heard-and-acted s bytes f first (notes places' lens' taken' e) last' (inside .high) (may .size) shape
+      (own-held s inside bytes start (may .own-room) (may .own-frame))
+      (own-top s inside bytes start (may .own-room) (may .own-frame))
+      (λ k l held. inside .places k l .held held .station)
+      first-stands does in
+      record {
+        readable =
+            record {
+              high = room .high;
+              places-long = room .places-long;
+              places-in = room .inside;
+              takings = record { long = room .lanes .taken-long; few = takings-most (sizeIn bytes) (s .own) lens' taken' (e .len) (room .high) (room .own-below) (room .lanes); records = room .taken };
+            };
+        refusal = h .0;
+        station = h .2;
+        takings = λ fine. sym (h .1 fine .takings (sym (h .0) ∙ fine));
+      }
+
+  -- the same of notes that are those of the beginning
+  module _ (last₀ places₀ lens₀ : List ℕ) (last-is : places ≡ last₀) (places-are : places ≡ places₀) (lens-are₀ : lensOf s ≡ lens₀) where
+    abbrev begun : Notes
+    begun = notes places₀ lens₀ taken (quiet s)
+
+    notes-are : _≡_ {A = Notes} first begun
+    notes-are i = notes (places-are i) (lens-are₀ i) taken (quiet s)
+
+    pub begun-room : Room (s .own) bytes begun
+    begun-room = subst (Room (s .own) bytes) notes-are first-room
+
+    pub begun-last : LastRoom bytes last₀
+    begun-last = subst (LastRoom bytes) last-is first-last
+
+    pub listened :
+        (f : Hearing → Hearing) (last' places' lens' taken' : List ℕ) (e : Ear) →
+        Hears (s .own) bytes f last₀ begun last' (notes places' lens' taken' e) → Room (s .own) bytes (notes places' lens' taken' e) →
+        Listens s bytes f places' taken' e
+    listened f last' places' lens' taken' e does room =
+        heard-first f last' places' lens' taken' e
+        (subst (λ (x : Notes). Hears (s .own) bytes f places x last' (notes places' lens' taken' e)) (sym notes-are)
+        (subst (λ (l : List ℕ). Hears (s .own) bytes f l begun last' (notes places' lens' taken' e)) (sym last-is) does))
+        room

@@ -1,2 +1,0 @@
-pub mod MaskStarts
-pub mod MayHear

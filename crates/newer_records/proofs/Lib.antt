@@ -1,4 +1,0 @@
-pub mod FramesSifted
-pub mod NextFrame
-pub mod SieveLaws
-pub mod SieveSteps

@@ -1,3 +1,0 @@
-pub mod HeldMarks
-mod BarsBelow
-mod OwnBars

@@ -1,0 +1,95 @@
+-- A station may listen to a frame that it accepts, beside its own frame; what it hears there is
+-- what it hears of the frame alone.
+use Prim.Native.Nat.{ℕ, _+_, _-_, _≤_, _<_}
+use native.Mathlib.Omega.{arith}
+use mathlib.Core.Bool.{true}
+use mathlib.Core.List.{List, _++_, append-assoc}
+use mathlib.Core.Path.{_≡_, sym, ap, subst, _∙_}
+use lib.ListN.{getD, drop, length, replicate, length-append, List·getD-append}
+use lib.Seq.{drop-at}
+use Rattle.places.proofs.Laws.{and-left, allBelow-at}
+use Rattle.frame_rules.specs.Record.{recordFrom, recordBytes, bytesInside}
+use Rattle.frame_rules.specs.Frame.{part, recordsOf, recordsInside, frameRefusal}
+use Rattle.frame_rules.proofs.Limits.{bytes-open}
+use Rattle.frame_rules.proofs.FrameTrip.{part-written}
+use Rattle.frame_rules.proofs.Check.{Shape, accepted-frame, shape}
+use Rattle.station_rules.specs.declared.Station.{Station}
+use Rattle.station_rules.specs.Limits.{stationInside}
+use Rattle.station_rules.specs.Hearing.{silent, hearFrame}
+use Rattle.station_rules.specs.Calls.{frameOf}
+use Rattle.station_rules.proofs.StationLimits.{Inside, inside-open}
+use Rattle.hearing_spec.specs.Buffer.{sizeIn}
+use Rattle.hearing_spec.specs.Room.{FrameRoom}
+use Rattle.listening.specs.Listening.{MayListen, frameHeard}
+use Rattle.station_frames.specs.Beside.{roomed, beside}
+use Rattle.station_frames.proofs.OwnFrame.{own-shape, own-fits, own-first, own-read, own-stations, own-written, frame-records, frame-room}
+use Rattle.station_frames.proofs.Copied.{roomed-length}
+
+module _ (s : Station) (inside : stationInside s ≡ true) (bytes : List ℕ) (accepted : frameRefusal bytes (s .n) (s .own) ≡ 0) where
+  c : Inside s
+  c = inside-open s inside
+
+  form : Shape bytes
+  form = shape bytes (accepted-frame bytes (s .n) (s .own) accepted .shape-right)
+
+  pub heard-fits : length bytes ≤ 260
+  heard-fits = omega (arith, form .long, form .few)
+
+  abbrev own : List ℕ
+  own = frameOf s
+
+  abbrev both : List ℕ
+  both = beside s bytes
+
+  own-length : length (roomed own) ≡ 260
+  own-length = roomed-length own (own-fits s c)
+
+  both-length : length both ≡ 520
+  both-length = omega (arith, length-append (roomed own) (roomed bytes), own-length, roomed-length bytes heard-fits)
+
+  abbrev own-rest : List ℕ
+  own-rest = replicate (260 - length own) 0 ++ roomed bytes
+
+  own-here : drop 0 both ≡ own ++ own-rest
+  own-here = append-assoc own (replicate (260 - length own) 0) (roomed bytes)
+
+  heard-here : drop 260 both ≡ bytes ++ replicate (260 - length bytes) 0
+  heard-here = drop-at (roomed own) (roomed bytes) 260 own-length
+
+  size : s .n ≡ sizeIn both
+  size =
+      sym
+      (ap (λ (b : List ℕ). getD b 0 0) own-here
+      ∙ List·getD-append own own-rest 0 0 (omega (arith, own-shape s c))
+      ∙ own-first s c)
+
+  heard-station : (r : ℕ) → r < getD bytes 2 0 → getD (part bytes r) 0 0 < s .n
+  unfolding recordsInside
+  heard-station r l =
+      let a = accepted-frame bytes (s .n) (s .own) accepted in
+      bytes-open (s .n) (part bytes r)
+      (and-left (bytesInside (s .n) (part bytes r)) _ (allBelow-at (getD bytes 2 0) _ (and-left _ _ (a .records-right)) r l))
+      .station
+
+  pub may-listen : MayListen s both 0
+  may-listen =
+      record {
+        inside = inside;
+        short = omega (arith, both-length);
+        size = size;
+        own-room = frame-room own own-rest (own-shape s c) both 0 own-here (λ r l. omega (arith, own-stations s c r l, size))
+            (λ r l. subst (λ (n : ℕ). recordBytes n (recordFrom (part own r)) ≡ part own r) size (own-written s c r l));
+        own-frame = frame-records own own-rest (own-shape s c) both 0 own-here ∙ own-read s c;
+      }
+
+  pub heard-room : ((i : ℕ) → getD bytes i 0 < 256) → FrameRoom both 260
+  heard-room small =
+      frame-room bytes (replicate (260 - length bytes) 0) (form .long) both 260 heard-here (λ r l. omega (arith, heard-station r l, size))
+      (λ r l.
+      subst (λ (n : ℕ). recordBytes n (recordFrom (part bytes r)) ≡ part bytes r) size (part-written bytes (s .n) (s .own) accepted small r l))
+
+  pub heard-is : frameHeard both 260 (silent s) ≡ hearFrame (silent s) (recordsOf bytes)
+  heard-is = ap (hearFrame (silent s)) (frame-records bytes (replicate (260 - length bytes) 0) (form .long) both 260 heard-here)
+
+  pub heard-size : s .n ≡ sizeIn both
+  heard-size = size

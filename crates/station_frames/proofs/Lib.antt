@@ -1,0 +1,3 @@
+pub mod OwnFrame
+pub mod Copied
+pub mod HeardBeside
