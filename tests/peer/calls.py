@@ -125,7 +125,7 @@ def visible_group(given, result):
 
 def some_group(rng, n):
     """Often with counts that can be written and lanes that have places, now and then with a wrong number."""
-    stations = [states.with_desk_1(rng, s) if k < n else s for k, s in enumerate(states.random_group(rng, n))]
+    stations = list(states.random_group(rng, n))
     changed = rng.random()
     for place, s in enumerate(stations[:n]):
         if changed < 0.9:
