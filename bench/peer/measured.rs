@@ -38,7 +38,7 @@ pub fn rounds(schedule: &[u8], n: u32, rounds: u32) -> u32 {
 /// The same work with calls by value.
 pub fn rounds_by_value(schedule: &[u8], n: u32, rounds: u32) -> u32 {
     let (schedule, rest) = schedule.as_chunks::<MASKS_SIZE>();
-    let Ok(group) = Group::fresh(n as usize) else { return 0 };
+    let Ok(group) = Group::fresh(n as usize, CAPACITY) else { return 0 };
     if schedule.is_empty() || !rest.is_empty() {
         return 0;
     }
