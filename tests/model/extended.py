@@ -14,5 +14,5 @@ def read_extended_line(line, n):
     return PostLine(station, Body(*body), desk) if min(station, *body[:2], desk) >= 0 else None
 
 
-def extended_listing(script, limit=listing.LIMIT):
+def extended_listing(script, limit=None):
     return b"".join(listing.listing_lines(script, read_extended_line, limit))
