@@ -1,7 +1,7 @@
 //! The peer's calls on states and answers as bytes, for the comparison with the model (tests/check-peer).
 //!
 //! A body is its kind, its event and its argument, 1, 4 and 4 bytes, the lowest first; every other number is one byte. A station is N, own number, limit, count,
-//! body, labels, acknowledged, held, table, lanes, waiting edits; a record is station, count, body, labels; a lane or queue is its length and its bodies.
+//! body, labels, acknowledged, held, table, lanes, waiting edits of both desks, the desk that goes first; a record is station, count, body, labels; a lane or queue is its length and its bodies.
 
 use relay_peer::air_logs;
 use relay_peer::bodies::Body;
@@ -45,8 +45,9 @@ impl Reader<'_> {
         let (labels, acked, held) = (self.bytes(), self.flags(), self.flags());
         let table = std::array::from_fn(|_| self.record());
         let lanes = std::array::from_fn(|_| Lane { len: self.small(), bodies: [self.body(), self.body()] });
-        let waiting = Queue { len: self.small(), slots: std::array::from_fn(|_| self.body()) };
-        Station { n, own, limit, waiting, acked, body, count, labels, held, table, lanes }
+        let waiting = std::array::from_fn(|_| Queue { len: self.small(), slots: std::array::from_fn(|_| self.body()) });
+        let first = self.small();
+        Station { n, own, limit, waiting, first, acked, body, count, labels, held, table, lanes }
     }
 
     fn group(&mut self) -> Group {
@@ -82,8 +83,11 @@ fn put_station(out: &mut Vec<u8>, station: &Station) {
         out.push(lane.len as u8);
         put_bodies(out, &lane.bodies);
     }
-    out.push(station.waiting.len as u8);
-    put_bodies(out, &station.waiting.slots);
+    for queue in &station.waiting {
+        out.push(queue.len as u8);
+        put_bodies(out, &queue.slots);
+    }
+    out.push(station.first as u8);
 }
 
 fn put_turn(out: &mut Vec<u8>, turn: &TurnReport) {
@@ -111,8 +115,8 @@ fn answer(name: u8, mut given: Reader) -> Vec<u8> {
     let (answer, number_out): (Result<(), Refusal>, usize);
     match name {
         b'p' => {
-            let (mut station, body) = (given.station(), given.body());
-            (answer, number_out) = (station.post(body), 0);
+            let (mut station, desk, body) = (given.station(), given.small(), given.body());
+            (answer, number_out) = (station.post(desk, body), 0);
             put_station(&mut out, &station);
         }
         b'w' => {
@@ -147,8 +151,8 @@ fn answer(name: u8, mut given: Reader) -> Vec<u8> {
             put_group(&mut out, &group.unwrap_or(Group::fresh(1, DEFAULT_LIMIT).expect("a station alone")));
         }
         b'g' => {
-            let (mut group, place, body) = (given.group(), given.small(), given.body());
-            (answer, number_out) = (group.post(place, body), 0);
+            let (mut group, place, desk, body) = (given.group(), given.small(), given.small(), given.body());
+            (answer, number_out) = (group.post(place, desk, body), 0);
             put_group(&mut out, &group);
         }
         b'r' => {

@@ -1,5 +1,6 @@
 """Every sentence of demand 3 on random lists of calls (document 01, "A group and its rounds")."""
 
+import itertools
 import unittest
 
 from model import demand3, group, scripts
@@ -9,14 +10,21 @@ from model.lines import PostLine, RoundLine
 RUNS = 320
 
 
+def calls_of(seed):
+    return scripts.seeded_desks(seed) if seed % 2 else scripts.seeded_calls(seed)
+
+
 def check_seed(seed):
-    """What the run of a seed breaks, with the seed and its script; None where it holds."""
-    n, calls = scripts.seeded_calls(seed)
+    """What the run of a seed breaks, with the seed and its script; None where it holds. Every second
+    seed posts from both desks."""
+    n, calls = calls_of(seed)
     limit = scripts.seeded_limit(seed)
     fault = demand3.first_fault(n, calls, limit)
     if fault is None:
         return None
-    return f"seed {seed}, {fault}, with the limit {limit}\n{scripts.script_of(n, calls).decode('ascii')}"
+    desks = [call.desk for call in calls if isinstance(call, PostLine)]
+    script = scripts.script_of(n, calls).decode("ascii")
+    return f"seed {seed}, {fault}, with the limit {limit}, posts of the desks {desks}\n{script}"
 
 
 class RandomRuns(unittest.TestCase):
@@ -35,7 +43,7 @@ class WhatTheRunsReach(unittest.TestCase):
     def setUpClass(cls):
         cls.refusals, cls.runs, cls.sizes, cls.limits = set(), [], set(), set()
         for seed in range(0, RUNS, 7):
-            n, calls = scripts.seeded_calls(seed)
+            n, calls = calls_of(seed)
             limit = scripts.seeded_limit(seed)
             run = demand3.Run(n, limit)
             for call in calls:
@@ -43,8 +51,8 @@ class WhatTheRunsReach(unittest.TestCase):
                     run.round(call.masks)
                     continue
                 assert isinstance(call, PostLine)
-                cls.refusals.add(group.post(run.group, call.station, call.body).refusal)
-                run.post(call.station, call.body)
+                cls.refusals.add(group.post(run.group, call.station, call.body, call.desk).refusal)
+                run.post(call.station, call.body, call.desk)
             cls.runs.append(run)
             cls.sizes.add(n)
             cls.limits.add(limit)
@@ -56,7 +64,13 @@ class WhatTheRunsReach(unittest.TestCase):
         self.assertLess({1, 8, 32}, self.limits)
 
     def test_refused_posts(self):
-        self.assertEqual(self.refusals, {0, 1, 3, 4})
+        self.assertEqual(self.refusals, {0, 1, 3, 4, 15})
+
+    def test_desks_start_in_turn(self):
+        """Some stations start edits of both desks one after the other, and some two of one desk."""
+        desks = ["".join(str(desk) for desk, _ in starts) for run in self.runs for starts in run.starts]
+        for piece in ("010", "101", "00", "11"):
+            self.assertTrue(any(piece in starts for starts in desks), piece)
 
     def test_some_never_end_and_some_end_often(self):
         most = [max(map(len, run.ends)) for run in self.runs]
@@ -87,7 +101,15 @@ class SmallLists(unittest.TestCase):
             run = demand3.Run(2, limit)
             for call in calls[:limit + 1]:
                 run.post(call.station, call.body)
-            self.assertEqual(len(run.accepted[0]), limit)
+            self.assertEqual(len(run.accepted[0][0]), limit)
+
+    def test_every_list_of_two_desks(self):
+        """A station alone: every list of up to six calls, each a post of either desk or a round."""
+        for length in range(7):
+            for choice in itertools.product((0, 1, None), repeat=length):
+                calls = [RoundLine((0,)) if desk is None else PostLine(0, Body(DROP, event, 0), desk)
+                         for event, desk in enumerate(choice, 1)]
+                self.assertIsNone(demand3.first_fault(1, calls, 2))
 
     def test_two_stations_every_log_of_four_rounds(self):
         """All 256 logs: each station hears the other or not, round by round."""

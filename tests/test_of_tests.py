@@ -150,7 +150,7 @@ class WrongLimits(Broken):
 
     def test_queue_off_by_one(self):
         for change in (-1, 1):
-            with broken("queue_full", lambda one: one.waiting.length >= one.limit + change):
+            with broken("queue_full", lambda one, desk: station.queue_of(one, desk).length >= one.limit + change):
                 self.assert_test_fails(test_marked_examples.Posts, "test_m11")
                 self.assert_test_fails(test_station.Post, "test_every_limit")
 
@@ -220,12 +220,61 @@ class WrongAges(Broken):
             self.assert_runs_notice("is refused with 14")
 
 
+class WrongDesks(Broken):
+    """Faults in what document 02, A7 adds."""
+
+    def test_one_limit_over_both(self):
+        with broken("queue_full", lambda one, desk: one.waiting.length + one.waiting_1.length >= one.limit):
+            self.assert_test_fails(test_station.Post, "test_desks_apart")
+
+    def test_other_desk_full(self):
+        right = station.queue_full
+        with broken("queue_full", lambda one, desk: right(one, desk) or right(one, 1 - desk)):
+            self.assert_test_fails(test_station.Post, "test_desks_apart")
+
+    def test_desk_2(self):
+        with broken("desk_valid", lambda desk: desk <= 2):
+            self.assert_test_fails(test_station.Post, "test_no_such_desk")
+
+    def test_flag_moved_by_neutral(self):
+        right = turns.choose_body
+
+        def choose_body(one):
+            after, body = right(one)
+            return (after._replace(first=1 - one.first) if body == NEUTRAL else after), body
+        with broken("choose_body", choose_body):
+            self.assert_test_fails(test_turns.Turn, "test_desks")
+            self.assert_runs_notice("out of its turn")
+
+    def test_desk_1_first_on_a_fresh_station(self):
+        right = station.fresh_state
+        with broken("fresh_state", lambda n, own, limit: right(n, own, limit)._replace(first=1)):
+            self.assert_test_fails(test_turns.Turn, "test_desks_in_turn")
+            self.assert_runs_notice("out of its turn")
+
+    def test_same_desk_twice(self):
+        with broken("other_desk", lambda desk: desk):
+            self.assert_test_fails(test_turns.Turn, "test_desks")
+            self.assert_runs_notice("out of its turn")
+
+    def test_flag_stays_where_a_desk_waits_alone(self):
+        """Fairness still holds: only the turns notice."""
+        right = turns.choose_body
+
+        def choose_body(one):
+            after, body = right(one)
+            both = one.waiting.length > 0 and one.waiting_1.length > 0
+            return (after if both else after._replace(first=one.first)), body
+        with broken("choose_body", choose_body):
+            self.assert_runs_notice("out of its turn")
+
+
 class WrongQueueLimits(Broken):
     """Faults in what document 02, A2 adds."""
 
     def test_limit_ignored_at_post(self):
         for most in (8, 32):
-            with broken("queue_full", lambda one: one.waiting.length >= most):
+            with broken("queue_full", lambda one, desk: station.queue_of(one, desk).length >= most):
                 self.assert_test_fails(test_station.Post, "test_every_limit")
                 self.assert_test_fails(test_group.Post, "test_stations_may_differ")
 

@@ -123,6 +123,37 @@ class Post(unittest.TestCase):
                 self.assertEqual(contents(after.waiting), contents(one.waiting) + (EDIT,))
                 self.assertEqual(after._replace(waiting=one.waiting), one)
 
+    def test_each_desk(self):
+        """Both desks, both queues at every length, either desk first: a post changes its own queue."""
+        for rng, one in some_stations(200):
+            for desk in (0, 1):
+                mine = station.queue_of(one, desk)
+                refusal, after = station.post(one, EDIT, desk)
+                if mine.length == one.limit:
+                    self.assertEqual((refusal, after), (3, one))
+                    continue
+                self.assertEqual(refusal, 0)
+                self.assertEqual(contents(station.queue_of(after, desk)), contents(mine) + (EDIT,))
+                self.assertEqual(station.with_queue(after, desk, mine), one)
+
+    def test_desks_apart(self):
+        """A desk's post is refused by its own waiting edits and the limit, whatever the other has."""
+        for limit in (1, 8, 32):
+            for mine in (0, 1, limit - 1, limit):
+                for theirs in (0, 1, limit):
+                    for desk in (0, 1):
+                        one = outside.with_waiting(station.fresh(3, 1, limit).station, mine, EDIT, desk)
+                        one = outside.with_waiting(one, theirs, EDIT, 1 - desk)
+                        self.assertEqual(station.post(one, EDIT, desk).refusal, 3 if mine == limit else 0)
+
+    def test_no_such_desk(self):
+        """15 comes after 2, and before 4 and 3."""
+        for _, one in some_stations(20, least_n=2):
+            for desk in (2, 3, 255, 2**32 - 1):
+                for body in (EDIT, NEUTRAL, EMPTY):
+                    self.assertEqual(station.post(one, body, desk), (15, one))
+                broken = outside.stations_outside(one)["N is 17"]
+                self.assertEqual(station.post(broken, EDIT, desk), (2, broken))
 
     def test_every_limit(self):
         """3 comes at the station's own limit, which no call changes."""

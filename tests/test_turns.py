@@ -1,5 +1,6 @@
 """Turn (document 01, "A station and its calls")."""
 
+import itertools
 import unittest
 
 from model import outside, station, turns
@@ -9,6 +10,7 @@ from model.records import Record
 from model.states import flags, labels
 
 EDIT = Body(DROP, 5, 0)
+OTHER = Body(DROP, 6, 0)
 
 
 class Turn(unittest.TestCase):
@@ -64,6 +66,41 @@ class Turn(unittest.TestCase):
         self.assertTrue(result.aired)
         self.assertEqual(result.station.lanes[1], Queue(1, (NEUTRAL, EMPTY)))
         self.assertEqual(result.station.lanes[0], Queue(0, (EMPTY, EMPTY)))
+
+    def test_desks(self):
+        """Which desk starts, by what each has waiting and by who goes first; and who goes first then."""
+        for zero, one, first in itertools.product((0, 1, 2, 32), (0, 1, 2, 32), (0, 1)):
+            ready = outside.with_waiting(self.ready(), zero, EDIT)._replace(limit=32, first=first)
+            ready = outside.with_waiting(ready, one, OTHER, desk=1)
+            result = turns.turn(ready)
+            after = result.station
+            if zero == one == 0:
+                self.assertEqual((result.started_body, after.first), (NEUTRAL, first))
+                continue
+            desk = first if zero and one else int(one > 0)
+            self.assertEqual(result.started_body, (EDIT, OTHER)[desk])
+            self.assertEqual(after.first, 1 - desk)
+            self.assertEqual((after.waiting.length, after.waiting_1.length),
+                             (zero - (desk == 0), one - (desk == 1)))
+
+    def test_desks_in_turn(self):
+        """A station alone: desk 1 posts one edit and desk 0 three, which start as 0, 1, 0, 0."""
+        alone = station.fresh(1, 0).station
+        for event, desk in enumerate((1, 0, 0, 0), 1):
+            alone = station.post(alone, Body(DROP, event, 0), desk).station
+        events = []
+        for _ in range(5):
+            result = turns.turn(alone)
+            alone = result.station
+            events.append(result.started_body.event)
+        self.assertEqual(events, [2, 1, 3, 4, 0])
+
+    def test_empty_moves_nothing(self):
+        """While the own lane is full Empty starts, and the same desk goes first."""
+        for first in (0, 1):
+            one = self.ready(own_lane=(EDIT,), waiting=(EDIT,))._replace(body=EDIT, first=first)
+            result = turns.turn(one)
+            self.assertEqual((result.started_body, result.station.first), (EMPTY, first))
 
 
 if __name__ == "__main__":

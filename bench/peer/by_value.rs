@@ -21,9 +21,9 @@ pub struct Done {
 }
 
 #[inline(never)]
-pub fn post(stations: [Station; PLACES], place: usize, body: Body) -> Kept {
+pub fn post(stations: [Station; PLACES], place: usize, desk: usize, body: Body) -> Kept {
     let mut after = stations;
-    let answer = group::post(&mut after, place, body);
+    let answer = group::post(&mut after, place, desk, body);
     Kept { answer, stations: after }
 }
 

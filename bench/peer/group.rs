@@ -99,8 +99,8 @@ impl Group {
         in_limits(&self.stations)
     }
 
-    pub fn post(&mut self, place: usize, body: Body) -> Result<(), Refusal> {
-        post(&mut self.stations, place, body)
+    pub fn post(&mut self, place: usize, desk: usize, body: Body) -> Result<(), Refusal> {
+        post(&mut self.stations, place, desk, body)
     }
 
     /// One round: bit j of mask i lets station i hear station j. Reports are given anew; on a refusal they hold nothing.
@@ -125,10 +125,10 @@ fn in_limits(stations: &[Station; PLACES]) -> bool {
     })
 }
 
-pub(crate) fn post(stations: &mut [Station; PLACES], place: usize, body: Body) -> Result<(), Refusal> {
+pub(crate) fn post(stations: &mut [Station; PLACES], place: usize, desk: usize, body: Body) -> Result<(), Refusal> {
     require(in_limits(stations), OutsideLimits)?;
     require(numbers_valid(stations[0].n, place), BadNumber)?;
-    stations[place].append(body)
+    stations[place].append(desk, body)
 }
 
 /// What a round judges before any station hears; gives N.

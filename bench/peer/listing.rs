@@ -31,7 +31,7 @@ pub fn list(mut script: impl BufRead, out: impl Write) -> io::Result<()> {
         match (command, &mut group) {
             (Command::Size(n), None) => group = Group::fresh(n, LIMIT).ok().map(|group| (group, [Report::NONE; PLACES])),
             (Command::Post { station, body }, Some((group, _))) => {
-                if let Err(refusal) = group.post(station, body) {
+                if let Err(refusal) = group.post(station, 0, body) {
                     listing.refused(if station < group.n() { station } else { 0 }, refusal)?;
                 }
             }

@@ -6,6 +6,8 @@ pub const CAPACITY: usize = 32;
 /// The limit where none is named.
 pub const DEFAULT_LIMIT: usize = 8;
 pub const LANE_LIMIT: usize = 2;
+/// The desks of a station, each with a queue.
+pub const DESKS: usize = 2;
 
 #[derive(Clone, Copy, Debug, PartialEq, Eq)]
 pub struct Queue {

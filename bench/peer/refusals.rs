@@ -16,6 +16,7 @@ pub enum Refusal {
     BadLinkLog = 12,
     BadLimit = 13,
     Conflict = 14,
+    BadDesk = 15,
     BadListing = 16,
     BadQuestion = 18,
 }

@@ -3,8 +3,8 @@
 use crate::bodies::Body;
 use crate::frames::{self, HEAD_SIZE, RECORD_SIZE, Record, count_limit, numbers_valid};
 use crate::labels::{self, Labels, PLACES};
-use crate::queues::{LANE_LIMIT, Lane, Queue, limit_valid};
-use crate::refusals::Refusal::{self, BadLimit, BadNumber, CountTooHigh, NotAnEdit, OutsideLimits, QueueFull, ShortBuffer};
+use crate::queues::{DESKS, LANE_LIMIT, Lane, Queue, limit_valid};
+use crate::refusals::Refusal::{self, BadDesk, BadLimit, BadNumber, CountTooHigh, NotAnEdit, OutsideLimits, QueueFull, ShortBuffer};
 use crate::refusals::require;
 
 pub use crate::turns::TurnReport;
@@ -14,9 +14,12 @@ pub use crate::turns::TurnReport;
 pub struct Station {
     pub n: usize,
     pub own: usize,
-    /// Of the waiting edits.
+    /// Of the waiting edits of each desk.
     pub limit: usize,
-    pub waiting: Queue,
+    /// Of each desk.
+    pub waiting: [Queue; DESKS],
+    /// The desk that goes first where both wait.
+    pub first: usize,
     pub acked: [bool; PLACES],
     pub body: Body,
     pub count: u8,
@@ -34,7 +37,8 @@ impl Station {
             n,
             own,
             limit,
-            waiting: Queue::NONE,
+            waiting: [Queue::NONE; DESKS],
+            first: 0,
             acked: [false; PLACES],
             body: Body::Empty,
             count: 0,
@@ -56,7 +60,7 @@ impl Station {
             && self.held[self.own]
             && self.body.in_limits()
             && labels::in_limits(&self.labels, self.n)
-            && self.waiting.in_limits(self.limit)
+            && self.waiting.iter().all(|queue| queue.in_limits(self.limit))
             && (0..self.n).all(|k| self.place_in_limits(k))
     }
 
@@ -74,17 +78,26 @@ impl Station {
             && labels::labels_of_word(record.labels, self.n)
     }
 
-    pub fn post(&mut self, body: Body) -> Result<(), Refusal> {
+    pub fn post(&mut self, desk: usize, body: Body) -> Result<(), Refusal> {
         require(self.in_limits(), OutsideLimits)?;
-        self.append(body)
+        self.append(desk, body)
     }
 
     /// The post of a station inside its limits.
-    pub(crate) fn append(&mut self, body: Body) -> Result<(), Refusal> {
+    pub(crate) fn append(&mut self, desk: usize, body: Body) -> Result<(), Refusal> {
+        require(desk < DESKS, BadDesk)?;
         require(body.is_edit(), NotAnEdit)?;
-        require(self.waiting.len < self.limit, QueueFull)?;
-        self.waiting.push(body);
+        require(self.waiting[desk].len < self.limit, QueueFull)?;
+        self.waiting[desk].push(body);
         Ok(())
+    }
+
+    /// Takes the oldest edit of the desk that goes first, or of the other where that one has none; then the other goes first.
+    pub(crate) fn next_edit(&mut self) -> Option<Body> {
+        let desk = if self.waiting[self.first].len > 0 { self.first } else { 1 - self.first };
+        let edit = self.waiting[desk].pop()?;
+        self.first = 1 - desk;
+        Some(edit)
     }
 
     /// Writes the frame to the start of the buffer and gives its length.

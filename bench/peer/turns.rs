@@ -52,7 +52,7 @@ impl Station {
             return;
         }
         let own = self.own;
-        let started = if self.lanes[own].len > 0 { Body::Empty } else { self.waiting.pop().unwrap_or(Body::Neutral) };
+        let started = if self.lanes[own].len > 0 { Body::Empty } else { self.next_edit().unwrap_or(Body::Neutral) };
         report.ended_body = self.body;
         report.started_body = started;
         self.labels[own] = successor(self.labels[own]);

@@ -61,12 +61,12 @@ class PostedGroup(NamedTuple):
     group: tuple
 
 
-def post(group, place, body):
+def post(group, place, body, desk=0):
     if not group_in_limits(group):
         return PostedGroup(OUTSIDE_LIMITS, group)
     if not numbers_valid(group_n(group), place):
         return PostedGroup(BAD_NUMBER, group)
-    refusal, station = append_edit(group[place], body)
+    refusal, station = append_edit(group[place], body, desk)
     return PostedGroup(refusal, replaced(group, place, station))
 
 

@@ -22,6 +22,7 @@ class SizeLine(NamedTuple):
 class PostLine(NamedTuple):
     station: int
     body: Body
+    desk: int = 0     # scripts post as desk 0 (document 02, A7)
 
 
 class RoundLine(NamedTuple):

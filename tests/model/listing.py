@@ -32,15 +32,16 @@ def station_lines(rounds, place, report):
         yield listing_line(rounds, b"D", place, place, report.started_body)
 
 
-def listing_lines(script):
+def listing_lines(script, read=None, limit=None):
+    """Lines are read as document 01 has them, and the limit is the listing's, unless others are named."""
     group, n, rounds = None, None, 0
     for line in split_lines(script):
-        command = None if line is None else read_line(line, n)
+        command = None if line is None else (read or read_line)(line, n)
         if isinstance(command, SizeLine):
             n = command.n
-            group = groups.fresh(n, LIMIT).group
+            group = groups.fresh(n, LIMIT if limit is None else limit).group
         elif isinstance(command, PostLine):
-            refusal, group = groups.post(group, command.station, command.body)
+            refusal, group = groups.post(group, command.station, command.body, command.desk)
             if refusal != DONE:
                 yield refused_post_line(rounds, command.station, n, refusal)
         elif command is not None and rounds < LAST_ROUND:

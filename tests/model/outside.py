@@ -3,6 +3,7 @@
 from .bodies import DROP, EMPTY, INSERT, KINDS, NEUTRAL, Body
 from .queues import CAPACITY, LANE_LIMIT, Queue, replaced
 from .records import PLACES, Record, count_limit
+from .station import with_queue
 
 
 # Changes to a station.
@@ -22,9 +23,9 @@ def with_lane(station, k, *bodies):
     return at_place(station, "lanes", k, Queue(len(bodies), slots))
 
 
-def with_waiting(station, length, first):
+def with_waiting(station, length, first, desk=0):
     slots = (first,) + (Body(DROP, 1, 0),) * (CAPACITY - 1)
-    return station._replace(waiting=Queue(length, slots))
+    return with_queue(station, desk, Queue(length, slots))
 
 
 BAD_BODY = Body(DROP, 0, 0)
@@ -69,6 +70,9 @@ def stations_outside(s):
         "9 waiting at a limit of 8": with_waiting(s._replace(limit=8), 9, Body(DROP, 1, 0)),
         "33 waiting": with_waiting(s._replace(limit=32), 33, Body(DROP, 1, 0)),
         "255 waiting": with_waiting(s, 255, Body(DROP, 1, 0)),
+        "Empty waiting at desk 1": with_waiting(s, 1, EMPTY, desk=1),
+        "one more waiting at desk 1 than the limit": with_waiting(s, s.limit + 1, Body(DROP, 1, 0), desk=1),
+        "255 waiting at desk 1": with_waiting(s, 255, Body(DROP, 1, 0), desk=1),
         "a limit of 0": with_waiting(s._replace(limit=0), 0, Body(DROP, 1, 0)),
         "a limit of 33": with_waiting(s._replace(limit=33), 0, Body(DROP, 1, 0)),
         "33 waiting at a limit of 33": with_waiting(s._replace(limit=33), 33, Body(DROP, 1, 0)),

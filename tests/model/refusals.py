@@ -15,6 +15,7 @@ MALFORMED_LINE = 11
 BAD_LOG = 12             # not whole rounds, or too many
 BAD_LIMIT = 13           # of waiting edits, at fresh
 CONFLICT = 14            # a heard record and the held one
+BAD_DESK = 15            # neither 0 nor 1, at post
 BAD_LISTING = 16         # a line's form, or no last line
 BAD_QUESTION = 18        # a station, a k, or one too many
 BAD_CONTEST = 20         # N, sets or rounds outside the limits of a contest

@@ -20,8 +20,9 @@ def script_line(letter, numbers):
 
 
 def call_line(call):
+    """The desk is named only where another than desk 0 posts, which no script of document 01 has."""
     if isinstance(call, PostLine):
-        return script_line(b"P", (call.station, *call.body))
+        return script_line(b"P", (call.station, *call.body, *[call.desk] * (call.desk != 0)))
     return script_line(b"R", call.masks)
 
 
@@ -132,6 +133,20 @@ def seeded_calls(seed, shape=None):
     """The size and the calls that belong to a seed."""
     shape = shape or random_shape(seed)
     return shape.n, random_calls(random.Random(f"calls {seed}"), shape)
+
+
+def seeded_desks(seed, shape=None):
+    """The same with a desk for each post, now and then none that there is."""
+    n, calls = seeded_calls(seed, shape)
+    rng = random.Random(f"desks {seed}")
+    lean = rng.choice((0.2, 0.5, 0.5, 0.8))   # how often desk 1 posts
+
+    def with_desk(call):
+        if not isinstance(call, PostLine):
+            return call
+        desk = int(rng.random() < lean)
+        return call._replace(desk=desk if rng.random() < 0.97 else rng.choice((2, 3, 255, 256, 999_999_999)))
+    return n, [with_desk(call) for call in calls]
 
 
 def seeded_limit(seed):

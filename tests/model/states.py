@@ -6,7 +6,7 @@ from .bodies import DROP, EMPTY, INSERT, KINDS, NEUTRAL, SHIFT, Body
 from .frames import frame_bytes
 from .queues import CAPACITY, LANE_LIMIT, NO_LANE, Queue, contents
 from .records import NO_RECORD, PLACES, Record, count_limit
-from .station import LARGEST_COUNT, Station
+from .station import DESKS, LARGEST_COUNT, Station
 
 
 # Sixteen entries of which the first are given.
@@ -89,7 +89,6 @@ def random_station(rng, n, own):
     if rng.random() < 0.2:
         table[own] = table[own]._replace(count=rng.randint(0, LARGEST_COUNT))
     limit = rng.choice((1, 8, CAPACITY, rng.randint(1, CAPACITY)))
-    waiting = [random_edit(rng) for _ in range(rng.choice((0, 1, rng.randint(0, limit), limit)))]
     rest = PLACES - n
     return Station(
         n, own,
@@ -102,8 +101,16 @@ def random_station(rng, n, own):
         table=tuple(table + [any_record(rng) for _ in range(rest)]),
         lanes=tuple([random_lane(rng, 1 if k == own else LANE_LIMIT) for k in range(n)]
                     + [any_lane(rng) for _ in range(rest)]),
-        waiting=Queue(len(waiting), any_slots(rng, waiting, CAPACITY)),
-        limit=limit)
+        waiting=random_waiting(rng, limit),
+        limit=limit,
+        waiting_1=random_waiting(rng, limit),
+        first=rng.choice(DESKS))
+
+
+def random_waiting(rng, limit):
+    """A queue inside a limit, with anything in its slots past the length."""
+    bodies = [random_edit(rng) for _ in range(rng.choice((0, 1, rng.randint(0, limit), limit)))]
+    return Queue(len(bodies), any_slots(rng, bodies, CAPACITY))
 
 
 def random_group(rng, n):
@@ -149,7 +156,8 @@ def state_part(station):
         held=station.held[:n] + (False,) * rest,
         table=tuple(clear_record(k) for k in range(n)) + (NO_RECORD,) * rest,
         lanes=tuple(map(clear_slots, station.lanes[:n])) + (NO_LANE,) * rest,
-        waiting=clear_slots(station.waiting))
+        waiting=clear_slots(station.waiting),
+        waiting_1=clear_slots(station.waiting_1))
 
 
 def carried_part(station, held):

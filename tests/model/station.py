@@ -8,8 +8,8 @@ from .queues import (CAPACITY, DEFAULT_LIMIT, LANE_LIMIT, NO_LANE, NO_WAITING, O
                      Queue, contents, put_last)
 from .records import (NO_RECORD, PLACES, Record, count_limit, labels_in_limits,
                       record_in_limits)
-from .refusals import (BAD_LIMIT, BAD_NUMBER, BUFFER_SHORT, COUNT_TOO_LARGE, DONE, NOT_AN_EDIT,
-                       OUTSIDE_LIMITS, QUEUE_FULL)
+from .refusals import (BAD_DESK, BAD_LIMIT, BAD_NUMBER, BUFFER_SHORT, COUNT_TOO_LARGE, DONE,
+                       NOT_AN_EDIT, OUTSIDE_LIMITS, QUEUE_FULL)
 
 LARGEST_COUNT = 255
 
@@ -25,8 +25,32 @@ class Station(NamedTuple):
     held: tuple       # bools: of which stations the table holds a record
     table: tuple      # Records; one that is not held is no part of the state
     lanes: tuple      # Queues of two slots
-    waiting: Queue    # thirty-two slots
-    limit: int        # of the waiting edits (document 02, A2)
+    waiting: Queue    # thirty-two slots: the edits of desk 0
+    limit: int        # of the waiting edits of each desk (document 02, A2 and A7)
+    waiting_1: Queue = NO_WAITING   # thirty-two slots: the edits of desk 1 (document 02, A7)
+    first: int = 0    # the desk that goes first where both wait
+
+
+# Desks.
+
+DESKS = (0, 1)
+
+
+def queue_of(station, desk):
+    return station.waiting_1 if desk else station.waiting
+
+
+def with_queue(station, desk, queue):
+    return station._replace(waiting_1=queue) if desk else station._replace(waiting=queue)
+
+
+def next_desk(station):
+    """The desk whose oldest edit would start: of two that wait the one that goes first; None where
+    none waits."""
+    waiting = [desk for desk in DESKS if queue_of(station, desk).length > 0]
+    if len(waiting) == 2:
+        return station.first
+    return waiting[0] if waiting else None
 
 
 # Limits.
@@ -67,7 +91,7 @@ def in_limits(station):
             and station.count <= LARGEST_COUNT
             and body_in_limits(station.body)
             and labels_in_limits(station.labels, station.n)
-            and waiting_in_limits(station.waiting, station.limit)
+            and all(waiting_in_limits(queue_of(station, desk), station.limit) for desk in DESKS)
             and all(place_in_limits(station, k) for k in range(station.n)))
 
 
@@ -111,23 +135,29 @@ class PostedStation(NamedTuple):
     station: Station
 
 
-def queue_full(station):
-    return station.waiting.length >= station.limit
+def desk_valid(desk):
+    return desk in DESKS
 
 
-def append_edit(station, body):
-    """Post to a station inside its limits: 4, 3 or 0."""
+def queue_full(station, desk):
+    return queue_of(station, desk).length >= station.limit
+
+
+def append_edit(station, body, desk):
+    """Post to a station inside its limits: 15, 4, 3 or 0."""
+    if not desk_valid(desk):
+        return PostedStation(BAD_DESK, station)
     if not is_edit(body):
         return PostedStation(NOT_AN_EDIT, station)
-    if queue_full(station):
+    if queue_full(station, desk):
         return PostedStation(QUEUE_FULL, station)
-    return PostedStation(DONE, station._replace(waiting=put_last(station.waiting, body)))
+    return PostedStation(DONE, with_queue(station, desk, put_last(queue_of(station, desk), body)))
 
 
-def post(station, body):
+def post(station, body, desk=0):
     if not in_limits(station):
         return PostedStation(OUTSIDE_LIMITS, station)
-    return append_edit(station, body)
+    return append_edit(station, body, desk)
 
 
 # Write frame.

@@ -6,7 +6,7 @@ from .bodies import EMPTY, EMPTY_KIND, NEUTRAL, Body
 from .queues import lane_with, lane_without_oldest, replaced, without_oldest
 from .records import PLACES, Record, successor
 from .refusals import DONE, OUTSIDE_LIMITS
-from .station import Station, in_limits
+from .station import Station, in_limits, next_desk, queue_of, with_queue
 
 NO_ROW = (EMPTY,) * PLACES
 
@@ -48,14 +48,21 @@ def may_start(station):
     return station.lanes[station.own].length == 0
 
 
+def other_desk(desk):
+    return 1 - desk
+
+
 def choose_body(station):
-    """The body to start, and the station without it among its waiting edits."""
+    """The body to start, and the station without it among its waiting edits. The start of an edit,
+    and nothing else, lets the other desk go first (document 02, A7)."""
     if not may_start(station):
         return station, EMPTY
-    if station.waiting.length == 0:
+    desk = next_desk(station)
+    if desk is None:
         return station, NEUTRAL
-    oldest = station.waiting.slots[0]
-    return station._replace(waiting=without_oldest(station.waiting)), oldest
+    queue = queue_of(station, desk)
+    after = with_queue(station, desk, without_oldest(queue))
+    return after._replace(first=other_desk(desk)), queue.slots[0]
 
 
 def take_own(station, body):

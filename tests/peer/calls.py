@@ -20,10 +20,10 @@ def compare():
     for number, (rng, s) in enumerate(states.some_stations(STATIONS, least_n=2)):
         body = rng.choice(states.ANY_BODIES + (states.random_edit(rng),))
         buffer = rng.randbytes(rng.choice((0, 3, 100, 260, 300)))
-        agree(f"station {number}", calls(s, body, buffer, states.some_frame(rng, s)))
+        agree(f"station {number}", calls(s, body, rng.choice((0, 1, 0, 1, 2, 255)), buffer, states.some_frame(rng, s)))
     inside = states.random_station(random.Random("inside"), 5, 2)
     for name, s in outside.stations_outside(inside).items():
-        agree(name, calls(s, states.ANY_BODIES[2], bytes(260), b""))
+        agree(name, calls(s, states.ANY_BODIES[2], 1, bytes(260), b""))
     compare_rounds()
     compare_conflicts()
 
@@ -42,12 +42,12 @@ def compare_fresh():
                 ("answer", tuple(group.fresh(n, limit)), (refusal, after.group()))])
 
 
-def calls(s, body, buffer, frame):
+def calls(s, body, desk, buffer, frame):
     """The four calls of a station: what the model answers and what the peer answers."""
     given = station_bytes(s)
 
-    expected = station.post(s, body)
-    refusal, _, after = built.call("p", given + body_bytes(body))
+    expected = station.post(s, body, desk)
+    refusal, _, after = built.call("p", given + bytes([desk]) + body_bytes(body))
     yield "post", (expected.refusal, visible(s, expected.station)), (refusal, visible(s, after.station()))
 
     refusal, length, after = built.call("w", given + buffer)
@@ -86,7 +86,7 @@ def compare_rounds():
             ("refusal", expected.refusal, refusal),
             ("group", visible_group(given, expected), visible_group(given, expected._replace(group=after.group()))),
             ("reports", expected.reports, after.several(after.report, PLACES))])
-        agree(f"post to group {seed}", [group_post(given, rng.randrange(18), states.random_edit(rng))])
+        agree(f"post to group {seed}", [group_post(given, rng.randrange(18), rng.randrange(3), states.random_edit(rng))])
     agree("rounds", [("refusals met", {0, 2, 8, 10, 14}, refusals)])
 
 
@@ -108,9 +108,9 @@ def mask_bytes(masks):
     return b"".join(mask.to_bytes(2, "little") for mask in masks)
 
 
-def group_post(given, place, body):
-    expected = group.post(given, place, body)
-    refusal, _, after = built.call("g", group_bytes(given) + bytes([place]) + body_bytes(body))
+def group_post(given, place, desk, body):
+    expected = group.post(given, place, body, desk)
+    refusal, _, after = built.call("g", group_bytes(given) + bytes([place, desk]) + body_bytes(body))
     got = group.PostedGroup(refusal, after.group())
     return "post", (expected.refusal, visible_group(given, expected)), (refusal, visible_group(given, got))
 

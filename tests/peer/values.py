@@ -24,7 +24,8 @@ def queue_bytes(queue):
 
 def station_bytes(s):
     return (bytes([s.n, s.own, s.limit, s.count]) + body_bytes(s.body) + bytes(s.labels) + bytes(s.acked) + bytes(s.held)
-            + b"".join(map(record_bytes, s.table)) + b"".join(map(queue_bytes, s.lanes)) + queue_bytes(s.waiting))
+            + b"".join(map(record_bytes, s.table)) + b"".join(map(queue_bytes, s.lanes)) + queue_bytes(s.waiting)
+            + queue_bytes(s.waiting_1) + bytes([s.first]))
 
 
 def group_bytes(group):
@@ -66,7 +67,8 @@ class Reader:
         acked, held = self.several(self.flag, PLACES), self.several(self.flag, PLACES)
         table = self.several(self.record, PLACES)
         lanes = self.several(lambda: self.queue(LANE_LIMIT), PLACES)
-        return Station(n, own, count, body, labels, acked, held, table, lanes, self.queue(CAPACITY), limit)
+        waiting, waiting_1, first = self.queue(CAPACITY), self.queue(CAPACITY), self.number()
+        return Station(n, own, count, body, labels, acked, held, table, lanes, waiting, limit, waiting_1, first)
 
     def group(self):
         return self.several(self.station, PLACES)

@@ -68,7 +68,7 @@ pub fn fresh(n: usize) -> KeptGroup
     fresh_limited(setup)
 }
 
-// Group post: one more waiting edit at the post's station, where the station does not refuse it.
+// Group post: one more waiting edit of the post's desk at its station, where the station does not refuse it.
 pub fn post(g: [Station; 16], post: Post) -> KeptGroup
     ensures { λ r. ⌜ r ≡ groupPostCall g post ⌝ }
 {
@@ -87,7 +87,7 @@ pub fn post(g: [Station; 16], post: Post) -> KeptGroup
         return z;
     }
     let body = post.body;
-    let kept = station::post(z.group[k], body);
+    let kept = station::post(z.group[k], post.desk, body);
     let station = kept.station;
     z.refusal = kept.refusal;
     z.group[k] = station;

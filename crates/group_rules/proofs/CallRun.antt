@@ -28,12 +28,12 @@ set-same : (g : List Station) (x : Post) (i : ℕ) → SameButWaiting (stationAt
 set-same g x i = elim (ℕ-discrete i (x .station)) [ yes e ↦ here e | no d ↦ there d ]
   where
     new : Station
-    new = posted (stationAt g (x .station)) (x .body)
+    new = posted (stationAt g (x .station)) (x .desk) (x .body)
 
     here : i ≡ x .station → SameButWaiting (stationAt g i) (stationAt (set g (x .station) new) i)
     here e =
         elim (decLe (suc (x .station)) (length g)) [
-          | yes l ↦ rw (e, getD-set-same g (x .station) new noStation l) (posted-same (stationAt g (x .station)) (x .body))
+          | yes l ↦ rw (e, getD-set-same g (x .station) new noStation l) (posted-same (stationAt g (x .station)) (x .desk) (x .body))
           | no l ↦ rw (set-out g (x .station) new (omega arith)) (same-refl (stationAt g i))
         ]
 
@@ -53,7 +53,7 @@ unfolding groupPostCall
 length-post g x = go (eqb (groupPostRefusal g x) done)
   where
     go : (c : Bool) → length (cond c (afterPost g x) g) ≡ length g
-    go true = length-set g (x .station) (posted (stationAt g (x .station)) (x .body))
+    go true = length-set g (x .station) (posted (stationAt g (x .station)) (x .desk) (x .body))
     go false = refl
 
 -- the group once the posts before the next round are done

@@ -59,6 +59,9 @@ module _ (g : List Station) (x : Post) where
   abbrev k : ℕ
   k = x .station
 
+  abbrev d : ℕ
+  d = x .desk
+
   abbrev b : Body
   b = x .body
 
@@ -79,16 +82,16 @@ module _ (g : List Station) (x : Post) where
       inside = inside-make s (member-at g i k l .inside)
 
       -- a station that is put back as it was leaves the group
-      put : (t : Bool) → set g k (cond t (posted s b) s) ≡ cond t (set g k (posted s b)) g
+      put : (t : Bool) → set g k (cond t (posted s d b) s) ≡ cond t (set g k (posted s d b)) g
       put true = refl
       put false = set-getD g k noStation
 
       pub post-there :
-          (kept : Kept) → kept ≡ station.postCall s b → record { refusal = kept .refusal; group = set g k (kept .station) } ≡ groupPostCall g x
+          (kept : Kept) → kept ≡ station.postCall s d b → record { refusal = kept .refusal; group = set g k (kept .station) } ≡ groupPostCall g x
       unfolding groupPostCall groupPostRefusal station.postCall
       post-there kept e =
           rw (e, inside, i, lt-ltb k (sizeOf g) l)
-          (λ j. record { refusal = postRefusal s b; group = put (eqb (postRefusal s b) 0) j })
+          (λ j. record { refusal = postRefusal s d b; group = put (eqb (postRefusal s d b) 0) j })
 
 -- round: 2, 10, and the refusal of the first refused frame
 module _ (g : List Station) (masks : List ℕ) where

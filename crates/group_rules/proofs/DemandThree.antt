@@ -23,7 +23,7 @@ use Rattle.group_rules.proofs.MembersRound.{Runs, after-members}
 use Rattle.group_rules.proofs.Lanes.{never-refused, run-step}
 use Rattle.group_rules.proofs.CallRun.{runOf, callsAfter, groupAfter, group-first, group-step, posts-keep}
 use Rattle.group_rules.proofs.HistoryRun.{Unrefused, history-group}
-use Rattle.group_rules.proofs.PostsAccounted.{posts-started, starts-aired, starts-reported, posts-accounted, posts-counted}
+use Rattle.group_rules.proofs.PostsAccounted.{posts-started, starts-aired, starts-reported, posts-counted}
 use Rattle.group_rules.proofs.HistoryInside.{lanes-bounded}
 use Rattle.group_rules.proofs.FromRun as from-run
 
@@ -96,7 +96,6 @@ module _ (setup : Setup) (accepted : groupFreshRefusal setup ≡ done) (calls : 
         posts-started = posts-started setup ok calls;
         starts-aired = starts-aired setup ok calls;
         starts-reported = starts-reported setup ok calls;
-        posts-accounted = posts-accounted setup ok calls;
         posts-counted = posts-counted setup ok calls;
         ends-exactly = from-run.ends-exactly setup ok calls free;
       }

@@ -10,6 +10,7 @@ pub mod CallSteps
 pub mod HistoryInside
 -- accepted posts: in a turn, and over a list of calls
 pub mod Takings
+pub mod Interleaving
 pub mod TurnAccount
 pub mod PostsAccounted
 -- the simulation: what a record stands for, one record heard, a round heard, a turn, all rounds of a run
@@ -37,6 +38,13 @@ pub mod HistoryRun
 pub mod HistoryLists
 pub mod FromRun
 pub mod DemandThree
+-- two desks: order, alternation, fairness, isolation
+pub mod AiredOrder
+pub mod DeskTurns
+pub mod Fairness
+pub mod Isolation
+pub mod TwoDesks
+-- no conflicts from fresh
 pub mod Conflicts
 -- examples
 pub mod Computing

@@ -29,7 +29,7 @@ use Rattle.station_rules.proofs.Examples as station
 use Rattle.station_rules.specs.declared.Station.{Station}
 use Rattle.station_rules.specs.Calls.{posted, postCall}
 use Rattle.lanes.specs.Queue.{noSlot}
-use Rattle.lanes.specs.Waiting.{waitingCount}
+use Rattle.lanes.specs.Waiting.{isDesk, deskCount}
 use Rattle.station_rules.specs.Hearing.{Hearing, silent}
 use Rattle.station_rules.specs.Turn.{turnReport}
 use Rattle.station_rules.specs.State.{aloneSetup, freshStation}
@@ -65,16 +65,16 @@ module _ (b : Body) (e : postable b ≡ true) where
 
   -- the group once the edit is posted
   before : List Station
-  before = set (freshGroup aloneSetup) 0 (posted (freshStation aloneSetup 0) b)
+  before = set (freshGroup aloneSetup) 0 (posted (freshStation aloneSetup 0) 0 b)
 
   abbrev ready : History
-  ready = record { group = before; rounds = []; log = []; accepted = record { station = 0; body = b } ∷ []; starts = [] }
+  ready = record { group = before; rounds = []; log = []; accepted = record { station = 0; desk = 0; body = b } ∷ []; starts = [] }
 
   size : sizeOf before ≡ 1
   unfolding before groupRuns
   size = refl
 
-  post-done : next (begun aloneSetup) (post (record { station = 0; body = b })) ≡ ready
+  post-done : next (begun aloneSetup) (post (record { station = 0; desk = 0; body = b })) ≡ ready
   unfolding before groupRuns
   post-done = simp e
 
@@ -122,9 +122,9 @@ module _ (b : Body) (e : postable b ≡ true) where
 
 -- of two posts to a station with room, one that may be posted and one not, the first is taken and the second gives 4
 posts :
-    (s : Station) → stationInside s ≡ true → waitingCount (s .waiting) < s .waiting .limit → (a b : Body) → postable a ≡ true → postable b ≡ false →
-    ((postCall s a) .refusal ≡ done) × ((postCall s b) .refusal ≡ notAnEdit)
-posts s i room a b p q = (station.taken s i a p room, station.refused s i b q)
+    (s : Station) (d : ℕ) → stationInside s ≡ true → isDesk d ≡ true → deskCount (s .waiting) d < s .waiting .limit → (a b : Body) → postable a ≡ true → postable b ≡ false →
+    ((postCall s d a) .refusal ≡ done) × ((postCall s d b) .refusal ≡ notAnEdit)
+posts s d i k room a b p q = (station.taken s i d k a p room, station.refused s i d k b q)
 
 -- a frame of one insert inside its limits is accepted
 framed : (start : ℤ) → bodyInside (Insert 1 start) ≡ true → checkRefusal (insertFrame start) 2 0 ≡ done
@@ -146,11 +146,11 @@ marked =
       m8-one = λ n sender r. frames.m8 n sender (r ∷ []) .0 refl;
       m8-all = λ n sender rs sixteen. frames.m8 n sender rs .1 sixteen;
       m9 =
-          λ s inside room event least most.
-          let e = kinds.m9 event least most in posts s inside room _ _ (e .0) (e .1);
+          λ s d inside desk room event least most.
+          let e = kinds.m9 event least most in posts s d inside desk room _ _ (e .0) (e .1);
       m10 =
-          λ s inside room event least most.
-          let e = kinds.m10 event least most in posts s inside room _ _ (e .0) (e .1);
+          λ s d inside desk room event least most.
+          let e = kinds.m10 event least most in posts s d inside desk room _ _ (e .0) (e .1);
       m10-framed = framed _ (postable-inside _ (kinds.m10 1 (omega arith) (omega arith) .0));
       m10-frame =
           λ bytes n own k valid shape address below kind start.
@@ -161,8 +161,8 @@ marked =
           λ s event holds.
           let o = kinds.m10-outside event in
           (held.post-two s _ o holds, held.write-two s _ o holds, held.hear-two s _ o holds, held.turn-two s _ o holds);
-      m11-room = λ s b inside limit room e. station.m11-room s inside b e limit room;
-      m11 = λ s b inside limit full e. station.m11 s inside b e limit full;
+      m11-room = λ s d b inside desk limit room e. station.m11-room s inside d desk b e limit room;
+      m11 = λ s d b inside desk limit full e. station.m11 s inside d desk b e limit full;
       m12-starts = λ b masks₁ masks₂ e. starts b e masks₁ masks₂;
       m12-airs = λ b masks₁ masks₂ e. aired b e masks₁ masks₂;
     }

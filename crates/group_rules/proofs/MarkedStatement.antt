@@ -18,7 +18,7 @@ use Rattle.frame_rules.specs.Frame.{validNumber, part, shapeWrong, addressWrong
 use Rattle.station_rules.specs.declared.Station.{Station}
 use Rattle.station_rules.specs.declared.TurnReport.{TurnReport}
 use Rattle.lanes.specs.Queue.{noSlot}
-use Rattle.lanes.specs.Waiting.{waitingCount}
+use Rattle.lanes.specs.Waiting.{isDesk, deskCount, waitingCount}
 use Rattle.station_rules.specs.State.{aloneSetup}
 use Rattle.station_rules.specs.Limits.{stationInside}
 use Rattle.station_rules.specs.Bodies.{Holds}
@@ -27,7 +27,7 @@ use Rattle.group_rules.specs.History.{History, post, round, noRound, his
 
 -- a group of one, one edit posted and two rounds with any masks
 abbrev pub oneStation : Body → List ℕ → List ℕ → History
-oneStation b masks₁ masks₂ = historyOf aloneSetup (post (record { station = 0; body = b }) ∷ round masks₁ ∷ round masks₂ ∷ [])
+oneStation b masks₁ masks₂ = historyOf aloneSetup (post (record { station = 0; desk = 0; body = b }) ∷ round masks₁ ∷ round masks₂ ∷ [])
 
 -- the turn that its only station reports in one of the two rounds
 abbrev pub turnIn : History → ℕ → TurnReport
@@ -52,15 +52,15 @@ pub record Marked : Type 0 where
   -- M8: the length of a frame
   pub m8-one : (n sender : ℕ) (r : Record) → length (frameBytes n sender (r ∷ [])) ≡ 20
   pub m8-all : (n sender : ℕ) (rs : List Record) → length rs ≡ 16 → length (frameBytes n sender rs) ≡ 260
-  -- M9: a station inside its limits with room in its queue takes a shift by -90,000 and refuses -90,001
+  -- M9: a station inside its limits with room at a desk takes a shift by -90,000 and refuses -90,001
   pub m9 :
-      (s : Station) → stationInside s ≡ true → waitingCount (s .waiting) < s .waiting .limit → (event : ℕ) → 1 ≤ event → event ≤ 99_999_999 →
-      ((postCall s (Shift event (negsuc 89_999))) .refusal ≡ done) × ((postCall s (Shift event (negsuc 90_000))) .refusal ≡ notAnEdit)
+      (s : Station) (d : ℕ) → stationInside s ≡ true → isDesk d ≡ true → deskCount (s .waiting) d < s .waiting .limit → (event : ℕ) → 1 ≤ event → event ≤ 99_999_999 →
+      ((postCall s d (Shift event (negsuc 89_999))) .refusal ≡ done) × ((postCall s d (Shift event (negsuc 90_000))) .refusal ≡ notAnEdit)
   -- M10, read with the numbers of request A6: it takes a start at 2,699,999 and refuses 2,700,000
   pub m10 :
-      (s : Station) → stationInside s ≡ true → waitingCount (s .waiting) < s .waiting .limit → (event : ℕ) → 1 ≤ event → event ≤ 99_999_999 →
-      ((postCall s (Insert event (pos 2_699_999))) .refusal ≡ done)
-      × ((postCall s (Insert event (pos 2_700_000))) .refusal ≡ notAnEdit)
+      (s : Station) (d : ℕ) → stationInside s ≡ true → isDesk d ≡ true → deskCount (s .waiting) d < s .waiting .limit → (event : ℕ) → 1 ≤ event → event ≤ 99_999_999 →
+      ((postCall s d (Insert event (pos 2_699_999))) .refusal ≡ done)
+      × ((postCall s d (Insert event (pos 2_700_000))) .refusal ≡ notAnEdit)
   -- A6, in a frame: the check accepts a record with a start at 2,699,999; it gives 7 where any record of the frame has
   -- one at 2,700,000, unless the frame is refused earlier
   pub m10-framed : checkRefusal (insertFrame (pos 2_699_999)) 2 0 ≡ done
@@ -72,15 +72,17 @@ pub record Marked : Type 0 where
   -- A6, in a state: on a station that holds a start at 2,700,000, wherever it stands, each call gives 2
   pub m10-held :
       (s : Station) (event : ℕ) → Holds s (Insert event (pos 2_700_000)) →
-      ((b : Body) → (postCall s b) .refusal ≡ outsideLimits)
+      ((d : ℕ) (b : Body) → (postCall s d b) .refusal ≡ outsideLimits)
       × ((room : ℕ) → (writeCall s room) .refusal ≡ outsideLimits)
       × ((bytes : List ℕ) → (hearCall s bytes) .refusal ≡ outsideLimits)
       × ((turnCall s) .refusal ≡ outsideLimits)
-  -- M11, where the limit is 32: as long as fewer than 32 wait, an edit is accepted and waits; where 32 wait, one more is refused
+  -- M11, where the limit is 32: as long as fewer than 32 of a desk wait, an edit is accepted and waits; where 32 wait, one more is refused
   pub m11-room :
-      (s : Station) (b : Body) → stationInside s ≡ true → s .waiting .limit ≡ 32 → waitingCount (s .waiting) < 32 → postable b ≡ true →
-      ((postCall s b) .refusal ≡ done) × (waitingCount (((postCall s b) .station) .waiting) ≡ waitingCount (s .waiting) + 1)
-  pub m11 : (s : Station) (b : Body) → stationInside s ≡ true → s .waiting .limit ≡ 32 → waitingCount (s .waiting) ≡ 32 → postable b ≡ true → (postCall s b) .refusal ≡ queueFull
+      (s : Station) (d : ℕ) (b : Body) → stationInside s ≡ true → isDesk d ≡ true → s .waiting .limit ≡ 32 → deskCount (s .waiting) d < 32 → postable b ≡ true →
+      ((postCall s d b) .refusal ≡ done) × (waitingCount (((postCall s d b) .station) .waiting) ≡ waitingCount (s .waiting) + 1)
+  pub m11 :
+      (s : Station) (d : ℕ) (b : Body) → stationInside s ≡ true → isDesk d ≡ true → s .waiting .limit ≡ 32 → deskCount (s .waiting) d ≡ 32 → postable b ≡ true →
+      (postCall s d b) .refusal ≡ queueFull
   -- M12: one edit at a station alone: in round 1 it starts where Empty ends; in round 2 it is aired and ends, and Neutral starts
   pub m12-starts :
       (b : Body) (masks₁ masks₂ : List ℕ) → postable b ≡ true →

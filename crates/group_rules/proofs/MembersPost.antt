@@ -13,7 +13,7 @@ use borrow.Author.Tests.{ltb-true}
 use Rattle.kind_limits.specs.Limits.{postable}
 use Rattle.kinds.specs.Refusals.{done}
 use Rattle.places.proofs.Keeps.{set-keeps}
-use Rattle.lanes.specs.Waiting.{hasRoom}
+use Rattle.lanes.specs.Waiting.{isDesk, hasRoom}
 use Rattle.station_rules.specs.declared.Station.{Station}
 use Rattle.station_rules.specs.Calls.{posted}
 use Rattle.station_rules.proofs.Setters.{Shaped}
@@ -28,22 +28,26 @@ use Rattle.group_rules.proofs.Members.{Member, GroupShaped, Members, me
 pub record Accepted (g : List Station) (x : Post) : Type 0 where
   pub inside : groupInside g ≡ true
   pub below : x .station < sizeOf g
+  pub desk : isDesk (x .desk) ≡ true
   pub edit : postable (x .body) ≡ true
-  pub room : hasRoom (stationAt g (x .station) .waiting) ≡ true
+  pub room : hasRoom (stationAt g (x .station) .waiting) (x .desk) ≡ true
 
 pub accepted : (g : List Station) (x : Post) → eqb (groupPostRefusal g x) done ≡ true → Accepted g x
 unfolding groupPostRefusal
-accepted g x h = go (groupInside g) (ltb (x .station) (sizeOf g)) (postable (x .body)) (hasRoom (stationAt g (x .station) .waiting)) refl refl refl refl h
+accepted g x h =
+    go (groupInside g) (ltb (x .station) (sizeOf g)) (isDesk (x .desk)) (postable (x .body)) (hasRoom (stationAt g (x .station) .waiting) (x .desk)) refl refl refl refl refl h
   where
     go :
-        (a c d e : Bool) → groupInside g ≡ a → ltb (x .station) (sizeOf g) ≡ c → postable (x .body) ≡ d → hasRoom (stationAt g (x .station) .waiting) ≡ e →
-        eqb (cond (not a) 2 (cond (not c) 1 (cond (not d) 4 (cond (not e) 3 0)))) 0 ≡ true → Accepted g x
-    go true true true true p q r s z =
-        record { inside = p; below = ltb-true (x .station) (sizeOf g) q; edit = r; room = s }
-    go true true true false p q r s z = absurd (false≢true z)
-    go true true false e p q r s z = absurd (false≢true z)
-    go true false d e p q r s z = absurd (false≢true z)
-    go false c d e p q r s z = absurd (false≢true z)
+        (a c k d e : Bool) → groupInside g ≡ a → ltb (x .station) (sizeOf g) ≡ c → isDesk (x .desk) ≡ k → postable (x .body) ≡ d →
+        hasRoom (stationAt g (x .station) .waiting) (x .desk) ≡ e →
+        eqb (cond (not a) 2 (cond (not c) 1 (cond (not k) 15 (cond (not d) 4 (cond (not e) 3 0))))) 0 ≡ true → Accepted g x
+    go true true true true true p q t r s z =
+        record { inside = p; below = ltb-true (x .station) (sizeOf g) q; desk = t; edit = r; room = s }
+    go true true true true false p q t r s z = absurd (false≢true z)
+    go true true true false e p q t r s z = absurd (false≢true z)
+    go true true false d e p q t r s z = absurd (false≢true z)
+    go true false k d e p q t r s z = absurd (false≢true z)
+    go false c k d e p q t r s z = absurd (false≢true z)
 
 pub post-accepted :
     (g : List Station) (x : Post) → eqb ((groupPostCall g x) .refusal) done ≡ true →
@@ -61,13 +65,13 @@ post-refusal g x = refl
 
 module _ (n : ℕ) (g : List Station) (c : Members n g) (x : Post) where
   module _ (below : x .station < n) where
-    pub posted-at : stationAt (afterPost g x) (x .station) ≡ posted (stationAt g (x .station)) (x .body)
-    posted-at = getD-set-same g (x .station) (posted (stationAt g (x .station)) (x .body)) noStation (rw (c .shape .places) (omega (arith, c .high)))
+    pub posted-at : stationAt (afterPost g x) (x .station) ≡ posted (stationAt g (x .station)) (x .desk) (x .body)
+    posted-at = getD-set-same g (x .station) (posted (stationAt g (x .station)) (x .desk) (x .body)) noStation (rw (c .shape .places) (omega (arith, c .high)))
 
     pub posted-other : (j : ℕ) → (j ≡ x .station → ⊥) → stationAt (afterPost g x) j ≡ stationAt g j
-    posted-other j ne = getD-set-other g (x .station) j (posted (stationAt g (x .station)) (x .body)) noStation ne
+    posted-other j ne = getD-set-other g (x .station) j (posted (stationAt g (x .station)) (x .desk) (x .body)) noStation ne
 
-    posted-member : postable (x .body) ≡ true → hasRoom (stationAt g (x .station) .waiting) ≡ true → (j : ℕ) → j < n → Member n (afterPost g x) j
+    posted-member : postable (x .body) ≡ true → hasRoom (stationAt g (x .station) .waiting) (x .desk) ≡ true → (j : ℕ) → j < n → Member n (afterPost g x) j
     posted-member edit room j l =
         elim (ℕ-discrete j (x .station)) [
           | yes same ↦ subst (Member n (afterPost g x)) (sym same) here
@@ -85,12 +89,12 @@ module _ (n : ℕ) (g : List Station) (c : Members n g) (x : Post) where
             let m = c .member (x .station) below in
             record {
               inside =
-                  rw posted-at (posted-holds (stationAt g (x .station)) (x .body) (c .shape .stations (x .station) (omega (arith, c .high))) (m .inside) edit room);
-              size = rw posted-at (sym (posted-same (stationAt g (x .station)) (x .body) .n) ∙ m .size);
-              own = rw posted-at (sym (posted-same (stationAt g (x .station)) (x .body) .own) ∙ m .own);
+                  rw posted-at (posted-holds (stationAt g (x .station)) (x .desk) (x .body) (c .shape .stations (x .station) (omega (arith, c .high))) (m .inside) edit room);
+              size = rw posted-at (sym (posted-same (stationAt g (x .station)) (x .desk) (x .body) .n) ∙ m .size);
+              own = rw posted-at (sym (posted-same (stationAt g (x .station)) (x .desk) (x .body) .own) ∙ m .own);
             }
 
-    set-members : postable (x .body) ≡ true → hasRoom (stationAt g (x .station) .waiting) ≡ true → Members n (afterPost g x)
+    set-members : postable (x .body) ≡ true → hasRoom (stationAt g (x .station) .waiting) (x .desk) ≡ true → Members n (afterPost g x)
     set-members edit room =
         record {
           low = c .low;
@@ -98,10 +102,10 @@ module _ (n : ℕ) (g : List Station) (c : Members n g) (x : Post) where
           size = posted-member edit room 0 (c .low) .size;
           shape =
               record {
-                places = length-set g (x .station) (posted (stationAt g (x .station)) (x .body)) ∙ c .shape .places;
+                places = length-set g (x .station) (posted (stationAt g (x .station)) (x .desk) (x .body)) ∙ c .shape .places;
                 stations =
-                    λ j l. set-keeps Shaped g (x .station) (posted (stationAt g (x .station)) (x .body)) noStation j (rw (c .shape .places) l) (c .shape .stations j l)
-                    (posted-shaped (stationAt g (x .station)) (x .body) (c .shape .stations (x .station) (omega (arith, c .high))));
+                    λ j l. set-keeps Shaped g (x .station) (posted (stationAt g (x .station)) (x .desk) (x .body)) noStation j (rw (c .shape .places) l) (c .shape .stations j l)
+                    (posted-shaped (stationAt g (x .station)) (x .desk) (x .body) (c .shape .stations (x .station) (omega (arith, c .high))));
               };
           member = posted-member edit room;
         }

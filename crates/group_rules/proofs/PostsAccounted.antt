@@ -1,6 +1,6 @@
--- Accepted posts are all accounted for, in their order, after every list of calls: the first started, and the last wait; of those that started the first were
--- aired, and the last stand in the own lane. One invariant is carried from call to call: the group is inside its limits, and the lists agree. A post adds one
--- waiting edit; a turn moves edits on; a refused call changes nothing.
+-- Accepted posts are all accounted for, after every list of calls: of each desk, in their order, the first started, and the last wait; of those that started, of
+-- both desks, the first were aired, and the last stand in the own lane. One invariant is carried from call to call: the group is inside its limits, each post
+-- is of a desk, and the lists agree. A post adds one waiting edit; a turn moves edits on; a refused call changes nothing.
 use Prim.Native.Nat.{ℕ, _+_, _≤_, _<_}
 use mathlib.Core.Bool.{Bool, true, false, cond}
 use mathlib.Core.List.{List, [], _∷_, _++_, append-nil, append-assoc}
@@ -22,8 +22,9 @@ use Rattle.station_rules.specs.State.{Cell, laneAt, freshStation}
 use Rattle.station_rules.specs.Hearing.{silent}
 use Rattle.station_rules.specs.Turn.{airs, rowOf, startedBody, turnReport, afterTurn}
 use Rattle.lanes.specs.Queue.{noSlot}
-use Rattle.lanes.specs.Waiting.{waitingEdits, waitingCount, hasRoom, waitingInside}
-use Rattle.lanes.proofs.WaitingLaws.{WaitingSized, none-edits, edits-count, posted-edits, room-most}
+use Rattle.lanes.specs.declared.Waiting.{Waiting}
+use Rattle.lanes.specs.Waiting.{isDesk, otherDesk, waitingEdits, deskCount, waitingCount, hasRoom, firstDesk, nextDesk, waitingInside}
+use Rattle.lanes.proofs.WaitingLaws.{WaitingSized, none-edits, count-both, edits-count, posted-edits, posted-first, room-most, next-desk}
 use Rattle.station_rules.specs.Calls.{posted, noTurn}
 use Rattle.station_rules.proofs.Setters.{fresh-self, fresh-own}
 use Rattle.station_rules.proofs.LimitsHearing.{Hears}
@@ -32,14 +33,16 @@ use Rattle.group_rules.specs.declared.Report.{Report}
 use Rattle.group_rules.specs.declared.RoundDone.{RoundDone}
 use Rattle.group_rules.specs.State.{stationAt, sizeOf}
 use Rattle.group_rules.specs.Calls.{afterPost, groupPostCall, heard, noReport, reportOf, roundRefusal, roundCall}
-use Rattle.group_rules.specs.History.{History, Call, Call.post, Call.round, next, begun, continued, historyOf, reportIn, startsIn, unlessEmpty, collect, takingsOf, postsAt, started, editsOf, airedList, onlyEdits}
+use Rattle.group_rules.specs.History.{History, Call, Call.post, Call.round, next, begun, continued, historyOf, reportIn, startsIn, unlessEmpty, collect, takingsOf, postsAt, postsOf, started, editsOf, airedList, onlyEdits}
 use Rattle.group_rules.proofs.Setups.{Accepts}
 use Rattle.group_rules.proofs.Members.{Members, fresh-at}
 use Rattle.group_rules.proofs.MembersPost.{accepted, post-accepted, post-refused, post-refusal, posted-at, posted-other}
 use Rattle.group_rules.proofs.MembersRound.{Runs, runs, run-hears, run-room, after-at, round-done, round-refused}
 use Rattle.group_rules.proofs.HistoryInside.{members-next, members-begun}
-use Rattle.group_rules.proofs.TurnAccount.{ifEdit, turn-waiting, turn-lane, row-account}
-use Rattle.group_rules.proofs.Takings.{takingsOf-append, postsAt-append, post-other, post-here, posts-gathered, onlyEdits-append, onlyEdits-unless}
+use Rattle.group_rules.proofs.TurnAccount.{ifEdit, startOf, turn-waiting, turn-first, turn-lane, row-account}
+use Rattle.group_rules.proofs.Takings.{takingsOf-append, postsAt-append, postsOf-append, desk-other, desk-here, posts-gathered, desk-gathered, onlyEdits-append, onlyEdits-unless}
+use Rattle.group_rules.specs.Desks.{Interleaved}
+use Rattle.group_rules.proofs.Interleaving.{EachDesk, desks-none, desks-one, desks-append, desks-gather, interleave, interleaved-length}
 use Rattle.group_rules.proofs.CallRun.{post-same}
 
 module _ {A : Type 0} where
@@ -52,9 +55,9 @@ module _ {A : Type 0} where
 abbrev airedOf : ℕ → Report → List Taking
 airedOf n r = cond (r .turn .aired) (editsOf n (r .turn .row)) []
 
--- what waits at a station, and the edits in its own lane
-abbrev waits : List Station → ℕ → List Body
-waits g p = waitingEdits (stationAt g p .waiting)
+-- what waits at a desk of a station, and the edits in its own lane
+abbrev pub waits : List Station → ℕ → ℕ → List Body
+waits g p d = waitingEdits (stationAt g p .waiting) d
 
 abbrev ownEdits : List Station → ℕ → List Body
 ownEdits g p = onlyEdits (bodies (laneAt (stationAt g p) p))
@@ -62,53 +65,96 @@ ownEdits g p = onlyEdits (bodies (laneAt (stationAt g p) p))
 -- a post
 
 posted-waits :
-    (s : Station) (b : Body) → WaitingSized (s .waiting) → waitingInside (s .waiting) ≡ true → hasRoom (s .waiting) ≡ true →
-    waitingEdits ((posted s b) .waiting) ≡ waitingEdits (s .waiting) ++ (b ∷ [])
+    (s : Station) (e : ℕ) (b : Body) (d : ℕ) → isDesk e ≡ true → isDesk d ≡ true →
+    WaitingSized (s .waiting) → waitingInside (s .waiting) ≡ true → hasRoom (s .waiting) e ≡ true →
+    waitingEdits ((posted s e b) .waiting) d ≡ waitingEdits (s .waiting) d ++ cond (eqb e d) (b ∷ []) []
 unfolding posted
-posted-waits s b c i l = posted-edits (s .waiting) b c (room-most (s .waiting) i l)
+posted-waits s e b d h k c i l = posted-edits (s .waiting) e b d h k c (room-most (s .waiting) e i l)
+
+posted-firsts : (s : Station) (e : ℕ) (b : Body) → firstDesk ((posted s e b) .waiting) ≡ firstDesk (s .waiting)
+unfolding posted
+posted-firsts s e b = posted-first (s .waiting) e b
 
 -- the posts that a call adds to the accepted ones
-abbrev accepts : List Station → Post → List Post
+abbrev pub accepts : List Station → Post → List Post
 accepts g x = cond (eqb ((groupPostCall g x) .refusal) done) (x ∷ []) []
 
+-- an accepted post is of a desk
+accepts-desk : (g : List Station) (x : Post) → EachDesk (accepts g x)
+accepts-desk g x =
+    desks-one (eqb ((groupPostCall g x) .refusal) done) x (λ e. accepted g x (rw (post-refusal g x) at e) .desk)
+
 module _ (n : ℕ) (g : List Station) (c : Members n g) (x : Post) (p : ℕ) where
-  -- one more waits at the station of an accepted post
-  post-waits : waits ((groupPostCall g x) .group) p ≡ waits g p ++ postsAt p (accepts g x)
-  unfolding postsAt
-  post-waits = go (eqb ((groupPostCall g x) .refusal) done) refl
+  -- one more waits at the station and the desk of an accepted post
+  pub post-waits : (d : ℕ) → isDesk d ≡ true → waits ((groupPostCall g x) .group) p d ≡ waits g p d ++ postsOf p d (accepts g x)
+  unfolding postsOf
+  post-waits d desk = go (eqb ((groupPostCall g x) .refusal) done) refl
     where
       go :
           (t : Bool) → eqb ((groupPostCall g x) .refusal) done ≡ t →
-          waits ((groupPostCall g x) .group) p ≡ waits g p ++ postsAt p (cond t (x ∷ []) [])
+          waits ((groupPostCall g x) .group) p d ≡ waits g p d ++ postsOf p d (cond t (x ∷ []) [])
       go true e =
           let k = x .station in
           let made = accepted g x (rw (post-refusal g x) at e) in
           let below : k < n = omega (arith, c .size, made .below) in
           let sized : WaitingSized (stationAt g k .waiting) = c .shape .stations k (omega (arith, c .high)) .waiting in
-          ap (λ (h : List Station). waits h p) (post-accepted g x e)
+          ap (λ (h : List Station). waits h p d) (post-accepted g x e)
           ∙ elim (ℕ-discrete p k) [
             | yes same ↦
-                subst (λ (j : ℕ). waits (afterPost g x) j ≡ waits g j ++ postsAt j (x ∷ [])) (sym same)
-                (ap (λ (s : Station). waitingEdits (s .waiting)) (posted-at n g c x below)
-                ∙ posted-waits (stationAt g k) (x .body) sized (c .member k below .inside .waiting) (made .room)
-                ∙ ap (λ (l : List Body). waits g k ++ l) (sym (post-here x)))
+                subst (λ (j : ℕ). waits (afterPost g x) j d ≡ waits g j d ++ postsOf j d (x ∷ [])) (sym same)
+                (ap (λ (s : Station). waitingEdits (s .waiting) d) (posted-at n g c x below)
+                ∙ posted-waits (stationAt g k) (x .desk) (x .body) d (made .desk) desk sized (c .member k below .inside .waiting) (made .room)
+                ∙ ap (λ (l : List Body). waits g k d ++ l) (sym (desk-here d x)))
             | no ne ↦
-                ap (λ (s : Station). waitingEdits (s .waiting)) (posted-other n g c x below p ne)
-                ∙ sym (append-nil (waits g p))
-                ∙ ap (λ (l : List Body). waits g p ++ l) (sym (post-other p x (λ z. ne (sym z))))
+                ap (λ (s : Station). waitingEdits (s .waiting) d) (posted-other n g c x below p ne)
+                ∙ sym (append-nil (waits g p d))
+                ∙ ap (λ (l : List Body). waits g p d ++ l) (sym (desk-other p d x (λ z. ne (sym z))))
           ]
-      go false e = ap (λ (h : List Station). waits h p) (post-refused g x e) ∙ sym (append-nil (waits g p))
+      go false e = ap (λ (h : List Station). waits h p d) (post-refused g x e) ∙ sym (append-nil (waits g p d))
+
+  -- which desk goes first stays
+  pub post-first : firstDesk (stationAt ((groupPostCall g x) .group) p .waiting) ≡ firstDesk (stationAt g p .waiting)
+  post-first = go (eqb ((groupPostCall g x) .refusal) done) refl
+    where
+      go :
+          (t : Bool) → eqb ((groupPostCall g x) .refusal) done ≡ t →
+          firstDesk (stationAt ((groupPostCall g x) .group) p .waiting) ≡ firstDesk (stationAt g p .waiting)
+      go true e =
+          let k = x .station in
+          let below : k < n = omega (arith, c .size, accepted g x (rw (post-refusal g x) at e) .below) in
+          ap (λ (h : List Station). firstDesk (stationAt h p .waiting)) (post-accepted g x e)
+          ∙ elim (ℕ-discrete p k) [
+            | yes same ↦
+                subst (λ (j : ℕ). firstDesk (stationAt (afterPost g x) j .waiting) ≡ firstDesk (stationAt g j .waiting)) (sym same)
+                (ap (λ (s : Station). firstDesk (s .waiting)) (posted-at n g c x below) ∙ posted-firsts (stationAt g k) (x .desk) (x .body))
+            | no ne ↦ ap (λ (s : Station). firstDesk (s .waiting)) (posted-other n g c x below p ne)
+          ]
+      go false e = ap (λ (h : List Station). firstDesk (stationAt h p .waiting)) (post-refused g x e)
 
 post-lane : (g : List Station) (x : Post) (p : ℕ) → ownEdits g p ≡ ownEdits ((groupPostCall g x) .group) p
 post-lane g x p = ap (λ (c : Cell). onlyEdits (bodies (c .lane))) (post-same g x p .cells p)
 
 -- a round
 
--- the edits of p among those that a round reports as started
-starts-own : (n : ℕ) (r : RoundDone) (p : ℕ) → p < n → postsAt p (startsIn n r) ≡ ifEdit ((reportIn r p) .turn .«started_body»)
+-- the edits of p among those that a round reports as started, and those of a desk
+module _ (g : List Station) (r : RoundDone) (p : ℕ) (l : p < sizeOf g) where
+  abbrev bodyIn : ℕ → Body
+  bodyIn k = (reportIn r k) .turn .«started_body»
+
+  abbrev deskIn : ℕ → ℕ
+  deskIn k = nextDesk (stationAt g k .waiting)
+
+  starts-own : postsAt p (startsIn g r) ≡ ifEdit (bodyIn p)
+  unfolding startsIn
+  starts-own = posts-gathered (λ k. isEdit (bodyIn k)) deskIn bodyIn p (sizeOf g) l
+
+  starts-desk : (d : ℕ) → postsOf p d (startsIn g r) ≡ startOf (deskIn p) (bodyIn p) d
+  unfolding startsIn
+  starts-desk d = desk-gathered (λ k. isEdit (bodyIn k)) deskIn bodyIn p d (sizeOf g) l
+
+starts-desks : (g : List Station) (r : RoundDone) → EachDesk (startsIn g r)
 unfolding startsIn
-starts-own n r p l =
-    posts-gathered (λ k. isEdit ((reportIn r k) .turn .«started_body»)) (λ k. (reportIn r k) .turn .«started_body») p n l
+starts-desks g r = desks-gather (sizeOf g) _ _ (λ k. next-desk (stationAt g k .waiting))
 
 reports-done :
     (g : List Station) (masks : List ℕ) → eqb (roundRefusal g masks) done ≡ true →
@@ -124,9 +170,12 @@ noReport-aired : (n : ℕ) → airedOf n noReport ≡ []
 unfolding noReport noTurn
 noReport-aired n = refl
 
-noReport-started : ifEdit (noReport .turn .«started_body») ≡ []
+noReport-edit : isEdit (noReport .turn .«started_body») ≡ false
 unfolding noReport noTurn
-noReport-started = refl
+noReport-edit = refl
+
+noReport-started : ifEdit (noReport .turn .«started_body») ≡ []
+noReport-started = rw noReport-edit
 
 report-starts : (g : List Station) (masks : List ℕ) (p : ℕ) → (reportOf g masks p) .turn .«started_body» ≡ startedBody ((heard g masks p) .station)
 unfolding reportOf turnReport
@@ -163,8 +212,18 @@ module _ (n : ℕ) (g : List Station) (c : Members n g) (masks : List ℕ) (p : 
       ap (λ (l : List Report). getD l p noReport) (reports-refused g masks e)
       ∙ getD-replicate 16 p noReport noReport (omega (arith, c .high))
 
-  own-starts : sizeOf g ≡ n → postsAt p (startsIn (sizeOf g) (roundCall g masks)) ≡ ifEdit ((reportIn (roundCall g masks) p) .turn .«started_body»)
-  own-starts size = starts-own (sizeOf g) (roundCall g masks) p (omega (arith, size))
+  -- what the station reports as started, and the desk that was next
+  abbrev pub bodyStarted : Body
+  bodyStarted = (reportIn (roundCall g masks) p) .turn .«started_body»
+
+  abbrev pub deskNext : ℕ
+  deskNext = nextDesk (stationAt g p .waiting)
+
+  own-starts : postsAt p (startsIn g (roundCall g masks)) ≡ ifEdit bodyStarted
+  own-starts = starts-own g (roundCall g masks) p (omega (arith, c .size))
+
+  pub desk-starts : (d : ℕ) → postsOf p d (startsIn g (roundCall g masks)) ≡ startOf deskNext bodyStarted d
+  desk-starts = starts-desk g (roundCall g masks) p (omega (arith, c .size))
 
   -- what a round that is not refused does to the station
   module _ (e : eqb (roundRefusal g masks) done ≡ true) where
@@ -182,25 +241,40 @@ module _ (n : ℕ) (g : List Station) (c : Members n g) (masks : List ℕ) (p : 
     unfolding s
     after = ap (λ (h : List Station). stationAt h p) (round-done g masks e) ∙ after-at n g c masks (runs g masks e) p below
 
-    starts-done : postsAt p (startsIn (sizeOf g) (roundCall g masks)) ≡ ifEdit (startedBody s)
+    body-done : bodyStarted ≡ startedBody s
     unfolding s
-    starts-done = own-starts (c .size) ∙ ap (λ (r : Report). ifEdit (r .turn .«started_body»)) (done-report e) ∙ ap ifEdit (report-starts g masks p)
+    body-done = ap (λ (r : Report). r .turn .«started_body») (done-report e) ∙ report-starts g masks p
+
+    starts-done : postsAt p (startsIn g (roundCall g masks)) ≡ ifEdit (startedBody s)
+    starts-done = own-starts ∙ ap ifEdit body-done
 
     aired-done : takingsOf p (airedOf n (reportIn (roundCall g masks) p)) ≡ cond (airs s) (ifEdit ((laneAt s p) .first)) []
     unfolding s
     aired-done = ap (λ (r : Report). takingsOf p (airedOf n r)) (done-report e) ∙ report-aired (runs g masks e)
 
     waits-done :
-        waits g p ≡ postsAt p (startsIn (sizeOf g) (roundCall g masks)) ++ waits ((roundCall g masks) .group) p
+        (d : ℕ) → isDesk d ≡ true →
+        waits g p d ≡ postsOf p d (startsIn g (roundCall g masks)) ++ waits ((roundCall g masks) .group) p d
     unfolding s
-    waits-done =
+    waits-done d desk =
         let inside = hears .inside (run-room n g c masks (runs g masks e) p below) in
-        ap waitingEdits (sym (hears .waiting))
-        ∙ turn-waiting s (hears .shaped) inside
-        ∙ (λ i. sym starts-done i ++ waitingEdits ((sym after i) .waiting))
+        ap (λ (w : Waiting). waitingEdits w d) (sym (hears .waiting))
+        ∙ turn-waiting s (hears .shaped) inside d desk
+        ∙ (λ i. startOf (nextDesk (hears .waiting i)) (sym body-done i) d ++ waitingEdits ((sym after i) .waiting) d)
+        ∙ ap (λ (l : List Body). l ++ waits ((roundCall g masks) .group) p d) (sym (desk-starts d))
+
+    first-done :
+        firstDesk (stationAt ((roundCall g masks) .group) p .waiting)
+        ≡ cond (isEdit bodyStarted) (otherDesk deskNext) (firstDesk (stationAt g p .waiting))
+    unfolding s
+    first-done =
+        let inside = hears .inside (run-room n g c masks (runs g masks e) p below) in
+        ap (λ (x : Station). firstDesk (x .waiting)) after
+        ∙ turn-first s (hears .shaped) inside
+        ∙ (λ i. cond (isEdit (sym body-done i)) (otherDesk (nextDesk (hears .waiting i))) (firstDesk (hears .waiting i)))
 
     lane-done :
-        ownEdits g p ++ postsAt p (startsIn (sizeOf g) (roundCall g masks))
+        ownEdits g p ++ postsAt p (startsIn g (roundCall g masks))
         ≡ takingsOf p (airedOf n (reportIn (roundCall g masks) p)) ++ ownEdits ((roundCall g masks) .group) p
     unfolding s
     lane-done =
@@ -214,20 +288,30 @@ module _ (n : ℕ) (g : List Station) (c : Members n g) (masks : List ℕ) (p : 
     left : (roundCall g masks) .group ≡ g
     left = round-refused g masks e
 
-    starts-refused : postsAt p (startsIn (sizeOf g) (roundCall g masks)) ≡ []
+    none-started : isEdit bodyStarted ≡ false
+    none-started = ap (λ (r : Report). isEdit (r .turn .«started_body»)) (refused-report e) ∙ noReport-edit
+
+    starts-refused : postsAt p (startsIn g (roundCall g masks)) ≡ []
     starts-refused =
-        own-starts (c .size) ∙ ap (λ (r : Report). ifEdit (r .turn .«started_body»)) (refused-report e) ∙ noReport-started
+        own-starts ∙ ap (λ (r : Report). ifEdit (r .turn .«started_body»)) (refused-report e) ∙ noReport-started
+
+    desk-refused : (d : ℕ) → postsOf p d (startsIn g (roundCall g masks)) ≡ []
+    desk-refused d = desk-starts d ∙ rw none-started
+
+    first-refused :
+        firstDesk (stationAt ((roundCall g masks) .group) p .waiting)
+        ≡ cond (isEdit bodyStarted) (otherDesk deskNext) (firstDesk (stationAt g p .waiting))
+    first-refused = ap (λ (h : List Station). firstDesk (stationAt h p .waiting)) left ∙ rw none-started
 
     aired-refused : takingsOf p (airedOf n (reportIn (roundCall g masks) p)) ≡ []
     unfolding takingsOf
     aired-refused = ap (takingsOf p) (ap (airedOf n) (refused-report e) ∙ noReport-aired n)
 
-    waits-refused :
-        waits g p ≡ postsAt p (startsIn (sizeOf g) (roundCall g masks)) ++ waits ((roundCall g masks) .group) p
-    waits-refused = (λ i. sym starts-refused i ++ waits (sym left i) p)
+    waits-refused : (d : ℕ) → waits g p d ≡ postsOf p d (startsIn g (roundCall g masks)) ++ waits ((roundCall g masks) .group) p d
+    waits-refused d = (λ i. sym (desk-refused d) i ++ waits (sym left i) p d)
 
     lane-refused :
-        ownEdits g p ++ postsAt p (startsIn (sizeOf g) (roundCall g masks))
+        ownEdits g p ++ postsAt p (startsIn g (roundCall g masks))
         ≡ takingsOf p (airedOf n (reportIn (roundCall g masks) p)) ++ ownEdits ((roundCall g masks) .group) p
     lane-refused =
         ap (λ (l : List Body). ownEdits g p ++ l) starts-refused
@@ -235,24 +319,39 @@ module _ (n : ℕ) (g : List Station) (c : Members n g) (masks : List ℕ) (p : 
         ∙ (λ i. sym aired-refused i ++ ownEdits (sym left i) p)
 
   -- what waited started or waits
-  round-waits : waits g p ≡ postsAt p (startsIn (sizeOf g) (roundCall g masks)) ++ waits ((roundCall g masks) .group) p
-  round-waits = go (eqb (roundRefusal g masks) done) refl
+  pub round-waits :
+      (d : ℕ) → isDesk d ≡ true →
+      waits g p d ≡ postsOf p d (startsIn g (roundCall g masks)) ++ waits ((roundCall g masks) .group) p d
+  round-waits d desk = go (eqb (roundRefusal g masks) done) refl
     where
       go :
           (t : Bool) → eqb (roundRefusal g masks) done ≡ t →
-          waits g p ≡ postsAt p (startsIn (sizeOf g) (roundCall g masks)) ++ waits ((roundCall g masks) .group) p
-      go true e = waits-done e
-      go false e = waits-refused e
+          waits g p d ≡ postsOf p d (startsIn g (roundCall g masks)) ++ waits ((roundCall g masks) .group) p d
+      go true e = waits-done e d desk
+      go false e = waits-refused e d
+
+  -- after the start of an edit the other desk goes first
+  pub round-first :
+      firstDesk (stationAt ((roundCall g masks) .group) p .waiting)
+      ≡ cond (isEdit bodyStarted) (otherDesk deskNext) (firstDesk (stationAt g p .waiting))
+  round-first = go (eqb (roundRefusal g masks) done) refl
+    where
+      go :
+          (t : Bool) → eqb (roundRefusal g masks) done ≡ t →
+          firstDesk (stationAt ((roundCall g masks) .group) p .waiting)
+          ≡ cond (isEdit bodyStarted) (otherDesk deskNext) (firstDesk (stationAt g p .waiting))
+      go true e = first-done e
+      go false e = first-refused e
 
   -- what stood in the own lane, and what started, is aired or stands there
   round-lane :
-      ownEdits g p ++ postsAt p (startsIn (sizeOf g) (roundCall g masks))
+      ownEdits g p ++ postsAt p (startsIn g (roundCall g masks))
       ≡ takingsOf p (airedOf n (reportIn (roundCall g masks) p)) ++ ownEdits ((roundCall g masks) .group) p
   round-lane = go (eqb (roundRefusal g masks) done) refl
     where
       go :
           (t : Bool) → eqb (roundRefusal g masks) done ≡ t →
-          ownEdits g p ++ postsAt p (startsIn (sizeOf g) (roundCall g masks))
+          ownEdits g p ++ postsAt p (startsIn g (roundCall g masks))
           ≡ takingsOf p (airedOf n (reportIn (roundCall g masks) p)) ++ ownEdits ((roundCall g masks) .group) p
       go true e = lane-done e
       go false e = lane-refused e
@@ -261,7 +360,9 @@ module _ (n : ℕ) (g : List Station) (c : Members n g) (masks : List ℕ) (p : 
 
 pub record Kept (n : ℕ) (H : History) : Type 0 where
   pub members : Members n (H .group)
-  pub waiting : (p : ℕ) → p < n → postsAt p (H .accepted) ≡ postsAt p (H .starts) ++ waits (H .group) p
+  pub made : EachDesk (H .accepted)
+  pub begun : EachDesk (H .starts)
+  pub waiting : (p d : ℕ) → p < n → isDesk d ≡ true → postsOf p d (H .accepted) ≡ postsOf p d (H .starts) ++ waits (H .group) p d
   pub lane : (p : ℕ) → p < n → postsAt p (H .starts) ≡ takingsOf p (airedList n H p) ++ ownEdits (H .group) p
   pub reported : (p : ℕ) → p < n → postsAt p (H .starts) ≡ onlyEdits (started H p)
 
@@ -291,13 +392,15 @@ unfolding next
 kept-next n H (post x) c =
     record {
       members = members-next n H (post x) (c .members);
+      made = desks-append (H .accepted) (accepts (H .group) x) (c .made) (accepts-desk (H .group) x);
+      begun = c .begun;
       waiting =
-          λ p l.
+          λ p d l desk.
           let more : List Post = accepts (H .group) x in
-          postsAt-append p (H .accepted) more
-          ∙ ap (λ (z : List Body). z ++ postsAt p more) (c .waiting p l)
-          ∙ append-assoc (postsAt p (H .starts)) (waits (H .group) p) (postsAt p more)
-          ∙ ap (λ (z : List Body). postsAt p (H .starts) ++ z) (sym (post-waits n (H .group) (c .members) x p));
+          postsOf-append p d (H .accepted) more
+          ∙ ap (λ (z : List Body). z ++ postsOf p d more) (c .waiting p d l desk)
+          ∙ append-assoc (postsOf p d (H .starts)) (waits (H .group) p d) (postsOf p d more)
+          ∙ ap (λ (z : List Body). postsOf p d (H .starts) ++ z) (sym (post-waits n (H .group) (c .members) x p d desk));
       lane =
           λ p l. unfold airedList in
           (c .lane p l ∙ ap (λ (z : List Body). takingsOf p (airedList n H p) ++ z) (post-lane (H .group) x p));
@@ -306,18 +409,20 @@ kept-next n H (post x) c =
 kept-next n H (round masks) c =
     record {
       members = members-next n H (round masks) (c .members);
+      made = c .made;
+      begun = desks-append (H .starts) (startsIn (H .group) (roundCall (H .group) masks)) (c .begun) (starts-desks (H .group) (roundCall (H .group) masks));
       waiting =
-          λ p l.
+          λ p d l desk.
           let made = roundCall (H .group) masks in
-          let more : List Post = startsIn (sizeOf (H .group)) made in
-          c .waiting p l
-          ∙ ap (λ (z : List Body). postsAt p (H .starts) ++ z) (round-waits n (H .group) (c .members) masks p l)
-          ∙ sym (append-assoc (postsAt p (H .starts)) (postsAt p more) (waits (made .group) p))
-          ∙ ap (λ (z : List Body). z ++ waits (made .group) p) (sym (postsAt-append p (H .starts) more));
+          let more : List Post = startsIn (H .group) made in
+          c .waiting p d l desk
+          ∙ ap (λ (z : List Body). postsOf p d (H .starts) ++ z) (round-waits n (H .group) (c .members) masks p l d desk)
+          ∙ sym (append-assoc (postsOf p d (H .starts)) (postsOf p d more) (waits (made .group) p d))
+          ∙ ap (λ (z : List Body). z ++ waits (made .group) p d) (sym (postsOf-append p d (H .starts) more));
       lane =
           λ p l.
           let made = roundCall (H .group) masks in
-          let more : List Post = startsIn (sizeOf (H .group)) made in
+          let more : List Post = startsIn (H .group) made in
           let aired : List Body = takingsOf p (airedList n H p) in
           let row : List Body = takingsOf p (airedOf n (reportIn made p)) in
           postsAt-append p (H .starts) more
@@ -328,9 +433,9 @@ kept-next n H (round masks) c =
           ∙ ap (λ (z : List Body). z ++ ownEdits (made .group) p) (sym (airedList-round n H masks p));
       reported =
           λ p l.
-          let more : List Post = startsIn (sizeOf (H .group)) (roundCall (H .group) masks) in
+          let more : List Post = startsIn (H .group) (roundCall (H .group) masks) in
           postsAt-append p (H .starts) more
-          ∙ (λ i. c .reported p l i ++ own-starts n (H .group) (c .members) masks p l (c .members .size) i)
+          ∙ (λ i. c .reported p l i ++ own-starts n (H .group) (c .members) masks p l i)
           ∙ sym (started-round H masks p);
     }
 
@@ -339,8 +444,8 @@ unfolding continued
 kept-continued n H [] c = c
 kept-continued n H (call ∷ calls) c = kept-continued n (next H call) calls (kept-next n H call c)
 
-fresh-waits : (setup : Setup) (p : ℕ) → waitingEdits (freshStation setup p .waiting) ≡ []
-fresh-waits setup p = ap waitingEdits (fresh-self setup p .waiting) ∙ none-edits (setup .limit)
+fresh-waits : (setup : Setup) (p d : ℕ) → waitingEdits (freshStation setup p .waiting) d ≡ []
+fresh-waits setup p d = ap (λ (w : Waiting). waitingEdits w d) (fresh-self setup p .waiting) ∙ none-edits (setup .limit) d
 
 fresh-lane : (setup : Setup) (p : ℕ) → p < 16 → onlyEdits (bodies (laneAt (freshStation setup p) p)) ≡ []
 unfolding bodies onlyEdits
@@ -351,9 +456,11 @@ unfolding begun
 kept-begun setup ok =
     record {
       members = members-begun setup ok;
+      made = desks-none;
+      begun = desks-none;
       waiting =
-          λ p l. unfold postsAt in
-          (sym (fresh-waits setup p) ∙ ap (λ (s : Station). waitingEdits (s .waiting)) (sym (fresh-at setup (ok .high) p l)));
+          λ p d l desk. unfold postsOf in
+          (sym (fresh-waits setup p d) ∙ ap (λ (s : Station). waitingEdits (s .waiting) d) (sym (fresh-at setup (ok .high) p l)));
       lane =
           λ p l. unfold airedList collect takingsOf postsAt in
           (sym (fresh-lane setup p (omega arith))
@@ -374,7 +481,9 @@ module _ (setup : Setup) (ok : Accepts setup) (calls : List Call) where
   whole : Kept n H
   whole = kept-history setup ok calls
 
-  pub posts-started : (p : ℕ) → p < n → postsAt p (H .accepted) ≡ postsAt p (H .starts) ++ waitingEdits ((stationAt (H .group) p) .waiting)
+  pub posts-started :
+      (p d : ℕ) → p < n → isDesk d ≡ true →
+      postsOf p d (H .accepted) ≡ postsOf p d (H .starts) ++ waitingEdits ((stationAt (H .group) p) .waiting) d
   posts-started = whole .waiting
 
   pub starts-aired :
@@ -384,13 +493,8 @@ module _ (setup : Setup) (ok : Accepts setup) (calls : List Call) where
   pub starts-reported : (p : ℕ) → p < n → postsAt p (H .starts) ≡ onlyEdits (started H p)
   starts-reported = whole .reported
 
-  pub posts-accounted :
-      (p : ℕ) → p < n →
-      postsAt p (H .accepted)
-      ≡ takingsOf p (airedList n H p)
-      ++ onlyEdits (bodies (laneAt (stationAt (H .group) p) p))
-      ++ waitingEdits ((stationAt (H .group) p) .waiting)
-  posts-accounted p l = posts-started p l ∙ ap (λ (z : List Body). z ++ waits (H .group) p) (starts-aired p l)
+  pub starts-interleaved : (p : ℕ) → Interleaved (postsOf p 0 (H .starts)) (postsOf p 1 (H .starts)) (postsAt p (H .starts))
+  starts-interleaved p = interleave p (H .starts) (whole .begun)
 
   pub posts-counted :
       (p : ℕ) → p < n →
@@ -399,14 +503,22 @@ module _ (setup : Setup) (ok : Accepts setup) (calls : List Call) where
       + length (onlyEdits (bodies (laneAt (stationAt (H .group) p) p)))
       + length (takingsOf p (airedList n H p))
   posts-counted p l =
-      let s : Station = stationAt (H .group) p in
-      let members = whole .members in
+      let w : Waiting = (stationAt (H .group) p) .waiting in
+      let inside = whole .members .member p l .inside .waiting in
       let aired : List Body = takingsOf p (airedList n H p) in
-      let lane : List Body = onlyEdits (bodies (laneAt s p)) in
+      let lane : List Body = onlyEdits (bodies (laneAt (stationAt (H .group) p) p)) in
+      let many : (d : ℕ) → isDesk d ≡ true → length (postsOf p d (H .accepted)) ≡ length (postsOf p d (H .starts)) + deskCount w d =
+      λ d desk.
+      ap length (posts-started p d l desk)
+      ∙ length-append (postsOf p d (H .starts)) (waitingEdits w d)
+      ∙ ap (λ (k : ℕ). length (postsOf p d (H .starts)) + k) (edits-count w inside d) in
       omega (
         arith,
-        ap length (posts-accounted p l),
-        length-append (aired ++ lane) (waitingEdits (s .waiting)),
+        interleaved-length (postsOf p 0 (H .accepted)) (postsOf p 1 (H .accepted)) (postsAt p (H .accepted)) (interleave p (H .accepted) (whole .made)),
+        interleaved-length (postsOf p 0 (H .starts)) (postsOf p 1 (H .starts)) (postsAt p (H .starts)) (starts-interleaved p),
+        many 0 refl,
+        many 1 refl,
+        count-both w,
+        ap length (starts-aired p l),
         length-append aired lane,
-        edits-count (s .waiting) (members .shape .stations p (omega arith) .waiting) (members .member p l .inside .waiting),
       )

@@ -38,7 +38,7 @@ edits n = tabulate n (λ k. record { source = k; body = edit k })
 
 -- one edit posted at each of n stations, and then rounds in which they hear by the same masks
 unfoldable pub run : ℕ → ℕ → List ℕ → History
-run n rounds masks = historyOf (sized n) (tabulate n (λ k. post (record { station = k; body = edit k })) ++ replicate rounds (round masks))
+run n rounds masks = historyOf (sized n) (tabulate n (λ k. post (record { station = k; desk = 0; body = edit k })) ++ replicate rounds (round masks))
 
 -- what is read off a run in which everyone hears everyone: the lines of rounds 2 to 4 and what is aired, station by station. One value, so that a run
 -- is computed once

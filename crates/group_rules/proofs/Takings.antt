@@ -1,7 +1,7 @@
 -- The bodies of one station in a list of takings or of posts: those of two lists one after the other, of a single entry, and of what is gathered with its
 -- place as station.
 use Prim.Native.Nat.{ℕ, zero, suc, _≤_, _<_}
-use mathlib.Core.Bool.{Bool, true, false, cond}
+use mathlib.Core.Bool.{Bool, true, false, cond, _&&_}
 use mathlib.Core.List.{List, [], _∷_, _++_, append-nil, append-assoc, map, map-append}
 use mathlib.Core.Path.{_≡_, refl, sym, ap, subst, _∙_}
 use native.Mathlib.Decide.{ℕ-discrete}
@@ -15,7 +15,7 @@ use Rattle.places.specs.Places.{gather}
 use Rattle.places.proofs.Laws.{map-gather}
 use Rattle.station_rules.specs.declared.Taking.{Taking}
 use Rattle.group_rules.specs.declared.Post.{Post}
-use Rattle.group_rules.specs.History.{takingsOf, postsAt, onlyEdits, unlessEmpty}
+use Rattle.group_rules.specs.History.{takingsOf, postsAt, postsOf, onlyEdits, unlessEmpty}
 
 pub takingsOf-append : (q : ℕ) (xs ys : List Taking) → takingsOf q (xs ++ ys) ≡ takingsOf q xs ++ takingsOf q ys
 unfolding takingsOf
@@ -86,6 +86,22 @@ postsAt-append q xs ys =
     ∙ takingsOf-append q (map takingOf xs) (map takingOf ys)
     ∙ sym (λ i. posts-takings q xs i ++ posts-takings q ys i)
 
+pub postsOf-append : (q d : ℕ) (xs ys : List Post) → postsOf q d (xs ++ ys) ≡ postsOf q d xs ++ postsOf q d ys
+unfolding postsOf
+postsOf-append q d [] ys = refl
+postsOf-append q d (x ∷ xs) ys =
+    ap (λ (z : List Body). cond (eqb (x .station) q && eqb (x .desk) d) (x .body ∷ []) [] ++ z) (postsOf-append q d xs ys)
+    ∙ sym (append-assoc (cond (eqb (x .station) q && eqb (x .desk) d) (x .body ∷ []) []) (postsOf q d xs) (postsOf q d ys))
+
+-- a single post
+pub desk-other : (q d : ℕ) (x : Post) → (x .station ≡ q → ⊥) → postsOf q d (x ∷ []) ≡ []
+unfolding postsOf
+desk-other q d x ne = rw (ne-eqb (x .station) q ne)
+
+pub desk-here : (d : ℕ) (x : Post) → postsOf (x .station) d (x ∷ []) ≡ cond (eqb (x .desk) d) (x .body ∷ []) []
+unfolding postsOf
+desk-here d x = rw (eq-eqb (x .station) (x .station) refl) (append-nil (cond (eqb (x .desk) d) (x .body ∷ []) []))
+
 pub post-other : (q : ℕ) (x : Post) → (x .station ≡ q → ⊥) → postsAt q (x ∷ []) ≡ []
 unfolding postsAt
 post-other q x d = rw (ne-eqb (x .station) q d)
@@ -94,13 +110,44 @@ pub post-here : (x : Post) → postsAt (x .station) (x ∷ []) ≡ x .body ∷ [
 unfolding postsAt
 post-here x = rw (eq-eqb (x .station) (x .station) refl)
 
-pub posts-gathered :
-    (test : ℕ → Bool) (body : ℕ → Body) (p m : ℕ) → p < m →
-    postsAt p (gather m test (λ k. record { station = k; body = body k })) ≡ cond (test p) (body p ∷ []) []
-posts-gathered test body p m l =
-    posts-takings p (gather m test (λ k. record { station = k; body = body k }))
-    ∙ ap (takingsOf p) (map-gather takingOf m test (λ k. record { station = k; body = body k }))
-    ∙ gathered-own test body p m l
+-- what is gathered with its place as station, and a desk for each: the bodies of one place, and those of one desk there
+module _ (test : ℕ → Bool) (desk : ℕ → ℕ) (body : ℕ → Body) where
+  abbrev postAt : ℕ → Post
+  postAt k = record { station = k; desk = desk k; body = body k }
+
+  pub posts-gathered : (p m : ℕ) → p < m → postsAt p (gather m test postAt) ≡ cond (test p) (body p ∷ []) []
+  posts-gathered p m l =
+      posts-takings p (gather m test postAt)
+      ∙ ap (takingsOf p) (map-gather takingOf m test postAt)
+      ∙ gathered-own test body p m l
+
+  -- the posts of a desk are the takings of its places
+  desk-takings :
+      (p d m : ℕ) → postsOf p d (gather m test postAt) ≡ takingsOf p (gather m (λ k. test k && eqb (desk k) d) (λ k. record { source = k; body = body k }))
+  unfolding gather postsOf takingsOf
+  desk-takings p d zero = refl
+  desk-takings p d (suc m) =
+      postsOf-append p d (gather m test postAt) (cond (test m) (postAt m ∷ []) [])
+      ∙ (λ i. desk-takings p d m i ++ last (test m) (eqb (desk m) d) refl i)
+      ∙ sym (takingsOf-append p (gather m (λ k. test k && eqb (desk k) d) (λ k. record { source = k; body = body k })) (cond (test m && eqb (desk m) d) (record { source = m; body = body m } ∷ []) []))
+    where
+      last :
+          (t u : Bool) → eqb (desk m) d ≡ u →
+          postsOf p d (cond t (postAt m ∷ []) []) ≡ takingsOf p (cond (t && u) (record { source = m; body = body m } ∷ []) [])
+      last false u e = refl
+      last true true e = rw e (and-one (eqb m p))
+        where
+          and-one : (v : Bool) → cond (v && true) (body m ∷ []) [] ++ [] ≡ cond v (body m ∷ []) [] ++ []
+          and-one true = refl
+          and-one false = refl
+      last true false e = rw e (and-none (eqb m p))
+        where
+          and-none : (v : Bool) → cond (v && false) (body m ∷ []) [] ++ [] ≡ []
+          and-none true = refl
+          and-none false = refl
+
+  pub desk-gathered : (p d m : ℕ) → p < m → postsOf p d (gather m test postAt) ≡ cond (test p && eqb (desk p) d) (body p ∷ []) []
+  desk-gathered p d m l = desk-takings p d m ∙ gathered-own (λ k. test k && eqb (desk k) d) body p m l
 
 -- the edits of two lists
 pub onlyEdits-append : (xs ys : List Body) → onlyEdits (xs ++ ys) ≡ onlyEdits xs ++ onlyEdits ys

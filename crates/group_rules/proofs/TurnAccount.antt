@@ -1,7 +1,7 @@
--- Posts in a turn: an edit that starts leaves the waiting ones for the own lane, and one that is aired leaves the own lane for the row. So what waited is what
--- started and then what waits, and what stood in the own lane, then what started, is the own edit of the row and then what stands in the own lane.
+-- Posts in a turn: an edit that starts leaves the waiting ones of its desk for the own lane, and one that is aired leaves the own lane for the row. So what waited
+-- at a desk is what started of it and then what waits, and what stood in the own lane, then what started, is the own edit of the row and then what stands in the own lane.
 use Prim.Native.Nat.{ℕ, zero, suc, _≤_, _<_}
-use mathlib.Core.Bool.{Bool, true, false, cond}
+use mathlib.Core.Bool.{Bool, true, false, cond, _&&_}
 use mathlib.Core.List.{List, [], _∷_, _++_, append-nil, append-assoc}
 use mathlib.Core.Path.{_≡_, refl, sym, ap, subst, _∙_}
 use native.Mathlib.Decide.{ℕ-discrete}
@@ -19,8 +19,8 @@ use Rattle.station_rules.specs.declared.Station.{Station}
 use Rattle.station_rules.specs.declared.Taking.{Taking}
 use Rattle.lanes.specs.Lane.{bodies, laneOf, pushed, popped}
 use Rattle.lanes.specs.Queue.{noSlot}
-use Rattle.lanes.specs.Waiting.{waitingEdits, waitingCount, nextEdit, withoutNext}
-use Rattle.lanes.proofs.WaitingLaws.{next-postable, started-edits}
+use Rattle.lanes.specs.Waiting.{isDesk, otherDesk, waitingEdits, waitingCount, firstDesk, nextDesk, nextEdit, withoutNext}
+use Rattle.lanes.proofs.WaitingLaws.{next-postable, started-edits, started-first}
 use Rattle.station_rules.specs.State.{laneAt}
 use Rattle.station_rules.specs.Turn.{airs, rowOf, startsEdit, startedBody, afterTurn}
 use Rattle.kinds.proofs.Laws.{edit-not-empty}
@@ -38,6 +38,10 @@ use Rattle.group_rules.proofs.Takings.{gathered-own}
 -- a body, where it is an edit
 abbrev pub ifEdit : Body → List Body
 ifEdit b = cond (isEdit b) (b ∷ []) []
+
+-- a body that starts, where it is an edit and the desk that was next is this one
+abbrev pub startOf : ℕ → Body → ℕ → List Body
+startOf next b d = cond (isEdit b && eqb next d) (b ∷ []) []
 
 abbrev lane : ℕ → Body → Body → Lane
 lane k a b = record { len = k; first = a; second = b }
@@ -94,15 +98,31 @@ module _ (s : Station) (shape : Shaped s) (c : Inside s) where
       go false e = rw (after, e)
 
   -- the start: what starts leaves the waiting edits for the own lane, which is empty then
-  pub turn-waiting : waitingEdits (s .waiting) ≡ ifEdit (startedBody s) ++ waitingEdits ((afterTurn s) .waiting)
-  turn-waiting = rw (TurnCells.turn-waiting s) (go (start s))
+  pub turn-waiting :
+      (d : ℕ) → isDesk d ≡ true →
+      waitingEdits (s .waiting) d ≡ startOf (nextDesk (s .waiting)) (startedBody s) d ++ waitingEdits ((afterTurn s) .waiting) d
+  turn-waiting d desk = rw (TurnCells.turn-waiting s) (go (start s))
     where
       go :
           Start s →
-          waitingEdits (s .waiting) ≡ ifEdit (startedBody s) ++ waitingEdits (cond (startsEdit s) (withoutNext (s .waiting)) (s .waiting))
+          waitingEdits (s .waiting) d
+          ≡ startOf (nextDesk (s .waiting)) (startedBody s) d ++ waitingEdits (cond (startsEdit s) (withoutNext (s .waiting)) (s .waiting)) d
       go (anEdit e room w b) =
           rw (e, b, next-is-edit w)
-          (started-edits (s .waiting) (shape .waiting) (c .waiting) w)
+          (started-edits (s .waiting) d desk (shape .waiting) (c .waiting) w)
+      go (aNeutral e room b) = rw (e, b)
+      go (nothing e b) = rw (e, b)
+
+  -- only the start of an edit changes which desk goes first: then it is the other
+  pub turn-first :
+      firstDesk ((afterTurn s) .waiting) ≡ cond (isEdit (startedBody s)) (otherDesk (nextDesk (s .waiting))) (firstDesk (s .waiting))
+  turn-first = rw (TurnCells.turn-waiting s) (go (start s))
+    where
+      go :
+          Start s →
+          firstDesk (cond (startsEdit s) (withoutNext (s .waiting)) (s .waiting))
+          ≡ cond (isEdit (startedBody s)) (otherDesk (nextDesk (s .waiting))) (firstDesk (s .waiting))
+      go (anEdit e room w b) = rw (e, b, next-is-edit w) (started-first (s .waiting))
       go (aNeutral e room b) = rw (e, b)
       go (nothing e b) = rw (e, b)
 

@@ -34,15 +34,15 @@ groupFreshCall setup =
     (record { refusal = done; group = freshGroup setup })
     (record { refusal = groupFreshRefusal setup; group = freshGroup aloneSetup })
 
--- group post: 2, 1, 4, 3
+-- group post: 2, 1, 15, 4, 3
 unfoldable pub groupPostRefusal : List Station → Post → ℕ
 groupPostRefusal g x =
     refuse (not (groupInside g)) outsideLimits
-    (refuse (not (ltb (x .station) (sizeOf g))) badNumber (postRefusal (stationAt g (x .station)) (x .body)))
+    (refuse (not (ltb (x .station) (sizeOf g))) badNumber (postRefusal (stationAt g (x .station)) (x .desk) (x .body)))
 
 -- the group after a post that is not refused
 abbrev pub afterPost : List Station → Post → List Station
-afterPost g x = set g (x .station) (posted (stationAt g (x .station)) (x .body))
+afterPost g x = set g (x .station) (posted (stationAt g (x .station)) (x .desk) (x .body))
 
 unfoldable pub groupPostCall : List Station → Post → KeptGroup
 groupPostCall g x =

@@ -9,12 +9,12 @@ use Rattle.kinds.specs.Refusals.{done}
 use Rattle.links.specs.Relay.{ofLog}
 use Rattle.links.specs.EndRule.{EndsIn}
 use Rattle.lanes.specs.Lane.{bodies}
-use Rattle.lanes.specs.Waiting.{waitingEdits, waitingCount}
+use Rattle.lanes.specs.Waiting.{isDesk, waitingEdits, waitingCount}
 use Rattle.station_rules.specs.declared.Setup.{Setup}
 use Rattle.station_rules.specs.State.{heldOf, recordOf, laneAt}
 use Rattle.group_rules.specs.State.{stationAt}
 use Rattle.group_rules.specs.Calls.{groupFreshRefusal}
-use Rattle.group_rules.specs.History.{History, Call, noRound, historyOf, started, takingsOf, postsAt, takenFrom, airedList, onlyEdits, endsAt, startedIn}
+use Rattle.group_rules.specs.History.{History, Call, noRound, historyOf, started, takingsOf, postsAt, postsOf, takenFrom, airedList, onlyEdits, endsAt, startedIn}
 
 module _ {A : Type 0} where
   -- the term "beginning": so many first entries of a list
@@ -37,22 +37,16 @@ pub record Demand (n : ℕ) (H : History) : Type 0 where
       (p s : ℕ) → p < n → s < n → heldOf (stationAt (H .group) p) s ≡ true → (recordOf (stationAt (H .group) p) s) .count ≤ 2 * (n - 1)
   -- no lane above two
   pub lanes-bounded : (p s : ℕ) → p < n → s < n → (laneAt (stationAt (H .group) p) s) .len ≤ 2
-  -- accepted posts in their order: the edits that started, then those that wait
+  -- the accepted posts of a desk in their order: its edits that started, then those that wait
   pub posts-started :
-      (p : ℕ) → p < n → postsAt p (H .accepted) ≡ postsAt p (H .starts) ++ waitingEdits ((stationAt (H .group) p) .waiting)
-  -- the edits that started in their order: the own edits that were aired, then those in the own lane
+      (p desk : ℕ) → p < n → isDesk desk ≡ true →
+      postsOf p desk (H .accepted) ≡ postsOf p desk (H .starts) ++ waitingEdits ((stationAt (H .group) p) .waiting) desk
+  -- the edits of both desks that started, in their order: the own edits that were aired, then those in the own lane
   pub starts-aired :
       (p : ℕ) → p < n → postsAt p (H .starts) ≡ takingsOf p (airedList n H p) ++ onlyEdits (bodies (laneAt (stationAt (H .group) p) p))
   -- they are the edits among what the station started
   pub starts-reported : (p : ℕ) → p < n → postsAt p (H .starts) ≡ onlyEdits (started H p)
-  -- so accepted posts in their order: the own edits that were aired, then those in the own lane, then those that wait
-  pub posts-accounted :
-      (p : ℕ) → p < n →
-      postsAt p (H .accepted)
-      ≡ takingsOf p (airedList n H p)
-      ++ onlyEdits (bodies (laneAt (stationAt (H .group) p) p))
-      ++ waitingEdits ((stationAt (H .group) p) .waiting)
-  -- and so in number: accepted posts = waiting + edits in the own lane + own edits aired
+  -- and so in number, over both desks: accepted posts = waiting + edits in the own lane + own edits aired
   pub posts-counted :
       (p : ℕ) → p < n →
       length (postsAt p (H .accepted))

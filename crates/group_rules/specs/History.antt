@@ -1,6 +1,6 @@
 -- Document 01, "A group and its rounds", demand 3: one list of calls from a fresh group, and what the demand's words mean of it.
 use Prim.Native.Nat.{ℕ, zero, suc}
-use mathlib.Core.Bool.{Bool, false, cond}
+use mathlib.Core.Bool.{Bool, false, cond, _&&_}
 use mathlib.Core.List.{List, [], _∷_, _++_}
 use lib.ListN.{getD, take}
 use lib.Dec.{eqb}
@@ -13,10 +13,11 @@ use Rattle.station_rules.specs.declared.Station.{Station}
 use Rattle.lanes.specs.declared.Slot.{Slot}
 use Rattle.station_rules.specs.declared.Taking.{Taking}
 use Rattle.lanes.specs.Queue.{noSlot}
+use Rattle.lanes.specs.Waiting.{nextDesk}
 use Rattle.group_rules.specs.declared.Post.{Post}
 use Rattle.group_rules.specs.declared.Report.{Report}
 use Rattle.group_rules.specs.declared.RoundDone.{RoundDone}
-use Rattle.group_rules.specs.State.{sizeOf, freshGroup}
+use Rattle.group_rules.specs.State.{stationAt, sizeOf, freshGroup}
 use Rattle.group_rules.specs.Calls.{groupPostCall, roundCall, noReport}
 
 -- a group post or a round, with any arguments
@@ -36,10 +37,12 @@ pub record History : Type 0 where
 abbrev pub reportIn : RoundDone → ℕ → Report
 reportIn r p = getD (r .reports) p noReport
 
--- the edits that the turns of a round of n stations report as started, in station order
-unfoldable pub startsIn : ℕ → RoundDone → List Post
-startsIn n r =
-    gather n (λ p. isEdit ((reportIn r p) .turn .«started_body»)) (λ p. record { station = p; body = (reportIn r p) .turn .«started_body» })
+-- the edits that the turns of a round report as started, in station order; each is of the desk that was next in the group
+-- before the round, for hearing leaves the waiting edits as they are
+unfoldable pub startsIn : List Station → RoundDone → List Post
+startsIn g r =
+    gather (sizeOf g) (λ p. isEdit ((reportIn r p) .turn .«started_body»))
+    (λ p. record { station = p; desk = nextDesk ((stationAt g p) .waiting); body = (reportIn r p) .turn .«started_body» })
 
 -- one call more
 unfoldable pub next : History → Call → History
@@ -59,7 +62,7 @@ next H (round masks) =
       rounds = H .rounds ++ (made ∷ []);
       log = H .log ++ (masks ∷ []);
       accepted = H .accepted;
-      starts = H .starts ++ startsIn (sizeOf (H .group)) made;
+      starts = H .starts ++ startsIn (H .group) made;
     }
 
 unfoldable pub begun : Setup → History
@@ -92,10 +95,15 @@ unfoldable pub takingsOf : ℕ → List Taking → List Body
 takingsOf s [] = []
 takingsOf s (t ∷ ts) = cond (eqb (t .source) s) (t .body ∷ []) [] ++ takingsOf s ts
 
--- the bodies of those posts that are made at station s
+-- the bodies of those posts that are made at station s, by either desk
 unfoldable pub postsAt : ℕ → List Post → List Body
 postsAt s [] = []
 postsAt s (x ∷ xs) = cond (eqb (x .station) s) (x .body ∷ []) [] ++ postsAt s xs
+
+-- the bodies of those posts that a desk makes at station s
+unfoldable pub postsOf : ℕ → ℕ → List Post → List Body
+postsOf s desk [] = []
+postsOf s desk (x ∷ xs) = cond (eqb (x .station) s && eqb (x .desk) desk) (x .body ∷ []) [] ++ postsOf s desk xs
 
 -- the term "started": what the turns of s report as started, the Empty ones left out
 unfoldable pub started : History → ℕ → List Body

@@ -2,4 +2,5 @@ pub mod State
 pub mod Calls
 pub mod History
 pub mod Demand
+pub mod Desks
 pub mod Conflicts

@@ -5,9 +5,10 @@ use station_rules::Station;
 use station_rules::Taking;
 use station_rules::TurnReport;
 
-// What a group post is given: the station it is made at, and the body.
+// What a group post is given: the station it is made at, the desk that makes it, and the body.
 pub struct Post {
     pub station: usize,
+    pub desk: usize,
     pub body: Body,
 }
 

@@ -61,6 +61,10 @@ badLimit = 13
 abbrev pub conflict : ℕ
 conflict = 14
 
+-- there is no such desk: it is neither 0 nor 1 (document 02, A7)
+abbrev pub badDesk : ℕ
+badDesk = 15
+
 -- a listing has a line that is not of the listing's form, or does not end with its last line (document 02, A8)
 abbrev pub badListing : ℕ
 badListing = 16

@@ -30,6 +30,8 @@ pub const BAD_LIMIT: u32 = 13;
 
 pub const CONFLICT: u32 = 14;
 
+pub const BAD_DESK: u32 = 15;
+
 pub const BAD_LISTING: u32 = 16;
 
 pub const BAD_QUESTION: u32 = 18;

@@ -4,4 +4,5 @@ pub mod QueueSteps
 pub mod QueueLaws
 pub mod QueueLimits
 pub mod WaitingLaws
+pub mod DeskSteps
 pub mod WaitingOwned

@@ -1,13 +1,13 @@
 -- A queue inside its limits stays so when an edit is put last where there is a place, and when the oldest is removed; what is oldest may be posted.
 use Prim.Native.Nat.{ℕ, suc, _-_, _≤_, _<_}
-use mathlib.Core.Bool.{true}
-use mathlib.Core.Path.{_≡_, refl, ap, _∙_}
+use mathlib.Core.Bool.{Bool, true, false, true≢false}
+use mathlib.Core.Path.{_≡_, refl, sym, ap, _∙_}
 use native.Mathlib.Decide.{ℕ-discrete}
 use native.Mathlib.Omega.{arith}
 use lib.Dec.{leb}
-use lib.ListN.{getD, length}
+use lib.ListN.{getD, length, List·getD-eq-default}
 use lib.Seq.{getD-set-same, getD-set-other}
-use borrow.Author.Tests.{leb-true, le-leb}
+use borrow.Author.Tests.{leb-true, leb-false, le-leb}
 use Rattle.kinds.specs.declared.Body.{Body}
 use Rattle.kind_limits.specs.Limits.{postable}
 use Rattle.places.specs.Places.{allBelow}
@@ -29,6 +29,23 @@ pub queue-postable : (limit : ℕ) (q : Queue) → queueInside limit q ≡ true 
 unfolding queueInside
 queue-postable limit q h =
     allBelow-at (q .len) (λ i. postable (slotBody q i)) (and-right (leb (q .len) limit) (allBelow (q .len) (λ i. postable (slotBody q i))) h)
+
+-- past the slots there is no body that may be posted, so that no length counts more than they are
+empty-refused : postable (noSlot .body) ≡ false
+unfolding postable
+empty-refused = refl
+
+pub queue-slots : (limit : ℕ) (q : Queue) → queueInside limit q ≡ true → q .len ≤ length (q .slots)
+queue-slots limit q h = go (leb (q .len) (length (q .slots))) refl
+  where
+    go : (t : Bool) → leb (q .len) (length (q .slots)) ≡ t → q .len ≤ length (q .slots)
+    go true e = leb-true (q .len) (length (q .slots)) e
+    go false e =
+        absurd
+        (true≢false
+        (sym (queue-postable limit q h (length (q .slots)) (leb-false (q .len) (length (q .slots)) e))
+        ∙ ap (λ (x : Slot). postable (x .body)) (List·getD-eq-default (q .slots) noSlot (omega arith))
+        ∙ empty-refused))
 
 pub queue-make : (limit : ℕ) (q : Queue) → q .len ≤ limit → ((i : ℕ) → i < q .len → postable (slotBody q i) ≡ true) → queueInside limit q ≡ true
 unfolding queueInside

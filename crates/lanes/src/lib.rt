@@ -1,8 +1,9 @@
-// A lane of at most two bodies, and the edits that wait to start: one queue of them, oldest first.
+// A lane of at most two bodies, and the edits that wait to start: a queue for each of two desks, oldest first.
 
 ghost use mathlib.Core.Path.{_≡_};
-ghost use mathlib.Core.Bool.{true};
+ghost use mathlib.Core.Bool.{true, cond, not};
 ghost use Prim.Native.Nat.{_≤_, _<_};
+ghost use lib.Dec.{ltb};
 ghost use Rattle.lanes.specs.Lane as laneSpec;
 ghost use Rattle.lanes.specs.Queue as queueSpec;
 ghost use Rattle.lanes.specs.Waiting as waitingSpec;
@@ -32,10 +33,13 @@ pub struct Queue {
     pub slots: [Slot; QUEUE_CAPACITY],
 }
 
-// The edits of a station that wait to start, and how many may wait: the station's limit.
+// The edits of a station that wait to start, those of desk 0 and those of desk 1; how many of a desk may wait, the
+// station's limit; and whether desk 1 goes first where both wait.
 pub struct Waiting {
     pub limit: usize,
-    pub queue: Queue,
+    pub queue0: Queue,
+    pub queue1: Queue,
+    pub one_first: bool,
 }
 
 // The lane with one more body, put last.
@@ -140,23 +144,34 @@ fn queue_inside(queue: Queue, limit: usize) -> bool
     true
 }
 
-// No edit waits, and so many may.
+// No edit waits, so many of a desk may, and desk 0 goes first.
 pub fn none_waiting(limit: usize) -> Waiting
     ensures { λ r. ⌜ r ≡ waitingSpec.noneWaiting limit ⌝ }
 {
     let queue = empty_queue();
     Waiting {
         limit: limit,
-        queue: queue,
+        queue0: queue,
+        queue1: queue,
+        one_first: false,
     }
 }
 
-// How many edits wait.
-pub fn waiting_count(waiting: Waiting) -> usize
-    ensures { λ r. ⌜ r ≡ waitingSpec.waitingCount waiting ⌝ }
+// Is there such a desk: 0 or 1?
+pub fn is_desk(desk: usize) -> bool
+    ensures { λ r. ⌜ r ≡ waitingSpec.isDesk desk ⌝ }
 {
-    let queue = waiting.queue;
-    queue.len
+    desk < 2
+}
+
+// Does an edit of either desk wait?
+pub fn any_waits(waiting: Waiting) -> bool
+    ensures { λ r. ⌜ r ≡ ltb 0 (waitingSpec.waitingCount waiting) ⌝ }
+{
+    if 0 < waiting.queue0.len {
+        return true;
+    }
+    0 < waiting.queue1.len
 }
 
 // Can this be a limit: 1 to 32?
@@ -169,45 +184,85 @@ pub fn limit_inside(limit: usize) -> bool
     limit <= QUEUE_CAPACITY
 }
 
-// Is there room for one more edit?
-pub fn has_room(waiting: Waiting) -> bool
-    ensures { λ r. ⌜ r ≡ waitingSpec.hasRoom waiting ⌝ }
+// Is there room for one more edit of a desk?
+pub fn has_room(waiting: Waiting, desk: usize) -> bool
+    ensures { λ r. ⌜ r ≡ waitingSpec.hasRoom waiting desk ⌝ }
 {
-    let queue = waiting.queue;
-    queue.len < waiting.limit
+    if desk == 0 {
+        return waiting.queue0.len < waiting.limit;
+    }
+    waiting.queue1.len < waiting.limit
 }
 
-// The waiting edits once one more is posted.
-pub fn with_posted(waiting: Waiting, body: Body) -> Waiting
-    requires { ⌜ waitingSpec.waitingCount waiting < queueSpec.queueCapacity ⌝ }
-    ensures { λ r. ⌜ r ≡ waitingSpec.withPosted waiting body ⌝ }
+// The waiting edits once a desk has posted one more.
+pub fn with_posted(waiting: Waiting, desk: usize, body: Body) -> Waiting
+    requires { ⌜ waitingSpec.deskCount waiting desk < queueSpec.queueCapacity ⌝ }
+    ensures { λ r. ⌜ r ≡ waitingSpec.withPosted waiting desk body ⌝ }
 {
-    let queue = waiting.queue;
-    let longer = queued(queue, body);
+    let queue0 = waiting.queue0;
+    let queue1 = waiting.queue1;
+    if desk == 0 {
+        let longer = queued(queue0, body);
+        return Waiting {
+            limit: waiting.limit,
+            queue0: longer,
+            queue1: queue1,
+            one_first: waiting.one_first,
+        };
+    }
+    let longer = queued(queue1, body);
     Waiting {
         limit: waiting.limit,
-        queue: longer,
+        queue0: queue0,
+        queue1: longer,
+        one_first: waiting.one_first,
     }
+}
+
+// Is the edit that starts next of desk 1, by who goes first and how many of each desk wait?
+fn one_next(one_first: bool, count0: usize, count1: usize) -> bool
+    ensures { λ r. ⌜ r ≡ cond «one_first» (ltb 0 count1) (not (ltb 0 count0)) ⌝ }
+{
+    if one_first {
+        return 0 < count1;
+    }
+    count0 == 0
 }
 
 // The edit that starts next.
 pub fn next_edit(waiting: Waiting) -> Body
     ensures { λ r. ⌜ r ≡ waitingSpec.nextEdit waiting ⌝ }
 {
-    let queue = waiting.queue;
+    if one_next(waiting.one_first, waiting.queue0.len, waiting.queue1.len) {
+        let queue = waiting.queue1;
+        return oldest(queue);
+    }
+    let queue = waiting.queue0;
     oldest(queue)
 }
 
-// The waiting edits once the next one has started.
+// The waiting edits once the next one has started: the other desk goes first.
 pub fn without_next(waiting: Waiting) -> Waiting
-    requires { ⌜ (0 < waitingSpec.waitingCount waiting) × (waitingSpec.waitingCount waiting ≤ queueSpec.queueCapacity) ⌝ }
+    requires { ⌜ (0 < waitingSpec.waitingCount waiting) × (waitingSpec.waitingInside waiting ≡ true) ⌝ }
     ensures { λ r. ⌜ r ≡ waitingSpec.withoutNext waiting ⌝ }
 {
-    let queue = waiting.queue;
-    let shorter = unqueued(queue);
+    let queue0 = waiting.queue0;
+    let queue1 = waiting.queue1;
+    if one_next(waiting.one_first, queue0.len, queue1.len) {
+        let shorter = unqueued(queue1);
+        return Waiting {
+            limit: waiting.limit,
+            queue0: queue0,
+            queue1: shorter,
+            one_first: false,
+        };
+    }
+    let shorter = unqueued(queue0);
     Waiting {
         limit: waiting.limit,
-        queue: shorter,
+        queue0: shorter,
+        queue1: queue1,
+        one_first: true,
     }
 }
 
@@ -219,6 +274,10 @@ pub fn waiting_inside(waiting: Waiting) -> bool
     if !limit_inside(limit) {
         return false;
     }
-    let queue = waiting.queue;
-    queue_inside(queue, limit)
+    let queue0 = waiting.queue0;
+    if !queue_inside(queue0, limit) {
+        return false;
+    }
+    let queue1 = waiting.queue1;
+    queue_inside(queue1, limit)
 }

@@ -63,6 +63,7 @@ fn obey(s: Session, command: Command, line: &[u8], out: &mut [u8]) -> Applied
             let place = station as usize;
             let post = Post {
                 station: place,
+                desk: 0,
                 body,
             };
             commands::apply_post(s, post, out)

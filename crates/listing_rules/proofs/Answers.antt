@@ -66,11 +66,11 @@ round-made s k k' l m r e a = rw e at a
 
 pub posted :
     (s : Session) (masks : List ℕ) (station kind event : ℕ) (argument : ℤ) (body : Body) (l m : List ℕ) (r : Applied) →
-    body ≡ postedBody kind event argument → AnswersPost s station (groupPostCall (s .group) (record { station = station; body = body })) l m r →
+    body ≡ postedBody kind event argument → AnswersPost s station (groupPostCall (s .group) (record { station = station; desk = 0; body = body })) l m r →
     Answer (obeyed s masks (Post station kind event argument)) (answered s masks (Post station kind event argument)) l m r
 unfolding obeyed answered
 posted s masks station kind event argument body l m r b a =
-    post-made s station _ _ l m r (ap (λ (x : Body). groupPostCall (s .group) (record { station = station; body = x })) b) a
+    post-made s station _ _ l m r (ap (λ (x : Body). groupPostCall (s .group) (record { station = station; desk = 0; body = x })) b) a
 
 pub rounded :
     (s : Session) (masks heard : List ℕ) (made : RoundDone) (l m : List ℕ) (r : Applied) → s .rounds < 999_999 →

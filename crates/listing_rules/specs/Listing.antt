@@ -42,9 +42,9 @@ setupOf n = record { n = n; limit = listingLimit }
 unfoldable pub postedBody : ℕ → ℕ → ℤ → Body
 postedBody kind event argument = cond (numbersInside kind event argument) (bodyOf kind event argument) Empty
 
--- what a `P` line gives the group post
+-- what a `P` line gives the group post: scripts post as desk 0 (document 02, A7)
 abbrev pub postOf : ℕ → ℕ → ℕ → ℤ → group.Post
-postOf station kind event argument = record { station = station; body = postedBody kind event argument }
+postOf station kind event argument = record { station = station; desk = 0; body = postedBody kind event argument }
 
 -- a refusal, with the number of rounds done
 abbrev pub refusalText : ℕ → ℕ → ℕ → List ℕ

@@ -20,7 +20,7 @@ use Rattle.kind_limits.proofs.Examples.{insert-small}
 use Rattle.places.specs.Places.{gather}
 use Rattle.station_rules.specs.declared.Station.{Station}
 use Rattle.group_rules.specs.State.{stationAt, sizeOf, groupInside}
-use Rattle.lanes.specs.Waiting.{hasRoom}
+use Rattle.lanes.specs.Waiting.{isDesk, hasRoom}
 use Rattle.group_rules.specs.declared.Post as group
 use Rattle.group_rules.specs.Calls.{groupFreshCall, groupFreshRefusal, groupPostRefusal, groupPostCall, roundCall}
 use Rattle.group_rules.proofs.Members.{Members, members-inside, fresh-members}
@@ -59,12 +59,12 @@ unfolding postable bodyInside
 is-insert d h = rw (insert-made d h) (insert-inside d h)
 
 post-room :
-    (n : ℕ) (g : List Station) (x : group.Post) → Members n g → x .station < n → postable (x .body) ≡ true →
+    (n : ℕ) (g : List Station) (x : group.Post) → Members n g → x .station < n → isDesk (x .desk) ≡ true → postable (x .body) ≡ true →
     ((groupPostCall g x) .refusal ≡ done) ⊎ ((groupPostCall g x) .refusal ≡ queueFull)
 unfolding groupPostRefusal
-post-room n g x c h e =
-    rw (post-refusal g x, members-inside n g c, lt-ltb (x .station) (sizeOf g) (omega (arith, c .size)), e)
-    (go (not (hasRoom (stationAt g (x .station) .waiting))))
+post-room n g x c h d e =
+    rw (post-refusal g x, members-inside n g c, lt-ltb (x .station) (sizeOf g) (omega (arith, c .size)), d, e)
+    (go (not (hasRoom (stationAt g (x .station) .waiting) (x .desk))))
   where
     go : (t : Bool) → (refuse t queueFull done ≡ done) ⊎ (refuse t queueFull done ≡ queueFull)
     go true = inr refl
@@ -91,7 +91,7 @@ module _ (n r : ℕ) (s : Session) (a : At n r s) where
           formed = λ f. let z : _≡_ {A = ℕ} 0 1 = cc in omega arith;
           room =
               ⊎-elim (λ q. inl (ap (postAnswer s) e ∙ q)) (λ q. inr (ap (postAnswer s) e ∙ q))
-              (post-room n (s .group) (postOf p 2 (d + 1) (pos d)) (a .members) h (is-insert d small));
+              (post-room n (s .group) (postOf p 2 (d + 1) (pos d)) (a .members) h refl (is-insert d small));
         }
 
     post-after : At n r (after s (postLine p d))

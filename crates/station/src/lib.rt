@@ -4,6 +4,7 @@ ghost use mathlib.Core.Path.{_≡_};
 ghost use Rattle.station_rules.specs.State.{sized};
 ghost use Rattle.station_rules.specs.Calls.{freshCall, postCall, noTurn, turnCall};
 use kinds::Body;
+use kinds::refusals::BAD_DESK;
 use kinds::refusals::BAD_LIMIT;
 use kinds::refusals::BAD_NUMBER;
 use kinds::refusals::DONE;
@@ -55,13 +56,19 @@ pub fn fresh(n: usize, own: usize) -> Kept
     fresh_limited(setup, own)
 }
 
-// Post: one more waiting edit.
-pub fn post(s: Station, body: Body) -> Kept
-    ensures { λ r. ⌜ r ≡ postCall s body ⌝ }
+// Post: one more waiting edit of a desk.
+pub fn post(s: Station, desk: usize, body: Body) -> Kept
+    ensures { λ r. ⌜ r ≡ postCall s desk body ⌝ }
 {
     if !station_limits::station_inside(s) {
         return Kept {
             refusal: OUTSIDE_LIMITS,
+            station: s,
+        };
+    }
+    if !lanes::is_desk(desk) {
+        return Kept {
+            refusal: BAD_DESK,
             station: s,
         };
     }
@@ -72,13 +79,13 @@ pub fn post(s: Station, body: Body) -> Kept
         };
     }
     let waiting = s.waiting;
-    if !lanes::has_room(waiting) {
+    if !lanes::has_room(waiting, desk) {
         return Kept {
             refusal: QUEUE_FULL,
             station: s,
         };
     }
-    let more = lanes::with_posted(waiting, body);
+    let more = lanes::with_posted(waiting, desk, body);
     let mut station = s;
     station.waiting = more;
     Kept {

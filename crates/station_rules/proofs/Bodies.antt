@@ -25,7 +25,7 @@ taken-inside b h = and-right (not (isEmpty b)) (bodyInside b) h
 
 pub held-inside : (s : Station) (b : Body) → stationInside s ≡ true → Holds s b → bodyInside b ≡ true
 held-inside s b i present = (inside-open s i) .body
-held-inside s b i (waiting j l) = postable-inside b (waiting-postable (s .waiting) ((inside-open s i) .waiting) j l)
+held-inside s b i (waiting d j l) = postable-inside b (waiting-postable (s .waiting) ((inside-open s i) .waiting) d j l)
 held-inside s b i (recorded k l e) = (inside-open s i) .places k l .held e .body
 held-inside s b i (lane-first k l p) = taken-inside b (first-takeable _ _ ((inside-open s i) .places k l .lane) p)
 held-inside s b i (lane-second k l p) = taken-inside b (second-takeable _ _ ((inside-open s i) .places k l .lane) p)
@@ -38,9 +38,9 @@ module _ (s : Station) (b : Body) (h : bodyInside b ≡ false) (holds : Holds s 
       go true e = absurd (true≢false (sym (held-inside s b e holds) ∙ h))
       go false e = e
 
-  pub post-two : (c : Body) → (postCall s c) .refusal ≡ outsideLimits
+  pub post-two : (d : ℕ) (c : Body) → (postCall s d c) .refusal ≡ outsideLimits
   unfolding postCall
-  post-two c = rw holds-outside
+  post-two d c = rw holds-outside
 
   pub write-two : (room : ℕ) → (writeCall s room) .refusal ≡ outsideLimits
   unfolding writeCall writeRefusal

@@ -11,7 +11,7 @@ use Rattle.kind_limits.specs.Limits.{postable}
 use Rattle.kinds.specs.Refusals.{done}
 use Rattle.frame_rules.specs.Frame.{validNumber, frameRefusal, recordsOf}
 use Rattle.places.proofs.Laws.{and-left, and-right}
-use Rattle.lanes.specs.Waiting.{limitInside, hasRoom}
+use Rattle.lanes.specs.Waiting.{isDesk, limitInside, hasRoom}
 use Rattle.station_rules.specs.declared.Setup.{Setup}
 use Rattle.station_rules.specs.declared.Station.{Station}
 use Rattle.station_rules.specs.Hearing.{Hearing, silent, hearFrame}
@@ -43,23 +43,28 @@ pub fresh-unlimited :
 unfolding freshCall
 fresh-unlimited setup own s v l e = rw (v, l, e)
 
--- post: 2, 4, 3
-module _ (s : Station) (b : Body) where
-  pub post-outside : stationInside s ≡ false → record { refusal = 2; station = s } ≡ postCall s b
+-- post: 2, 15, 4, 3
+module _ (s : Station) (d : ℕ) (b : Body) where
+  pub post-outside : stationInside s ≡ false → record { refusal = 2; station = s } ≡ postCall s d b
   unfolding postCall
   post-outside i = rw i
 
-  pub post-no-edit : stationInside s ≡ true → postable b ≡ false → record { refusal = 4; station = s } ≡ postCall s b
+  pub post-no-desk : stationInside s ≡ true → isDesk d ≡ false → record { refusal = 15; station = s } ≡ postCall s d b
   unfolding postCall
-  post-no-edit i e = rw (i, e)
+  post-no-desk i k = rw (i, k)
 
-  pub post-full : stationInside s ≡ true → postable b ≡ true → hasRoom (s .waiting) ≡ false → record { refusal = 3; station = s } ≡ postCall s b
+  pub post-no-edit : stationInside s ≡ true → isDesk d ≡ true → postable b ≡ false → record { refusal = 4; station = s } ≡ postCall s d b
   unfolding postCall
-  post-full i e f = rw (i, e, f)
+  post-no-edit i k e = rw (i, k, e)
 
-  pub post-done : stationInside s ≡ true → postable b ≡ true → hasRoom (s .waiting) ≡ true → record { refusal = 0; station = posted s b } ≡ postCall s b
-  unfolding postCall
-  post-done i e f = rw (i, e, f)
+  module _ (i : stationInside s ≡ true) (k : isDesk d ≡ true) (e : postable b ≡ true) where
+    pub post-full : hasRoom (s .waiting) d ≡ false → record { refusal = 3; station = s } ≡ postCall s d b
+    unfolding postCall
+    post-full f = rw (i, k, e, f)
+
+    pub post-done : hasRoom (s .waiting) d ≡ true → record { refusal = 0; station = posted s d b } ≡ postCall s d b
+    unfolding postCall
+    post-done f = rw (i, k, e, f)
 
 -- hear: 2, 5, 6, 7, 8
 module _ (s : Station) (bytes : List ℕ) where

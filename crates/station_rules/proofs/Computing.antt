@@ -10,7 +10,7 @@ use Rattle.frame_rules.specs.Record.{recordLabel, recordFrom, recordBytes, byte
 use Rattle.frame_rules.specs.Frame.{shapeWrong, addressWrong, recordsInside, frameRefusal, recordsOf, recordsBytes, frameBytes}
 use Rattle.lanes.specs.Lane.{bodies, laneOf}
 use Rattle.lanes.specs.Queue.{emptyQueue, queued, oldest, unqueued, queueBodies, queueInside}
-use Rattle.lanes.specs.Waiting.{noneWaiting, waitingEdits, waitingCount, hasRoom, withPosted, nextEdit, withoutNext, waitingInside}
+use Rattle.lanes.specs.Waiting.{noneWaiting, queueOf, waitingEdits, deskCount, waitingCount, hasRoom, withPosted, firstDesk, nextDesk, nextEdit, withoutNext, waitingInside}
 use Rattle.station_rules.specs.State.{cellOf, withCell, withAcked, withLanes, sentRecords, freshStation}
 use Rattle.station_rules.specs.Limits.{stationInside, placeInside, recordInside, laneInside}
 use Rattle.station_rules.specs.Hearing.{agree, replaced, heardNewer, heardAs, hearRecord, hearRecords, hearFrame}
@@ -18,7 +18,7 @@ use Rattle.station_rules.specs.Turn.{airs, rowOf, afterAiring, broadcast
 use Rattle.station_rules.specs.Calls.{posted, postCall, frameOf, hearCall, noTurn}
 
 unfoldable pub stationRuns : Unit {0}
-unfolding postable bodyInside numbersInside isNewer ageOf labelIn packed labelsOver labelsInside recordLabel allBelow anyBelow fill gather tabulate framed bodies laneOf emptyQueue queued oldest unqueued queueBodies queueInside noneWaiting waitingEdits waitingCount hasRoom withPosted nextEdit withoutNext waitingInside cellOf withCell withAcked withLanes sentRecords freshStation stationInside placeInside recordInside laneInside agree replaced heardNewer heardAs hearRecord hearRecords hearFrame airs rowOf afterAiring broadcastEnds startedBody begins takesOwn passed ownRecord rewritten afterTurn turnReport posted postCall noTurn
+unfolding postable bodyInside numbersInside isNewer ageOf labelIn packed labelsOver labelsInside recordLabel allBelow anyBelow fill gather tabulate framed bodies laneOf emptyQueue queued oldest unqueued queueBodies queueInside noneWaiting queueOf waitingEdits deskCount waitingCount hasRoom withPosted firstDesk nextDesk nextEdit withoutNext waitingInside cellOf withCell withAcked withLanes sentRecords freshStation stationInside placeInside recordInside laneInside agree replaced heardNewer heardAs hearRecord hearRecords hearFrame airs rowOf afterAiring broadcastEnds startedBody begins takesOwn passed ownRecord rewritten afterTurn turnReport posted postCall noTurn
 stationRuns = tt
 
 unfoldable pub frameRuns : Unit {0}

@@ -19,7 +19,7 @@ use Rattle.station_rules.proofs.HearRecord.{heeds}
 use Rattle.station_rules.specs.Calls.{posted, postCall}
 use Rattle.station_rules.proofs.CallSteps.{post-no-edit, post-full, post-done}
 use Rattle.lanes.specs.Queue.{queueCapacity}
-use Rattle.lanes.specs.Waiting.{waitingCount}
+use Rattle.lanes.specs.Waiting.{isDesk, deskCount, waitingCount}
 use Rattle.lanes.proofs.WaitingLaws.{room-below, room-full, posted-count}
 
 -- a station that holds a record of another station with some own label and count, and sees one with another
@@ -49,20 +49,26 @@ module _ (s : Station) (r : Record) where
 
 -- what a post at a station inside its limits returns. The table of kinds says which bodies are edits, and so M9 and M10
 -- name their numbers there and not here
-module _ (s : Station) (i : stationInside s ≡ true) where
-  pub refused : (b : Body) → postable b ≡ false → (postCall s b) .refusal ≡ 4
-  refused b e = sym (ap (λ (k : Kept). k .refusal) (post-no-edit s b i e))
+module _ (s : Station) (i : stationInside s ≡ true) (d : ℕ) (k : isDesk d ≡ true) where
+  pub refused : (b : Body) → postable b ≡ false → (postCall s d b) .refusal ≡ 4
+  refused b e = sym (ap (λ (x : Kept). x .refusal) (post-no-edit s d b i k e))
 
-  pub taken : (b : Body) → postable b ≡ true → waitingCount (s .waiting) < s .waiting .limit → (postCall s b) .refusal ≡ 0
-  taken b e l = sym (ap (λ (k : Kept). k .refusal) (post-done s b i e (room-below (s .waiting) l)))
+  pub taken : (b : Body) → postable b ≡ true → deskCount (s .waiting) d < s .waiting .limit → (postCall s d b) .refusal ≡ 0
+  taken b e l = sym (ap (λ (x : Kept). x .refusal) (post-done s d b i k e (room-below (s .waiting) d l)))
 
-  -- as long as fewer than 32 wait, an edit is accepted and waits
-  pub m11-room : (b : Body) → postable b ≡ true → s .waiting .limit ≡ 32 → waitingCount (s .waiting) < 32 → ((postCall s b) .refusal ≡ 0) × (waitingCount ((postCall s b) .station .waiting) ≡ waitingCount (s .waiting) + 1)
-  m11-room b e limit wait = let l : waitingCount (s .waiting) < s .waiting .limit = omega arith in (taken b e l, sym (ap (λ (k : Kept). waitingCount (k .station .waiting)) (post-done s b i e (room-below (s .waiting) l))) ∙ one-more)
+  -- as long as fewer than 32 of the desk wait, an edit is accepted and waits
+  pub m11-room :
+      (b : Body) → postable b ≡ true → s .waiting .limit ≡ 32 → deskCount (s .waiting) d < 32 →
+      ((postCall s d b) .refusal ≡ 0) × (waitingCount ((postCall s d b) .station .waiting) ≡ waitingCount (s .waiting) + 1)
+  m11-room b e limit wait =
+      let l : deskCount (s .waiting) d < s .waiting .limit = omega arith in (
+        taken b e l,
+        sym (ap (λ (x : Kept). waitingCount (x .station .waiting)) (post-done s d b i k e (room-below (s .waiting) d l))) ∙ one-more,
+      )
     where
-      one-more : waitingCount ((posted s b) .waiting) ≡ waitingCount (s .waiting) + 1
-      one-more = unfold posted in posted-count (s .waiting) b ∙ omega arith
+      one-more : waitingCount ((posted s d b) .waiting) ≡ waitingCount (s .waiting) + 1
+      one-more = unfold posted in posted-count (s .waiting) d b ∙ omega arith
 
-  -- the 33rd waiting edit
-  pub m11 : (b : Body) → postable b ≡ true → s .waiting .limit ≡ 32 → waitingCount (s .waiting) ≡ 32 → (postCall s b) .refusal ≡ 3
-  m11 b e limit l = sym (ap (λ (k : Kept). k .refusal) (post-full s b i e (room-full (s .waiting) (omega arith))))
+  -- the 33rd waiting edit of a desk
+  pub m11 : (b : Body) → postable b ≡ true → s .waiting .limit ≡ 32 → deskCount (s .waiting) d ≡ 32 → (postCall s d b) .refusal ≡ 3
+  m11 b e limit l = sym (ap (λ (x : Kept). x .refusal) (post-full s d b i k e (room-full (s .waiting) d (omega arith))))

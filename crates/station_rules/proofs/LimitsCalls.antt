@@ -17,7 +17,7 @@ use Rattle.frame_rules.proofs.RecordTrip.{held-fits}
 use Rattle.frame_rules.specs.Frame.{validNumber, part, recordStation, shapeWrong, addressWrong, recordsInside, frameRefusal, recordsOf}
 use Rattle.places.specs.Places.{allBelow, anyBelow, tabulate}
 use Rattle.places.proofs.Laws.{and-left, allBelow-at}
-use Rattle.lanes.specs.Waiting.{limitInside, hasRoom}
+use Rattle.lanes.specs.Waiting.{isDesk, limitInside, hasRoom}
 use Rattle.station_rules.specs.declared.Setup.{Setup}
 use Rattle.station_rules.specs.declared.Station.{Station}
 use Rattle.station_rules.specs.declared.Heard.{Heard}
@@ -74,16 +74,17 @@ fresh-call-inside setup own = go (validNumber (setup .n) own) (limitInside (setu
     go false u e l = rw e (fresh-inside aloneSetup 0 refl refl)
 
 module _ (s : Station) (shape : Shaped s) (inside : stationInside s ≡ true) where
-  pub post-call-inside : (b : Body) → stationInside ((postCall s b) .station) ≡ true
+  pub post-call-inside : (d : ℕ) (b : Body) → stationInside ((postCall s d b) .station) ≡ true
   unfolding postCall
-  post-call-inside b = rw inside (go (postable b) (hasRoom (s .waiting)) refl refl)
+  post-call-inside d b = rw inside (go (isDesk d) (postable b) (hasRoom (s .waiting) d) refl refl)
     where
       go :
-          (e f : Bool) → postable b ≡ e → hasRoom (s .waiting) ≡ f →
-          stationInside (cond (eqb (cond (not e) 4 (cond (not f) 3 0)) 0) (posted s b) s) ≡ true
-      go true true p q = posted-inside s b shape inside p q
-      go true false p q = inside
-      go false f p q = inside
+          (k e f : Bool) → postable b ≡ e → hasRoom (s .waiting) d ≡ f →
+          stationInside (cond (eqb (cond (not k) 15 (cond (not e) 4 (cond (not f) 3 0))) 0) (posted s d b) s) ≡ true
+      go true true true p q = posted-inside s d b shape inside p q
+      go true true false p q = inside
+      go true false f p q = inside
+      go false e f p q = inside
 
   pub turn-call-inside : stationInside ((turnCall s) .station) ≡ true
   unfolding turnCall

@@ -71,10 +71,11 @@ fresh-inside setup own h limited =
     (leb-true n 16 (and-right (leb 1 n) (leb n 16) (and-left (leb 1 n && leb n 16) (ltb own n) h)))
     (ltb-true own n (and-right (leb 1 n && leb n 16) (ltb own n) h)) limited)
 
-pub posted-holds : (s : Station) (b : Body) → Shaped s → Inside s → postable b ≡ true → hasRoom (s .waiting) ≡ true → Inside (posted s b)
+pub posted-holds :
+    (s : Station) (d : ℕ) (b : Body) → Shaped s → Inside s → postable b ≡ true → hasRoom (s .waiting) d ≡ true → Inside (posted s d b)
 unfolding posted
-posted-holds s b shape c e l =
-    let same = waiting-cell s (withPosted (s .waiting) b) in
+posted-holds s d b shape c e l =
+    let same = waiting-cell s (withPosted (s .waiting) d b) in
     record {
       low = c .low;
       high = c .high;
@@ -82,10 +83,10 @@ posted-holds s b shape c e l =
       acked = ap (λ (x : Cell). x .acked) (same (s .own)) ∙ c .acked;
       held = ap (λ (x : Cell). x .held) (same (s .own)) ∙ c .held;
       body = c .body;
-      waiting = waiting.posted-inside (s .waiting) b (shape .waiting) (c .waiting) l e;
+      waiting = waiting.posted-inside (s .waiting) d b (shape .waiting) (c .waiting) l e;
       places = λ k m. rw (same k) (c .places k m);
     }
 
 pub posted-inside :
-    (s : Station) (b : Body) → Shaped s → stationInside s ≡ true → postable b ≡ true → hasRoom (s .waiting) ≡ true → stationInside (posted s b) ≡ true
-posted-inside s b shape h e l = inside-make (posted s b) (posted-holds s b shape (inside-open s h) e l)
+    (s : Station) (d : ℕ) (b : Body) → Shaped s → stationInside s ≡ true → postable b ≡ true → hasRoom (s .waiting) d ≡ true → stationInside (posted s d b) ≡ true
+posted-inside s d b shape h e l = inside-make (posted s d b) (posted-holds s d b shape (inside-open s h) e l)

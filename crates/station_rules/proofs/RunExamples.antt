@@ -1,6 +1,6 @@
 -- Runs of a station that are computed, so that a definition which does nothing, or too much, is refused by what it gives. A station alone is M12, and with a full
--- queue M11. Station 0 of two hears the frame of station 1, and records of it: a new one, one that is not newer, one that conflicts, one that acknowledges, and one that
--- comes while its own lane is full.
+-- queue M11; with two desks they take turns. Station 0 of two hears the frame of station 1, and records of it: a new one, one that is not newer, one that conflicts,
+-- one that acknowledges, and one that comes while its own lane is full.
 use mathlib.Core.Bool.{true, false}
 use mathlib.Core.List.{[], _∷_}
 use mathlib.Core.Path.{_≡_, refl}
@@ -9,7 +9,7 @@ use lib.IntN.{pos}
 use lib.ListN.{set, replicate}
 use Rattle.kinds.specs.declared.Body.{Body}
 use Rattle.kinds.specs.declared.Body.the-variants.{Empty, Neutral, Insert, Drop, Shift}
-use Rattle.kinds.specs.Refusals.{done, conflict, laneFull, queueFull}
+use Rattle.kinds.specs.Refusals.{done, conflict, laneFull, queueFull, notAnEdit, badDesk}
 use Rattle.label_words.specs.Packing.{packed}
 use Rattle.frame_rules.specs.declared.Record.{Record}
 use Rattle.lanes.specs.Lane.{bodies}
@@ -29,9 +29,12 @@ edit = Insert 7 (pos 100)
 abbrev other : Body
 other = Drop 8
 
--- a station with an edit posted
+-- a station with an edit posted, by a desk or by desk 0
+abbrev with-desk : Station → ℕ → Body → Station
+with-desk s d b = (postCall s d b) .station
+
 abbrev with-edit : Station → Body → Station
-with-edit s b = (postCall s b) .station
+with-edit s b = with-desk s 0 b
 
 -- what a turn reports that airs nothing and ends a broadcast
 abbrev ending : Body → Body → TurnReport
@@ -53,8 +56,48 @@ posts zero = freshStation (record { n = 1; limit = queueCapacity }) 0
 posts (suc k) = with-edit (posts k) edit
 
 pub record Posts : Type 0 where
-  pub thirty-second : (postCall (posts 31) edit) .refusal ≡ done
-  pub thirty-third : (postCall (posts queueCapacity) edit) .refusal ≡ queueFull
+  pub thirty-second : (postCall (posts 31) 0 edit) .refusal ≡ done
+  pub thirty-third : (postCall (posts queueCapacity) 0 edit) .refusal ≡ queueFull
+
+-- a station alone with two desks, after some turns
+unfoldable pub turns : Station → ℕ → Station
+turns s zero = s
+turns s (suc k) = afterTurn (turns s k)
+
+-- what starts in the turn after so many
+abbrev start-in : Station → ℕ → Body
+start-in s k = turnReport (turns s k) .«started_body»
+
+abbrev third-edit : Body
+third-edit = Drop 9
+
+-- both desks wait on a fresh station, and desk 0 has two
+abbrev both-wait : Station
+both-wait = with-desk (with-desk (with-desk (freshStation aloneSetup 0) 1 other) 0 edit) 0 third-edit
+
+-- desk 0 waited alone, its edit started, and then Neutral; now both wait
+abbrev after-neutral : Station
+after-neutral = with-desk (with-desk (turns alone 2) 0 third-edit) 1 other
+
+-- one edit may wait at a desk, and desk 0 has it
+abbrev one-each : Station
+one-each = with-edit (freshStation (record { n = 1; limit = 1 }) 0) edit
+
+pub record Desks : Type 0 where
+  -- a fresh station gives way to desk 0, and then the desks take turns
+  pub fresh-zero : start-in both-wait 0 ≡ edit
+  pub then-one : start-in both-wait 1 ≡ other
+  pub then-zero : start-in both-wait 2 ≡ third-edit
+  pub then-none : start-in both-wait 3 ≡ Neutral
+  -- the desk that started the last edit alone gives way, and Neutral since then changes nothing
+  pub neutral-between : start-in alone 1 ≡ Neutral
+  pub gives-way : (start-in after-neutral 0 ≡ other) × (start-in after-neutral 1 ≡ third-edit)
+  -- a full desk is refused, and the other is not
+  pub own-full : (postCall one-each 0 edit) .refusal ≡ queueFull
+  pub other-not : (postCall one-each 1 edit) .refusal ≡ done
+  -- 15 comes before 4, and 4 before 3; there is no desk 2
+  pub desk-first : (postCall one-each 2 Neutral) .refusal ≡ badDesk
+  pub edit-next : (postCall one-each 0 Neutral) .refusal ≡ notAnEdit
 
 -- a frame that comes is heard
 pub record Frame : Type 0 where
@@ -101,7 +144,7 @@ pub record Pair : Type 0 where
   pub acknowledges : (ackedOf (second .station) 1 ≡ true) × (second .station .count ≡ 1) × (labelOf (second .station) 1 ≡ 1)
   -- all are acknowledged: the turn starts the first edit, and the other waits
   pub starts : turnReport (second .station) ≡ ending Empty edit
-  pub waits : waitingEdits (afterTurn (second .station) .waiting) ≡ other ∷ []
+  pub waits : waitingEdits (afterTurn (second .station) .waiting) 0 ≡ other ∷ []
   -- that one ends while it stands in the own lane: Empty starts
   pub full : turnReport (third .station) ≡ ending edit Empty
   -- a body of station 1 is taken and fills the row
@@ -181,6 +224,22 @@ alone-runs = record { starts = refl; airs-it = refl }
 pub posts-runs : Posts
 unfolding posts stationRuns
 posts-runs = record { thirty-second = refl; thirty-third = refl }
+
+pub desks-run : Desks
+unfolding turns stationRuns
+desks-run =
+    record {
+      fresh-zero = refl;
+      then-one = refl;
+      then-zero = refl;
+      then-none = refl;
+      neutral-between = refl;
+      gives-way = (refl, refl);
+      own-full = refl;
+      other-not = refl;
+      desk-first = refl;
+      edit-next = refl;
+    }
 
 pub frame-runs : Frame
 unfolding frameRuns

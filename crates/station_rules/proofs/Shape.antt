@@ -1,4 +1,5 @@
 -- Every step of a station keeps the lengths of its arrays, for it only changes entries: each is made of setters, and these keep them.
+use Prim.Native.Nat.{ℕ}
 use mathlib.Core.Bool.{Bool, true, false, cond, _&&_}
 use mathlib.Core.Path.{_≡_, refl}
 use lib.Dec.{eqb, ltb}
@@ -31,12 +32,12 @@ waiting-sized s e = go (startsEdit s) refl
     go false h = e
 
 -- a post changes waiting edits only
-pub posted-same : (s : Station) (b : Body) → SameButWaiting s (posted s b)
+pub posted-same : (s : Station) (d : ℕ) (b : Body) → SameButWaiting s (posted s d b)
 unfolding posted
-posted-same s b = waiting-same s (withPosted (s .waiting) b) (laws.posted-sized (s .waiting) b)
+posted-same s d b = waiting-same s (withPosted (s .waiting) d b) (laws.posted-sized (s .waiting) d b)
 
-pub posted-shaped : (s : Station) (b : Body) → Shaped s → Shaped (posted s b)
-posted-shaped s b c = posted-same s b .shape c
+pub posted-shaped : (s : Station) (d : ℕ) (b : Body) → Shaped s → Shaped (posted s d b)
+posted-shaped s d b c = posted-same s d b .shape c
 
 pub heardNewer-shaped : (s : Station) (r : Record) → Shaped s → Shaped (heardNewer s r)
 unfolding heardNewer

@@ -4,14 +4,14 @@ use Prim.Native.Nat.{ℕ, _<_}
 use mathlib.Core.Bool.{true}
 use mathlib.Core.Path.{_≡_}
 use Rattle.kinds.specs.declared.Body.{Body}
-use Rattle.lanes.specs.Waiting.{waitingCount, waitingAt}
+use Rattle.lanes.specs.Waiting.{deskCount, waitingAt}
 use Rattle.station_rules.specs.declared.Station.{Station}
 use Rattle.station_rules.specs.State.{heldOf, recordOf, laneAt}
 
 -- the body is the one broadcast now, one of the waiting edits, that of a held record, or in a lane
 pub data Holds (s : Station) : Body → Type 0 where
   present : Holds s (s .body)
-  waiting : (i : ℕ) → i < waitingCount (s .waiting) → Holds s (waitingAt (s .waiting) i)
+  waiting : (desk i : ℕ) → i < deskCount (s .waiting) desk → Holds s (waitingAt (s .waiting) desk i)
   recorded : (k : ℕ) → k < s .n → heldOf s k ≡ true → Holds s ((recordOf s k) .body)
   lane-first : (k : ℕ) → k < s .n → 0 < (laneAt s k) .len → Holds s ((laneAt s k) .first)
   lane-second : (k : ℕ) → k < s .n → 1 < (laneAt s k) .len → Holds s ((laneAt s k) .second)

@@ -7,7 +7,7 @@ use lib.Dec.{ltb, eqb}
 use Rattle.kinds.specs.declared.Body.{Body}
 use Rattle.kinds.specs.declared.Body.the-variants.{Empty}
 use Rattle.kind_limits.specs.Limits.{postable}
-use Rattle.kinds.specs.Refusals.{done, badNumber, badLimit, outsideLimits, queueFull, notAnEdit, shortBuffer, countTooHigh, refuse}
+use Rattle.kinds.specs.Refusals.{done, badNumber, badLimit, outsideLimits, queueFull, notAnEdit, badDesk, shortBuffer, countTooHigh, refuse}
 use Rattle.frame_rules.specs.Record.{countInside}
 use Rattle.frame_rules.specs.Frame.{validNumber, frameRefusal, recordsOf, frameBytes}
 use Rattle.station_rules.specs.declared.Setup.{Setup}
@@ -19,7 +19,7 @@ use Rattle.frame_rules.specs.declared.Written.{Written}
 use Rattle.station_rules.specs.declared.Heard.{Heard}
 use Rattle.station_rules.specs.declared.Turned.{Turned}
 use Rattle.lanes.specs.Queue.{noSlot}
-use Rattle.lanes.specs.Waiting.{limitInside, hasRoom, withPosted}
+use Rattle.lanes.specs.Waiting.{isDesk, limitInside, hasRoom, withPosted}
 use Rattle.station_rules.specs.State.{recordOf, withWaiting, sentRecords, aloneSetup, freshStation}
 use Rattle.station_rules.specs.Limits.{stationInside}
 use Rattle.station_rules.specs.Hearing.{silent, hearFrame}
@@ -38,19 +38,22 @@ freshCall setup own =
     (record { refusal = done; station = freshStation setup own })
     (record { refusal = freshRefusal setup own; station = freshStation aloneSetup 0 })
 
--- the station with one more waiting edit (source document 001, Algorithm 2, lines 1 and 2)
-unfoldable pub posted : Station → Body → Station
-posted s b = withWaiting s (withPosted (s .waiting) b)
+-- the station with one more waiting edit of a desk (source document 001, Algorithm 2, lines 1 and 2)
+unfoldable pub posted : Station → ℕ → Body → Station
+posted s desk b = withWaiting s (withPosted (s .waiting) desk b)
 
--- 4, 3: what a post judges of the body and of the waiting edits
-abbrev pub postRefusal : Station → Body → ℕ
-postRefusal s b = refuse (not (postable b)) notAnEdit (refuse (not (hasRoom (s .waiting))) queueFull done)
+-- 15, 4, 3: what a post judges of the desk, of the body and of the desk's waiting edits
+abbrev pub postRefusal : Station → ℕ → Body → ℕ
+postRefusal s desk b =
+    refuse (not (isDesk desk)) badDesk
+    (refuse (not (postable b)) notAnEdit
+    (refuse (not (hasRoom (s .waiting) desk)) queueFull done))
 
--- "Post": 2, 4, 3
-unfoldable pub postCall : Station → Body → Kept
-postCall s b =
-    let refusal = refuse (not (stationInside s)) outsideLimits (postRefusal s b) in
-    record { refusal = refusal; station = cond (eqb refusal done) (posted s b) s }
+-- "Post": 2, 15, 4, 3
+unfoldable pub postCall : Station → ℕ → Body → Kept
+postCall s desk b =
+    let refusal = refuse (not (stationInside s)) outsideLimits (postRefusal s desk b) in
+    record { refusal = refusal; station = cond (eqb refusal done) (posted s desk b) s }
 
 -- the own record's count fits a frame
 abbrev pub ownCountInside : Station → Bool

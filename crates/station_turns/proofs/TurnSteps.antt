@@ -77,8 +77,8 @@ unfolding startedBody
 starts-of s = refl
 
 -- an edit that starts waits
-pub waits : (ended may starts : Bool) (n : ℕ) → starts ≡ (ended && (may && ltb 0 n)) → starts ≡ true → 0 < n
-waits ended may starts n e h = ltb-true 0 n (and-right may (ltb 0 n) (and-right ended (may && ltb 0 n) (sym e ∙ h)))
+pub waits : (ended may some starts : Bool) (n : ℕ) → some ≡ ltb 0 n → starts ≡ (ended && (may && some)) → starts ≡ true → 0 < n
+waits ended may some starts n t e h = ltb-true 0 n (sym t ∙ and-right may some (and-right ended (may && some) (sym e ∙ h)))
 
 -- what each step of a turn makes of the arrays
 module _ (s : Station) (b : Body) where
@@ -158,7 +158,7 @@ labels-fit s c long t next e k l =
 
 -- the answer of a turn, by its parts
 module _
-    (s : Station) (aired ended starts : Bool) (row : List Slot) (left : List Lane) (old : Body) (many : ℕ) (started body gone : Body)
+    (s : Station) (aired ended starts : Bool) (row : List Slot) (left : List Lane) (old : Body) (some : Bool) (started body gone : Body)
     (waiting : Waiting) (acked : List Bool) (count next : ℕ) (over : ℕ) (lane : Lane) where
   -- before the own record is rewritten
   abbrev before : Station
@@ -182,9 +182,9 @@ module _
       aired ≡ airs s → ended ≡ broadcastEnds s → row ≡ cond (airs s) (rowOf s) (replicate 16 noSlot) →
       withArrays s (s .acked) (s .labels) (s .held) (s .table) left ≡ afterAiring s →
       old ≡ nextEdit (s .waiting) →
-      many ≡ waitingCount (s .waiting) →
-      started ≡ cond ended (cond may (cond (ltb 0 many) old Neutral) Empty) Empty →
-      starts ≡ (ended && (may && ltb 0 many)) →
+      some ≡ ltb 0 (waitingCount (s .waiting)) →
+      started ≡ cond ended (cond may (cond some old Neutral) Empty) Empty →
+      starts ≡ (ended && (may && some)) →
       waiting ≡ cond starts (withoutNext (s .waiting)) (s .waiting) →
       acked ≡ cond ended (fill (s .n) (λ k. eqb k (s .own)) (s .acked)) (s .acked) →
       body ≡ cond ended started (s .body) →

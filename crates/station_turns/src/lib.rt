@@ -29,9 +29,9 @@ pub fn take_turn(s: Station) -> Turned
     let own_lane = left[own];
     let own_len = own_lane.len;
     let next_edit = lanes::next_edit(waiting);
-    let waiting_count = lanes::waiting_count(waiting);
-    let started = turn_parts::started_body(ended, own_len, waiting_count, next_edit);
-    let starts = turn_parts::starts_edit(ended, own_len, waiting_count);
+    let waits = lanes::any_waits(waiting);
+    let started = turn_parts::started_body(ended, own_len, waits, next_edit);
+    let starts = turn_parts::starts_edit(ended, own_len, waits);
     let still_waiting = turn_parts::waiting_after(starts, waiting);
     let acked = turn_parts::only_own(turn_parts::count_if(ended, n), own, had);
     let body = turn_parts::body_of(ended, started, sent);

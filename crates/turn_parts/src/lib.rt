@@ -4,7 +4,7 @@ ghost use mathlib.Core.Path.{_≡_};
 ghost use mathlib.Core.Bool.{true, false, cond, _&&_};
 ghost use Prim.Native.Nat.{_≤_, _<_};
 ghost use lib.ListN.{getD};
-ghost use lib.Dec.{ltb, eqb};
+ghost use lib.Dec.{eqb};
 ghost use Rattle.kinds.specs.Body.{isEmpty};
 ghost use Rattle.kinds.specs.declared.Body.the-variants.{Empty, Neutral};
 ghost use Rattle.labels.specs.Label.{successor};
@@ -64,9 +64,9 @@ pub fn count_if(changes: bool, n: usize) -> usize
     0
 }
 
-// What starts, by the bodies in the own lane, the number of waiting edits and the next of them.
-pub fn started_body(ended: bool, own_len: u8, waiting_count: usize, next_edit: Body) -> Body
-    ensures { λ r. ⌜ r ≡ cond ended (cond (eqb «own_len» 0) (cond (ltb 0 «waiting_count») «next_edit» Neutral) Empty) Empty ⌝ }
+// What starts, by the bodies in the own lane, whether an edit waits, and the edit that is next.
+pub fn started_body(ended: bool, own_len: u8, waits: bool, next_edit: Body) -> Body
+    ensures { λ r. ⌜ r ≡ cond ended (cond (eqb «own_len» 0) (cond waits «next_edit» Neutral) Empty) Empty ⌝ }
 {
     if !ended {
         return Body::Empty;
@@ -74,15 +74,15 @@ pub fn started_body(ended: bool, own_len: u8, waiting_count: usize, next_edit: B
     if own_len != 0 {
         return Body::Empty;
     }
-    if waiting_count == 0 {
+    if !waits {
         return Body::Neutral;
     }
     next_edit
 }
 
 // Does a waiting edit start?
-pub fn starts_edit(ended: bool, own_len: u8, waiting_count: usize) -> bool
-    ensures { λ r. ⌜ r ≡ (ended && (eqb «own_len» 0 && ltb 0 «waiting_count»)) ⌝ }
+pub fn starts_edit(ended: bool, own_len: u8, waits: bool) -> bool
+    ensures { λ r. ⌜ r ≡ (ended && (eqb «own_len» 0 && waits)) ⌝ }
 {
     if !ended {
         return false;
@@ -90,7 +90,7 @@ pub fn starts_edit(ended: bool, own_len: u8, waiting_count: usize) -> bool
     if own_len != 0 {
         return false;
     }
-    0 < waiting_count
+    waits
 }
 
 // The edits that wait after the start.

@@ -1,12 +1,23 @@
--- `lanes::has_room` compares the length of the queue with the limit.
-use mathlib.Core.Path.{refl}
-use Rattle.lanes.specs.Waiting.{waitingCount, hasRoom}
+-- `lanes::has_room` compares what the desk has waiting with the limit.
+use mathlib.Core.Path.{ap}
+use Prim.Native.Nat.{ℕ}
+use lib.Dec.{ltb}
+use Rattle.lanes.specs.Waiting.{hasRoom}
+use Rattle.lanes.proofs.DeskSteps.{count-zero, count-one}
 use Rattle.lanes.proofs.has_room.Statement.{statement}
 use Rattle.lanes.proofs.has_room.Tie as tie
 
 returns : tie.Need-returns
-unfolding hasRoom waitingCount
-returns c = refl
+unfolding hasRoom
+returns c =
+    let a = c .before .before .args in
+    ap (λ (k : ℕ). ltb k (a .waiting .limit)) (count-zero (a .waiting) (a .desk) (c .before .if1 .taken))
+
+returns-2 : tie.Need-returns-2
+unfolding hasRoom
+returns-2 c =
+    let a = c .before .before .args in
+    ap (λ (k : ℕ). ltb k (a .waiting .limit)) (count-one (a .waiting) (a .desk) (c .before .if1 .left))
 
 pub has-room-spec : {M : Type 1} → statement M
-has-room-spec = tie.close (tie.spec returns)
+has-room-spec = tie.close (tie.spec returns returns-2)

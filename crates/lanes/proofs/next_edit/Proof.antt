@@ -1,12 +1,24 @@
--- `lanes::next_edit` reads the oldest body of the queue.
+-- `lanes::next_edit` reads the oldest body of the desk that is next.
+use mathlib.Core.Path.{_∙_, ap}
+use mathlib.Core.Bool.{Bool, cond}
 use borrow.Author.Needs.{needs}
-use Rattle.lanes.specs.Waiting.{nextEdit}
+use Rattle.lanes.proofs.DeskSteps.{next-is, edit-zero, edit-one}
 use Rattle.lanes.proofs.next_edit.Statement.{statement}
 use Rattle.lanes.proofs.next_edit.Tie as tie
 
 returns : tie.Need-returns
-unfolding nextEdit
-returns c = c .oldest .ensures
+returns c =
+    let t = c .before .before in
+    let a = t .before in
+    c .oldest .ensures
+    ∙ edit-one (a .before .args .waiting) (next-is _ _ (a .one-next .ensures) ∙ ap (λ (x : Bool). cond x 1 0) (t .if1 .taken))
+
+returns-2 : tie.Need-returns-2
+returns-2 c =
+    let t = c .before .before in
+    let a = t .before in
+    c .oldest2 .ensures
+    ∙ edit-zero (a .before .args .waiting) (next-is _ _ (a .one-next .ensures) ∙ ap (λ (x : Bool). cond x 1 0) (t .if1 .left))
 
 pub next-edit-spec : {M : Type 1} → statement M
-next-edit-spec = tie.close (tie.spec (λ c κs. search needs) returns)
+next-edit-spec = tie.close (tie.spec (λ c κs. search needs) (λ c κs. search needs) returns (λ c κs. search needs) returns-2)

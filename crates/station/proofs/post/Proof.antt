@@ -1,12 +1,16 @@
 -- `station::post` meets its contract, refusal by refusal.
-use mathlib.Core.Path.{sym, ap, _∙_}
+use mathlib.Core.Bool.{true}
+use mathlib.Core.Path.{_≡_, sym, ap, _∙_}
 use borrow.Author.Tests.{not-true, not-false}
+use Rattle.kind_limits.specs.Limits.{postable}
 use Rattle.lanes.specs.declared.Waiting.{Waiting}
+use Rattle.lanes.specs.Waiting.{isDesk}
 use Rattle.station_rules.specs.declared.Station.{Station}
 use Rattle.station_rules.specs.declared.Kept.{Kept}
 use Rattle.station_rules.specs.State.{withWaiting}
+use Rattle.station_rules.specs.Limits.{stationInside}
 use Rattle.station_rules.specs.Calls.{posted}
-use Rattle.station_rules.proofs.CallSteps.{post-outside, post-no-edit, post-full, post-done}
+use Rattle.station_rules.proofs.CallSteps.{post-outside, post-no-desk, post-no-edit, post-full, post-done}
 use Rattle.lanes.proofs.WaitingLaws.{room-most}
 use Rattle.station_rules.proofs.StationLimits.{inside-open}
 use borrow.Author.Needs.{needs}
@@ -17,40 +21,59 @@ use Rattle.station.proofs.post.Tie as tie
 abbrev answer : Station → Waiting → Kept
 answer s w = record { refusal = 0; station = withWaiting s w }
 
+-- what each passed test says
+inside : (c : tie.Else1) → stationInside (c .before .before .args .s) ≡ true
+inside c = sym (c .before .station-inside .ensures) ∙ not-false _ (c .if1 .left)
+
+desk : (c : tie.Else2) → isDesk (c .before .before .before .before .args .desk) ≡ true
+desk c = sym (c .before .is-desk .ensures) ∙ not-false _ (c .if2 .left)
+
+edit : (c : tie.Else3) → postable (c .before .before .before .before .before .before .args .body) ≡ true
+edit c = sym (c .before .postable .ensures) ∙ not-false _ (c .if3 .left)
+
 station-inside-requires : tie.Need-station-inside-requires
 station-inside-requires c κs = search needs
 
 returns : tie.Need-returns
-returns c = post-outside _ _ (sym (c .before .station-inside .ensures) ∙ not-true _ (c .if1 .taken))
+returns c = post-outside _ _ _ (sym (c .before .station-inside .ensures) ∙ not-true _ (c .if1 .taken))
+
+is-desk-requires : tie.Need-is-desk-requires
+is-desk-requires c κs = search needs
+
+returns-2 : tie.Need-returns-2
+returns-2 c = post-no-desk _ _ _ (inside (c .before .before)) (sym (c .before .is-desk .ensures) ∙ not-true _ (c .if2 .taken))
 
 postable-requires : tie.Need-postable-requires
 postable-requires c κs = search needs
 
-returns-2 : tie.Need-returns-2
-returns-2 c = post-no-edit _ _ (sym (c .before .before .before .station-inside .ensures) ∙ not-false _ (c .before .before .if1 .left)) (sym (c .before .postable .ensures) ∙ not-true _ (c .if2 .taken))
+returns-3 : tie.Need-returns-3
+returns-3 c =
+    let d = c .before .before in
+    post-no-edit _ _ _ (inside (d .before .before)) (desk d) (sym (c .before .postable .ensures) ∙ not-true _ (c .if3 .taken))
 
 has-room-requires : tie.Need-has-room-requires
 has-room-requires c κs = search needs
 
-returns-3 : tie.Need-returns-3
-returns-3 c =
-    let d = c .before .before .before in
-    post-full _ _ (sym (d .before .before .before .station-inside .ensures) ∙ not-false _ (d .before .before .if1 .left)) (sym (d .before .postable .ensures) ∙ not-false _ (d .if2 .left)) (sym (c .before .has-room .ensures) ∙ not-true _ (c .if3 .taken))
+returns-4 : tie.Need-returns-4
+returns-4 c =
+    let e = c .before .before .before in
+    let d = e .before .before in
+    post-full _ _ _ (inside (d .before .before)) (desk d) (edit e) (sym (c .before .has-room .ensures) ∙ not-true _ (c .if4 .taken))
 
 with-posted-requires : tie.Need-with-posted-requires
 with-posted-requires c κs =
-    let d = c .before .before .before in
-    let i = sym (d .before .before .before .station-inside .ensures) ∙ not-false _ (d .before .before .if1 .left) in
-    room-most _ (inside-open _ i .waiting) (sym (c .before .has-room .ensures) ∙ not-false _ (c .if3 .left))
+    let d = c .before .before .before .before .before in
+    room-most _ _ (inside-open _ (inside (d .before .before)) .waiting) (sym (c .before .has-room .ensures) ∙ not-false _ (c .if4 .left))
 
-returns-4 : tie.Need-returns-4
+returns-5 : tie.Need-returns-5
 unfolding posted
-returns-4 c =
-    let d = c .before .before .before .before in
-    let s = d .before .before .before .before .args .s in
-    let b = d .before .before .before .before .args .body in
-    ap (answer s) (c .with-posted .ensures)
-    ∙ post-done s b (sym (d .before .before .before .station-inside .ensures) ∙ not-false _ (d .before .before .if1 .left)) (sym (d .before .postable .ensures) ∙ not-false _ (d .if2 .left)) (sym (c .before .before .has-room .ensures) ∙ not-false _ (c .before .if3 .left))
+returns-5 c =
+    let e = c .before .before .before .before in
+    let d = e .before .before in
+    let a = d .before .before .before .before .args in
+    ap (answer (a .s)) (c .with-posted .ensures)
+    ∙ post-done (a .s) (a .desk) (a .body) (inside (d .before .before)) (desk d) (edit e)
+    (sym (c .before .before .has-room .ensures) ∙ not-false _ (c .before .if4 .left))
 
 pub post-spec : {M : Type 1} → statement M
 post-spec =
@@ -58,9 +81,11 @@ post-spec =
     (tie.spec
     station-inside-requires
     returns
-    postable-requires
+    is-desk-requires
     returns-2
-    has-room-requires
+    postable-requires
     returns-3
+    has-room-requires
+    returns-4
     with-posted-requires
-    returns-4)
+    returns-5)

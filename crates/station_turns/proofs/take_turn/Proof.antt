@@ -2,9 +2,9 @@
 use Prim.Native.Nat.{ℕ, _<_}
 use native.Mathlib.Omega.{arith}
 use mathlib.Core.Path.{_≡_, ap, _∙_}
-use mathlib.Core.Bool.{cond, _&&_}
+use mathlib.Core.Bool.{cond}
 use lib.ListN.{getD}
-use lib.Dec.{eqb, ltb}
+use lib.Dec.{eqb}
 use borrow.Author.Needs.{needs}
 use Rattle.places.specs.Places.{fill}
 use Rattle.lanes.specs.Lane.{noLane}
@@ -56,8 +56,8 @@ array-copy-out-own-lane c =
 next-edit-requires : tie.Need-next-edit-requires
 next-edit-requires c κs = search needs
 
-waiting-count-requires : tie.Need-waiting-count-requires
-waiting-count-requires c κs = search needs
+any-waits-requires : tie.Need-any-waits-requires
+any-waits-requires c κs = search needs
 
 started-body-requires : tie.Need-started-body-requires
 started-body-requires c κs = search needs
@@ -70,9 +70,10 @@ waiting-after-requires c κs =
     let m = c .before .before in
     let e = m .before .before .before in
     let s = station e in
-    let may = eqb ((getD (e .before .before .before .air .result .left) (s .own) noLane) .len) 0 in
-    let told = c .starts-edit .ensures ∙ ap (λ (k : ℕ). e .all-acked .result && (may && ltb 0 k)) (m .waiting-count .ensures) in
-    (waits (e .all-acked .result) may (c .starts-edit .result) (waitingCount (s .waiting)) told, inside e .waiting)
+    let may = eqb ((getD (e .before .before .before .air .result .left) (s .own) noLane) .len) 0 in (
+      waits (e .all-acked .result) may (m .any-waits .result) (c .starts-edit .result) (waitingCount (s .waiting)) (m .any-waits .ensures) (c .starts-edit .ensures),
+      inside e .waiting,
+    )
 
 count-if-requires : tie.Need-count-if-requires
 count-if-requires c κs = search needs
@@ -171,10 +172,10 @@ returns c =
     k .only-own .ensures ∙ ap (λ (n : ℕ). fill n (λ j. eqb j (s .own)) (s .acked)) (i .count-if .ensures)
     ∙ fill-if (e .all-acked .result) (s .n) (λ j. eqb j (s .own)) (s .acked) in
     turn-made s (d .air .result .aired) (e .all-acked .result) (t .starts-edit .result) (d .air .result .row) (d .air .result .left)
-    (q .next-edit .result) (z .waiting-count .result) (b .started-body .result) (y .body-of .result) (g .body-of2 .result) (w .waiting-after .result) (k .only-own .result)
+    (q .next-edit .result) (z .any-waits .result) (b .started-body .result) (y .body-of .result) (g .body-of2 .result) (w .waiting-after .result) (k .only-own .result)
     (u .count-after .result) (m .label-after .result) (o .pack-over .result) (c .lane-with .result)
     (step-aired s (d .air .result) (d .air .ensures)) (ended e) (step-row s (d .air .result) (d .air .ensures)) (step-left s (d .air .result) (d .air .ensures))
-    (q .next-edit .ensures) (z .waiting-count .ensures) (b .started-body .ensures) (t .starts-edit .ensures) (w .waiting-after .ensures)
+    (q .next-edit .ensures) (z .any-waits .ensures) (b .started-body .ensures) (t .starts-edit .ensures) (w .waiting-after .ensures)
     kept (y .body-of .ensures) (g .body-of2 .ensures) (u .count-after .ensures) (m .label-after .ensures) (o .pack-over .ensures) (c .lane-with .ensures)
 
 pub take-turn-spec : {M : Type 1} → statement M
@@ -186,7 +187,7 @@ take-turn-spec =
     mul-own-lane
     array-copy-out-own-lane
     next-edit-requires
-    waiting-count-requires
+    any-waits-requires
     started-body-requires
     starts-edit-requires
     waiting-after-requires

@@ -1,6 +1,5 @@
 -- `turn_parts::started_body` meets its contract.
-use native.Mathlib.Omega.{arith}
-use borrow.Author.Tests.{eq-eqb, ne-eqb, lt-ltb, le-ltb, not-true, not-false}
+use borrow.Author.Tests.{eq-eqb, ne-eqb, not-true, not-false}
 use Rattle.turn_parts.proofs.started_body.Statement.{statement}
 use Rattle.turn_parts.proofs.started_body.Tie as tie
 
@@ -13,12 +12,12 @@ returns-2 c = rw (not-false (c .before .before .args .ended) (c .before .if1 .le
 returns-3 : tie.Need-returns-3
 returns-3 c =
     let z = c .before .before .before in
-    rw (not-false (z .args .ended) (c .before .before .if1 .left), eq-eqb _ _ (c .before .if2 .left), le-ltb 0 (z .args .waiting-count) (omega arith))
+    rw (not-false (z .args .ended) (c .before .before .if1 .left), eq-eqb _ _ (c .before .if2 .left), not-true (z .args .waits) (c .if3 .taken))
 
 returns-4 : tie.Need-returns-4
 returns-4 c =
     let z = c .before .before .before in
-    rw (not-false (z .args .ended) (c .before .before .if1 .left), eq-eqb _ _ (c .before .if2 .left), lt-ltb 0 (z .args .waiting-count) (omega arith))
+    rw (not-false (z .args .ended) (c .before .before .if1 .left), eq-eqb _ _ (c .before .if2 .left), not-false (z .args .waits) (c .if3 .left))
 
 pub started-body-spec : {M : Type 1} → statement M
 started-body-spec = tie.close (tie.spec returns returns-2 returns-3 returns-4)
