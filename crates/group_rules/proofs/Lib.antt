@@ -59,3 +59,4 @@ pub mod Marked
 pub mod RunLines
 pub mod RunExamples
 pub mod RoundExamples
+pub mod ReplyExamples
