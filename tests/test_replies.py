@@ -9,7 +9,7 @@ from model import replies, scripts
 from model.bodies import DROP, SHIFT, Body
 from model.lines import PostLine, RoundLine
 
-RUNS = 320
+RUNS = 240
 ONE, OTHER = Body(DROP, 7, 0), Body(SHIFT, 7, -1)
 
 
@@ -47,7 +47,7 @@ class WhatTheRunsReach(unittest.TestCase):
     @classmethod
     def setUpClass(cls):
         cls.aired, cls.left = [], 0
-        for seed in range(RUNS):
+        for seed in range(0, RUNS, 2):
             n, calls = calls_of(seed)
             run = replies.run_of(n, calls, scripts.seeded_limit(seed))
             edits = replies.by_place(run)
@@ -58,10 +58,10 @@ class WhatTheRunsReach(unittest.TestCase):
                 cls.left += bool(seen) and len(elsewhere) < n
 
     def test_many_replies_are_aired(self):
-        self.assertGreater(len(self.aired), 300)
+        self.assertGreater(len(self.aired), 150)
 
     def test_some_lists_lack_a_reply(self):
-        self.assertGreater(self.left, 100)
+        self.assertGreater(self.left, 50)
 
     def test_both_desks(self):
         self.assertEqual({edit.desk for _, edit, _, _, _ in self.aired}, {0, 1})
@@ -79,7 +79,7 @@ class WhatTheRunsReach(unittest.TestCase):
         for run, edit, seen, edits, _ in self.aired:
             body = run.accepted[edit.source][edit.desk][edit.number]
             alike += {b for _, b in run.aired[edit.source][:seen]} == {body}
-        self.assertGreater(alike, 100)
+        self.assertGreater(alike, 50)
 
 
 class SmallLists(unittest.TestCase):
@@ -91,8 +91,8 @@ class SmallLists(unittest.TestCase):
                 self.assertIsNone(replies.first_fault(1, calls, 2))
 
     def test_two_stations(self):
-        """Posts of one body between eight rounds: each of up to three posts in every place, at either
-        station and of either desk, while both hear each other."""
+        """One post, and two more of the same body in every two places between eight rounds, each at
+        either station and of either desk, while both stations hear each other."""
         posts = [PostLine(p, ONE, desk) for p in (0, 1) for desk in (0, 1)]
         for places in itertools.combinations_with_replacement(range(8), 2):
             for chosen in itertools.product(posts, repeat=2):

@@ -74,8 +74,7 @@ module _ {A B : Type 0} (test : A → Bool) (f : A → B) where
       let whole : picked xs ≡ picked (take k xs) ++ f x ∷ picked rest =
       ap picked (split-at xs k d l)
       ∙ picked-append (take k xs) (x ∷ rest)
-      ∙ ap (λ (z : List B). picked (take k xs) ++ z) (picked-first x rest t) in
-      (
+      ∙ ap (λ (z : List B). picked (take k xs) ++ z) (picked-first x rest t) in (
         omega (arith, ap length whole, length-append (picked (take k xs)) (f x ∷ picked rest)),
         ap (λ (z : List B). getD z (length (picked (take k xs))) e) whole ∙ getD-append-seam (picked (take k xs)) (f x) (picked rest) e,
       )
