@@ -17,12 +17,18 @@ import test_group
 import test_hearing
 import test_listing
 import test_marked_examples
+import test_replies
 import test_station
 import test_turns
-from model import bodies, hearing, lines, listing, records, station, turns
-from model.bodies import EMPTY, INSERT, NEUTRAL, SHIFT
+from model import bodies, hearing, lines, listing, records, replies, station, turns
+from model.bodies import DROP, EMPTY, INSERT, NEUTRAL, SHIFT, Body
 from model.frames import read_frame
 from model.group import heard_stations
+from model.lines import PostLine, RoundLine
+from model.queues import contents, lane_of, replaced
+
+
+EDIT = Body(DROP, 5, 0)
 
 
 @contextlib.contextmanager
@@ -37,10 +43,10 @@ def broken(name, copy):
         yield
 
 
-def first_noticed_run():
+def first_noticed_run(runs=test_demand3):
     """What the first random run that notices something prints, or None."""
-    for seed in range(test_demand3.RUNS):
-        fault = test_demand3.check_seed(seed)
+    for seed in range(runs.RUNS):
+        fault = runs.check_seed(seed)
         if fault is not None:
             return fault
     return None
@@ -52,11 +58,11 @@ def passes(test_class, name):
 
 
 class Broken(unittest.TestCase):
-    def assert_runs_notice(self, words):
+    def assert_runs_notice(self, words, runs=test_demand3):
         """Some run breaks a sentence with these words, and prints its seed and script."""
-        fault = first_noticed_run()
+        fault = first_noticed_run(runs)
         self.assertIsNotNone(fault)
-        self.assertRegex(fault, rf"^seed \d+, after .*{words}")
+        self.assertRegex(fault, rf"^seed \d+, .*{words}")
         self.assertRegex(fault, re.compile(r"^N +\d+$", re.MULTILINE))
         self.assertRegex(fault, re.compile(r"^R[ \d]+$", re.MULTILINE))
 
@@ -267,6 +273,67 @@ class WrongDesks(Broken):
             return (after if both else after._replace(first=one.first)), body
         with broken("choose_body", choose_body):
             self.assert_runs_notice("out of its turn")
+
+
+class WrongReplies(Broken):
+    """Faults that document 02, A14 is about, or that it cannot see."""
+
+    def test_turn_that_starts_before_it_airs(self):
+        """Neither A14 nor demand 3 is broken by it: M12 is."""
+        def close_round(one):
+            one, ended, ended_body, started_body = turns.end(one)
+            one, aired, row = turns.air(one)
+            return turns.Turned(0, turns.rewrite_own_record(one), aired, row, ended, ended_body, started_body)
+        with broken("close_round", close_round):
+            self.assert_test_fails(test_marked_examples.OneStation, "test_m12")
+            self.assertIsNone(first_noticed_run(test_replies))
+            self.assertIsNone(first_noticed_run())
+
+    def test_airs_out_of_row_order(self):
+        def air(one):
+            if not turns.row_ready(one):
+                return one, False, turns.NO_ROW
+            lanes = [contents(lane) for lane in one.lanes[:one.n]]
+            row = tuple(lane[-1] for lane in lanes) + turns.NO_ROW[one.n:]
+            left = tuple(lane_of(lane[:-1]) for lane in lanes) + one.lanes[one.n:]
+            return one._replace(lanes=left), True, row
+        with broken("air", air):
+            self.assert_runs_notice("is truly", test_replies)
+            self.assert_runs_notice("neither is a beginning")
+
+    def test_newest_waiting_edit_first(self):
+        right = turns.choose_body
+
+        def turned(queue):
+            return queue._replace(slots=contents(queue)[::-1] + queue.slots[queue.length:])
+
+        def choose_body(one):
+            after, body = right(one._replace(waiting=turned(one.waiting), waiting_1=turned(one.waiting_1)))
+            return after._replace(waiting=turned(after.waiting), waiting_1=turned(after.waiting_1)), body
+        with broken("choose_body", choose_body):
+            self.assert_runs_notice("is truly", test_replies)
+            self.assert_runs_notice("accepted posts")
+
+    def test_post_in_the_place_of_a_neutral(self):
+        """A post that takes the place of a Neutral which its station has started."""
+        right = station.append_edit
+
+        def append_edit(one, body, desk):
+            if right(one, body, desk).refusal == 0 and contents(one.lanes[one.own]) == (NEUTRAL,):
+                lanes = replaced(one.lanes, one.own, lane_of((body,)))
+                return station.PostedStation(0, one._replace(lanes=lanes))
+            return right(one, body, desk)
+        with broken("append_edit", append_edit):
+            self.assert_runs_notice("is truly", test_replies)
+
+    def test_a_list_without_an_entry_or_in_another_order(self):
+        both = [RoundLine((2, 1))] * 4
+        run = replies.run_of(2, [PostLine(0, EDIT), *both, PostLine(1, EDIT), *both], 8)
+        edits = replies.by_place(run)
+        self.assertEqual(list(replies.replies_stay_behind(run, edits)), [])
+        for wrong, word in ((edits[0][1:], "without"), (edits[0][::-1], "before")):
+            fault = next(replies.replies_stay_behind(run, [wrong, edits[1]]))
+            self.assertIn(f"0 has aired edit 0 of desk 0 at 1 {word} edit 0 of desk 0 at 0", fault)
 
 
 class WrongQueueLimits(Broken):

@@ -1,8 +1,10 @@
 -- Beginnings of lists: a list begins itself and whatever is put after it, a beginning of a beginning is one, and its entries are the list's.
 use mathlib.Core.List.{List, [], _++_, append-nil, append-assoc}
 use mathlib.Core.Path.{_≡_, refl, sym, ap, _∙_}
-use Prim.Native.Nat.{ℕ, _<_}
-use lib.ListN.{length, getD, List·getD-append}
+use Prim.Native.Nat.{ℕ, _≤_, _<_}
+use native.Mathlib.Omega.{arith}
+use lib.ListN.{length, getD, take, length-append, List·getD-append}
+use lib.Seq.{take-append-le}
 use Rattle.group_rules.specs.Demand.{Begins}
 
 module _ {A : Type 0} where
@@ -24,3 +26,9 @@ module _ {A : Type 0} where
 
   pub begins-getD : (xs ys : List A) → Begins xs ys → (k : ℕ) (d : A) → k < length xs → getD xs k d ≡ getD ys k d
   begins-getD xs ys b k d l = sym (List·getD-append xs (b .rest) d k l) ∙ ap (λ (l : List A). getD l k d) (b .whole)
+
+  pub begins-take : (xs ys : List A) → Begins xs ys → (k : ℕ) → k ≤ length xs → take k xs ≡ take k ys
+  begins-take xs ys b k l = sym (take-append-le k xs (b .rest) l) ∙ ap (λ (l : List A). take k l) (b .whole)
+
+  pub begins-length : (xs ys : List A) → Begins xs ys → length xs ≤ length ys
+  begins-length xs ys b = omega (arith, ap length (b .whole), length-append xs (b .rest))

@@ -44,6 +44,12 @@ pub mod DeskTurns
 pub mod Fairness
 pub mod Isolation
 pub mod TwoDesks
+-- replies stay behind what they reply to: edits by place, over histories, the theorem
+pub mod Picked
+pub mod EditPlaces
+pub mod Continued
+pub mod Identities
+pub mod Replies
 -- no conflicts from fresh
 pub mod Conflicts
 -- examples
@@ -53,3 +59,4 @@ pub mod Marked
 pub mod RunLines
 pub mod RunExamples
 pub mod RoundExamples
+pub mod ReplyExamples
