@@ -54,6 +54,19 @@ module _ (s : ℕ) (ts : List Taking) (i : ℕ) (l : i < length ts) (e : (getD t
       rw (takings-picked s (take i ts), takings-picked s ts)
       (picked-at (ofSource s) (λ t. t .body) noTaking Empty ts i l (eq-eqb ((getD ts i noTaking) .source) s e))
 
+-- the place of entry number j of a source
+pub taking-place :
+    (s : ℕ) (ts : List Taking) (j : ℕ) → j < length (takingsOf s ts) →
+    (i : ℕ) × (i < length ts) × ((getD ts i noTaking) .source ≡ s) × (length (takingsOf s (take i ts)) ≡ j)
+taking-place s ts j l =
+    let p = picked-place (ofSource s) (λ t. t .body) noTaking ts j (rw (← takings-picked s ts) l) in
+    (
+      p .place,
+      p .there,
+      eqb-true ((getD ts (p .place) noTaking) .source) s (p .tested),
+      ap length (takings-picked s (take (p .place) ts)) ∙ p .before,
+    )
+
 -- posts of a desk
 module _ (s d : ℕ) (xs : List Post) where
   module _ (k : ℕ) (l : k < length xs) (es : (getD xs k noPost) .station ≡ s) (ed : (getD xs k noPost) .desk ≡ d) where

@@ -1,0 +1,2 @@
+-- rows come on
+pub mod Progress
