@@ -6,7 +6,7 @@ use Rattle.station_rules.specs.declared.Taking.{Taking}
 use Rattle.group_rules.specs.declared.Post.{Post}
 use Rattle.group_rules.specs.declared.RoundDone.{RoundDone}
 use Rattle.group_rules.specs.Calls.{roundCall}
-use Rattle.group_rules.specs.History.{History, Call, Call.post, Call.round, next, continued, airedList}
+use Rattle.group_rules.specs.History.{History, Call, Call.post, Call.round, next, continued, started, airedList}
 use Rattle.group_rules.specs.Demand.{Begins}
 use Rattle.group_rules.proofs.Begin.{begins-refl, begins-append, begins-trans}
 use Rattle.group_rules.proofs.PostsAccounted.{collect-last}
@@ -31,15 +31,20 @@ unfolding next
 next-rounds H (post x) = begins-refl (H .rounds)
 next-rounds H (round masks) = begins-append (H .rounds) _
 
-next-accepted : (H : History) (x : Call) → Begins (H .accepted) ((next H x) .accepted)
+pub next-accepted : (H : History) (x : Call) → Begins (H .accepted) ((next H x) .accepted)
 unfolding next
 next-accepted H (post x) = begins-append (H .accepted) _
 next-accepted H (round masks) = begins-refl (H .accepted)
 
-next-starts : (H : History) (x : Call) → Begins (H .starts) ((next H x) .starts)
+pub next-starts : (H : History) (x : Call) → Begins (H .starts) ((next H x) .starts)
 unfolding next
 next-starts H (post x) = begins-refl (H .starts)
 next-starts H (round masks) = begins-append (H .starts) _
+
+pub next-started : (p : ℕ) (H : History) (x : Call) → Begins (started H p) (started (next H x) p)
+unfolding started next
+next-started p H (post x) = begins-refl _
+next-started p H (round masks) = rw (collect-last _ (H .rounds) (roundCall (H .group) masks)) (begins-append _ _)
 
 next-aired : (n q : ℕ) (H : History) (x : Call) → Begins (airedList n H q) (airedList n (next H x) q)
 unfolding airedList next

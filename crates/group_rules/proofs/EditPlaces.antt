@@ -193,7 +193,7 @@ edit-begins xs ys b k l =
     let at : getD xs k noPost ≡ getD ys k noPost = begins-getD xs ys b k noPost l in
     (λ i. editAfter (first i) (at i))
 
-from-begins : (s : ℕ) (xs ys : List Post) → Begins xs ys → Begins (postsFrom s xs) (postsFrom s ys)
+pub from-begins : (s : ℕ) (xs ys : List Post) → Begins xs ys → Begins (postsFrom s xs) (postsFrom s ys)
 from-begins s xs ys b = record { rest = postsFrom s (b .rest); whole = sym (from-append s xs (b .rest)) ∙ ap (postsFrom s) (b .whole) }
 
 pub entry-begins : (starts : List Post) (ts us : List Taking) → Begins ts us → (i : ℕ) → i < length ts → entryEdit starts ts i ≡ entryEdit starts us i
