@@ -1,4 +1,6 @@
--- rows come on
+-- rows come on, and when an accepted edit starts
 pub mod Progress
--- when an accepted edit starts
 pub mod Starting
+-- the first rounds of a list of calls, and the theorem
+pub mod Rounds
+pub mod Delivery

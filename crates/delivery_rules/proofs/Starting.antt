@@ -29,7 +29,7 @@ use Rattle.group_rules.proofs.EditPlaces.{post-place, edit-place, edit-begins, 
 of-begins : (s d : ℕ) (xs ys : List Post) → Begins xs ys → Begins (postsOf s d xs) (postsOf s d ys)
 of-begins s d xs ys b = record { rest = postsOf s d (b .rest); whole = sym (postsOf-append s d xs (b .rest)) ∙ ap (postsOf s d) (b .whole) }
 
-edits-begin : (xs ys : List Body) → Begins xs ys → Begins (onlyEdits xs) (onlyEdits ys)
+pub edits-begin : (xs ys : List Body) → Begins xs ys → Begins (onlyEdits xs) (onlyEdits ys)
 edits-begin xs ys b = record { rest = onlyEdits (b .rest); whole = sym (onlyEdits-append xs (b .rest)) ∙ ap onlyEdits (b .whole) }
 
 -- so many first entries of a longer list
