@@ -176,7 +176,7 @@ module _ (setup : Setup) (fresh : groupFreshRefusal setup ≡ done) (before : Li
 
       -- the edits of p that q has aired by then
       own-aired : takingsOf p aired ≡ onlyEdits (take (rowsBy R v q) (startedBy R v p))
-      own-aired = ap (takingsOf p) (aired-by setup fresh calls v q room lq) ∙ rows-of R v p below (rowsBy R v q)
+      own-aired = ap (takingsOf p) (aired-by setup fresh calls v v q (le-refl v) room lq) ∙ rows-of R v p below (rowsBy R v q)
 
       bodies-begin : Begins (startedBy R v p) (started H p)
       bodies-begin = rw (started-list R H last (same-rounds setup fresh calls) p below) (started-begins R v last p room)

@@ -4,3 +4,4 @@ pub mod Starting
 -- the first rounds of a list of calls, and the theorem
 pub mod Rounds
 pub mod Delivery
+pub mod RowsGoOn

@@ -4,7 +4,6 @@ use mathlib.Core.Bool.{Bool, cond}
 use mathlib.Core.List.{List, [], _∷_}
 use mathlib.Core.Path.{_≡_, refl, ap, _∙_}
 use native.Mathlib.Decide.{ℕ-discrete}
-use native.Mathlib.Nat.{le-refl}
 use native.Mathlib.Omega.{arith}
 use lib.ListN.{getD, length, take}
 use lib.Seq.{take-append-le, take-all}
@@ -63,8 +62,8 @@ module _ (setup : Setup) (fresh : groupFreshRefusal setup ≡ done) (calls : Lis
   first-rounds v l = ap (λ (rs : List RoundDone). take v rs) same-rounds ∙ rounds-take R v last l
 
   -- what q has aired by the end of round v are the first rows
-  pub aired-by : (v q : ℕ) → v ≤ last → q < n → airedList n (upTo v H) q ≡ rowsOf R v (rowsBy R v q)
-  aired-by v q l lq = aired-list R (upTo v H) v (first-rounds v l) q lq ∙ aired-rows R v v q (le-refl v) lq
+  pub aired-by : (v w q : ℕ) → v ≤ w → v ≤ last → q < n → airedList n (upTo v H) q ≡ rowsOf R w (rowsBy R v q)
+  aired-by v w q h l lq = aired-list R (upTo v H) v (first-rounds v l) q lq ∙ aired-rows R v w q h lq
 
   -- as many as are counted
   pub rows-counted : (v q : ℕ) → v ≤ last → q < n → rowsAired H q v ≡ rowsBy R v q
