@@ -5,3 +5,5 @@ pub mod Starting
 pub mod Rounds
 pub mod Delivery
 pub mod RowsGoOn
+-- examples
+pub mod Examples
