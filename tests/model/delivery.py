@@ -15,6 +15,9 @@ from .links import Links
 from .queues import DEFAULT_LIMIT
 from .station import DESKS, queue_of
 
+ROW = 3         # so many delays bring every station a row
+APART = 1       # the rows aired at two stations differ by so many at most
+
 
 class Post(NamedTuple):
     edit: replies.Edit
@@ -117,7 +120,7 @@ def edits_in_time(run):
 def rows_close(run):
     for u in range(len(run.log) + 1):
         rows = [aired[u] for aired in run.rows]
-        if max(rows) > min(rows) + 1:
+        if max(rows) > min(rows) + APART:
             yield f"by round {u} the rows aired are {rows}"
 
 
@@ -129,7 +132,7 @@ def rows_come(run):
         delay = max(1, slow[u])
         if u + delay <= rounds and max(row[u] for row in run.rows) > min(row[u + delay] for row in run.rows):
             yield f"what one has aired by round {u} not all have aired by round {u + delay}"
-        bound = least_bound(slow, u, 3)
+        bound = least_bound(slow, u, ROW)
         if bound is not None and min(row[u] for row in run.rows) >= min(row[bound] for row in run.rows):
             yield f"from round {u} to {bound} not all have aired a row more"
 
