@@ -22,7 +22,7 @@ def with_lane(station, k, lane):
 def holding(rng, station, record):
     """The station with this record in its table, and anything in the labels from N up."""
     n, k = station.n, record.station
-    stored = record._replace(labels=record.labels[:n] + tuple(rng.randbytes(PLACES - n)))
+    stored = record._replace(labels=record.labels[:n] + tuple(rng.choices(range(4), k=PLACES - n)))
     return station._replace(held=replaced(station.held, k, True), table=replaced(station.table, k, stored))
 
 

@@ -46,8 +46,9 @@ def random_labels(rng, n, high):
 
 
 def random_record(rng, n, station, high=False):
-    return Record(station, rng.randint(0, count_limit(n)), random_body(rng),
-                  random_labels(rng, n, high))
+    """A record's labels have two bits each, those from n up too."""
+    labels = tuple(label % 4 for label in random_labels(rng, n, high))
+    return Record(station, rng.randint(0, count_limit(n)), random_body(rng), labels)
 
 
 def random_records(rng, n, sender):
@@ -63,7 +64,7 @@ ANY_BODIES = (EMPTY, NEUTRAL, Body(DROP, 5, 0), Body(DROP, 0, 0),
 
 def any_record(rng):
     """Any record, mostly outside its limits."""
-    return Record(*rng.randbytes(2), rng.choice(ANY_BODIES), tuple(rng.randbytes(PLACES)))
+    return Record(*rng.randbytes(2), rng.choice(ANY_BODIES), tuple(rng.choices(range(4), k=PLACES)))
 
 
 def any_slots(rng, bodies, size):
