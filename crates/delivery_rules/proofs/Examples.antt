@@ -81,11 +81,10 @@ ten-hears a b (suc k) la lb d low high = rw (getD-replicate 10 k both [] (omega 
 -- by the theorem both edits are aired at both stations by round 10
 pub two-air : (q : ℕ) → q < 2 → AiredBy 2 run 10 q (edit 1) × AiredBy 2 run 10 q (edit 0)
 unfolding run groupRuns postsOf
-two-air q l =
-    (
-      delivery (sized 2) (unfold groupFreshRefusal in refl) [] (of-desk 1) (post (of-desk 0) ∷ ten) refl 1 .in-time near (omega arith) q l,
-      delivery (sized 2) (unfold groupFreshRefusal in refl) (post (of-desk 1) ∷ []) (of-desk 0) ten refl 1 .in-time near (omega arith) q l,
-    )
+two-air q l = (
+  delivery (sized 2) (unfold groupFreshRefusal in refl) [] (of-desk 1) (post (of-desk 0) ∷ ten) refl 1 .in-time near (omega arith) q l,
+  delivery (sized 2) (unfold groupFreshRefusal in refl) (post (of-desk 1) ∷ []) (of-desk 0) ten refl 1 .in-time near (omega arith) q l,
+)
   where
     near : Near (ofLog 2 (replicate 10 both)) 1 0 10
     near = near-all (ofLog 2 (replicate 10 both)) 0 10 ten-hears

@@ -59,8 +59,7 @@ pub taking-place :
     (s : ℕ) (ts : List Taking) (j : ℕ) → j < length (takingsOf s ts) →
     (i : ℕ) × (i < length ts) × ((getD ts i noTaking) .source ≡ s) × (length (takingsOf s (take i ts)) ≡ j)
 taking-place s ts j l =
-    let p = picked-place (ofSource s) (λ t. t .body) noTaking ts j (rw (← takings-picked s ts) l) in
-    (
+    let p = picked-place (ofSource s) (λ t. t .body) noTaking ts j (rw (← takings-picked s ts) l) in (
       p .place,
       p .there,
       eqb-true ((getD ts (p .place) noTaking) .source) s (p .tested),

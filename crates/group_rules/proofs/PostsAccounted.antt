@@ -497,8 +497,7 @@ bodies-next n H (round masks) c p l w =
     let bodies : length (started (next H (round masks)) p) ≡ length (started H p) + length (unlessEmpty b) =
     started-more H masks p in
     let edits : length (postsAt p ((next H (round masks)) .starts)) ≡ length (postsAt p (H .starts)) + length (ifEdit b) =
-    starts-more n H c masks p l in
-    (
+    starts-more n H c masks p l in (
       omega (arith, bodies, edits, round-edits n (H .group) c masks p l w),
       omega (arith, bodies, one (isEmpty b) b),
     )
