@@ -1,13 +1,13 @@
--- Every accepted edit is aired everywhere, in time. Within the delay everybody has aired the rows that its station had, and three delays more bring each a row. Its
--- station had started one body more than rows at most, and the edit is among the next 2 i + 2; so 2 i + 3 rows more have it.
-use Prim.Native.Nat.{ℕ, suc, _+_, _*_, _-_, _≤_, _<_}
+-- Every accepted edit is aired everywhere, in time. Within the delay everybody has aired the rows that its station had,
+-- and three delays more bring each a row. Its station had started one body more than rows at most, and the edit is
+-- among the next 2 i + 2; so 2 i + 3 rows more have it.
+use Prim.Native.Nat.{ℕ, _+_, _*_, _≤_, _<_}
 use mathlib.Core.Bool.{Bool, true, cond}
 use mathlib.Core.List.{List, [], _∷_, _++_}
 use mathlib.Core.Path.{_≡_, refl, sym, ap, _∙_}
 use native.Mathlib.Nat.{le-refl, mul-comm, mul-left-comm, mul-add, add-mul}
 use native.Mathlib.Omega.{arith}
-use lib.Dec.{eqb}
-use lib.ListN.{getD, length, take, length-append}
+use lib.ListN.{getD, length, take, drop, length-append, take-append-drop}
 use lib.Seq.{take-append-seam, take-take}
 use borrow.Author.Tests.{eq-eqb}
 use Rattle.kinds.specs.declared.Body.{Body}
@@ -25,8 +25,8 @@ use Rattle.group_rules.specs.History as history
 use Rattle.group_rules.specs.Demand.{Begins}
 use Rattle.group_rules.specs.Desks.{waitingAtDesk, startsOf}
 use Rattle.group_rules.specs.Replies.{Edit, editAfter, editAt, postsFrom, entryEdit, AiredAt}
-use Rattle.group_rules.proofs.Setups.{Accepts, accepts}
-use Rattle.group_rules.proofs.Begin.{begins-refl, begins-append, begins-trans, begins-take, begins-length}
+use Rattle.group_rules.proofs.Setups.{accepts}
+use Rattle.group_rules.proofs.Begin.{begins-take, begins-length}
 use Rattle.group_rules.proofs.Run.{Run, linksOf}
 use Rattle.group_rules.proofs.MembersPost.{Accepted, accepted, post-refusal}
 use Rattle.group_rules.proofs.Takings.{postsOf-append, desk-here}
@@ -37,10 +37,9 @@ use Rattle.group_rules.proofs.CallRun.{runOf}
 use Rattle.group_rules.proofs.HistoryRun.{roundsBy, history-links}
 use Rattle.group_rules.proofs.HistoryLists.{started-list}
 use Rattle.group_rules.proofs.DemandThree.{free}
-use Rattle.group_rules.proofs.Fairness.{mine, theirs}
 use Rattle.group_rules.proofs.DeskTurns.{starts-post}
 use Rattle.group_rules.proofs.AiredOrder.{rows-of}
-use Rattle.group_rules.proofs.Continued.{continued-append, continued-more, rounds-begin, next-started}
+use Rattle.group_rules.proofs.Continued.{continued-append, continued-more, rounds-begin}
 use Rattle.group_rules.proofs.EditPlaces.{taking-place}
 use Rattle.delivery_rules.specs.Delivery.{Near, upTo, AiredBy, Delivered, Delivery}
 use Rattle.delivery_rules.proofs.Progress.{rows-mono, rows-bodies, bodies-ahead, rows-caught, rows-within}
@@ -49,19 +48,26 @@ use Rattle.delivery_rules.proofs.Starting.{edits-begin, accepted-count,
 
 -- the bounds, in rows
 in-rows : (d m : ℕ) → d * (3 * m + 4) ≡ d + (m + 1) * (3 * d)
-in-rows d m = omega (arith, mul-add d (3 * m) 4, mul-left-comm d 3 m, add-mul m 1 (3 * d), mul-left-comm m 3 d, mul-comm m d)
+in-rows d m =
+    omega (arith, mul-add d (3 * m) 4, mul-left-comm d 3 m, add-mul m 1 (3 * d), mul-left-comm m 3 d, mul-comm m d)
 
 two-desks : (d i : ℕ) → d * (6 * i + 10) ≡ d + (i + 1 + (i + 1) + 1) * (3 * d)
-two-desks d i = (let e : 6 * i + 10 ≡ 3 * (i + 1 + (i + 1)) + 4 = omega arith in ap (λ (k : ℕ). d * k) e) ∙ in-rows d (i + 1 + (i + 1))
+two-desks d i =
+    (let e : 6 * i + 10 ≡ 3 * (i + 1 + (i + 1)) + 4 = omega arith in ap (λ (k : ℕ). d * k) e)
+    ∙ in-rows d (i + 1 + (i + 1))
 
 one-desk : (d i : ℕ) → d * (3 * i + 7) ≡ d + (i + 1 + 0 + 1) * (3 * d)
-one-desk d i = (let e : 3 * i + 7 ≡ 3 * (i + 1 + 0) + 4 = omega arith in ap (λ (k : ℕ). d * k) e) ∙ in-rows d (i + 1 + 0)
+one-desk d i =
+    (let e : 3 * i + 7 ≡ 3 * (i + 1 + 0) + 4 = omega arith in ap (λ (k : ℕ). d * k) e) ∙ in-rows d (i + 1 + 0)
 
 -- more of a list
-takes-begin : (k m : ℕ) (xs : List Body) → k ≤ m → m ≤ length xs → Begins (take k xs) (take m xs)
-takes-begin k m xs h l = rw (← take-take k m xs h) (record { rest = lib.ListN.drop k (take m xs); whole = lib.ListN.take-append-drop k (take m xs) })
+begins-taken : (k : ℕ) (xs : List Body) → Begins (take k xs) xs
+begins-taken k xs = record { rest = drop k xs; whole = take-append-drop k xs }
 
-module _ (setup : Setup) (fresh : groupFreshRefusal setup ≡ done) (before : List Call) (x : Post) (after : List Call) where
+takes-begin : (k m : ℕ) (xs : List Body) → k ≤ m → Begins (take k xs) (take m xs)
+takes-begin k m xs h = rw (← take-take k m xs h) (begins-taken k (take m xs))
+
+module _ (setup : Setup) (fresh : groupFreshRefusal setup ≡ done) (before after : List Call) (x : Post) where
   abbrev n : ℕ
   n = setup .n
 
@@ -140,7 +146,8 @@ module _ (setup : Setup) (fresh : groupFreshRefusal setup ≡ done) (before : Li
     posts-then : postsOf p d (H₁ .accepted) ≡ postsOf p d (H₀ .accepted) ++ (x .body ∷ [])
     unfolding next
     posts-then =
-        ap (λ (t : Bool). postsOf p d (H₀ .accepted ++ cond t (x ∷ []) [])) (eq-eqb ((groupPostCall (H₀ .group) x) .refusal) done (post-refusal (H₀ .group) x ∙ taken))
+        ap (λ (t : Bool). postsOf p d (H₀ .accepted ++ cond t (x ∷ []) []))
+        (eq-eqb ((groupPostCall (H₀ .group) x) .refusal) done (post-refusal (H₀ .group) x ∙ taken))
         ∙ postsOf-append p d (H₀ .accepted) (x ∷ [])
         ∙ ap (λ (l : List Body). postsOf p d (H₀ .accepted) ++ l) (desk-here d x ∙ rw (eq-eqb d d refl))
 
@@ -156,7 +163,8 @@ module _ (setup : Setup) (fresh : groupFreshRefusal setup ≡ done) (before : Li
         let a : length (startsOf H₁ p d) ≡ mine₀ = ap length (starts-post H₀ x p d) in
         let b : length (startsOf H₁ p (otherDesk d)) ≡ theirs₀ = ap length (starts-post H₀ x p (otherDesk d)) in
         record {
-          posts = omega (arith, number-is, ap length posts-then, length-append (postsOf p d (H₀ .accepted)) (x .body ∷ []));
+          posts =
+              omega (arith, number-is, ap length posts-then, length-append (postsOf p d (H₀ .accepted)) (x .body ∷ []));
           low = omega (arith, a);
           high = omega (arith, a);
           least = omega (arith, b);
@@ -168,7 +176,8 @@ module _ (setup : Setup) (fresh : groupFreshRefusal setup ≡ done) (before : Li
     stage : Stage n p d below desk made mine₀ theirs₀ i H
     stage =
         rw whole
-        (stage-continued n p d below desk made mine₀ theirs₀ i H₁ after (kept-next n H₀ (post x) kept₀) (waits waits-then))
+        (stage-continued n p d below desk made mine₀ theirs₀ i H₁ after (kept-next n H₀ (post x) kept₀)
+        (waits waits-then))
 
     module _ (v q most : ℕ) (room : v ≤ last) (lq : q < n) (rows : made + i + 1 + most ≤ rowsBy R v q) where
       abbrev aired : List Taking
@@ -176,7 +185,8 @@ module _ (setup : Setup) (fresh : groupFreshRefusal setup ≡ done) (before : Li
 
       -- the edits of p that q has aired by then
       own-aired : takingsOf p aired ≡ onlyEdits (take (rowsBy R v q) (startedBy R v p))
-      own-aired = ap (takingsOf p) (aired-by setup fresh calls v v q (le-refl v) room lq) ∙ rows-of R v p below (rowsBy R v q)
+      own-aired =
+          ap (takingsOf p) (aired-by setup fresh calls v v q (le-refl v) room lq) ∙ rows-of R v p below (rowsBy R v q)
 
       bodies-begin : Begins (startedBy R v p) (started H p)
       bodies-begin = rw (started-list R H last (same-rounds setup fresh calls) p below) (started-begins R v last p room)
@@ -194,9 +204,10 @@ module _ (setup : Setup) (fresh : groupFreshRefusal setup ≡ done) (before : Li
           let K = rowsBy R v q in
           let ys = startedBy R v p in
           let some = rows-bodies R v q p lq below in
-          let cut : take k ys ≡ take k (started H p) = begins-take ys (started H p) bodies-begin k (omega (arith, rows, some, few)) in
+          let cut : take k ys ≡ take k (started H p) =
+          begins-take ys (started H p) bodies-begin k (omega (arith, rows, some, few)) in
           let more : Begins (onlyEdits (take k ys)) (onlyEdits (take K ys)) =
-          edits-begin (take k ys) (take K ys) (takes-begin k K ys (omega (arith, rows, few)) some) in
+          edits-begin (take k ys) (take K ys) (takes-begin k K ys (omega (arith, rows, few))) in
           let enough : b .place < length (takingsOf p aired) =
           omega (
             arith,
@@ -211,7 +222,9 @@ module _ (setup : Setup) (fresh : groupFreshRefusal setup ≡ done) (before : Li
             aired =
                 record {
                   there = at .1;
-                  same = entry-is (at .0) p (b .place) (at .2) (at .3) ∙ b .same ∙ (λ t. record { source = p; desk = d; number = sym number-is t });
+                  same =
+                      entry-is (at .0) p (b .place) (at .2) (at .3) ∙ b .same
+                      ∙ (λ t. record { source = p; desk = d; number = sym number-is t });
                 };
           }
 
@@ -241,10 +254,12 @@ module _ (setup : Setup) (fresh : groupFreshRefusal setup ≡ done) (before : Li
         (q : ℕ) → q < n → made + m ≤ rowsBy R by q
     rows-then delay m by near exact q lq =
         let filled = run-filled setup fresh calls in
-        let near-run : Near (linksOf R) delay u by = rw (← history-links setup (accepts setup fresh) calls (free setup fresh calls)) near in
+        let near-run : Near (linksOf R) delay u by =
+        rw (← history-links setup (accepts setup fresh) calls (free setup fresh calls)) near in
         omega (
           arith,
-          rows-within R filled delay u by near-run (u + delay) (rowsBy R u p) (m + 1) (omega arith) (omega (arith, exact))
+          rows-within R filled delay u by near-run (u + delay) (rowsBy R u p) (m + 1) (omega arith)
+              (omega (arith, exact))
               (λ r lr. rows-caught R filled delay u by near-run u p r below lr (le-refl u) (omega (arith, exact)))
               q
               lq,
@@ -258,7 +273,8 @@ module _ (setup : Setup) (fresh : groupFreshRefusal setup ≡ done) (before : Li
     other-desk = each-desk (λ k. isDesk (otherDesk k) ≡ true) refl refl d desk
 
     starts-none :
-        waitingAtDesk H₀ p (otherDesk d) ≡ 0 → postsOf p (otherDesk d) (H .accepted) ≡ postsOf p (otherDesk d) (H₀ .accepted) →
+        waitingAtDesk H₀ p (otherDesk d) ≡ 0 → postsOf p (otherDesk d) (H .accepted)
+        ≡ postsOf p (otherDesk d) (H₀ .accepted) →
         length (startsOf H p (otherDesk d)) ≤ theirs₀
     starts-none none same =
         omega (
@@ -275,17 +291,19 @@ module _ (setup : Setup) (fresh : groupFreshRefusal setup ≡ done) (before : Li
           in-time =
               λ near room q lq.
               within _ q (i + 1) room lq
-              (let r = rows-then delay (i + 1 + (i + 1)) _ near (ap (λ (k : ℕ). u + k) (sym (two-desks delay i))) q lq in omega (arith, r))
+              (let r = rows-then delay (i + 1 + (i + 1)) _ near (ap (λ (k : ℕ). u + k) (sym (two-desks delay i))) q
+              lq in omega (arith, r))
               (λ w. omega (arith, w .fair, w .high))
               (λ b. b .fair);
           alone-in-time =
               λ none same near room q lq.
               let quiet = starts-none none same in
               within _ q 0 room lq
-              (let r = rows-then delay (i + 1 + 0) _ near (ap (λ (k : ℕ). u + k) (sym (one-desk delay i))) q lq in omega (arith, r))
+              (let r = rows-then delay (i + 1 + 0) _ near (ap (λ (k : ℕ). u + k) (sym (one-desk delay i))) q lq in omega
+              (arith, r))
               (λ w. omega (arith, quiet))
               (λ b. omega (arith, quiet, b .most));
         }
 
 pub delivery : Delivery
-delivery setup fresh before x after taken delay = delivered setup fresh before x after taken delay
+delivery setup fresh before x after taken delay = delivered setup fresh before after x taken delay

@@ -1,4 +1,5 @@
--- The assumption can be met, so that nothing here is said of nothing: all hear all, a station alone, and two stations that hear each other in ten rounds, both desks posting.
+-- The assumption can be met, so that nothing here is said of nothing: all hear all, a station alone, and two stations
+-- that hear each other in ten rounds, both desks posting.
 use Prim.Native.Nat.{ℕ, zero, suc, _+_, _*_, _≤_, _<_}
 use mathlib.Core.Bool.{true}
 use mathlib.Core.List.{List, [], _∷_, _++_}
@@ -31,10 +32,16 @@ near-all L from to h =
       some = le-refl 1;
       relays =
           λ a b t la lb d f l.
-          record { arrival = t + 1; by = le-refl (t + 1); relay = direct {k = t + 1} (omega arith) (h a b (t + 1) la lb d (omega arith) l) };
+          record {
+            arrival = t + 1;
+            by = le-refl (t + 1);
+            relay = direct {k = t + 1} (omega arith)
+                (h a b (t + 1) la lb d (omega arith) l);
+          };
     }
 
--- A station alone airs every post that it accepts, behind i others of its desk within 6 i + 10 rounds, with no word on links.
+-- A station alone airs every post that it accepts, behind i others of its desk within 6 i + 10 rounds, with no word on
+-- links.
 pub alone-airs :
     (before : List Call) (x : Post) (after : List Call) →
     let H₀ = historyOf (sized 1) before in
@@ -64,7 +71,8 @@ run = historyOf (sized 2) (post (of-desk 1) ∷ post (of-desk 0) ∷ ten)
 abbrev edit : ℕ → Edit
 edit desk = record { source = 0; desk = desk; number = 0 }
 
-ten-hears : (a b k : ℕ) → a < 2 → b < 2 → (a ≡ b → ⊥) → 0 < k → k ≤ 10 → hearsIn 2 (masksIn (replicate 10 both) k) b a ≡ true
+ten-hears :
+    (a b k : ℕ) → a < 2 → b < 2 → (a ≡ b → ⊥) → 0 < k → k ≤ 10 → hearsIn 2 (masksIn (replicate 10 both) k) b a ≡ true
 unfolding masksIn
 ten-hears a b zero la lb d low high = absurd (omega arith)
 ten-hears a b (suc k) la lb d low high = rw (getD-replicate 10 k both [] (omega arith)) (go a b la lb d)
@@ -82,8 +90,10 @@ ten-hears a b (suc k) la lb d low high = rw (getD-replicate 10 k both [] (omega 
 pub two-air : (q : ℕ) → q < 2 → AiredBy 2 run 10 q (edit 1) × AiredBy 2 run 10 q (edit 0)
 unfolding run groupRuns postsOf
 two-air q l = (
-  delivery (sized 2) (unfold groupFreshRefusal in refl) [] (of-desk 1) (post (of-desk 0) ∷ ten) refl 1 .in-time near (omega arith) q l,
-  delivery (sized 2) (unfold groupFreshRefusal in refl) (post (of-desk 1) ∷ []) (of-desk 0) ten refl 1 .in-time near (omega arith) q l,
+  delivery (sized 2) (unfold groupFreshRefusal in refl) [] (of-desk 1) (post (of-desk 0) ∷ ten) refl 1 .in-time near
+      (omega arith) q l,
+  delivery (sized 2) (unfold groupFreshRefusal in refl) (post (of-desk 1) ∷ []) (of-desk 0) ten refl 1 .in-time near
+      (omega arith) q l,
 )
   where
     near : Near (ofLog 2 (replicate 10 both)) 1 0 10
@@ -91,7 +101,9 @@ two-air q l = (
 
 pub record Computed : Type 0 where
   -- desk 0 goes first; by round 3 its edit is aired at both, by round 5 the other's, and by then there are two rows
-  pub third : tabulate 2 (λ q. tabulate (length (airedList 2 (upTo 3 run) q)) (airedEdit 2 (upTo 3 run) q)) ≡ (edit 0 ∷ []) ∷ (edit 0 ∷ []) ∷ []
+  pub third :
+      tabulate 2 (λ q. tabulate (length (airedList 2 (upTo 3 run) q)) (airedEdit 2 (upTo 3 run) q))
+      ≡ (edit 0 ∷ []) ∷ (edit 0 ∷ []) ∷ []
   pub fifth :
       tabulate 2 (λ q. tabulate (length (airedList 2 (upTo 5 run) q)) (airedEdit 2 (upTo 5 run) q))
       ≡ (edit 0 ∷ edit 1 ∷ []) ∷ (edit 0 ∷ edit 1 ∷ []) ∷ []

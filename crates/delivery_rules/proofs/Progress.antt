@@ -1,5 +1,6 @@
--- Rows come on: where every two stations have a relay within so many rounds, whatever all have aired, they have aired one row more within three times
--- as many. The broadcast of each ends within twice as many, and where all its own bodies are aired by then it starts one; a relay more brings it to all.
+-- Rows come on: where every two stations have a relay within so many rounds, whatever all have aired, they have aired
+-- one row more within three times as many. The broadcast of each ends within twice as many, and where all its own
+-- bodies are aired by then it starts one; a relay more brings it to all.
 use mathlib.Core.Bool.{Bool, true, false, cond}
 use mathlib.Core.Path.{_≡_, refl, sym, ap, subst, _∙_}
 use Prim.Native.Nat.{ℕ, zero, suc, min, _+_, _*_, _-_, _≤_, _<_}
@@ -77,7 +78,8 @@ module _ (R : Run) where
       omega (
         arith,
         rows-limit L (madeBy R) (rowsBy R) u (counting R u) u p q (le-refl u) lp lq,
-        shown-mono L (madeBy R) (rowsBy R) u (counting R u) (news L u p q) (suc u) q (news-limit L u p q) (le-refl (suc u)) lq,
+        shown-mono L (madeBy R) (rowsBy R) u (counting R u) (news L u p q) (suc u) q (news-limit L u p q)
+            (le-refl (suc u)) lq,
         shown-some (madeBy R) q u,
       )
 
@@ -92,21 +94,30 @@ module _ (R : Run) where
     starts-one w s ls e h =
         let t = (hearingIn R w s) .station in
         let z : (laneAfter t (t .own)) .len ≡ 0 =
-        ap (λ (k : ℕ). (laneAfter t k) .len) (heard-standing R w s ls .formed .own) ∙ omega (arith, own-aired R w s ls) in
+        ap (λ (k : ℕ). (laneAfter t k) .len) (heard-standing R w s ls .formed .own)
+        ∙ omega (arith, own-aired R w s ls) in
         let m : mayStart t ≡ true = eq-eqb ((laneAfter t (t .own)) .len) 0 z in
         let f = started-some t (simulated R .ends w s ls ∙ e) m (filled .some w s ls) in
         let one : length (unlessEmpty (startedBody t)) ≡ 1 = rw f in
-        omega (arith, ap length (startedBy-step R w s), length-append (startedBy R w s) (unlessEmpty (startedBody t)), one)
+        omega (
+          arith,
+          ap length (startedBy-step R w s),
+          length-append (startedBy R w s) (unlessEmpty (startedBody t)),
+          one,
+        )
 
     module _ (delay from last : ℕ) (near : Near L delay from last) where
-      -- The broadcast that a station has ends within twice the delay, for what is later than now is later than its start.
+      -- The broadcast that a station has ends within twice the delay, for what is later than now is later than its
+      -- start.
       ends-soon : (u s : ℕ) → s < R .n → from ≤ u → u + 2 * delay ≤ last
           → (w : ℕ) × (u ≤ w) × (suc w ≤ u + 2 * delay) × (number.ends L (suc w) s ≡ true)
       ends-soon u s ls f l =
           let t = start L u s in
           let some = near .some in
           let v = ends-by L s t (u + 2 * delay) (omega (arith, start-limit L u s)) (record { each = one }) in
-          let e = ends-ended L (v .0) s .1 (record { number = num L u s; started = t; starts = starts-num L u s; endsIn = v .1 }) in
+          let e =
+          ends-ended L (v .0) s .1 (record
+          { number = num L u s; started = t; starts = starts-num L u s; endsIn = v .1 }) in
           let c = num-starts L s (suc (num L u s)) (v .0) (after (starts-num L u s) (v .1)) .0 in
           let g : u < v .0 =
           elim (decLe (v .0) u) [ yes h ↦ absurd (omega (arith, c, num-mono L (v .0) u s h)) | no h ↦ omega arith ] in
@@ -119,12 +130,20 @@ module _ (R : Run) where
               let o = near .relays s r u ls lr (λ q. n (sym q)) f (omega arith) in
               record {
                 turning = u + delay;
-                out = record { arrival = o .arrival; by = o .by; relay = relay-earlier (start L u s) (start-limit L u s) (o .relay) };
+                out =
+                    record {
+                      arrival = o .arrival;
+                      by = o .by;
+                      relay = relay-earlier (start L u s) (start-limit L u s)
+                          (o .relay);
+                    };
                 back = rw e at (near .relays r s (u + delay) lr ls n (omega arith) (omega arith));
               }
 
       -- Who has aired k rows has started one body more within twice the delay.
-      pub bodies-progress : (u k s : ℕ) → s < R .n → from ≤ u → u + 2 * delay ≤ last → k ≤ rowsBy R u s → suc k ≤ madeBy R (u + 2 * delay) s
+      pub bodies-progress :
+          (u k s : ℕ) → s < R .n → from ≤ u → u + 2 * delay ≤ last → k ≤ rowsBy R u s →
+          suc k ≤ madeBy R (u + 2 * delay) s
       bodies-progress u k s ls f l h =
           let v = ends-soon u s ls f l in
           let w = v .0 in
@@ -155,13 +174,16 @@ module _ (R : Run) where
             arith,
             bodies-progress u k s ls f (omega arith) (all s ls),
             shown-some (madeBy R) s (u + 2 * delay),
-            shown-mono L (madeBy R) (rowsBy R) (suc w) (counting R (suc w)) (suc (u + 2 * delay)) (min (suc w) (news L (suc w) p s)) s
+            shown-mono L (madeBy R) (rowsBy R) (suc w) (counting R (suc w)) (suc (u + 2 * delay))
+                (min (suc w) (news L (suc w) p s)) s
                 (heard s ls w e)
                 (omega arith)
                 ls,
           )))
         where
-          heard : (s : ℕ) → s < R .n → (w : ℕ) → u + 3 * delay ≡ suc w → suc (u + 2 * delay) ≤ min (suc w) (news L (suc w) p s)
+          heard :
+              (s : ℕ) → s < R .n → (w : ℕ) → u + 3 * delay ≡ suc w →
+              suc (u + 2 * delay) ≤ min (suc w) (news L (suc w) p s)
           heard s ls w e =
               let some = near .some in
               elim (ℕ-discrete p s) [
@@ -182,11 +204,13 @@ module _ (R : Run) where
           rw e
           (omega (
             arith,
-            rows-progress (u + m * (3 * delay)) (k + m) (omega arith) (omega arith) (λ q lq. rows-within u k m f (omega arith) all q lq) p lp,
+            rows-progress (u + m * (3 * delay)) (k + m) (omega arith) (omega arith)
+                (λ q lq. rows-within u k m f (omega arith) all q lq) p lp,
           ))
 
       -- What one has aired, all have aired within the delay: whoever hears of it then has all that it aired with.
-      pub rows-caught : (u p q : ℕ) → p < R .n → q < R .n → from ≤ u → u + delay ≤ last → rowsBy R u p ≤ rowsBy R (u + delay) q
+      pub rows-caught :
+          (u p q : ℕ) → p < R .n → q < R .n → from ≤ u → u + delay ≤ last → rowsBy R u p ≤ rowsBy R (u + delay) q
       rows-caught u p q lp lq f l =
           let some = near .some in
           let w = u + delay - 1 in
@@ -197,7 +221,8 @@ module _ (R : Run) where
           omega (
             arith,
             rows-limit L (madeBy R) (rowsBy R) u (counting R u) u p s (le-refl u) lp ls,
-            shown-mono L (madeBy R) (rowsBy R) (suc w) (counting R (suc w)) (news L u p s) (min (suc w) (news L (suc w) q s)) s
+            shown-mono L (madeBy R) (rowsBy R) (suc w) (counting R (suc w)) (news L u p s)
+                (min (suc w) (news L (suc w) q s)) s
                 (omega (arith, news-limit L u p s, heard s w e))
                 (omega arith)
                 ls,

@@ -1,4 +1,5 @@
--- The first rounds of a history are those of its run: what is aired by the end of a round, how many rows, and that what waits is never Empty.
+-- The first rounds of a history are those of its run: what is aired by the end of a round, how many rows, and that what
+-- waits is never Empty.
 use Prim.Native.Nat.{ℕ, zero, suc, _≤_, _<_}
 use mathlib.Core.Bool.{Bool, cond}
 use mathlib.Core.List.{List, [], _∷_}
@@ -39,7 +40,8 @@ module _ (R : Run) where
       elim (ℕ-discrete u (suc v)) [
         | yes e ↦ rw e (take-all (suc v) (roundsBy R (suc v)) (omega (arith, length-rounds R (suc v))))
         | no d ↦
-            take-append-le u (roundsBy R v) (roundIn R v ∷ []) (omega (arith, length-rounds R v)) ∙ rounds-take u v (omega arith)
+            take-append-le u (roundsBy R v) (roundIn R v ∷ []) (omega (arith, length-rounds R v))
+            ∙ rounds-take u v (omega arith)
       ]
 
 module _ (setup : Setup) (fresh : groupFreshRefusal setup ≡ done) (calls : List Call) where
@@ -85,7 +87,9 @@ module _ (setup : Setup) (fresh : groupFreshRefusal setup ≡ done) (calls : Lis
             λ u p l w.
             let c = ready-members setup fresh calls u (after-rounds setup fresh calls u) in
             let run = round-runs setup fresh calls u c in
-            let inside = run-hears n (R .ready u) c (R .masks (suc u)) run p l .inside (run-room n (R .ready u) c (R .masks (suc u)) run p l) in
+            let inside =
+            run-hears n (R .ready u) c (R .masks (suc u)) run p l .inside
+            (run-room n (R .ready u) c (R .masks (suc u)) run p l) in
             let heard = run-heard R u p l in
             edit-not-empty (nextEdit (((hearingIn R u p) .station) .waiting))
             (postable-edit (nextEdit (((hearingIn R u p) .station) .waiting))

@@ -1,4 +1,5 @@
--- Rows over a list of calls: with good links everybody catches up within the delay and airs one more within three; with any links two stations are one row apart at most.
+-- Rows over a list of calls: with good links everybody catches up within the delay and airs one more within three; with
+-- any links two stations are one row apart at most.
 use Prim.Native.Nat.{ℕ, suc, _+_, _*_, _≤_, _<_}
 use mathlib.Core.List.{List}
 use mathlib.Core.Path.{_≡_}
@@ -26,8 +27,13 @@ rows-go-on setup fresh calls delay from to room near =
     record {
       all-catch-up =
           λ u p q lp lq f l.
-          rw (aired-by setup fresh calls u last p (omega (arith, room)) (omega (arith, room)) lp, aired-by setup fresh calls (u + delay) last q (omega (arith, room)) (omega (arith, room)) lq)
-          (rows-begin R (rowsBy R u p) (rowsBy R (u + delay) q) last (rows-caught R filled delay from to near-run u p q lp lq f l));
+          rw (
+            aired-by setup fresh calls u last p (omega (arith, room)) (omega (arith, room)) lp,
+            aired-by setup fresh
+                calls (u + delay) last q (omega (arith, room)) (omega (arith, room)) lq,
+          )
+          (rows-begin R (rowsBy R u p) (rowsBy R (u + delay) q) last
+          (rows-caught R filled delay from to near-run u p q lp lq f l));
       one-more =
           λ u k f l all p lp.
           rw (rows-counted setup fresh calls (u + 3 * delay) p (omega (arith, room)) lp)

@@ -1,5 +1,6 @@
--- When an accepted edit starts. While it waits every body that its station starts is an edit, and the other desk starts at most one edit more than its own desk does;
--- so behind i others of its desk it is at most body number 2 i + 2 from its post on, and number i + 1 where the other desk starts none.
+-- When an accepted edit starts. While it waits every body that its station starts is an edit, and the other desk starts
+-- at most one edit more than its own desk does; so behind i others of its desk it is at most body number 2 i + 2 from
+-- its post on, and number i + 1 where the other desk starts none.
 use Prim.Native.Nat.{ℕ, _+_, _-_, _≤_, _<_}
 use mathlib.Core.Bool.{true}
 use mathlib.Core.List.{List, [], _∷_, _++_}
@@ -27,10 +28,12 @@ use Rattle.group_rules.proofs.EditPlaces.{post-place, edit-place, edit-begins, 
 
 -- the bodies of a desk in a longer list
 of-begins : (s d : ℕ) (xs ys : List Post) → Begins xs ys → Begins (postsOf s d xs) (postsOf s d ys)
-of-begins s d xs ys b = record { rest = postsOf s d (b .rest); whole = sym (postsOf-append s d xs (b .rest)) ∙ ap (postsOf s d) (b .whole) }
+of-begins s d xs ys b =
+    record { rest = postsOf s d (b .rest); whole = sym (postsOf-append s d xs (b .rest)) ∙ ap (postsOf s d) (b .whole) }
 
 pub edits-begin : (xs ys : List Body) → Begins xs ys → Begins (onlyEdits xs) (onlyEdits ys)
-edits-begin xs ys b = record { rest = onlyEdits (b .rest); whole = sym (onlyEdits-append xs (b .rest)) ∙ ap onlyEdits (b .whole) }
+edits-begin xs ys b =
+    record { rest = onlyEdits (b .rest); whole = sym (onlyEdits-append xs (b .rest)) ∙ ap onlyEdits (b .whole) }
 
 -- so many first entries of a longer list
 take-begins : (k : ℕ) (xs ys : List Body) → Begins xs ys → Begins (take k xs) (take k ys)
@@ -43,7 +46,9 @@ take-begins k xs ys b =
     start : (k : ℕ) (xs ys : List Body) → Begins xs ys → length xs ≤ k → Begins xs (take k ys)
     start k xs ys b h = record { rest = take (k - length xs) (b .rest); whole = more k xs ys b h }
       where
-        more : (k : ℕ) (xs ys : List Body) (b : Begins xs ys) → length xs ≤ k → xs ++ take (k - length xs) (b .rest) ≡ take k ys
+        more :
+            (k : ℕ) (xs ys : List Body) (b : Begins xs ys) → length xs ≤ k → xs ++ take (k - length xs) (b .rest)
+            ≡ take k ys
         more k xs ys b h =
             let e : length xs + (k - length xs) ≡ k = omega arith in
             sym (take-append-add xs (b .rest) (k - length xs))
@@ -52,16 +57,20 @@ take-begins k xs ys b =
 
 module _ (n p d : ℕ) (below : p < n) (desk : isDesk d ≡ true) where
   -- the accepted posts of the desk: those that started, and those that wait
-  pub accepted-count : (J : History) → Kept n J → length (postsOf p d (J .accepted)) ≡ mine n p d below desk J + waitingAtDesk J p d
+  pub accepted-count :
+      (J : History) → Kept n J → length (postsOf p d (J .accepted)) ≡ mine n p d below desk J + waitingAtDesk J p d
   accepted-count J k =
       ap length (k .waiting p d below desk)
       ∙ length-append (startsOf J p d) _
       ∙ ap (λ (m : ℕ). mine n p d below desk J + m) (count-waits n p d below desk J (k .members))
 
   -- the edits that were started are of the one desk or the other
-  both-desks : (J : History) → Kept n J → length (postsAt p (J .starts)) ≡ mine n p d below desk J + theirs n p d below desk J
+  both-desks :
+      (J : History) → Kept n J → length (postsAt p (J .starts)) ≡ mine n p d below desk J + theirs n p d below desk J
   both-desks J k =
-      let sum = interleaved-length (startsOf J p 0) (startsOf J p 1) (postsAt p (J .starts)) (interleave p (J .starts) (k .begun)) in
+      let sum =
+      interleaved-length (startsOf J p 0) (startsOf J p 1) (postsAt p (J .starts)) (interleave p (J .starts) (k .begun))
+      in
       each-desk
       (λ e. length (postsAt p (J .starts)) ≡ length (startsOf J p e) + length (startsOf J p (otherDesk e)))
       sum
@@ -73,7 +82,8 @@ module _ (n p d : ℕ) (below : p < n) (desk : isDesk d ≡ true) where
   some-wait : (J : History) → 0 < waitingAtDesk J p d → 0 < waitingCount ((stationAt (J .group) p) .waiting)
   some-wait J w =
       let v = (stationAt (J .group) p) .waiting in
-      each-desk (λ e. 0 < deskCount v e → 0 < waitingCount v) (λ h. omega (arith, count-both v)) (λ h. omega (arith, count-both v)) d desk w
+      each-desk (λ e. 0 < deskCount v e → 0 < waitingCount v) (λ h. omega (arith, count-both v))
+      (λ h. omega (arith, count-both v)) d desk w
 
   module _ (made mine₀ theirs₀ i : ℕ) where
     abbrev ours : History → ℕ
@@ -106,7 +116,9 @@ module _ (n p d : ℕ) (below : p < n) (desk : isDesk d ≡ true) where
       waits : Waits J → Stage J
       begun : Begun J → Stage J
 
-    more-posts : (J : History) (call : Call) → length (postsOf p d (J .accepted)) ≤ length (postsOf p d ((next J call) .accepted))
+    more-posts :
+        (J : History) (call : Call) →
+        length (postsOf p d (J .accepted)) ≤ length (postsOf p d ((next J call) .accepted))
     more-posts J call =
         begins-length (postsOf p d (J .accepted)) (postsOf p d ((next J call) .accepted))
         (of-begins p d (J .accepted) ((next J call) .accepted) (next-accepted J call))
@@ -117,7 +129,9 @@ module _ (n p d : ℕ) (below : p < n) (desk : isDesk d ≡ true) where
         (of-begins p (otherDesk d) (J .starts) ((next J call) .starts) (next-starts J call))
 
     -- the edit starts
-    now : (J : History) → Kept n J → (between : ℕ) → between ≤ i + 1 → between + theirs₀ ≤ others J → ours J ≡ mine₀ + i + 1 →
+    now :
+        (J : History) → Kept n J → (between : ℕ) → between ≤ i + 1 → between + theirs₀ ≤ others J → ours J
+        ≡ mine₀ + i + 1 →
         length (started J p) ≡ made + i + 1 + between → Begun J
     now J k between fair most mine made′ =
         let xs = postsFrom p (J .starts) in
@@ -154,7 +168,8 @@ module _ (n p d : ℕ) (below : p < n) (desk : isDesk d ≡ true) where
                 turn = λ e. f ∙ w .turn (omega (arith, e, a, b));
               })
           | own a ↦
-              (let b : others (next J call) ≡ others J = omega (arith, same .0, same .1, all, all′, a, more-others J call) in
+              (let b : others (next J call)
+              ≡ others J = omega (arith, same .0, same .1, all, all′, a, more-others J call) in
               elim (ℕ-discrete (ours J) (mine₀ + i)) [
                 | yes e ↦
                     begun (now (next J call) after (others J - theirs₀)
@@ -220,4 +235,5 @@ module _ (n p d : ℕ) (below : p < n) (desk : isDesk d ≡ true) where
     pub stage-continued : (J : History) (calls : List Call) → Kept n J → Stage J → Stage (continued J calls)
     unfolding continued
     stage-continued J [] k s = s
-    stage-continued J (call ∷ calls) k s = stage-continued (next J call) calls (kept-next n J call k) (stage-next J call k s)
+    stage-continued J (call ∷ calls) k s =
+        stage-continued (next J call) calls (kept-next n J call k) (stage-next J call k s)

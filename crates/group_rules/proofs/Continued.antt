@@ -1,4 +1,5 @@
--- Calls after calls: what a history has of rounds, accepted posts, starts and aired edits stays at the beginning of what any further calls leave.
+-- Calls after calls: what a history has of rounds, accepted posts, starts and aired edits stays at the beginning of
+-- what any further calls leave.
 use mathlib.Core.List.{List, [], _∷_, _++_}
 use mathlib.Core.Path.{_≡_, refl, sym, ap, _∙_}
 use Prim.Native.Nat.{ℕ}
@@ -20,11 +21,11 @@ pub continued-more : (H : History) (x : Call) (xs : List Call) → continued H (
 unfolding continued
 continued-more H x xs = refl
 
-module _ {A : Type 0} (list : History → List A) (grows : (H : History) (x : Call) → Begins (list H) (list (next H x))) where
-  begins-continued : (H : History) (xs : List Call) → Begins (list H) (list (continued H xs))
+module _ {A : Type 0} (f : History → List A) (grows : (H : History) (x : Call) → Begins (f H) (f (next H x))) where
+  begins-continued : (H : History) (xs : List Call) → Begins (f H) (f (continued H xs))
   unfolding continued
-  begins-continued H [] = begins-refl (list H)
-  begins-continued H (x ∷ xs) = begins-trans (list H) (list (next H x)) _ (grows H x) (begins-continued (next H x) xs)
+  begins-continued H [] = begins-refl (f H)
+  begins-continued H (x ∷ xs) = begins-trans (f H) (f (next H x)) _ (grows H x) (begins-continued (next H x) xs)
 
 next-rounds : (H : History) (x : Call) → Begins (H .rounds) ((next H x) .rounds)
 unfolding next
