@@ -97,7 +97,7 @@ class SmallLists(unittest.TestCase):
         self.assertIsNone(delivery.least_bound([1] * 10, 0, 10))
 
     def test_two_desks_at_a_station_alone(self):
-        """Every list of up to five posts of the two desks, and then thirty rounds."""
+        """Every list of up to five posts of the two desks, and then forty-five rounds."""
         for length in range(6):
             for choice in itertools.product((0, 1), repeat=length):
                 calls = [PostLine(0, ONE, desk) for desk in choice] + [RoundLine((0,))] * 45

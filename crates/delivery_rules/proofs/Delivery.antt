@@ -24,7 +24,7 @@ use Rattle.group_rules.specs.History.{History, Call, Call.post, next, continued
 use Rattle.group_rules.specs.History as history
 use Rattle.group_rules.specs.Demand.{Begins}
 use Rattle.group_rules.specs.Desks.{waitingAtDesk, startsOf}
-use Rattle.group_rules.specs.Replies.{Edit, editAfter, editAt, postsFrom, entryEdit, AiredAt}
+use Rattle.group_rules.specs.Replies.{Edit, editAfter, editAt, postsFrom, entryEdit}
 use Rattle.group_rules.proofs.Setups.{accepts}
 use Rattle.group_rules.proofs.Begin.{begins-take, begins-length}
 use Rattle.group_rules.proofs.Run.{Run, linksOf}

@@ -15,7 +15,7 @@ use Rattle.places.specs.Places.{tabulate}
 use Rattle.station_rules.specs.State.{sized}
 use Rattle.group_rules.specs.declared.Post.{Post}
 use Rattle.group_rules.specs.Calls.{groupFreshRefusal, groupPostRefusal}
-use Rattle.group_rules.specs.History.{History, Call, Call.post, Call.round, next, begun, continued, historyOf, takingsOf, postsOf, airedList}
+use Rattle.group_rules.specs.History.{History, Call, Call.post, Call.round, historyOf, takingsOf, postsOf, airedList}
 use Rattle.group_rules.specs.Desks.{waitingAtDesk}
 use Rattle.group_rules.specs.Replies.{Edit, editAfter, editAt, postsFrom, entryEdit, airedEdit}
 use Rattle.group_rules.proofs.Computing.{groupRuns}

@@ -1,7 +1,7 @@
 -- The first rounds of a history are those of its run: what is aired by the end of a round, how many rows, and that what
 -- waits is never Empty.
 use Prim.Native.Nat.{ℕ, zero, suc, _≤_, _<_}
-use mathlib.Core.Bool.{Bool, cond}
+use mathlib.Core.Bool.{cond}
 use mathlib.Core.List.{List, [], _∷_}
 use mathlib.Core.Path.{_≡_, refl, ap, _∙_}
 use native.Mathlib.Decide.{ℕ-discrete}
@@ -14,11 +14,10 @@ use Rattle.kind_limits.proofs.Laws.{postable-edit}
 use Rattle.lanes.specs.Waiting.{nextEdit}
 use Rattle.lanes.proofs.WaitingLaws.{next-postable}
 use Rattle.station_rules.specs.declared.Setup.{Setup}
-use Rattle.station_rules.specs.declared.TurnReport.{TurnReport}
 use Rattle.group_rules.specs.declared.RoundDone.{RoundDone}
 use Rattle.group_rules.specs.Calls.{groupFreshRefusal}
 use Rattle.group_rules.specs.History.{History, Call, historyOf, noRound, reportIn, airedList}
-use Rattle.group_rules.proofs.Setups.{Accepts, accepts}
+use Rattle.group_rules.proofs.Setups.{accepts}
 use Rattle.group_rules.proofs.Run.{Run, hearingIn}
 use Rattle.group_rules.proofs.MembersRound.{run-hears, run-room}
 use Rattle.group_rules.proofs.Lanes.{run-heard}

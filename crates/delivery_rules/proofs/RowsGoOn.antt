@@ -1,16 +1,9 @@
 -- Rows over a list of calls: with good links everybody catches up within the delay and airs one more within three; with
 -- any links two stations are one row apart at most.
-use Prim.Native.Nat.{ℕ, suc, _+_, _*_, _≤_, _<_}
-use mathlib.Core.List.{List}
-use mathlib.Core.Path.{_≡_}
+use Prim.Native.Nat.{ℕ, _+_, _*_}
 use native.Mathlib.Omega.{arith}
 use lib.ListN.{length}
-use Rattle.kinds.specs.Refusals.{done}
-use Rattle.links.specs.Relay.{ofLog}
-use Rattle.station_rules.specs.declared.Setup.{Setup}
-use Rattle.group_rules.specs.Calls.{groupFreshRefusal}
-use Rattle.group_rules.specs.History.{History, Call, historyOf, airedList}
-use Rattle.group_rules.specs.Demand.{Begins}
+use Rattle.group_rules.specs.History.{historyOf}
 use Rattle.group_rules.proofs.Setups.{accepts}
 use Rattle.group_rules.proofs.Run.{Run, linksOf}
 use Rattle.group_rules.proofs.Lists.{rowsBy}
@@ -18,7 +11,7 @@ use Rattle.group_rules.proofs.Aired.{rows-begin}
 use Rattle.group_rules.proofs.CallRun.{runOf}
 use Rattle.group_rules.proofs.HistoryRun.{history-links}
 use Rattle.group_rules.proofs.DemandThree.{free}
-use Rattle.delivery_rules.specs.Delivery.{Near, upTo, rowsAired, RowsCome, RowsGoOn, RowsClose}
+use Rattle.delivery_rules.specs.Delivery.{Near, RowsGoOn, RowsClose}
 use Rattle.delivery_rules.proofs.Progress.{Filled, rows-close, rows-progress, rows-caught}
 use Rattle.delivery_rules.proofs.Rounds.{aired-by, rows-counted, run-filled}
 

@@ -4,25 +4,25 @@
 use Prim.Native.Nat.{ℕ, _+_, _-_, _≤_, _<_}
 use mathlib.Core.Bool.{true}
 use mathlib.Core.List.{List, [], _∷_, _++_}
-use mathlib.Core.Path.{_≡_, refl, sym, ap, subst, _∙_}
+use mathlib.Core.Path.{_≡_, sym, ap, _∙_}
 use native.Mathlib.Decide.{ℕ-discrete, decLe}
 use native.Mathlib.Omega.{arith}
-use lib.ListN.{getD, length, take, drop, length-append}
+use lib.ListN.{length, take, length-append}
 use lib.Seq.{take-all, take-append-add}
 use Rattle.kinds.specs.declared.Body.{Body}
 use Rattle.lanes.specs.Waiting.{isDesk, otherDesk, deskCount, waitingCount}
 use Rattle.lanes.proofs.WaitingLaws.{each-desk, count-both}
 use Rattle.group_rules.specs.declared.Post.{Post}
 use Rattle.group_rules.specs.State.{stationAt}
-use Rattle.group_rules.specs.History.{History, Call, Call.post, Call.round, next, continued, postsAt, postsOf, started, onlyEdits}
+use Rattle.group_rules.specs.History.{History, Call, next, continued, postsAt, postsOf, started, onlyEdits}
 use Rattle.group_rules.specs.Demand.{Begins}
 use Rattle.group_rules.specs.Desks.{waitingAtDesk, startsOf}
-use Rattle.group_rules.specs.Replies.{Edit, editAt, postsFrom}
-use Rattle.group_rules.proofs.Begin.{begins-refl, begins-append, begins-trans, begins-take, begins-length}
+use Rattle.group_rules.specs.Replies.{editAt, postsFrom}
+use Rattle.group_rules.proofs.Begin.{begins-refl, begins-take, begins-length}
 use Rattle.group_rules.proofs.Takings.{onlyEdits-append, postsOf-append}
 use Rattle.group_rules.proofs.Interleaving.{interleave, interleaved-length}
 use Rattle.group_rules.proofs.PostsAccounted.{Kept, kept-next, bodies-next}
-use Rattle.group_rules.proofs.Fairness.{firstOf, mine, theirs, Step, Step.still, Step.own, Step.other, step, count-waits}
+use Rattle.group_rules.proofs.Fairness.{firstOf, mine, theirs, Step.still, Step.own, Step.other, step, count-waits}
 use Rattle.group_rules.proofs.Continued.{next-accepted, next-starts, next-started}
 use Rattle.group_rules.proofs.EditPlaces.{post-place, edit-place, edit-begins, from-begins, from-length, from-desk}
 

@@ -1,11 +1,8 @@
 -- Calls after calls: what a history has of rounds, accepted posts, starts and aired edits stays at the beginning of
 -- what any further calls leave.
 use mathlib.Core.List.{List, [], _∷_, _++_}
-use mathlib.Core.Path.{_≡_, refl, sym, ap, _∙_}
+use mathlib.Core.Path.{_≡_, refl}
 use Prim.Native.Nat.{ℕ}
-use Rattle.station_rules.specs.declared.Taking.{Taking}
-use Rattle.group_rules.specs.declared.Post.{Post}
-use Rattle.group_rules.specs.declared.RoundDone.{RoundDone}
 use Rattle.group_rules.specs.Calls.{roundCall}
 use Rattle.group_rules.specs.History.{History, Call, Call.post, Call.round, next, continued, started, airedList}
 use Rattle.group_rules.specs.Demand.{Begins}

@@ -1,6 +1,6 @@
 -- An edit told by station, desk and number has one place at most in a list of posts, and one in the list of its
 -- source's entries; what begins another list has the same edits in the same places.
-use Prim.Native.Nat.{ℕ, zero, suc, _≤_, _<_}
+use Prim.Native.Nat.{ℕ, suc, _<_}
 use mathlib.Core.Bool.{Bool, true, false, cond, _&&_}
 use mathlib.Core.List.{List, [], _∷_, _++_, map, append-assoc}
 use mathlib.Core.Path.{_≡_, refl, sym, ap, _∙_}
@@ -21,7 +21,7 @@ use Rattle.group_rules.specs.Demand.{Begins}
 use Rattle.group_rules.specs.Replies.{Edit, noPost, editAfter, editAt, postsFrom, entryEdit}
 use Rattle.group_rules.proofs.Begin.{begins-getD, begins-take}
 use Rattle.group_rules.proofs.Interleaving.{EachDesk}
-use Rattle.group_rules.proofs.Picked.{picked, picked-append, picked-later, picked-at, picked-place, Each, each-none, each-append, each-one}
+use Rattle.group_rules.proofs.Picked.{picked, picked-later, picked-at, picked-place, Each, each-none, each-append, each-one}
 
 -- the entries of a source, the posts of a station and those of a desk there are picked
 abbrev ofSource : ℕ → Taking → Bool

@@ -6,12 +6,12 @@ use mathlib.Core.List.{List, _∷_, _++_}
 use mathlib.Core.Path.{_≡_, refl, sym, subst, _∙_}
 use native.Mathlib.Decide.{decLe}
 use native.Mathlib.Omega.{arith}
-use lib.ListN.{getD, length, take}
+use lib.ListN.{getD, length}
 use borrow.Author.Tests.{eq-eqb}
 use Rattle.kinds.specs.Refusals.{done}
 use Rattle.station_rules.specs.declared.Setup.{Setup}
 use Rattle.group_rules.specs.declared.Post.{Post}
-use Rattle.group_rules.specs.Calls.{noTaking, groupFreshRefusal, groupPostRefusal}
+use Rattle.group_rules.specs.Calls.{groupFreshRefusal, groupPostRefusal}
 use Rattle.group_rules.specs.History.{History, Call, Call.post, begun, continued, historyOf, postsOf, airedList}
 use Rattle.group_rules.specs.Replies.{Edit, noPost, editAfter, editAt, airedEdit, AiredAt, Identified, Behind, RepliesBehind, PostsBehind}
 use Rattle.group_rules.proofs.Setups.{accepts}
