@@ -44,9 +44,9 @@ def broken(name, copy):
         yield
 
 
-def first_noticed_run(runs=test_demand3):
+def first_noticed_run(runs=test_demand3, most=test_demand3.RUNS):
     """What the first random run that notices something prints, or None."""
-    for seed in range(runs.RUNS):
+    for seed in range(min(most, runs.RUNS)):
         fault = runs.check_seed(seed)
         if fault is not None:
             return fault
@@ -287,8 +287,8 @@ class WrongReplies(Broken):
             return turns.Turned(0, turns.rewrite_own_record(one), aired, row, ended, ended_body, started_body)
         with broken("close_round", close_round):
             self.assert_test_fails(test_marked_examples.OneStation, "test_m12")
-            self.assertIsNone(first_noticed_run(test_replies))
-            self.assertIsNone(first_noticed_run())
+            self.assertIsNone(first_noticed_run(test_replies, 80))
+            self.assertIsNone(first_noticed_run(test_demand3, 80))
 
     def test_airs_out_of_row_order(self):
         def air(one):
