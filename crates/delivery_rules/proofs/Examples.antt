@@ -71,20 +71,21 @@ run = historyOf (sized 2) (post (of-desk 1) ∷ post (of-desk 0) ∷ ten)
 abbrev edit : ℕ → Edit
 edit desk = record { source = 0; desk = desk; number = 0 }
 
+pub each-hears : (a b : ℕ) → a < 2 → b < 2 → (a ≡ b → ⊥) → hearsIn 2 both b a ≡ true
+each-hears zero zero la lb d = absurd (d refl)
+each-hears zero (suc zero) la lb d = unfold hearsIn bit in refl
+each-hears (suc zero) zero la lb d = unfold hearsIn bit in refl
+each-hears (suc zero) (suc zero) la lb d = absurd (d refl)
+each-hears (suc (suc a)) b la lb d = absurd (omega arith)
+each-hears zero (suc (suc b)) la lb d = absurd (omega arith)
+each-hears (suc zero) (suc (suc b)) la lb d = absurd (omega arith)
+
 ten-hears :
-    (a b k : ℕ) → a < 2 → b < 2 → (a ≡ b → ⊥) → 0 < k → k ≤ 10 → hearsIn 2 (masksIn (replicate 10 both) k) b a ≡ true
+    (a b k : ℕ) → a < 2 → b < 2 → (a ≡ b → ⊥) → 0 < k → k ≤ 10 →
+    hearsIn 2 (masksIn (replicate 10 both) k) b a ≡ true
 unfolding masksIn
 ten-hears a b zero la lb d low high = absurd (omega arith)
-ten-hears a b (suc k) la lb d low high = rw (getD-replicate 10 k both [] (omega arith)) (go a b la lb d)
-  where
-    go : (a b : ℕ) → a < 2 → b < 2 → (a ≡ b → ⊥) → hearsIn 2 both b a ≡ true
-    go zero zero la lb d = absurd (d refl)
-    go zero (suc zero) la lb d = unfold hearsIn bit in refl
-    go (suc zero) zero la lb d = unfold hearsIn bit in refl
-    go (suc zero) (suc zero) la lb d = absurd (d refl)
-    go (suc (suc a)) b la lb d = absurd (omega arith)
-    go zero (suc (suc b)) la lb d = absurd (omega arith)
-    go (suc zero) (suc (suc b)) la lb d = absurd (omega arith)
+ten-hears a b (suc k) la lb d low high = rw (getD-replicate 10 k both [] (omega arith)) (each-hears a b la lb d)
 
 -- by the theorem both edits are aired at both stations by round 10
 pub two-air : (q : ℕ) → q < 2 → AiredBy 2 run 10 q (edit 1) × AiredBy 2 run 10 q (edit 0)

@@ -7,3 +7,4 @@ pub mod Delivery
 pub mod RowsGoOn
 -- examples
 pub mod Examples
+pub mod TooSoon
