@@ -83,7 +83,7 @@ module _ (R : Run) where
         shown-some (madeBy R) q u,
       )
 
-  -- (a) Rows aired at two stations differ by at most one.
+  -- Rows aired at two stations differ by at most one.
   pub rows-close : (u p q : ℕ) → p < R .n → q < R .n → rowsBy R u p ≤ rowsBy R u q + 1
   rows-close u p q lp lq = omega (arith, rows-bodies u p q lp lq, bodies-ahead u q lq)
 
@@ -116,8 +116,8 @@ module _ (R : Run) where
           let some = near .some in
           let v = ends-by L s t (u + 2 * delay) (omega (arith, start-limit L u s)) (record { each = one }) in
           let e =
-          ends-ended L (v .0) s .1 (record
-          { number = num L u s; started = t; starts = starts-num L u s; endsIn = v .1 }) in
+          ends-ended L (v .0) s .1
+          (record { number = num L u s; started = t; starts = starts-num L u s; endsIn = v .1 }) in
           let c = num-starts L s (suc (num L u s)) (v .0) (after (starts-num L u s) (v .1)) .0 in
           let g : u < v .0 =
           elim (decLe (v .0) u) [ yes h ↦ absurd (omega (arith, c, num-mono L (v .0) u s h)) | no h ↦ omega arith ] in
@@ -134,8 +134,7 @@ module _ (R : Run) where
                     record {
                       arrival = o .arrival;
                       by = o .by;
-                      relay = relay-earlier (start L u s) (start-limit L u s)
-                          (o .relay);
+                      relay = relay-earlier (start L u s) (start-limit L u s) (o .relay);
                     };
                 back = rw e at (near .relays r s (u + delay) lr ls n (omega arith) (omega arith));
               }
@@ -160,7 +159,7 @@ module _ (R : Run) where
                 )
           ]
 
-      -- (b) Where all have aired k rows, all have aired one more within three times the delay.
+      -- Where all have aired k rows, all have aired one more within three times the delay.
       pub rows-progress : (u k : ℕ) → from ≤ u → u + 3 * delay ≤ last → ((p : ℕ) → p < R .n → k ≤ rowsBy R u p)
           → (p : ℕ) → p < R .n → suc k ≤ rowsBy R (u + 3 * delay) p
       rows-progress u k f l all p lp =

@@ -22,8 +22,7 @@ rows-go-on setup fresh calls delay from to room near =
           λ u p q lp lq f l.
           rw (
             aired-by setup fresh calls u last p (omega (arith, room)) (omega (arith, room)) lp,
-            aired-by setup fresh
-                calls (u + delay) last q (omega (arith, room)) (omega (arith, room)) lq,
+            aired-by setup fresh calls (u + delay) last q (omega (arith, room)) (omega (arith, room)) lq,
           )
           (rows-begin R (rowsBy R u p) (rowsBy R (u + delay) q) last
           (rows-caught R filled delay from to near-run u p q lp lq f l));

@@ -40,9 +40,8 @@ pub record AiredBy (n : ℕ) (H : History) (v q : ℕ) (e : Edit) : Type 0 where
   pub entry : ℕ
   pub aired : AiredAt n (upTo v H) q entry e
 
--- the post x, accepted after the history H₀: with links that are good enough, and as many rounds, all stations have
--- aired
--- it by these rounds; i edits of its desk waited before it
+-- the post x, accepted after the history H₀ behind i waiting edits of its desk: where the links are good enough and the
+-- rounds are as many, all stations have aired it by these rounds
 pub record Delivered (n delay : ℕ) (H₀ H : History) (x : Post) : Type 0 where
   pub in-time :
       let i = waitingAtDesk H₀ (x .station) (x .desk) in
