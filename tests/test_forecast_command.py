@@ -43,7 +43,7 @@ class Answers(unittest.TestCase):
             self.assertEqual(text, "station,ends,last_round\n" + "".join(f"{s},{count},{u}\n" for s, count, u in rows))
             status, text, words = run("forecast", "-", given=plan_of(n, log))
             self.assertEqual((status, words), (0, ""))
-            self.assertEqual([line.split() for line in text.splitlines()[2:]],
+            self.assertEqual([line.split() for line in text.splitlines()[2:2 + n]],
                              [[str(s), str(count), str(u or "-")] for s, count, u in rows])
 
     def test_posts_are_passed_over(self):

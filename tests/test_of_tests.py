@@ -11,6 +11,7 @@ import sys
 import unittest
 from unittest import mock
 
+import test_delivery
 import test_demand3
 import test_frames
 import test_group
@@ -20,7 +21,7 @@ import test_marked_examples
 import test_replies
 import test_station
 import test_turns
-from model import bodies, hearing, lines, listing, records, replies, station, turns
+from model import bodies, delivery, hearing, lines, listing, records, replies, station, turns
 from model.bodies import DROP, EMPTY, INSERT, NEUTRAL, SHIFT, Body
 from model.frames import read_frame
 from model.group import heard_stations
@@ -43,9 +44,9 @@ def broken(name, copy):
         yield
 
 
-def first_noticed_run(runs=test_demand3):
+def first_noticed_run(runs=test_demand3, most=test_demand3.RUNS):
     """What the first random run that notices something prints, or None."""
-    for seed in range(runs.RUNS):
+    for seed in range(min(most, runs.RUNS)):
         fault = runs.check_seed(seed)
         if fault is not None:
             return fault
@@ -286,8 +287,8 @@ class WrongReplies(Broken):
             return turns.Turned(0, turns.rewrite_own_record(one), aired, row, ended, ended_body, started_body)
         with broken("close_round", close_round):
             self.assert_test_fails(test_marked_examples.OneStation, "test_m12")
-            self.assertIsNone(first_noticed_run(test_replies))
-            self.assertIsNone(first_noticed_run())
+            self.assertIsNone(first_noticed_run(test_replies, 80))
+            self.assertIsNone(first_noticed_run(test_demand3, 80))
 
     def test_airs_out_of_row_order(self):
         def air(one):
@@ -334,6 +335,47 @@ class WrongReplies(Broken):
         for wrong, word in ((edits[0][1:], "without"), (edits[0][::-1], "before")):
             fault = next(replies.replies_stay_behind(run, [wrong, edits[1]]))
             self.assertIn(f"0 has aired edit 0 of desk 0 at 1 {word} edit 0 of desk 0 at 0", fault)
+
+
+class WrongBounds(Broken):
+    """Bounds that look better than the proved ones, each broken by the run of a seed; and relays that meet demand 3 and air too
+    little."""
+
+    def assert_seed_notices(self, seed, words):
+        self.assertRegex(test_delivery.check_seed(seed) or "", rf"^seed \d+, .*{words}")
+
+    def test_sooner(self):
+        with mock.patch.object(delivery, "factors", lambda run, post: [6 * post.behind + 5]):
+            self.assert_seed_notices(1319, "is aired everywhere in round 17, after 16")
+
+    def test_as_if_the_desk_were_alone(self):
+        with mock.patch.object(delivery, "factors", lambda run, post: [3 * post.behind + 7]):
+            self.assert_seed_notices(101, "is aired everywhere in round 31, after 30")
+
+    def test_sooner_alone(self):
+        right = delivery.factors
+        with mock.patch.object(delivery, "factors", lambda run, post: [f - 3 for f in list(right(run, post))[1:]]):
+            self.assert_seed_notices(604, "is aired everywhere in round 63, after 62")
+
+    def test_rows(self):
+        with mock.patch.object(delivery, "ROW", 2):
+            self.assert_seed_notices(1, "not all have aired a row more")
+        with mock.patch.object(delivery, "APART", 0):
+            self.assert_seed_notices(1, "the rows aired are")
+
+    def test_never_airs(self):
+        with broken("row_ready", lambda one: False):
+            self.assert_runs_notice("is aired everywhere", test_delivery)
+
+    def test_starts_only_empty(self):
+        with broken("choose_body", lambda one: (one, EMPTY)):
+            self.assert_runs_notice("is aired everywhere", test_delivery)
+
+    def test_neutral_first(self):
+        """Of three bodies that start two are Neutral, whatever waits."""
+        right = turns.choose_body
+        with broken("choose_body", lambda one: (one, NEUTRAL) if turns.may_start(one) and one.labels[one.own] != 1 else right(one)):
+            self.assert_runs_notice("is aired everywhere", test_delivery)
 
 
 class WrongQueueLimits(Broken):

@@ -25,6 +25,10 @@ Of the later requests, document 02:
     load.py       A5: a script drawn from a seed
     replies.py    A14: which edit an entry of an aired list is, and what it stands behind
 
+Beyond the requests:
+
+    delivery.py   by when an accepted edit is aired everywhere
+
 For tests only:
 
     scripts.py    random lists of calls and scripts, each from its seed

@@ -4,6 +4,7 @@ A plan is a script's N and R lines; P lines are passed over. Shown are, for
 each station, how many of its broadcasts end and the round of the last end;
 where none ends, '-' in the table and 0 in --csv. The picture has link windows,
 rounds on end in which a station hears another, as bars, and ends as marks.
+Below the table: how long news takes, and by when an edit is aired everywhere.
 
 example:
     ./relay forecast examples/five-stations.plan --picture windows.svg
@@ -12,13 +13,14 @@ example:
 import csv
 import sys
 
-from . import forecast_picture, library, plans
+from . import forecast_picture, library, on_air, plans
 from .faults import Missing
 
 def arguments(parser):
     parser.add_argument("plan", metavar="PLAN", help="the plan's file; '-' is standard input")
     parser.add_argument("--csv", action="store_true", help="comma-separated values, for a spreadsheet")
     parser.add_argument("--picture", metavar="FILE.svg", help="also draw link windows and ends into this file")
+    on_air.arguments(parser)
 
 
 def answer(plan):
@@ -44,6 +46,7 @@ def all_ends(plan):
 def run(given):
     plan = plans.read(given.plan)
     ends, last = answer(plan)
+    bounds = on_air.lines(plan, given.first, given.behind)
     if given.picture:
         draw(plan, given.picture)
     if given.csv:
@@ -55,6 +58,7 @@ def run(given):
     print("station  ends  last in round")
     for station in range(plan.n):
         print(f"{station:7d}{ends[station]:6d}{last[station] or '-':>15}")
+    print(*bounds, sep="\n")
 
 
 def draw(plan, name):

@@ -39,7 +39,7 @@ module _ (R : Run) (v s : ℕ) (ls : s < R .n) where
   unfolding rowBy
   row-of k = gathered-own (λ r. isEdit (getD (startedBy R v r) k Empty)) (λ r. getD (startedBy R v r) k Empty) s (R .n) ls
 
-  rows-of : (k : ℕ) → takingsOf s (rowsOf R v k) ≡ onlyEdits (take k (startedBy R v s))
+  pub rows-of : (k : ℕ) → takingsOf s (rowsOf R v k) ≡ onlyEdits (take k (startedBy R v s))
   unfolding rowsOf takingsOf onlyEdits
   rows-of zero = refl
   rows-of (suc k) =

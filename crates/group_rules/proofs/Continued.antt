@@ -1,12 +1,10 @@
--- Calls after calls: what a history has of rounds, accepted posts, starts and aired edits stays at the beginning of what any further calls leave.
+-- Calls after calls: what a history has of rounds, accepted posts, starts and aired edits stays at the beginning of
+-- what any further calls leave.
 use mathlib.Core.List.{List, [], _∷_, _++_}
-use mathlib.Core.Path.{_≡_, refl, sym, ap, _∙_}
+use mathlib.Core.Path.{_≡_, refl}
 use Prim.Native.Nat.{ℕ}
-use Rattle.station_rules.specs.declared.Taking.{Taking}
-use Rattle.group_rules.specs.declared.Post.{Post}
-use Rattle.group_rules.specs.declared.RoundDone.{RoundDone}
 use Rattle.group_rules.specs.Calls.{roundCall}
-use Rattle.group_rules.specs.History.{History, Call, Call.post, Call.round, next, continued, airedList}
+use Rattle.group_rules.specs.History.{History, Call, Call.post, Call.round, next, continued, started, airedList}
 use Rattle.group_rules.specs.Demand.{Begins}
 use Rattle.group_rules.proofs.Begin.{begins-refl, begins-append, begins-trans}
 use Rattle.group_rules.proofs.PostsAccounted.{collect-last}
@@ -20,26 +18,31 @@ pub continued-more : (H : History) (x : Call) (xs : List Call) → continued H (
 unfolding continued
 continued-more H x xs = refl
 
-module _ {A : Type 0} (list : History → List A) (grows : (H : History) (x : Call) → Begins (list H) (list (next H x))) where
-  begins-continued : (H : History) (xs : List Call) → Begins (list H) (list (continued H xs))
+module _ {A : Type 0} (f : History → List A) (grows : (H : History) (x : Call) → Begins (f H) (f (next H x))) where
+  begins-continued : (H : History) (xs : List Call) → Begins (f H) (f (continued H xs))
   unfolding continued
-  begins-continued H [] = begins-refl (list H)
-  begins-continued H (x ∷ xs) = begins-trans (list H) (list (next H x)) _ (grows H x) (begins-continued (next H x) xs)
+  begins-continued H [] = begins-refl (f H)
+  begins-continued H (x ∷ xs) = begins-trans (f H) (f (next H x)) _ (grows H x) (begins-continued (next H x) xs)
 
 next-rounds : (H : History) (x : Call) → Begins (H .rounds) ((next H x) .rounds)
 unfolding next
 next-rounds H (post x) = begins-refl (H .rounds)
 next-rounds H (round masks) = begins-append (H .rounds) _
 
-next-accepted : (H : History) (x : Call) → Begins (H .accepted) ((next H x) .accepted)
+pub next-accepted : (H : History) (x : Call) → Begins (H .accepted) ((next H x) .accepted)
 unfolding next
 next-accepted H (post x) = begins-append (H .accepted) _
 next-accepted H (round masks) = begins-refl (H .accepted)
 
-next-starts : (H : History) (x : Call) → Begins (H .starts) ((next H x) .starts)
+pub next-starts : (H : History) (x : Call) → Begins (H .starts) ((next H x) .starts)
 unfolding next
 next-starts H (post x) = begins-refl (H .starts)
 next-starts H (round masks) = begins-append (H .starts) _
+
+pub next-started : (p : ℕ) (H : History) (x : Call) → Begins (started H p) (started (next H x) p)
+unfolding started next
+next-started p H (post x) = begins-refl _
+next-started p H (round masks) = rw (collect-last _ (H .rounds) (roundCall (H .group) masks)) (begins-append _ _)
 
 next-aired : (n q : ℕ) (H : History) (x : Call) → Begins (airedList n H q) (airedList n (next H x) q)
 unfolding airedList next

@@ -40,10 +40,10 @@ module _ (setup : Setup) (accepted : groupFreshRefusal setup ≡ done) (calls : 
   abbrev H : History
   H = historyOf setup calls
 
-  ready-members : (u : ℕ) → Members n (groupAfter setup calls u) → Members n (R .ready u)
+  pub ready-members : (u : ℕ) → Members n (groupAfter setup calls u) → Members n (R .ready u)
   ready-members u c = posts-keep (Members n) (λ g x m. post-members n g m x) (groupAfter setup calls u) (callsAfter calls u) c
 
-  round-runs : (u : ℕ) → Members n (R .ready u) → Runs (R .ready u) (R .masks (suc u))
+  pub round-runs : (u : ℕ) → Members n (R .ready u) → Runs (R .ready u) (R .masks (suc u))
   round-runs u c =
       record {
         inside = members-inside n (R .ready u) c;
@@ -52,7 +52,7 @@ module _ (setup : Setup) (accepted : groupFreshRefusal setup ≡ done) (calls : 
       }
 
   -- the group is inside its limits after every round
-  after-rounds : (u : ℕ) → Members n (groupAfter setup calls u)
+  pub after-rounds : (u : ℕ) → Members n (groupAfter setup calls u)
   after-rounds zero = rw (group-first setup calls) (fresh-members setup (ok .high) (ok .low) (ok .limited))
   after-rounds (suc u) =
       let c = ready-members u (after-rounds u) in

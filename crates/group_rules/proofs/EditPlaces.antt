@@ -1,6 +1,6 @@
--- An edit told by station, desk and number has one place at most in a list of posts, and one in the list of its source's entries; what begins another list has
--- the same edits in the same places.
-use Prim.Native.Nat.{ℕ, zero, suc, _≤_, _<_}
+-- An edit told by station, desk and number has one place at most in a list of posts, and one in the list of its
+-- source's entries; what begins another list has the same edits in the same places.
+use Prim.Native.Nat.{ℕ, suc, _<_}
 use mathlib.Core.Bool.{Bool, true, false, cond, _&&_}
 use mathlib.Core.List.{List, [], _∷_, _++_, map, append-assoc}
 use mathlib.Core.Path.{_≡_, refl, sym, ap, _∙_}
@@ -21,7 +21,7 @@ use Rattle.group_rules.specs.Demand.{Begins}
 use Rattle.group_rules.specs.Replies.{Edit, noPost, editAfter, editAt, postsFrom, entryEdit}
 use Rattle.group_rules.proofs.Begin.{begins-getD, begins-take}
 use Rattle.group_rules.proofs.Interleaving.{EachDesk}
-use Rattle.group_rules.proofs.Picked.{picked, picked-append, picked-later, picked-at, picked-place, Each, each-none, each-append, each-one}
+use Rattle.group_rules.proofs.Picked.{picked, picked-later, picked-at, picked-place, Each, each-none, each-append, each-one}
 
 -- the entries of a source, the posts of a station and those of a desk there are picked
 abbrev ofSource : ℕ → Taking → Bool
@@ -33,7 +33,8 @@ ofDesk s d x = eqb (x .station) s && eqb (x .desk) d
 takings-picked : (s : ℕ) (ts : List Taking) → takingsOf s ts ≡ picked (ofSource s) (λ t. t .body) ts
 unfolding takingsOf picked
 takings-picked s [] = refl
-takings-picked s (t ∷ ts) = ap (λ (z : List Body). cond (eqb (t .source) s) (t .body ∷ []) [] ++ z) (takings-picked s ts)
+takings-picked s (t ∷ ts) =
+    ap (λ (z : List Body). cond (eqb (t .source) s) (t .body ∷ []) [] ++ z) (takings-picked s ts)
 
 posts-picked : (s d : ℕ) (xs : List Post) → postsOf s d xs ≡ picked (ofDesk s d) (λ x. x .body) xs
 unfolding postsOf picked
@@ -53,6 +54,18 @@ module _ (s : ℕ) (ts : List Taking) (i : ℕ) (l : i < length ts) (e : (getD t
   taking-at =
       rw (takings-picked s (take i ts), takings-picked s ts)
       (picked-at (ofSource s) (λ t. t .body) noTaking Empty ts i l (eq-eqb ((getD ts i noTaking) .source) s e))
+
+-- the place of entry number j of a source
+pub taking-place :
+    (s : ℕ) (ts : List Taking) (j : ℕ) → j < length (takingsOf s ts) →
+    (i : ℕ) × (i < length ts) × ((getD ts i noTaking) .source ≡ s) × (length (takingsOf s (take i ts)) ≡ j)
+taking-place s ts j l =
+    let p = picked-place (ofSource s) (λ t. t .body) noTaking ts j (rw (← takings-picked s ts) l) in (
+      p .place,
+      p .there,
+      eqb-true ((getD ts (p .place) noTaking) .source) s (p .tested),
+      ap length (takings-picked s (take (p .place) ts)) ∙ p .before,
+    )
 
 -- posts of a desk
 module _ (s d : ℕ) (xs : List Post) where
@@ -100,8 +113,10 @@ apart xs k m h l e =
     let y = getD xs m noPost in
     let es : x .station ≡ y .station = ap (λ (z : Edit). z .source) e in
     let ed : x .desk ≡ y .desk = ap (λ (z : Edit). z .desk) e in
-    let en : length (postsOf (x .station) (x .desk) (take k xs)) ≡ length (postsOf (y .station) (y .desk) (take m xs)) = ap (λ (z : Edit). z .number) e in
-    let same : length (postsOf (x .station) (x .desk) (take m xs)) ≡ length (postsOf (y .station) (y .desk) (take m xs)) =
+    let en : length (postsOf (x .station) (x .desk) (take k xs)) ≡ length (postsOf (y .station) (y .desk) (take m xs)) =
+    ap (λ (z : Edit). z .number) e in
+    let same : length (postsOf (x .station) (x .desk) (take m xs))
+    ≡ length (postsOf (y .station) (y .desk) (take m xs)) =
     (λ i. length (postsOf (es i) (ed i) (take m xs))) in
     absurd (omega (arith, en, same, post-later (x .station) (x .desk) xs k l refl refl m h))
 
@@ -113,11 +128,14 @@ posts-apart xs k m lk lm e =
     ]
 
 -- the edit at the place of a desk's post number j
-pub edit-place : (s d j : ℕ) (xs : List Post) (p : PostPlace s d xs j) → editAt xs (p .place) ≡ record { source = s; desk = d; number = j }
+pub edit-place :
+    (s d j : ℕ) (xs : List Post) (p : PostPlace s d xs j) → editAt xs (p .place)
+    ≡ record { source = s; desk = d; number = j }
 unfolding editAt
 edit-place s d j xs p =
     let x = getD xs (p .place) noPost in
-    let same : length (postsOf (x .station) (x .desk) (take (p .place) xs)) ≡ length (postsOf s d (take (p .place) xs)) =
+    let same : length (postsOf (x .station) (x .desk) (take (p .place) xs))
+    ≡ length (postsOf s d (take (p .place) xs)) =
     (λ i. length (postsOf (p .station i) (p .desk i) (take (p .place) xs))) in
     let all : length (postsOf (x .station) (x .desk) (take (p .place) xs)) ≡ j = same ∙ p .before in
     (λ i. record { source = p .station i; desk = p .desk i; number = all i })
@@ -145,7 +163,9 @@ pub from-length : (s : ℕ) (xs : List Post) → length (postsFrom s xs) ≡ len
 from-length s xs = sym (length-map (postsFrom s xs) (λ x. x .body)) ∙ ap length (from-bodies s xs)
 
 pub from-body : (s : ℕ) (xs : List Post) (k : ℕ) → (getD (postsFrom s xs) k noPost) .body ≡ getD (postsAt s xs) k Empty
-from-body s xs k = sym (List·getD-map (λ x. x .body) (postsFrom s xs) k noPost) ∙ ap (λ (z : List Body). getD z k Empty) (from-bodies s xs)
+from-body s xs k =
+    sym (List·getD-map (λ x. x .body) (postsFrom s xs) k noPost)
+    ∙ ap (λ (z : List Body). getD z k Empty) (from-bodies s xs)
 
 -- each is of that station, and of a desk
 pub record OfStation (s : ℕ) (x : Post) : Type 0 where
@@ -168,7 +188,8 @@ from-desk s d (x ∷ xs) = go (eqb (x .station) s) refl (from-desk s d xs)
   where
     go :
         (t : Bool) → eqb (x .station) s ≡ t → postsOf s d (postsFrom s xs) ≡ postsOf s d xs →
-        postsOf s d (cond t (x ∷ []) [] ++ postsFrom s xs) ≡ cond (t && eqb (x .desk) d) (x .body ∷ []) [] ++ postsOf s d xs
+        postsOf s d (cond t (x ∷ []) [] ++ postsFrom s xs)
+        ≡ cond (t && eqb (x .desk) d) (x .body ∷ []) [] ++ postsOf s d xs
     go true e h = rw e (ap (λ (z : List Body). cond (eqb (x .desk) d) (x .body ∷ []) [] ++ z) h)
     go false e h = h
 
@@ -180,10 +201,13 @@ edit-begins xs ys b k l =
     let at : getD xs k noPost ≡ getD ys k noPost = begins-getD xs ys b k noPost l in
     (λ i. editAfter (first i) (at i))
 
-from-begins : (s : ℕ) (xs ys : List Post) → Begins xs ys → Begins (postsFrom s xs) (postsFrom s ys)
-from-begins s xs ys b = record { rest = postsFrom s (b .rest); whole = sym (from-append s xs (b .rest)) ∙ ap (postsFrom s) (b .whole) }
+pub from-begins : (s : ℕ) (xs ys : List Post) → Begins xs ys → Begins (postsFrom s xs) (postsFrom s ys)
+from-begins s xs ys b =
+    record { rest = postsFrom s (b .rest); whole = sym (from-append s xs (b .rest)) ∙ ap (postsFrom s) (b .whole) }
 
-pub entry-begins : (starts : List Post) (ts us : List Taking) → Begins ts us → (i : ℕ) → i < length ts → entryEdit starts ts i ≡ entryEdit starts us i
+pub entry-begins :
+    (starts : List Post) (ts us : List Taking) → Begins ts us → (i : ℕ) → i < length ts → entryEdit starts ts i
+    ≡ entryEdit starts us i
 unfolding entryEdit
 entry-begins starts ts us b i l =
     let first : take i ts ≡ take i us = begins-take ts us b i (omega arith) in
@@ -192,7 +216,8 @@ entry-begins starts ts us b i l =
 
 pub entry-starts :
     (xs ys : List Post) (ts : List Taking) → Begins xs ys → (i : ℕ) →
-    length (takingsOf ((getD ts i noTaking) .source) (take i ts)) < length (postsFrom ((getD ts i noTaking) .source) xs) →
+    length (takingsOf ((getD ts i noTaking) .source) (take i ts)) < length (postsFrom ((getD ts i noTaking) .source) xs)
+    →
     entryEdit xs ts i ≡ entryEdit ys ts i
 unfolding entryEdit
 entry-starts xs ys ts b i l =

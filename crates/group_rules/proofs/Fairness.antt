@@ -28,17 +28,17 @@ use Rattle.group_rules.proofs.PostsAccounted.{waits, accepts, post-wait
 use Rattle.group_rules.proofs.DeskTurns.{starts-post, starts-round}
 
 module _ (n p d : ℕ) (below : p < n) (desk : isDesk d ≡ true) where
-  abbrev firstOf : History → ℕ
+  abbrev pub firstOf : History → ℕ
   firstOf H = firstDesk ((stationAt (H .group) p) .waiting)
 
-  abbrev mine : History → ℕ
+  abbrev pub mine : History → ℕ
   mine H = length (startsOf H p d)
 
-  abbrev theirs : History → ℕ
+  abbrev pub theirs : History → ℕ
   theirs H = length (startsOf H p (otherDesk d))
 
   -- what one call may do
-  data Step (H J : History) : Type 0 where
+  pub data Step (H J : History) : Type 0 where
     still : mine J ≡ mine H → theirs J ≡ theirs H → firstOf J ≡ firstOf H → waitingAtDesk H p d ≤ waitingAtDesk J p d → Step H J
     own : mine J ≡ mine H + 1 → Step H J
     other :
@@ -46,7 +46,7 @@ module _ (n p d : ℕ) (below : p < n) (desk : isDesk d ≡ true) where
         (firstOf H ≡ d → 0 < waitingAtDesk H p d → ⊥) → Step H J
 
   -- as many wait as the list of them is long
-  count-waits : (H : History) → Members n (H .group) → length (waits (H .group) p d) ≡ waitingAtDesk H p d
+  pub count-waits : (H : History) → Members n (H .group) → length (waits (H .group) p d) ≡ waitingAtDesk H p d
   count-waits H c = edits-count ((stationAt (H .group) p) .waiting) (c .member p below .inside .waiting) d
 
   module _ (H : History) (c : Members n (H .group)) where
@@ -136,7 +136,7 @@ module _ (n p d : ℕ) (below : p < n) (desk : isDesk d ≡ true) where
                     (λ f some. ne (turn f some)))
               ]
 
-  step : (H : History) (call : Call) → Members n (H .group) → Step H (next H call)
+  pub step : (H : History) (call : Call) → Members n (H .group) → Step H (next H call)
   step H (post x) c = post-step H c x
   step H (round masks) c = unfold J in (round-step H c masks)
 

@@ -55,7 +55,7 @@ module _ {A : Type 0} where
       ∙ sym (more u)
 
 module _ (R : Run) where
-  turn-at : (u p : ℕ) → p < R .n → (reportIn (roundIn R u) p) .turn ≡ turnIn R u p
+  pub turn-at : (u p : ℕ) → p < R .n → (reportIn (roundIn R u) p) .turn ≡ turnIn R u p
   turn-at u p l = ap (λ (r : Report). r .turn) (report-at R u p l) ∙ report-turn (R .ready u) (R .masks (suc u)) p
       ∙ ap (λ (h : Hearing). turnReport (h .station)) (run-heard R u p l)
 

@@ -1,14 +1,14 @@
--- Every entry of an aired list is one accepted post. Entry k of a source is the k-th edit that the source started, for aired lists begin the starts; that start is
--- number j of its desk's starts, and so number j of its desk's accepted posts, for the starts of a desk begin these.
+-- Every entry of an aired list is one accepted post. Entry k of a source is the k-th edit that the source started, for
+-- aired lists begin the starts; that start is number j of its desk's starts, and so number j of its desk's accepted
+-- posts, for the starts of a desk begin these.
 use Prim.Native.Nat.{ℕ, zero, suc, _≤_, _<_}
 use mathlib.Core.Bool.{Bool, true, false, cond}
 use mathlib.Core.Logic.{⊎-elim}
-use mathlib.Core.List.{List, [], _∷_, _++_}
+use mathlib.Core.List.{List, [], _∷_}
 use mathlib.Core.Path.{_≡_, refl, sym, ap, _∙_}
 use native.Mathlib.Decide.{decLe}
 use native.Mathlib.Omega.{arith}
-use lib.Dec.{eqb}
-use lib.ListN.{getD, length, take, length-append}
+use lib.ListN.{getD, length, take}
 use lib.Seq.{take-append-seam, getD-append-seam}
 use borrow.Author.Tests.{eq-eqb}
 use Rattle.kinds.specs.declared.Body.{Body}
@@ -17,7 +17,6 @@ use Rattle.kinds.specs.Body.{isEdit}
 use Rattle.kinds.specs.Refusals.{done}
 use Rattle.places.specs.Places.{gather}
 use Rattle.lanes.specs.Queue.{noSlot}
-use Rattle.lanes.specs.Waiting.{isDesk}
 use Rattle.lanes.specs.declared.Slot.{Slot}
 use Rattle.station_rules.specs.declared.Setup.{Setup}
 use Rattle.station_rules.specs.declared.Taking.{Taking}
@@ -50,14 +49,16 @@ below-gathered n (suc m) h test body =
 
 below-edits : (n : ℕ) (row : List Slot) → Each (λ (t : Taking). t .source < n) (editsOf n row)
 unfolding editsOf
-below-edits n row = below-gathered n n (omega arith) (λ k. isEdit ((getD row k noSlot) .body)) (λ k. (getD row k noSlot) .body)
+below-edits n row =
+    below-gathered n n (omega arith) (λ k. isEdit ((getD row k noSlot) .body)) (λ k. (getD row k noSlot) .body)
 
 below-collected :
     (n : ℕ) (f : RoundDone → List Taking) → ((r : RoundDone) → Each (λ (t : Taking). t .source < n) (f r)) →
     (rs : List RoundDone) → Each (λ (t : Taking). t .source < n) (collect f rs)
 unfolding collect
 below-collected n f h [] = each-none (λ (t : Taking). t .source < n)
-below-collected n f h (r ∷ rs) = each-append (λ (t : Taking). t .source < n) (f r) (collect f rs) (h r) (below-collected n f h rs)
+below-collected n f h (r ∷ rs) =
+    each-append (λ (t : Taking). t .source < n) (f r) (collect f rs) (h r) (below-collected n f h rs)
 
 sources-below : (n : ℕ) (H : History) (q : ℕ) → Each (λ (t : Taking). t .source < n) (airedList n H q)
 unfolding airedList
@@ -76,7 +77,12 @@ record Begun (starts : List Post) (s k : ℕ) (b : Body) : Type 0 where
 
 started-edit :
     (s : ℕ) (xs : List Post) (k : ℕ) → (getD xs k noPost) .station ≡ s →
-    record { source = s; desk = (getD xs k noPost) .desk; number = length (postsOf s ((getD xs k noPost) .desk) (take k xs)) } ≡ editAt xs k
+    record {
+      source = s;
+      desk = (getD xs k noPost) .desk;
+      number = length
+          (postsOf s ((getD xs k noPost) .desk) (take k xs));
+    } ≡ editAt xs k
 unfolding editAt
 started-edit s xs k e =
     (λ i. record {
@@ -110,16 +116,25 @@ module _ (setup : Setup) (fresh : groupFreshRefusal setup ≡ done) (calls : Lis
   source-below : (q i : ℕ) → i < length (aired q) → (entry q i) .source < n
   source-below q i l = each-at (λ (t : Taking). t .source < n) noTaking (aired q) i (sources-below n H q) l
 
-  begun : (q i : ℕ) → q < n → i < length (aired q) → Begun (H .starts) ((entry q i) .source) (rank q i) ((entry q i) .body)
+  begun :
+      (q i : ℕ) → q < n → i < length (aired q) → Begun (H .starts) ((entry q i) .source) (rank q i) ((entry q i) .body)
   begun q i lq l =
       let s = (entry q i) .source in
       let first = aired-begin-starts setup ok calls (free setup fresh calls) q s lq (source-below q i l) in
       let at = taking-at s (aired q) i l refl in
       let there : rank q i < length (postsFrom s (H .starts)) =
-      omega (arith, at .0, begins-length (takingsOf s (aired q)) (postsAt s (H .starts)) first, from-length s (H .starts)) in
+      omega (
+        arith,
+        at .0,
+        begins-length (takingsOf s (aired q)) (postsAt s (H .starts)) first,
+        from-length s
+            (H .starts),
+      ) in
       record {
         there = there;
-        of = each-at (OfStation s) noPost (postsFrom s (H .starts)) (rank q i) (from-each s (H .starts) (kept .begun)) there;
+        of =
+            each-at (OfStation s) noPost (postsFrom s (H .starts)) (rank q i) (from-each s (H .starts) (kept .begun))
+            there;
         body =
             from-body s (H .starts) (rank q i)
             ∙ sym (begins-getD (takingsOf s (aired q)) (postsAt s (H .starts)) first (rank q i) Empty (at .0))
@@ -127,7 +142,9 @@ module _ (setup : Setup) (fresh : groupFreshRefusal setup ≡ done) (calls : Lis
       }
 
   -- the start number k of s is an accepted post
-  start-posted : (t : Taking) (k : ℕ) → t .source < n → Begun (H .starts) (t .source) k (t .body) → Posted H t (editAt (postsFrom (t .source) (H .starts)) k)
+  start-posted :
+      (t : Taking) (k : ℕ) → t .source < n → Begun (H .starts) (t .source) k (t .body) →
+      Posted H t (editAt (postsFrom (t .source) (H .starts)) k)
   start-posted t k below b =
       let s = t .source in
       let xs = postsFrom s (H .starts) in
@@ -140,7 +157,8 @@ module _ (setup : Setup) (fresh : groupFreshRefusal setup ≡ done) (calls : Lis
       rw (kept .waiting s d below (b .of .desk)) (begins-append (postsOf s d (H .starts)) (waits (H .group) s d)) in
       let number : j < length (postsOf s d (H .starts)) = omega (arith, at .0, ap length starts) in
       let place : PostPlace s d (H .accepted) j =
-      post-place s d (H .accepted) j (omega (arith, number, begins-length (postsOf s d (H .starts)) (postsOf s d (H .accepted)) accounted)) in
+      post-place s d (H .accepted) j (omega
+      (arith, number, begins-length (postsOf s d (H .starts)) (postsOf s d (H .accepted)) accounted)) in
       let y = getD (H .accepted) (place .place) noPost in
       let made = post-at s d (H .accepted) (place .place) (place .there) (place .station) (place .desk) in
       record {
@@ -168,9 +186,11 @@ module _ (setup : Setup) (fresh : groupFreshRefusal setup ≡ done) (calls : Lis
 
   other-source :
       (q i k s : ℕ) → s ≡ (entry q k) .source → airedEdit n H q i ≡ airedEdit n H q k →
-      editAt (postsFrom ((entry q i) .source) (H .starts)) (rank q i) ≡ editAt (postsFrom s (H .starts)) (length (takingsOf s (take k (aired q))))
+      editAt (postsFrom ((entry q i) .source) (H .starts)) (rank q i)
+      ≡ editAt (postsFrom s (H .starts)) (length (takingsOf s (take k (aired q))))
   unfolding entryEdit
-  other-source q i k s same e = e ∙ (λ t. editAt (postsFrom (sym same t) (H .starts)) (length (takingsOf (sym same t) (take k (aired q)))))
+  other-source q i k s same e =
+      e ∙ (λ t. editAt (postsFrom (sym same t) (H .starts)) (length (takingsOf (sym same t) (take k (aired q)))))
 
   entries-apart : (q i k : ℕ) → q < n → i < k → k < length (aired q) → airedEdit n H q i ≡ airedEdit n H q k → ⊥
   entries-apart q i k lq h l e =
@@ -178,8 +198,11 @@ module _ (setup : Setup) (fresh : groupFreshRefusal setup ≡ done) (calls : Lis
       let same : s ≡ (entry q k) .source =
       sym (edit-source q i lq (omega arith)) ∙ ap (λ (z : Edit). z .source) e ∙ edit-source q k lq l in
       let later = taking-later s (aired q) i (omega arith) refl k h in
-      let there : length (takingsOf s (take k (aired q))) < length (postsFrom s (H .starts)) = rw (same) (begun q k lq l .there) in
-      let number = posts-apart (postsFrom s (H .starts)) (rank q i) (length (takingsOf s (take k (aired q)))) (begun q i lq (omega arith) .there) there (other-source q i k s same e) in
+      let there : length (takingsOf s (take k (aired q))) < length (postsFrom s (H .starts)) =
+      rw (same) (begun q k lq l .there) in
+      let number =
+      posts-apart (postsFrom s (H .starts)) (rank q i) (length (takingsOf s (take k (aired q))))
+      (begun q i lq (omega arith) .there) there (other-source q i k s same e) in
       absurd (omega (arith, later, number))
 
   entries-differ :
@@ -187,7 +210,8 @@ module _ (setup : Setup) (fresh : groupFreshRefusal setup ≡ done) (calls : Lis
   entries-differ q i k lq li lk e =
       elim (decLe (suc i) k) [
         | yes h ↦ absurd (entries-apart q i k lq h lk e)
-        | no h ↦ elim (decLe (suc k) i) [ yes b ↦ absurd (entries-apart q k i lq b li (sym e)) | no b ↦ omega (arith, h, b) ]
+        | no h ↦ elim (decLe (suc k) i)
+            [ yes b ↦ absurd (entries-apart q k i lq b li (sym e)) | no b ↦ omega (arith, h, b) ]
       ]
 
   lists-agree :

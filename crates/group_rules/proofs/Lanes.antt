@@ -385,3 +385,10 @@ module _ (R : Run) where
   -- A row is aired exactly where there is one more of everybody.
   pub airs-exactly : (u p : ℕ) → p < R .n → airs ((hearingIn R u p) .station) ≡ airsRow L (madeBy R) (rowsBy R) u p
   airs-exactly u p lp = airs-row u p lp (carried u)
+
+  -- After the airing step of its turn the own lane holds what the station started beyond the rows aired.
+  pub own-aired : (u p : ℕ) → p < R .n → (laneAfter ((hearingIn R u p) .station) p) .len ≡ madeBy R u p - rowsBy R (suc u) p
+  own-aired u p lp =
+      has-aired u p p lp lp (carried u) .many
+      ∙ length-drop (rowsBy R (suc u) p) (hasHeard u p p)
+      ∙ ap (λ (xs : List Body). length xs - rowsBy R (suc u) p) (own-heard u p)

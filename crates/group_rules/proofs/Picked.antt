@@ -76,7 +76,8 @@ module _ {A B : Type 0} (test : A → Bool) (f : A → B) where
       ∙ picked-append (take k xs) (x ∷ rest)
       ∙ ap (λ (z : List B). picked (take k xs) ++ z) (picked-first x rest t) in (
         omega (arith, ap length whole, length-append (picked (take k xs)) (f x ∷ picked rest)),
-        ap (λ (z : List B). getD z (length (picked (take k xs))) e) whole ∙ getD-append-seam (picked (take k xs)) (f x) (picked rest) e,
+        ap (λ (z : List B). getD z (length (picked (take k xs))) e) whole
+            ∙ getD-append-seam (picked (take k xs)) (f x) (picked rest) e,
       )
 
   -- the place of what is picked behind j others
@@ -100,7 +101,13 @@ module _ {A B : Type 0} (test : A → Bool) (f : A → B) where
         where
           here : (t : Bool) → test (getD xs m d) ≡ t → (suc j ≤ length (picked (take m xs)) → ⊥) → Place d xs j
           here true t c =
-              record { place = m; there = h; tested = t; before = omega (arith, c, picked-next d xs m h, picked-one (getD xs m d) t) }
+              record {
+                place = m;
+                there = h;
+                tested = t;
+                before = omega
+                    (arith, c, picked-next d xs m h, picked-one (getD xs m d) t);
+              }
           here false t c = absurd (omega (arith, c, picked-next d xs m h, picked-none (getD xs m d) t))
 
 -- a property of each entry

@@ -10,7 +10,7 @@ use native.Mathlib.Omega.{arith}
 use lib.Dec.{eqb}
 use lib.ListN.{getD, set, length, length-append, replicate, getD-replicate}
 use Rattle.kinds.specs.declared.Body.{Body}
-use Rattle.kinds.specs.Body.{isEdit}
+use Rattle.kinds.specs.Body.{isEmpty, isEdit}
 use Rattle.kinds.specs.Refusals.{done}
 use Rattle.places.specs.Places.{fill}
 use Rattle.places.proofs.Laws.{fill-below}
@@ -39,7 +39,7 @@ use Rattle.group_rules.proofs.Members.{Members, fresh-at}
 use Rattle.group_rules.proofs.MembersPost.{accepted, post-accepted, post-refused, post-refusal, posted-at, posted-other}
 use Rattle.group_rules.proofs.MembersRound.{Runs, runs, run-hears, run-room, after-at, round-done, round-refused}
 use Rattle.group_rules.proofs.HistoryInside.{members-next, members-begun}
-use Rattle.group_rules.proofs.TurnAccount.{ifEdit, startOf, turn-waiting, turn-first, turn-lane, row-account}
+use Rattle.group_rules.proofs.TurnAccount.{ifEdit, startOf, turn-waiting, turn-first, turn-edits, turn-lane, row-account}
 use Rattle.group_rules.proofs.Takings.{takingsOf-append, postsAt-append, postsOf-append, desk-other, desk-here, posts-gathered, desk-gathered, onlyEdits-append, onlyEdits-unless}
 use Rattle.group_rules.specs.Desks.{Interleaved}
 use Rattle.group_rules.proofs.Interleaving.{EachDesk, desks-none, desks-one, desks-append, desks-gather, interleave, interleaved-length}
@@ -177,6 +177,10 @@ noReport-edit = refl
 noReport-started : ifEdit (noReport .turn .«started_body») ≡ []
 noReport-started = rw noReport-edit
 
+noReport-bodies : length (unlessEmpty (noReport .turn .«started_body»)) ≡ length (ifEdit (noReport .turn .«started_body»))
+unfolding noReport noTurn
+noReport-bodies = refl
+
 report-starts : (g : List Station) (masks : List ℕ) (p : ℕ) → (reportOf g masks p) .turn .«started_body» ≡ startedBody ((heard g masks p) .station)
 unfolding reportOf turnReport
 report-starts g masks p = refl
@@ -273,6 +277,12 @@ module _ (n : ℕ) (g : List Station) (c : Members n g) (masks : List ℕ) (p : 
         ∙ turn-first s (hears .shaped) inside
         ∙ (λ i. cond (isEdit (sym body-done i)) (otherDesk (nextDesk (hears .waiting i))) (firstDesk (hears .waiting i)))
 
+    done-edits : 0 < waitingCount (stationAt g p .waiting) → length (unlessEmpty (startedBody s)) ≡ length (ifEdit (startedBody s))
+    unfolding s
+    done-edits w =
+        turn-edits s (hears .shaped) (hears .inside (run-room n g c masks (runs g masks e) p below))
+        (subst (λ (x : Waiting). 0 < waitingCount x) (sym (hears .waiting)) w)
+
     lane-done :
         ownEdits g p ++ postsAt p (startsIn g (roundCall g masks))
         ≡ takingsOf p (airedOf n (reportIn (roundCall g masks) p)) ++ ownEdits ((roundCall g masks) .group) p
@@ -343,6 +353,21 @@ module _ (n : ℕ) (g : List Station) (c : Members n g) (masks : List ℕ) (p : 
       go true e = first-done e
       go false e = first-refused e
 
+  -- while edits wait no Neutral starts
+  pub round-edits :
+      0 < waitingCount (stationAt g p .waiting) → length (unlessEmpty bodyStarted) ≡ length (ifEdit bodyStarted)
+  round-edits w = go (eqb (roundRefusal g masks) done) refl
+    where
+      go : (t : Bool) → eqb (roundRefusal g masks) done ≡ t → length (unlessEmpty bodyStarted) ≡ length (ifEdit bodyStarted)
+      go true e =
+          ap (λ (b : Body). length (unlessEmpty b)) (body-done e)
+          ∙ done-edits e w
+          ∙ ap (λ (b : Body). length (ifEdit b)) (sym (body-done e))
+      go false e =
+          subst (λ (r : Report). length (unlessEmpty (r .turn .«started_body»)) ≡ length (ifEdit (r .turn .«started_body»)))
+          (sym (refused-report e))
+          noReport-bodies
+
   -- what stood in the own lane, and what started, is aired or stands there
   round-lane :
       ownEdits g p ++ postsAt p (startsIn g (roundCall g masks))
@@ -386,6 +411,27 @@ started-round H masks p =
     ap onlyEdits (collect-last f (H .rounds) made)
     ∙ onlyEdits-append (collect f (H .rounds)) (f made)
     ∙ ap (λ (l : List Body). onlyEdits (collect f (H .rounds)) ++ l) (onlyEdits-unless ((reportIn made p) .turn .«started_body»))
+
+started-more :
+    (H : History) (masks : List ℕ) (p : ℕ) →
+    length (started (next H (round masks)) p)
+    ≡ length (started H p) + length (unlessEmpty ((reportIn (roundCall (H .group) masks) p) .turn .«started_body»))
+unfolding started next
+started-more H masks p =
+    let f : RoundDone → List Body = λ r. unlessEmpty ((reportIn r p) .turn .«started_body») in
+    ap length (collect-last f (H .rounds) (roundCall (H .group) masks))
+    ∙ length-append (collect f (H .rounds)) (f (roundCall (H .group) masks))
+
+starts-more :
+    (n : ℕ) (H : History) → Members n (H .group) → (masks : List ℕ) (p : ℕ) → p < n →
+    length (postsAt p ((next H (round masks)) .starts))
+    ≡ length (postsAt p (H .starts)) + length (ifEdit ((reportIn (roundCall (H .group) masks) p) .turn .«started_body»))
+unfolding next
+starts-more n H c masks p l =
+    let more : List Post = startsIn (H .group) (roundCall (H .group) masks) in
+    ap length (postsAt-append p (H .starts) more)
+    ∙ length-append (postsAt p (H .starts)) (postsAt p more)
+    ∙ ap (λ (z : List Body). length (postsAt p (H .starts)) + length z) (own-starts n (H .group) c masks p l)
 
 pub kept-next : (n : ℕ) (H : History) (call : Call) → Kept n H → Kept n (next H call)
 unfolding next
@@ -438,6 +484,27 @@ kept-next n H (round masks) c =
           ∙ (λ i. c .reported p l i ++ own-starts n (H .group) (c .members) masks p l i)
           ∙ sym (started-round H masks p);
     }
+
+-- how many bodies a call starts at a station, and how many of them are edits: as many, while edits wait
+pub bodies-next :
+    (n : ℕ) (H : History) (call : Call) → Members n (H .group) → (p : ℕ) → p < n → 0 < waitingCount (stationAt (H .group) p .waiting) →
+    (length (started (next H call) p) + length (postsAt p (H .starts)) ≡ length (started H p) + length (postsAt p ((next H call) .starts)))
+    × (length (started (next H call) p) ≤ length (started H p) + 1)
+bodies-next n H (post x) c p l w = unfold started next in (refl, omega arith)
+bodies-next n H (round masks) c p l w =
+    let made = roundCall (H .group) masks in
+    let b : Body = (reportIn made p) .turn .«started_body» in
+    let bodies : length (started (next H (round masks)) p) ≡ length (started H p) + length (unlessEmpty b) =
+    started-more H masks p in
+    let edits : length (postsAt p ((next H (round masks)) .starts)) ≡ length (postsAt p (H .starts)) + length (ifEdit b) =
+    starts-more n H c masks p l in (
+      omega (arith, bodies, edits, round-edits n (H .group) c masks p l w),
+      omega (arith, bodies, one (isEmpty b) b),
+    )
+  where
+    one : (t : Bool) (b : Body) → length (cond t [] (b ∷ [])) ≤ 1
+    one true b = omega arith
+    one false b = omega arith
 
 pub kept-continued : (n : ℕ) (H : History) (calls : List Call) → Kept n H → Kept n (continued H calls)
 unfolding continued

@@ -1,16 +1,17 @@
--- Replies stay behind what they reply to. What a station has aired before a post are edits that were accepted before it, so the post is none of them; of two
--- aired lists one begins the other, so every list that has the post has all these entries before it.
+-- Replies stay behind what they reply to. What a station has aired before a post are edits that were accepted before
+-- it, so the post is none of them; of two aired lists one begins the other, so every list that has the post has all
+-- these entries before it.
 use Prim.Native.Nat.{ℕ, _≤_, _<_}
 use mathlib.Core.List.{List, _∷_, _++_}
 use mathlib.Core.Path.{_≡_, refl, sym, subst, _∙_}
 use native.Mathlib.Decide.{decLe}
 use native.Mathlib.Omega.{arith}
-use lib.ListN.{getD, length, take}
+use lib.ListN.{getD, length}
 use borrow.Author.Tests.{eq-eqb}
 use Rattle.kinds.specs.Refusals.{done}
 use Rattle.station_rules.specs.declared.Setup.{Setup}
 use Rattle.group_rules.specs.declared.Post.{Post}
-use Rattle.group_rules.specs.Calls.{noTaking, groupFreshRefusal, groupPostRefusal}
+use Rattle.group_rules.specs.Calls.{groupFreshRefusal, groupPostRefusal}
 use Rattle.group_rules.specs.History.{History, Call, Call.post, begun, continued, historyOf, postsOf, airedList}
 use Rattle.group_rules.specs.Replies.{Edit, noPost, editAfter, editAt, airedEdit, AiredAt, Identified, Behind, RepliesBehind, PostsBehind}
 use Rattle.group_rules.proofs.Setups.{accepts}
@@ -21,7 +22,9 @@ use Rattle.group_rules.proofs.EditPlaces.{post-at}
 use Rattle.group_rules.proofs.Identities.{edits-identified}
 
 -- an accepted post has a number below that of its desk's accepted posts
-number-below : (xs : List Post) (k : ℕ) → k < length xs → let e = editAt xs k in e .number < length (postsOf (e .source) (e .desk) xs)
+number-below :
+    (xs : List Post) (k : ℕ) → k < length xs →
+    let e = editAt xs k in e .number < length (postsOf (e .source) (e .desk) xs)
 unfolding editAt
 number-below xs k l = post-at ((getD xs k noPost) .station) ((getD xs k noPost) .desk) xs k l refl refl .0
 
@@ -32,7 +35,7 @@ never-again xs k x l e =
     subst (λ (z : Edit). z .number < length (postsOf (z .source) (z .desk) xs)) e (number-below xs k l) in
     absurd (omega (arith, below))
 
-module _ (setup : Setup) (fresh : groupFreshRefusal setup ≡ done) (before : List Call) (later : Post) (after : List Call) where
+module _ (setup : Setup) (fresh : groupFreshRefusal setup ≡ done) (before after : List Call) (later : Post) where
   abbrev n : ℕ
   n = setup .n
 
@@ -95,14 +98,15 @@ module _ (setup : Setup) (fresh : groupFreshRefusal setup ≡ done) (before : Li
 
 pub posts-behind : PostsBehind
 posts-behind setup fresh before later after taken x p i below seen =
-    stays-behind setup fresh before later after p below x i seen
+    stays-behind setup fresh before after later p below x i seen
 
 pub replies-behind : RepliesBehind
 replies-behind setup fresh before reply after taken x i seen =
     posts-behind setup fresh before reply after taken x (reply .station) i
     (omega (
       arith,
-      accepted ((historyOf setup before) .group) reply (eq-eqb (groupPostRefusal ((historyOf setup before) .group) reply) done taken) .below,
+      accepted ((historyOf setup before) .group) reply
+          (eq-eqb (groupPostRefusal ((historyOf setup before) .group) reply) done taken) .below,
       history-members setup (accepts setup fresh) before .size,
     ))
     seen

@@ -1,4 +1,5 @@
--- A run in which every body is the same: two desks of station 0 post, station 1 replies once it has aired the first, and each entry is told apart, at both stations.
+-- A run in which every body is the same: two desks of station 0 post, station 1 replies once it has aired the first,
+-- and each entry is told apart, at both stations.
 use Prim.Native.Nat.{ℕ}
 use mathlib.Core.List.{List, [], _∷_, _++_}
 use mathlib.Core.Path.{_≡_, refl}
@@ -39,8 +40,10 @@ pub record Replied : Type 0 where
   pub accepted : groupPostRefusal (seen .group) (by 1 1) ≡ done
   pub reply : editAfter (seen .accepted) (by 1 1) ≡ edit 1 1 0
   -- the reply comes behind it, at both stations
-  pub at-one : tabulate (length (airedList 2 replied 1)) (airedEdit 2 replied 1) ≡ edit 0 0 0 ∷ edit 0 1 0 ∷ edit 1 1 0 ∷ []
-  pub at-zero : tabulate (length (airedList 2 replied 0)) (airedEdit 2 replied 0) ≡ edit 0 0 0 ∷ edit 0 1 0 ∷ edit 1 1 0 ∷ []
+  pub at-one :
+      tabulate (length (airedList 2 replied 1)) (airedEdit 2 replied 1) ≡ edit 0 0 0 ∷ edit 0 1 0 ∷ edit 1 1 0 ∷ []
+  pub at-zero :
+      tabulate (length (airedList 2 replied 0)) (airedEdit 2 replied 0) ≡ edit 0 0 0 ∷ edit 0 1 0 ∷ edit 1 1 0 ∷ []
 
 -- all by computation
 pub replies : Replied

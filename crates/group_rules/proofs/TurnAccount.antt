@@ -7,10 +7,10 @@ use mathlib.Core.Path.{_≡_, refl, sym, ap, subst, _∙_}
 use native.Mathlib.Decide.{ℕ-discrete}
 use native.Mathlib.Omega.{arith}
 use lib.Dec.{eqb, ltb}
-use lib.ListN.{getD}
-use borrow.Author.Tests.{ltb-true, eq-eqb}
+use lib.ListN.{getD, length}
+use borrow.Author.Tests.{ltb-true, lt-ltb, eq-eqb}
 use Rattle.kinds.specs.declared.Body.{Body}
-use Rattle.kinds.specs.declared.Body.the-variants.{Neutral}
+use Rattle.kinds.specs.declared.Body.the-variants.{Empty, Neutral}
 use Rattle.kinds.specs.Body.{isEmpty, isEdit}
 use Rattle.places.specs.Places.{gather}
 use Rattle.places.proofs.Laws.{allBelow-at}
@@ -22,7 +22,7 @@ use Rattle.lanes.specs.Queue.{noSlot}
 use Rattle.lanes.specs.Waiting.{isDesk, otherDesk, waitingEdits, waitingCount, firstDesk, nextDesk, nextEdit, withoutNext}
 use Rattle.lanes.proofs.WaitingLaws.{next-postable, started-edits, started-first}
 use Rattle.station_rules.specs.State.{laneAt}
-use Rattle.station_rules.specs.Turn.{airs, rowOf, startsEdit, startedBody, afterTurn}
+use Rattle.station_rules.specs.Turn.{airs, rowOf, broadcastEnds, mayStart, startsEdit, startedBody, afterTurn}
 use Rattle.kinds.proofs.Laws.{edit-not-empty}
 use Rattle.kind_limits.proofs.Laws.{postable-edit}
 use Rattle.station_rules.proofs.Setters.{Shaped}
@@ -32,7 +32,7 @@ use Rattle.station_rules.proofs.TurnParts.{airs-each, row-at}
 use Rattle.station_rules.proofs.TurnCells
 use Rattle.station_rules.proofs.TurnCells.{laneAfter, lane-after, turn-lane-own}
 use Rattle.station_rules.proofs.TurnLaws.{Start, Start.anEdit, Start.aNeutral, Start.nothing, start}
-use Rattle.group_rules.specs.History.{takingsOf, editsOf, onlyEdits}
+use Rattle.group_rules.specs.History.{takingsOf, unlessEmpty, editsOf, onlyEdits}
 use Rattle.group_rules.proofs.Takings.{gathered-own}
 
 -- a body, where it is an edit
@@ -125,6 +125,21 @@ module _ (s : Station) (shape : Shaped s) (c : Inside s) where
       go (anEdit e room w b) = rw (e, b, next-is-edit w) (started-first (s .waiting))
       go (aNeutral e room b) = rw (e, b)
       go (nothing e b) = rw (e, b)
+
+  -- while edits wait no Neutral starts
+  pub turn-edits : 0 < waitingCount (s .waiting) → length (unlessEmpty (startedBody s)) ≡ length (ifEdit (startedBody s))
+  unfolding startedBody
+  turn-edits w = rw (lt-ltb 0 (waitingCount (s .waiting)) w) (go (broadcastEnds s) (mayStart s))
+    where
+      next : Body
+      next = nextEdit (s .waiting)
+
+      go :
+          (a b : Bool) →
+          length (unlessEmpty (cond a (cond b next Empty) Empty)) ≡ length (ifEdit (cond a (cond b next Empty) Empty))
+      go true true = rw (edit-not-empty next (next-is-edit w), next-is-edit w)
+      go true false = refl
+      go false b = refl
 
   started-lane : onlyEdits (bodies (laneAfter s (s .own))) ++ ifEdit (startedBody s) ≡ onlyEdits (bodies (laneAt (afterTurn s) (s .own)))
   started-lane = rw (turn-lane-own s shape (c .high) (c .own)) (go (start s))

@@ -86,7 +86,8 @@ pub record Identified (n : ℕ) (H : History) : Type 0 where
 -- every fresh group that is not refused, every list of calls
 abbrev pub EditsIdentified : Type 0
 EditsIdentified =
-    (setup : Setup) → groupFreshRefusal setup ≡ done → (calls : List Call) → Identified (setup .n) (historyOf setup calls)
+    (setup : Setup) → groupFreshRefusal setup ≡ done → (calls : List Call) →
+    Identified (setup .n) (historyOf setup calls)
 
 -- y comes later than x in every aired list that has both, and no list has y without x
 pub record Behind (n : ℕ) (H : History) (x y : Edit) : Type 0 where

@@ -1,0 +1,1 @@
+// By when every accepted edit is aired: theorems; there is no code.
