@@ -1,17 +1,17 @@
 // Bodies, and the refusal numbers.
 
 ghost use mathlib.Core.Path.{_≡_};
-ghost use Rattle.kinds.specs.Body.{kindOf, eventOf, argumentOf, bodyOf, isEmpty, isEdit};
+ghost use Rattle.kinds.specs.Body.{kindOf, eventOf, argumentOf, channelOf, bodyOf, isEmpty, isEdit};
 
 pub mod refusals;
 
-// What a record carries: document 01's five kinds, each with its own numbers.
+// What a record carries: document 01's five kinds, each with its own numbers, and the channel of an edit (document 02, A9).
 pub enum Body {
     Empty,
     Neutral,
-    Insert { event: u32, start: i32 },
-    Drop { event: u32 },
-    Shift { event: u32, frames: i32 },
+    Insert { channel: u8, event: u32, start: i32 },
+    Drop { channel: u8, event: u32 },
+    Shift { channel: u8, event: u32, frames: i32 },
 }
 
 pub fn kind_of(body: Body) -> u32
