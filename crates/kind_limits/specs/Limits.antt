@@ -52,10 +52,18 @@ channelInside edition kind channel =
 abbrev pub onChannel : ℕ → Body → Bool
 onChannel edition b = channelInside edition (kindOf b) (channelOf b)
 
--- the limits of a body in an edition: those of its kind's row, and of its channel
+-- the body is inside the limits of its kind
+unfoldable pub insideKind : Body → Bool
+insideKind b = numbersInside (kindOf b) (eventOf b) (argumentOf b)
+
+-- the limits of a body in an edition: those of its kind, and of its channel
 unfoldable pub bodyInside : ℕ → Body → Bool
-bodyInside edition b = numbersInside (kindOf b) (eventOf b) (argumentOf b) && onChannel edition b
+bodyInside edition b = insideKind b && onChannel edition b
 
 -- a body that may be posted (else refusal 4): an edit inside the limits of its kind
 unfoldable pub postable : Body → Bool
-postable b = isEdit b && numbersInside (kindOf b) (eventOf b) (argumentOf b)
+postable b = isEdit b && insideKind b
+
+-- a body that may wait at a station of an edition: an edit inside its limits
+unfoldable pub mayWait : ℕ → Body → Bool
+mayWait edition b = isEdit b && bodyInside edition b

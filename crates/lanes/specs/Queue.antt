@@ -6,7 +6,7 @@ use lib.Dec.{leb}
 use lib.ListN.{take, drop, set, getD, replicate}
 use Rattle.kinds.specs.declared.Body.{Body}
 use Rattle.kinds.specs.declared.Body.the-variants.{Empty}
-use Rattle.kind_limits.specs.Limits.{postable, onChannel}
+use Rattle.kind_limits.specs.Limits.{mayWait}
 use Rattle.places.specs.Places.{allBelow}
 use Rattle.lanes.specs.declared.Slot.{Slot}
 use Rattle.lanes.specs.declared.Queue.{Queue}
@@ -38,11 +38,7 @@ oldest q = (getD (q .slots) 0 noSlot) .body
 unfoldable pub unqueued : Queue → Queue
 unqueued q = record { len = q .len - 1; slots = take (q .len - 1) (drop 1 (q .slots)) ++ (noSlot ∷ drop (q .len) (q .slots)) }
 
--- a body that may wait at a station of an edition: one that may be posted there
-abbrev pub mayWait : ℕ → Body → Bool
-mayWait edition b = postable b && onChannel edition b
-
--- no more than a limit, and each may wait
+-- no more than a limit, and each may wait in this edition
 unfoldable pub queueInside : ℕ → ℕ → Queue → Bool
 queueInside edition limit q =
     leb (q .len) limit && allBelow (q .len) (λ i. mayWait edition ((getD (q .slots) i noSlot) .body))

@@ -23,6 +23,9 @@ shared-slice-read-body-of c = search needs
 cast-body-of : tie.Need-cast-body-of
 cast-body-of c = omega (arith, c .shared-slice-known2 .given 2)
 
+shared-slice-read-body-of-2 : tie.Need-shared-slice-read-body-of-2
+shared-slice-read-body-of-2 c = search needs
+
 body-of-requires : tie.Need-body-of-requires
 body-of-requires c κs = search needs
 
@@ -40,7 +43,7 @@ returns c =
     let p = c .before .before .before .before .before .before .before .before .before .args .part .now in
     let body =
     judged
-    (bodyOf (getD p 2 0))
+    (λ event argument. bodyOf (getD p 2 0) event argument (getD p 3 0))
     p
     (c .before .before .before .body-of .result)
     (c .before .before .before .before .before .before .before .word-at .result)
@@ -62,6 +65,7 @@ read-record-spec =
     signed-requires
     shared-slice-read-body-of
     cast-body-of
+    shared-slice-read-body-of-2
     body-of-requires
     word-at-requires-3
     shared-slice-read-t8
