@@ -1,36 +1,38 @@
 -- Receivers of document 01 alone beside those that know editions, by byte 3 of the frame.
 use mathlib.Core.Path.{_≡_, refl}
-use mathlib.Core.Bool.{Bool, true, false, _||_}
+use mathlib.Core.Bool.{Bool, true, false, not, _||_}
 use mathlib.Core.List.{List}
-use Prim.Native.Nat.{ℕ, _≤_}
+use Prim.Native.Nat.{ℕ, _+_, _*_, _≤_}
 use native.Mathlib.Decide.{ℕ-discrete}
 use native.Mathlib.Omega.{arith}
-use lib.ListN.{getD}
+use lib.Dec.{ltb, eqb}
+use lib.ListN.{getD, length}
 use borrow.Author.Tests.{le-ltb, lt-ltb, eq-eqb, ne-eqb}
-use Rattle.kinds.specs.Refusals.{badShape}
-use Rattle.frame_rules.specs.Frame.{validNumber, shapeWrong, addressWrong, frameRefusal, checkRefusal}
+use Rattle.kinds.specs.Refusals.{done, badShape}
+use Rattle.frame_rules.specs.Frame.{shapeWrong, addressWrong, frameRefusal, checkRefusal}
 use Rattle.frame_rules.specs.Editions.{oldShapeWrong, oldAddressWrong, oldRefusal, OldReceivers, EditionZeroRemains}
 use Rattle.frame_rules.proofs.Check.{check-passed, accepted-check, frame-shape, address}
 
-pub old-receivers : OldReceivers
-old-receivers bytes n own h = five ((check-passed 1 bytes n own h) .number) shape-wrong
-  where
-    shape-wrong : oldShapeWrong bytes ≡ true
-    unfolding oldShapeWrong
-    shape-wrong =
-        let f = frame-shape 1 bytes n own h in
-        let one : getD bytes 3 0 ≡ 1 =
-        (address 1 bytes n own ((accepted-check 1 bytes n own h) .address-right)) .of-edition in
-        simp (
-          le-ltb _ _ (omega (arith, f .long)),
-          ne-eqb (getD bytes 2 0) 0 (λ e. omega (arith, f .some)),
-          le-ltb _ _ (f .few),
-          ne-eqb (getD bytes 3 0) 0 (λ e. omega arith),
-        )
+module _ (bytes : List ℕ) (n own : ℕ) (h : checkRefusal 1 bytes n own ≡ done) where
+  shape-wrong : oldShapeWrong bytes ≡ true
+  unfolding oldShapeWrong
+  shape-wrong =
+      let f = frame-shape 1 bytes n own h in
+      let one : getD bytes 3 0 ≡ 1 =
+      (address 1 bytes n own ((accepted-check 1 bytes n own h) .address-right)) .of-edition in
+      simp (
+        le-ltb (length bytes) 4 (omega (arith, f .long)),
+        ne-eqb (getD bytes 2 0) 0 (λ e. omega (arith, f .some)),
+        le-ltb 16 (getD bytes 2 0) (f .few),
+        ne-eqb (getD bytes 3 0) 0 (λ e. omega arith),
+      )
 
-    five : validNumber n own ≡ true → oldShapeWrong bytes ≡ true → oldRefusal bytes n own ≡ badShape
-    unfolding oldRefusal
-    five v s = rw (v, s)
+  refused-with-five : oldRefusal bytes n own ≡ badShape
+  unfolding oldRefusal
+  refused-with-five = rw ((check-passed 1 bytes n own h) .number, shape-wrong)
+
+pub old-receivers : OldReceivers
+old-receivers bytes n own h = refused-with-five bytes n own h
 
 -- byte 3 past the editions is wrong in shape for both
 third : (x y : Bool) → ((x || true) || y) ≡ true
@@ -38,14 +40,20 @@ third true y = refl
 third false y = refl
 
 module _ (bytes : List ℕ) (n own : ℕ) where
+  abbrev front : Bool
+  front = ltb (length bytes) 4 || eqb (getD bytes 2 0) 0 || ltb 16 (getD bytes 2 0)
+
+  abbrev rest : Bool
+  rest = not (eqb (length bytes) (4 + 16 * getD bytes 2 0))
+
   module _ (past : 2 ≤ getD bytes 3 0) where
     new-wrong : shapeWrong bytes ≡ true
     unfolding shapeWrong
-    new-wrong = rw (le-ltb (getD bytes 3 0) 2 past) (third _ _)
+    new-wrong = rw (le-ltb (getD bytes 3 0) 2 past) (third front rest)
 
     old-wrong : oldShapeWrong bytes ≡ true
     unfolding oldShapeWrong
-    old-wrong = rw (ne-eqb (getD bytes 3 0) 0 (λ e. omega arith)) (third _ _)
+    old-wrong = rw (ne-eqb (getD bytes 3 0) 0 (λ e. omega arith)) (third front rest)
 
     both-refuse : checkRefusal 0 bytes n own ≡ oldRefusal bytes n own
     unfolding checkRefusal frameRefusal oldRefusal
