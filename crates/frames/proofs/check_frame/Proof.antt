@@ -44,14 +44,14 @@ returns-4 : tie.Need-returns-4
 returns-4 c =
     let s = c .before .before .before .before .before .args in
     refused-edition (s .edition) (s .bytes .now) (s .n) (s .own) (among (s .n) (s .own) (omega arith) (omega arith) (omega arith))
-    (le-ltb _ _ (omega arith))
+    (le-ltb (s .edition) 2 (omega arith))
 
 returns-5 : tie.Need-returns-5
 returns-5 c =
     let s = c .before .before .before .before .before .before .args in
     c .frame-refusal .ensures
     ∙ by-frame (s .edition) (s .bytes .now) (s .n) (s .own) (among (s .n) (s .own) (omega arith) (omega arith) (omega arith))
-    (lt-ltb _ _ (omega arith))
+    (lt-ltb (s .edition) 2 (omega arith))
 
 pub check-frame-spec : {M : Type 1} → statement M
 check-frame-spec =

@@ -53,21 +53,24 @@ returns-3 c =
 returns-4 : tie.Need-returns-4
 returns-4 c =
     let k = c .before in
-    let j = k .before .before .before in
-    other-channel (edition j) (n j) (part j) (omega arith) (omega arith) (sym (numbers-are j) ∙ not-false _ (k .before .before .if3 .left))
+    let j = k .before .before .before .before in
+    other-channel (edition j) (n j) (part j) (omega arith) (omega arith) (sym (numbers-are j) ∙ not-false _ (k .before .before .before .if3 .left))
     (sym (k .channel-inside .ensures) ∙ not-true _ (c .if4 .taken))
 
 returns-5 : tie.Need-returns-5
 returns-5 c =
     let k = c .before .before .before in
-    let j = k .before .before .before in
+    let j = k .before .before .before .before in
     c .word-inside .ensures
     ∙ ap (wordInside (n j)) (c .before .word-at3 .ensures)
-    ∙ by-labels (edition j) (n j) (part j) (omega arith) (omega arith) (sym (numbers-are j) ∙ not-false _ (k .before .before .if3 .left))
+    ∙ by-labels (edition j) (n j) (part j) (omega arith) (omega arith) (sym (numbers-are j) ∙ not-false _ (k .before .before .before .if3 .left))
     (sym (k .channel-inside .ensures) ∙ not-false _ (c .before .before .if4 .left))
 
 cast-numbers-inside : tie.Need-cast-numbers-inside
 cast-numbers-inside c = omega (arith, c .shared-slice-known4 .given 2)
+
+cast-channel-inside : tie.Need-cast-channel-inside
+cast-channel-inside c = omega (arith, c .shared-slice-known5 .given 2)
 
 pub record-inside-spec : {M : Type 1} → statement M
 record-inside-spec =
@@ -89,6 +92,9 @@ record-inside-spec =
     (λ c κs. search needs)
     returns-3
     (λ c. search needs)
+    cast-channel-inside
+    (λ c. search needs)
+    (λ c κs. search needs)
     returns-4
     (λ c κs. search needs)
     (λ c κs. search needs)
