@@ -32,7 +32,7 @@ returns-2 c =
     )
 
 -- what is known once the number and the edition are judged
-module _ (c : tie.After-if2) where
+module _ (c : tie.Else2) where
   abbrev n : ℕ
   n = c .before .before .before .before .before .args .n
 
@@ -61,7 +61,7 @@ write-table-requires : tie.Need-write-table-requires
 write-table-requires c κs =
     let j = c .before .before .before in
     let few = valid-few (n j) (sender j) (number j) in
-    (few, omega (arith, few, valid-own (n j) (sender j) (number j)), omega (arith, ltb-true _ 2 (known j)))
+    (few, omega (arith, few, valid-own (n j) (sender j) (number j)), omega (arith, ltb-true (j .before .before .before .before .before .args .edition) 2 (known j)))
 
 same-length : tie.Need-same-length
 same-length c = search needs
