@@ -1,13 +1,13 @@
 -- The limits behind document 01's marked examples M9 and M10, for every event that the table allows, and the channels of
 -- request A9. M10 is read with the numbers of request A6.
 use Prim.Native.Nat.{ℕ, _≤_}
-use mathlib.Core.Bool.{true, false}
-use mathlib.Core.Path.{_≡_, refl}
+use mathlib.Core.Bool.{Bool, true, false, _&&_}
+use mathlib.Core.Path.{_≡_, refl, ap}
 use native.Mathlib.Omega.{arith}
 use lib.IntN.{pos, negsuc}
 use borrow.Author.Tests.{le-leb}
 use Rattle.kinds.specs.declared.Body.the-variants.{Insert, Shift}
-use Rattle.kind_limits.specs.Limits.{postable, insideKind, numbersInside, channelInside}
+use Rattle.kind_limits.specs.Limits.{postable, insideKind, numbersInside, channelInside, onChannel, bodyInside}
 use Rattle.kind_limits.proofs.Laws.{argument-outside}
 
 module _ (channel event : ℕ) (least : 1 ≤ event) (most : event ≤ 99_999_999) where
@@ -22,9 +22,10 @@ module _ (channel event : ℕ) (least : 1 ≤ event) (most : event ≤ 99_999_99
   m10 = simp (le-leb _ _ least, le-leb _ _ most) (refl, refl)
 
 -- whatever the event, no body has a start of 2,700,000
-pub m10-outside : (channel event : ℕ) → insideKind (Insert channel event (pos 2_700_000)) ≡ false
-unfolding insideKind
-m10-outside channel event = argument-outside 2 event (pos 2_700_000) refl
+pub m10-outside : (edition channel event : ℕ) → bodyInside edition (Insert channel event (pos 2_700_000)) ≡ false
+unfolding bodyInside insideKind
+m10-outside edition channel event =
+    ap (λ (t : Bool). t && onChannel edition (Insert channel event (pos 2_700_000))) (argument-outside 2 event (pos 2_700_000) refl)
 
 -- an event up to 65,536 and a start of 16 bits are an insert's
 pub insert-small : (event start : ℕ) → 1 ≤ event → event ≤ 65_536 → start ≤ 65_535 → numbersInside 2 event (pos start) ≡ true
