@@ -67,8 +67,8 @@ module _ (s : Station) (inside : stationInside s ≡ true) (bytes : List ℕ) (a
   unfolding recordsInside
   heard-station r l =
       let a = accepted-frame (s .edition) bytes (s .n) (s .own) accepted in
-      bytes-open (s .n) (part bytes r)
-      (and-left (bytesInside (s .n) (part bytes r)) _ (allBelow-at (getD bytes 2 0) _ (and-left _ _ (a .records-right)) r l))
+      bytes-open (s .edition) (s .n) (part bytes r)
+      (and-left (bytesInside (s .edition) (s .n) (part bytes r)) _ (allBelow-at (getD bytes 2 0) _ (and-left _ _ (a .records-right)) r l))
       .station
 
   pub may-listen : MayListen s both 0
