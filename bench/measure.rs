@@ -130,7 +130,7 @@ unsafe extern "C" {
     #[cfg(relay_host)]
     fn relay_station_fresh(state: *mut u8, state_len: usize, n: u32, own: u32) -> u32;
     #[cfg(relay_host)]
-    fn relay_station_post(state: *mut u8, state_len: usize, kind: u32, event: u32, argument: i32) -> u32;
+    fn relay_station_post(state: *mut u8, state_len: usize, desk: u32, kind: u32, event: u32, argument: i32) -> u32;
     #[cfg(relay_host)]
     fn relay_station_write(state: *const u8, state_len: usize, frame: *mut u8, frame_len: usize, length: *mut u32, length_len: usize) -> u32;
     #[cfg(relay_host)]
@@ -201,7 +201,7 @@ extern "C" fn load_project(_bytes: *const u8, _len: usize, n: u32, rounds: u32) 
 
 /// The bytes of a station's state and of a turn's report: RELAY_STATION_BYTES and RELAY_TURN_BYTES of include/relay.h.
 #[cfg(relay_host)]
-const STATION_BYTES: usize = 1108;
+const STATION_BYTES: usize = 1492;
 #[cfg(relay_host)]
 const TURN_BYTES: usize = 220;
 
@@ -218,8 +218,8 @@ fn play(recorded: &[Vec<Vec<u8>>], n: usize) -> Option<([u8; STATION_BYTES], u32
     unsafe {
         done(relay_station_fresh(at, STATION_BYTES, n as u32, OWN as u32))?;
         for (round, frames) in recorded.iter().enumerate() {
-            if let Some((event, start)) = recorded::due(round, OWN) {
-                sum = mix(sum, (relay_station_post(at, STATION_BYTES, 2, event, start) == 0).into());
+            if let Some((desk, event, start)) = recorded::due(round, OWN) {
+                sum = mix(sum, (relay_station_post(at, STATION_BYTES, desk as u32, 2, event, start) == 0).into());
             }
             done(relay_station_write(at, STATION_BYTES, frame.as_mut_ptr(), frame.len(), length.as_mut_ptr(), 1))?;
             sum = mix(mix(sum, length[0]), frame[round % length[0] as usize].into());

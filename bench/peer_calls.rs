@@ -7,7 +7,7 @@ use relay_peer::air_logs;
 use relay_peer::bodies::Body;
 use relay_peer::frames::{self, Record};
 use relay_peer::group::{Group, Report};
-use relay_peer::labels::PLACES;
+use relay_peer::labels::{PLACES, pack, unpacked};
 use relay_peer::load;
 use relay_peer::queues::{DEFAULT_LIMIT, Lane, Queue};
 use relay_peer::refusals::{Refusal, number};
@@ -37,7 +37,7 @@ impl Reader<'_> {
     }
 
     fn record(&mut self) -> Record {
-        Record { station: self.small(), count: self.bytes::<1>()[0], body: self.body(), labels: self.bytes() }
+        Record { station: self.small(), count: self.bytes::<1>()[0], body: self.body(), labels: pack(&self.bytes(), PLACES) }
     }
 
     fn station(&mut self) -> Station {
@@ -77,7 +77,7 @@ fn put_station(out: &mut Vec<u8>, station: &Station) {
     for record in &station.table {
         out.extend([record.station as u8, record.count]);
         put_body(out, &record.body);
-        out.extend(record.labels);
+        out.extend((0..PLACES).map(|k| unpacked(record.labels, k)));
     }
     for lane in &station.lanes {
         out.push(lane.len as u8);

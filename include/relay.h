@@ -33,7 +33,7 @@ enum relay_refusal {
     RELAY_DONE = 0,           /* nothing is wrong */
     RELAY_BAD_NUMBER = 1,     /* n is not 1 to 16, a station is not below n, or too many rounds are due */
     RELAY_OUTSIDE_LIMITS = 2, /* the bytes are no state, or the state is outside its limits */
-    RELAY_QUEUE_FULL = 3,     /* as many edits wait already as the station's limit */
+    RELAY_QUEUE_FULL = 3,     /* as many edits of the desk wait already as the station's limit */
     RELAY_NOT_AN_EDIT = 4,    /* the posted numbers are no edit of the kind table */
     RELAY_BAD_SHAPE = 5,      /* the length, byte 2 or byte 3 of a frame is wrong */
     RELAY_BAD_ADDRESS = 6,    /* the frame is for another n, or its sender is own or not below n */
@@ -44,6 +44,7 @@ enum relay_refusal {
     RELAY_BAD_LINK_LOG = 12,  /* a link log is not whole rounds, or has more than 2,048 */
     RELAY_BAD_LIMIT = 13,     /* a limit of waiting edits is not 1 to 32 */
     RELAY_CONFLICT = 14,      /* a heard record has the label and the count of the held one, and differs from it */
+    RELAY_BAD_DESK = 15,      /* a desk is neither 0 nor 1 */
     RELAY_BAD_LISTING = 16,   /* a listing has a line of another form, or does not end with its last line */
     RELAY_BAD_QUESTION = 18,  /* a question is bad, is not whole, or is past the 64th */
     RELAY_BAD_CONTEST = 20    /* a contest has too many stations, sets or rounds, or no whole sets of masks */
@@ -91,7 +92,7 @@ uint32_t relay_frame_check(const uint8_t *bytes, size_t len, uint32_t n, uint32_
 /* A longest frame: sixteen records behind four bytes. */
 #define RELAY_FRAME_MOST 260
 
-/* A station is 1,108 bytes: a head of 16, sixteen places of 44, and 388 of waiting edits.
+/* A station is 1,492 bytes: a head of 16, sixteen places of 44, and 772 of waiting edits.
 
        0                n, the number of stations
        1                own number
@@ -106,23 +107,25 @@ uint32_t relay_frame_check(const uint8_t *bytes, size_t len, uint32_t n, uint32_
            + 4 to 15      the lane's oldest body
            + 16 to 27     the lane's second body
            + 28 to 43     record of station k
-       720              number of waiting edits
-       721              limit of waiting edits
-       722, 723         zero
-       724 + 12 i       waiting edit i, oldest first, for i = 0 to 31
+       720              number of waiting edits of desk 0
+       721              limit of waiting edits, which each desk has for itself
+       722              number of waiting edits of desk 1
+       723              the desk that goes first where both have waiting edits, 0 or 1
+       724 + 12 i       waiting edit i of desk 0, oldest first, for i = 0 to 31
+       1,108 + 12 i     waiting edit i of desk 1, oldest first, for i = 0 to 31
 
-   Every field is there, also for stations from n up, past the length of a lane, past the number of waiting
-   edits, and the record of a station of which none is held. No call reads or judges those, and the calls
+   Every field is there, also for stations from n up, past the length of a lane, past the number of a desk's
+   waiting edits, and the record of a station of which none is held. No call reads or judges those, and the calls
    keep them as document 01 says; a fresh station has them zero.
 
-   Bytes that are no station, and give 2: a length that is not 1,108; a flag above 1; a byte that must be
-   zero and is not; twelve bytes that are no body; sixteen that are no record. All other bytes are a
+   Bytes that are no station, and give 2: a length that is not 1,492; a flag or a byte 723 above 1; a byte
+   that must be zero and is not; twelve bytes that are no body; sixteen that are no record. All other bytes are a
    station. It may still be outside its limits, which gives 2 as well. */
-#define RELAY_STATION_BYTES 1108
+#define RELAY_STATION_BYTES 1492
 
-/* A group is sixteen stations, one behind the other, 17,728 bytes: station k from 1,108 k on. Its n is that
+/* A group is sixteen stations, one behind the other, 23,872 bytes: station k from 1,492 k on. Its n is that
    of station 0. Stations from n up are neither judged nor changed, but their bytes must be a station's. */
-#define RELAY_GROUP_BYTES 17728
+#define RELAY_GROUP_BYTES 23872
 
 /* The report of a turn is 220 bytes.
 
@@ -148,11 +151,11 @@ uint32_t relay_frame_check(const uint8_t *bytes, size_t len, uint32_t n, uint32_
 #define RELAY_REPORT_BYTES 704
 #define RELAY_ROUND_BYTES 11264
 
-/* The limit of waiting edits where none is named, and the largest. */
+/* The limit of waiting edits of a desk where none is named, and the largest. */
 #define RELAY_DEFAULT_LIMIT 8
 #define RELAY_MOST_LIMIT 32
 
-/* Makes a fresh station, with no limit named: RELAY_DEFAULT_LIMIT edits may wait at it.
+/* Makes a fresh station, with no limit named: RELAY_DEFAULT_LIMIT edits of each desk may wait at it.
 
    state, state_len  where the station goes: room for at least RELAY_STATION_BYTES
    n                 the number of stations, 1 to 16
@@ -169,46 +172,54 @@ uint32_t relay_frame_check(const uint8_t *bytes, size_t len, uint32_t n, uint32_
        printf("%u %d %d\n", (unsigned)refusal, state[0], state[1]);   prints 0 4 1 */
 uint32_t relay_station_fresh(uint8_t *state, size_t state_len, uint32_t n, uint32_t own);
 
-/* Makes a fresh station at which so many edits may wait. It keeps its limit; no call changes it.
+/* Makes a fresh station at which so many edits of each desk may wait. It keeps its limit; no call
+   changes it.
 
    state, state_len  where the station goes: room for at least RELAY_STATION_BYTES
    n                 the number of stations, 1 to 16
    own               the station's own number, below n
-   limit             how many edits may wait, 1 to RELAY_MOST_LIMIT
+   limit             how many edits of a desk may wait, 1 to RELAY_MOST_LIMIT
 
    Returns 0, or, and then nothing changes, in this order:
        1    n is not 1 to 16, or own is not below n
        13   limit is not 1 to 32
        9    state_len is less than RELAY_STATION_BYTES
 
-   Example: a station alone with room for one edit; the second post is refused.
+   Example: a station alone with room for one edit of each desk; the second of desk 0 is refused.
 
        uint8_t state[RELAY_STATION_BYTES];
        relay_station_fresh_limited(state, sizeof state, 1, 0, 1);
-       uint32_t first = relay_station_post(state, sizeof state, 2, 7, 100);
-       uint32_t second = relay_station_post(state, sizeof state, 2, 8, 100);
-       printf("%u %u %d\n", (unsigned)first, (unsigned)second, state[721]);   prints 0 3 1 */
+       uint32_t first = relay_station_post(state, sizeof state, 0, 2, 7, 100);
+       uint32_t second = relay_station_post(state, sizeof state, 0, 2, 8, 100);
+       uint32_t other = relay_station_post(state, sizeof state, 1, 2, 9, 100);
+       printf("%u %u %u\n", (unsigned)first, (unsigned)second, (unsigned)other);   prints 0 3 0 */
 uint32_t relay_station_fresh_limited(uint8_t *state, size_t state_len, uint32_t n, uint32_t own,
                                      uint32_t limit);
 
-/* Posts an edit at a station: it waits behind those that wait already.
+/* Posts an edit of a desk at a station: it waits behind those of the same desk that wait already. Where
+   an edit may start and both desks have one, the desk that did not start the last edit goes first; a
+   fresh station begins with desk 0.
 
    state, state_len        the station, RELAY_STATION_BYTES bytes; it becomes the station with the edit
+   desk                    the desk that posts, 0 or 1
    kind, event, argument   the edit
 
    Returns 0, or, and then nothing changes, in this order:
        2    the bytes are no station, or it is outside its limits
+       15   desk is neither 0 nor 1
        4    the three numbers are no edit of the kind table
-       3    as many edits wait already as the station's limit
+       3    as many edits of the desk wait already as the station's limit
 
-   Example: an insert at frame 100, and what is no edit.
+   Example: desk 1 posts an insert at frame 100, and what is no edit; there is no desk 2.
 
        uint8_t state[RELAY_STATION_BYTES];
        relay_station_fresh(state, sizeof state, 1, 0);
-       uint32_t first = relay_station_post(state, sizeof state, 2, 7, 100);
-       uint32_t second = relay_station_post(state, sizeof state, 3, 7, 100);
-       printf("%u %u %d\n", (unsigned)first, (unsigned)second, state[720]);   prints 0 4 1 */
-uint32_t relay_station_post(uint8_t *state, size_t state_len, uint32_t kind, uint32_t event,
+       uint32_t first = relay_station_post(state, sizeof state, 1, 2, 7, 100);
+       uint32_t second = relay_station_post(state, sizeof state, 1, 3, 7, 100);
+       uint32_t third = relay_station_post(state, sizeof state, 2, 2, 7, 100);
+       printf("%u %u %u\n", (unsigned)first, (unsigned)second, (unsigned)third);   prints 0 4 15
+       printf("%d %d\n", state[720], state[722]);                                 prints 0 1 */
+uint32_t relay_station_post(uint8_t *state, size_t state_len, uint32_t desk, uint32_t kind, uint32_t event,
                             int32_t argument);
 
 /* Writes the frame of a station: the records that its table holds.
@@ -279,7 +290,7 @@ uint32_t relay_station_hear(uint8_t *state, size_t state_len, const uint8_t *fra
 
        uint8_t state[RELAY_STATION_BYTES], report[RELAY_TURN_BYTES];
        relay_station_fresh(state, sizeof state, 1, 0);
-       relay_station_post(state, sizeof state, 2, 7, 100);
+       relay_station_post(state, sizeof state, 0, 2, 7, 100);
        relay_station_turn(state, sizeof state, report, sizeof report);
        printf("%d %d %d\n", report[0], report[1], report[16]);   prints 0 1 2
        relay_station_turn(state, sizeof state, report, sizeof report);
@@ -308,7 +319,7 @@ uint32_t relay_group_fresh(uint8_t *state, size_t state_len, uint32_t n);
 
    state, state_len  where the group goes: room for at least RELAY_GROUP_BYTES
    n                 the number of stations, 1 to 16
-   limit             how many edits may wait at a station, 1 to RELAY_MOST_LIMIT
+   limit             how many edits of a desk may wait at a station, 1 to RELAY_MOST_LIMIT
 
    Returns 0, or, and then nothing changes, in this order:
        1    n is not 1 to 16
@@ -323,28 +334,32 @@ uint32_t relay_group_fresh(uint8_t *state, size_t state_len, uint32_t n);
               group[2 * RELAY_STATION_BYTES + 721]);   prints 0 32 8 */
 uint32_t relay_group_fresh_limited(uint8_t *state, size_t state_len, uint32_t n, uint32_t limit);
 
-/* Posts an edit at a station of a group.
+/* Posts an edit of a desk at a station of a group.
 
    state, state_len        the group, RELAY_GROUP_BYTES bytes; it becomes the group with the edit
    station                 the station, below the group's n
+   desk                    the desk that posts, 0 or 1
    kind, event, argument   the edit
 
    Returns 0, or, and then nothing changes, in this order:
        2    the bytes are no group, or it is outside its limits: a station is, or has another n, or its own
             number is not its place
        1    station is not below n
+       15   desk is neither 0 nor 1
        4    the three numbers are no edit of the kind table
-       3    as many edits wait at the station already as its limit
+       3    as many edits of the desk wait at the station already as its limit
 
-   Example: a post at station 1, and one at a station that is not there.
+   In a group inside its limits the answer to a desk depends on no edit of the other desk.
+
+   Example: a post of desk 1 at station 1, and one at a station that is not there.
 
        static uint8_t group[RELAY_GROUP_BYTES];
        relay_group_fresh(group, sizeof group, 2);
-       uint32_t first = relay_group_post(group, sizeof group, 1, 4, 7, -50);
-       uint32_t second = relay_group_post(group, sizeof group, 2, 4, 7, -50);
+       uint32_t first = relay_group_post(group, sizeof group, 1, 1, 4, 7, -50);
+       uint32_t second = relay_group_post(group, sizeof group, 2, 1, 4, 7, -50);
        printf("%u %u %d\n", (unsigned)first, (unsigned)second,
-              group[RELAY_STATION_BYTES + 720]);   prints 0 1 1 */
-uint32_t relay_group_post(uint8_t *state, size_t state_len, uint32_t station, uint32_t kind,
+              group[RELAY_STATION_BYTES + 722]);   prints 0 1 1 */
+uint32_t relay_group_post(uint8_t *state, size_t state_len, uint32_t station, uint32_t desk, uint32_t kind,
                           uint32_t event, int32_t argument);
 
 /* Runs one round of a group: all frames are written first; then each station hears those of its mask by

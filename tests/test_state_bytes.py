@@ -28,7 +28,9 @@ def full_station():
         held=replaced(s.held, 2, True),
         lanes=replaced(s.lanes, 2, Queue(2, (INSERTED, DROPPED))),
         table=replaced(s.table, 2, Record(2, 5, INSERTED, LABELS)),
-        waiting=Queue(2, (DROPPED, SHIFTED) + (EMPTY,) * (CAPACITY - 3) + (NEUTRAL,)))
+        waiting=Queue(2, (DROPPED, SHIFTED) + (EMPTY,) * (CAPACITY - 3) + (NEUTRAL,)),
+        waiting_1=Queue(3, (INSERTED, INSERTED, DROPPED) + (EMPTY,) * (CAPACITY - 4) + (SHIFTED,)),
+        first=1)
 
 
 class Places(unittest.TestCase):
@@ -36,12 +38,12 @@ class Places(unittest.TestCase):
         self.assertEqual(data[at:at + len(expected)], bytes(expected), at)
 
     def test_sizes(self):
-        self.assertEqual((formats.BODY, formats.RECORD, formats.STATION, formats.GROUP), (12, 16, 1_108, 17_728))
+        self.assertEqual((formats.BODY, formats.RECORD, formats.STATION, formats.GROUP), (12, 16, 1_492, 23_872))
         self.assertEqual((formats.TURN, formats.REPORT, formats.ROUND), (220, 704, 11_264))
 
     def test_station(self):
         data = formats.station_bytes(full_station())
-        self.assertEqual(len(data), 1_108)
+        self.assertEqual(len(data), 1_492)
         self.assert_at(data, 0, [4, 1, 77, 0])
         self.assert_at(data, 4, SHIFTED_BYTES)
         self.assert_at(data, 16 + 44 * 1, [1, 1, 1, 0])
@@ -50,18 +52,20 @@ class Places(unittest.TestCase):
         self.assert_at(data, 16 + 44 * 2 + 16, DROPPED_BYTES)
         self.assert_at(data, 16 + 44 * 2 + 28, bytes([2, 5, 2, 0]) + INSERTED_BYTES[4:] + (1 + 2 * 4 + 1 * 64 + 3 * 2 ** 30).to_bytes(4, "little"))
         self.assert_at(data, 16 + 44 * 3, [1, 0, 0, 0])
-        self.assert_at(data, 720, [2, 9, 0, 0])
+        self.assert_at(data, 720, [2, 9, 3, 1])
         self.assert_at(data, 724, DROPPED_BYTES + SHIFTED_BYTES)
         self.assert_at(data, 724 + 12 * 31, [1])
+        self.assert_at(data, 1_108, INSERTED_BYTES + INSERTED_BYTES + DROPPED_BYTES)
+        self.assert_at(data, 1_108 + 12 * 31, SHIFTED_BYTES)
 
     def test_group(self):
         data = formats.group_bytes(group.fresh_group_state(3, 9))
-        self.assertEqual(len(data), 17_728)
+        self.assertEqual(len(data), 23_872)
         for k in range(3):
-            self.assert_at(data, 1_108 * k, [3, k])
-            self.assert_at(data, 1_108 * k + 721, [9])
-        self.assert_at(data, 1_108 * 3, [1, 0])
-        self.assert_at(data, 1_108 * 3 + 721, [8])
+            self.assert_at(data, 1_492 * k, [3, k])
+            self.assert_at(data, 1_492 * k + 720, [0, 9, 0, 0])
+        self.assert_at(data, 1_492 * 3, [1, 0])
+        self.assert_at(data, 1_492 * 3 + 720, [0, 8, 0, 0])
 
     def test_turn(self):
         turn = turns.Turned(0, None, True, (NEUTRAL, INSERTED) + (EMPTY,) * 14, True, DROPPED, SHIFTED)
@@ -105,7 +109,7 @@ class Reading(unittest.TestCase):
     def test_no_station(self):
         data = formats.station_bytes(fresh_state(2, 1, 9)._replace(lanes=(NO_LANE,) * PLACES))
         for at, value in ((3, 1), (4, 5), (5, 1), (8, 1), (12, 1), (16, 2), (17, 2), (20, 5), (16 + 28 + 2, 5), (16 + 28 + 3, 1),
-                          (16 + 28 + 4, 1), (16 + 44 * 15, 255), (722, 1), (723, 1), (724 + 12 * 31, 9)):
+                          (16 + 28 + 4, 1), (16 + 44 * 15, 255), (723, 2), (723, 255), (724 + 12 * 31, 9), (1_108, 5), (1_108 + 12 * 31, 9)):
             self.assertIsNone(formats.read_station(data[:at] + bytes([value]) + data[at + 1:]), at)
         for other in (b"", data[:-1], data + b"\0"):
             self.assertIsNone(formats.read_station(other))

@@ -126,7 +126,6 @@ class Post(unittest.TestCase):
     def test_each_desk(self):
         """Both desks, both queues at every length, either desk first: a post changes its own queue."""
         for rng, one in some_stations(200):
-            one = states.with_desk_1(rng, one)
             for desk in (0, 1):
                 mine = station.queue_of(one, desk)
                 refusal, after = station.post(one, EDIT, desk)

@@ -5,10 +5,13 @@ PLACES = 16
 LARGEST_MASK = 65_535
 LAST_ROUND = 999_999
 LONGEST_LINE = 1 + PLACES * WIDTH  # without its line end
+COUNTS = {b"N": (1,), b"P": (4,), b"R": None}  # how many numbers a letter may have; None: one for each station
 
 
 class ScriptReader:
     """Reads a script part by part, up to its first fault. It keeps the line that is not yet whole, and nothing before it."""
+
+    counts = COUNTS         # of another form of scripts, if a class reads one
 
     def __init__(self):
         self.lines = 0      # the lines read without a fault
@@ -25,7 +28,7 @@ class ScriptReader:
                 return
         self.begun = begun
         if len(begun) > LONGEST_LINE:
-            self.fault = words(begun, self.n)
+            self.fault = words(begun, self.n, self.counts)
 
     def close(self):
         """The end of the script, after its last part."""
@@ -36,8 +39,8 @@ class ScriptReader:
 
     def read_line(self, line):
         numbers = numbers_of(line)
-        if numbers is None or not well_formed(line[:1], numbers, self.n):
-            self.fault = words(line, self.n)
+        if numbers is None or not well_formed(line[:1], numbers, self.n, self.counts):
+            self.fault = words(line, self.n, self.counts)
         elif line[:1] == b"R" and self.rounds == LAST_ROUND:
             self.fault = f"a round past {LAST_ROUND:,}"
         else:
@@ -60,35 +63,36 @@ def numbers_of(line):
     return numbers if line[1:] == b"%9d" * len(numbers) % numbers else None
 
 
-def well_formed(letter, numbers, n):
+def well_formed(letter, numbers, n, counts=COUNTS):
     if n is None:
-        return letter == b"N" and len(numbers) == 1 and 1 <= numbers[0] <= PLACES
+        return letter == b"N" and len(numbers) in counts[letter] and 1 <= numbers[0] <= PLACES
     if letter == b"P":
-        return len(numbers) == 4 and min(numbers[:3]) >= 0
+        return len(numbers) in counts[letter] and min(numbers[:3] + numbers[4:]) >= 0
     return letter == b"R" and len(numbers) == n and min(numbers) >= 0 and max(numbers) <= LARGEST_MASK
 
 
 # In words.
 
-def words(line, n):
+def words(line, n, counts):
     """What is wrong with a malformed line, which is cut off if it is too long; n is None for the first line."""
     letter = line[:1]
     if not line:
         return "the line is empty"
     if line.endswith(b"\r") and len(line) <= LONGEST_LINE:
         return "the line ends with a carriage return (hexadecimal 0D); a line end is the one byte 0A"
-    if letter not in (b"N", b"P", b"R"):
-        return f"the line begins with {shown(letter)}; its letter is N, P or R"
+    if letter not in counts:
+        return f"the line begins with {shown(letter)}; its letter is {one_of([known.decode() for known in counts])}"
     if n is None and letter != b"N":
         return f"the line begins with {shown(letter)}; the first line is N with the number of stations"
     if n is not None and letter == b"N":
         return "a second N; it stands once, on the first line"
-    count = {b"N": 1, b"P": 4, b"R": n}[letter]
-    if len(line) != 1 + WIDTH * count:
+    allowed = counts[letter] or (n,)
+    if len(line) not in (1 + WIDTH * count for count in allowed):
         length = f"more than {LONGEST_LINE}" if len(line) > LONGEST_LINE else f"{len(line)}"
-        numbers = "one number" if count == 1 else f"{count} numbers"
-        return f"the line has {length} columns where {letter.decode()} has {1 + WIDTH * count}: the letter and {numbers} of nine columns"
-    for at in range(count):
+        numbers = "one number" if allowed == (1,) else f"{one_of(allowed)} numbers"
+        columns = one_of([1 + WIDTH * count for count in allowed])
+        return f"the line has {length} columns where {letter.decode()} has {columns}: the letter and {numbers} of nine columns"
+    for at in range(len(line) // WIDTH):
         wrong = number_words(line[1 + WIDTH * at:1 + WIDTH * (at + 1)], letter, at)
         if wrong:
             return f"number in columns {2 + WIDTH * at} to {1 + WIDTH * (at + 1)} {wrong}"
@@ -124,6 +128,12 @@ def limit_words(letter, number):
     if letter == b"R" and number > LARGEST_MASK:
         return f"is {number}; a mask is 0 to {LARGEST_MASK:,}"
     return ""
+
+
+def one_of(choices):
+    """One, one or another, one, another or a third."""
+    *others, last = map(str, choices)
+    return f"{', '.join(others)} or {last}" if others else last
 
 
 def shown(byte):

@@ -25,8 +25,8 @@ pub fn rounds(schedule: &[u8], n: u32, rounds: u32) -> u32 {
     let mut reports = [Report::NONE; PLACES];
     let mut sum = 0;
     for number in 0..rounds {
-        if let Some((place, body)) = post_before(number, n) {
-            let _ = group.post(place, 0, body);
+        if let Some((place, desk, body)) = post_before(number, n) {
+            let _ = group.post(place, desk, body);
         }
         let masks = masks_of(&schedule[number as usize % schedule.len()]);
         let _ = group.round(&masks, &mut reports);
@@ -38,15 +38,15 @@ pub fn rounds(schedule: &[u8], n: u32, rounds: u32) -> u32 {
 /// The same work with calls by value.
 pub fn rounds_by_value(schedule: &[u8], n: u32, rounds: u32) -> u32 {
     let (schedule, rest) = schedule.as_chunks::<MASKS_SIZE>();
-    let Ok(group) = Group::fresh(n as usize) else { return 0 };
+    let Ok(group) = Group::fresh(n as usize, CAPACITY) else { return 0 };
     if schedule.is_empty() || !rest.is_empty() {
         return 0;
     }
     let mut stations = group.stations;
     let mut sum = 0;
     for number in 0..rounds {
-        if let Some((place, body)) = post_before(number, n) {
-            stations = by_value::post(stations, place, 0, body).stations;
+        if let Some((place, desk, body)) = post_before(number, n) {
+            stations = by_value::post(stations, place, desk, body).stations;
         }
         let masks = masks_of(&schedule[number as usize % schedule.len()]);
         let done = by_value::round(stations, masks);
@@ -56,11 +56,11 @@ pub fn rounds_by_value(schedule: &[u8], n: u32, rounds: u32) -> u32 {
     (sum % LOW) as u32
 }
 
-/// The post that comes before a round, if one does: where, and what.
-fn post_before(number: u32, n: u32) -> Option<(usize, Body)> {
+/// The post that comes before a round, if one does: where, of which desk, and what. Sixteen posts are desk 0's, the next sixteen desk 1's, and so on.
+fn post_before(number: u32, n: u32) -> Option<(usize, usize, Body)> {
     let post = number / POST_EVERY;
     let insert = Body::Insert { event: 1 + post % 99_999_999, start: (post % 1_000_000) as i32 };
-    (number % POST_EVERY == 0).then_some(((post % n) as usize, insert))
+    (number % POST_EVERY == 0).then_some(((post % n) as usize, (post / 16 % 2) as usize, insert))
 }
 
 fn masks_of(bytes: &[u8; MASKS_SIZE]) -> [u16; PLACES] {

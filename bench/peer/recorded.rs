@@ -13,9 +13,9 @@ pub const OWN: usize = 0;
 /// At every station a post comes before every eighth round, so that edits are started and aired.
 const POST_EVERY: usize = 8;
 
-/// The post of a station before a round, if one is due: event and start frame.
-pub fn due(round: usize, station: usize) -> Option<(u32, i32)> {
-    (round % POST_EVERY == station % POST_EVERY).then_some((1 + round as u32, (100 * station + round) as i32))
+/// The post of a station before a round, if one is due: desk, event and start frame. The desks post in turn.
+pub fn due(round: usize, station: usize) -> Option<(usize, u32, i32)> {
+    (round % POST_EVERY == station % POST_EVERY).then_some((round / POST_EVERY % 2, 1 + round as u32, (100 * station + round) as i32))
 }
 
 /// What a station told in its rounds, for a checksum.
@@ -32,8 +32,8 @@ pub fn record(n: usize, rounds: usize) -> Vec<Vec<Vec<u8>>> {
 /// One round of all stations; gives their frames.
 fn play(stations: &mut [Station], round: usize) -> Vec<Vec<u8>> {
     for (k, station) in stations.iter_mut().enumerate() {
-        if let Some((event, start)) = due(round, k) {
-            let _ = station.post(0, Body::Insert { event, start });
+        if let Some((desk, event, start)) = due(round, k) {
+            let _ = station.post(desk, Body::Insert { event, start });
         }
     }
     let frames: Vec<_> = stations.iter().map(written).collect();
@@ -57,8 +57,8 @@ pub fn rounds(recorded: &[Vec<Vec<u8>>], n: usize) -> u32 {
     let Ok(mut station) = Station::fresh(n, OWN, DEFAULT_LIMIT) else { return 0 };
     let (mut frame, mut sum) = ([0; LARGEST_FRAME], 0);
     for (round, frames) in recorded.iter().enumerate() {
-        if let Some((event, start)) = due(round, OWN) {
-            sum = mix(sum, u32::from(station.post(0, Body::Insert { event, start }).is_ok()));
+        if let Some((desk, event, start)) = due(round, OWN) {
+            sum = mix(sum, u32::from(station.post(desk, Body::Insert { event, start }).is_ok()));
         }
         let Ok(length) = station.write_frame(&mut frame) else { return 0 };
         sum = mix(mix(sum, length as u32), frame[round % length].into());

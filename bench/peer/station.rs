@@ -50,7 +50,7 @@ impl Station {
         station.acked[own] = true;
         station.labels[own] = 1;
         station.held[own] = true;
-        station.table[own] = Record { station: own, count: 0, body: Body::Empty, labels: station.labels };
+        station.table[own] = Record { station: own, count: 0, body: Body::Empty, labels: 1 << (2 * own) };
         Ok(station)
     }
 
@@ -75,7 +75,7 @@ impl Station {
         record.station == k
             && (k == self.own || usize::from(record.count) <= count_limit(self.n))
             && record.body.in_limits()
-            && labels::in_limits(&record.labels, self.n)
+            && labels::labels_of_word(record.labels, self.n)
     }
 
     pub fn post(&mut self, desk: usize, body: Body) -> Result<(), Refusal> {

@@ -99,12 +99,12 @@ static uint32_t called(const struct call *c)
     const uint32_t *n = c->number;
     switch (c->name) {
     case 0: return relay_station_fresh(b[0].lent, b[0].entries, n[0], n[1]);
-    case 1: return relay_station_post(b[0].lent, b[0].entries, n[0], n[1], (int32_t)n[2]);
+    case 1: return relay_station_post(b[0].lent, b[0].entries, n[0], n[1], n[2], (int32_t)n[3]);
     case 2: return relay_station_write(b[0].lent, b[0].entries, b[1].lent, b[1].entries, (uint32_t *)(void *)b[2].lent, b[2].entries);
     case 3: return relay_station_hear(b[0].lent, b[0].entries, b[1].lent, b[1].entries, b[2].lent, b[2].entries);
     case 4: return relay_station_turn(b[0].lent, b[0].entries, b[1].lent, b[1].entries);
     case 5: return relay_group_fresh(b[0].lent, b[0].entries, n[0]);
-    case 6: return relay_group_post(b[0].lent, b[0].entries, n[0], n[1], n[2], (int32_t)n[3]);
+    case 6: return relay_group_post(b[0].lent, b[0].entries, n[0], n[1], n[2], n[3], (int32_t)n[4]);
     case 7: return relay_group_round(b[0].lent, b[0].entries, (const uint16_t *)(const void *)b[1].lent, b[1].entries, b[2].lent, b[2].entries);
     case 8: return relay_station_fresh_limited(b[0].lent, b[0].entries, n[0], n[1], n[2]);
     case 9: return relay_group_fresh_limited(b[0].lent, b[0].entries, n[0], n[1]);

@@ -27,11 +27,11 @@ def station_fresh_limited(state, n, own, limit):
     return station_fresh(state, n, own, limit)
 
 
-def station_post(state, *numbers):
+def station_post(state, desk, *numbers):
     given = formats.read_station(bytes(state))
     if given is None:
         return OUTSIDE_LIMITS, [state]
-    refusal, after = station.post(given, Body(*numbers))
+    refusal, after = station.post(given, Body(*numbers), desk)
     return refusal, [state if refusal else formats.station_bytes(after)]
 
 
@@ -76,11 +76,11 @@ def group_fresh_limited(state, n, limit):
     return group_fresh(state, n, limit)
 
 
-def group_post(state, place, *numbers):
+def group_post(state, place, desk, *numbers):
     given = formats.read_group(bytes(state))
     if given is None:
         return OUTSIDE_LIMITS, [state]
-    refusal, after = group.post(given, place, Body(*numbers))
+    refusal, after = group.post(given, place, Body(*numbers), desk)
     return refusal, [state if refusal else formats.group_bytes(after)]
 
 

@@ -1,16 +1,20 @@
 """What the cases of the calls on stations and groups share: buffers, states that are refused, and the comparison of them."""
 
 import collections
+import itertools
 from array import array
 
-from model import outside
+from model import outside, states
 from model.bodies import DROP, SHIFT
+from model.queues import CAPACITY, Queue
+from model.station import DESKS, queue_of, with_queue
 
 from . import compare, formats
 
 SECONDS = 1_200  # after which a signal ends the test: a call that does not end is a failure too
 MOST_NUMBER = 2 ** 32 - 1
 NUMBERS = (*range(19), 31, 32, 33, 127, 128, 255, 256, 257, 2 ** 16, 2 ** 16 + 1, 2 ** 31 - 1, 2 ** 31, MOST_NUMBER)
+NO_DESKS = (2, 3, 255, 256, 257, 2 ** 16, 2 ** 31, 2 ** 32 - 2, MOST_NUMBER)  # numbers of no desk
 EDGES = (0, 1, 2, 3, 4, 5, 15, 16, 17, 31, 32, 33, 64, 127, 128, 254, 255)
 
 
@@ -31,6 +35,36 @@ def around(size):
 
 def changed(data, at, new):
     return data[:at] + bytes(new) + data[at + len(new):]
+
+
+def some_desk(rng):
+    """A desk, and now and then a number of none."""
+    return rng.choice(DESKS) if rng.random() < 0.9 else rng.choice(NO_DESKS)
+
+
+# Waiting edits of two desks.
+
+def queue_of_length(rng, length):
+    """So many edits, and edits in the slots past them too."""
+    return Queue(length, tuple(states.random_edit(rng) for _ in range(CAPACITY)))
+
+
+def with_room(s):
+    """The station with room for one more edit of each desk."""
+    for desk in DESKS:
+        queue = queue_of(s, desk)
+        s = with_queue(s, desk, queue._replace(length=min(queue.length, s.limit - 1)))
+    return s
+
+
+def both_full(rng, s):
+    return s._replace(waiting=queue_of_length(rng, s.limit), waiting_1=queue_of_length(rng, s.limit))
+
+
+def of_desks(rng, s):
+    """The station with each number of edits of either desk, from none to its limit, and either desk first."""
+    for zero, one, first in itertools.product(sorted({0, 1, s.limit - 1, s.limit}), sorted({0, 1, s.limit - 1, s.limit}), DESKS):
+        yield s._replace(waiting=queue_of_length(rng, zero), waiting_1=queue_of_length(rng, one), first=first)
 
 
 # Bytes that are no station.
@@ -73,8 +107,8 @@ def no_stations(rng, data):
             for value in (2, rng.randint(2, 255), 255):
                 yield changed(data, at + flag, [value])
         yield from no_record(rng, data, at + formats.RECORD_AT)
-    for zero in (2, 3):
-        yield changed(data, formats.WAITING_AT + zero, [rng.choice((1, 2, 128, 255))])
+    for value in (2, 3, rng.randint(2, 255), 255):
+        yield changed(data, formats.FIRST_AT, [value])
     for at in bodies_at():
         yield from no_body(rng, data, at)
 
@@ -87,8 +121,9 @@ def refused_station(rng, station):
         return formats.station_bytes(rng.choice(list(outside.stations_outside(station).values())))
     if choice == 1:
         return rng.choice(list(no_stations(rng, data)))
-    return changed(data, *rng.choice(((0, [0]), (0, [17]), (1, [station.n]), (formats.WAITING_AT, [33]),
-                                      (formats.WAITING_AT, [station.limit + 1]), (formats.WAITING_AT + 1, [0]), (formats.WAITING_AT + 1, [33]))))
+    count = rng.choice(formats.COUNT_AT)
+    return changed(data, *rng.choice(((0, [0]), (0, [17]), (1, [station.n]), (count, [33]), (count, [station.limit + 1]),
+                                      (formats.LIMIT_AT, [0]), (formats.LIMIT_AT, [33]), (formats.FIRST_AT, [2]))))
 
 
 def of_other_length(rng, data):

@@ -12,7 +12,7 @@ from model.bodies import DROP, NEUTRAL_KIND, SHIFT, Body
 from model.group import used_takings
 from model.queues import CAPACITY, LANE_LIMIT, Queue
 from model.records import PLACES, Record, pack, unpack
-from model.station import Station
+from model.station import DESKS, Station, queue_of
 
 ROOT = pathlib.Path(__file__).resolve().parents[2]
 HEADER = (ROOT / "include" / "relay.h").read_text(encoding="utf-8")
@@ -26,8 +26,11 @@ HEAD, PLACE_HEAD, WAITING_HEAD = 4 + BODY, 4, 4
 RECORD_AT = PLACE_HEAD + LANE_LIMIT * BODY
 PLACE = RECORD_AT + RECORD
 WAITING_AT = HEAD + PLACES * PLACE
+EDITS = CAPACITY * BODY              # of one desk
+EDITS_AT = tuple(WAITING_AT + WAITING_HEAD + EDITS * desk for desk in DESKS)
+COUNT_AT, LIMIT_AT, FIRST_AT = (WAITING_AT, WAITING_AT + 2), WAITING_AT + 1, WAITING_AT + 3
 
-assert STATION == WAITING_AT + WAITING_HEAD + CAPACITY * BODY
+assert STATION == WAITING_AT + WAITING_HEAD + EDITS * len(DESKS)
 assert GROUP == PLACES * STATION and ROUND == PLACES * REPORT
 
 BODY_FORM = struct.Struct("<IIi")    # kind and three zero bytes, event, argument
@@ -74,26 +77,28 @@ def place_bytes(station, k):
 def station_bytes(station):
     return (bytes([station.n, station.own, station.count, 0]) + BODY_FORM.pack(*station.body)
             + b"".join([place_bytes(station, k) for k in range(PLACES)])
-            + bytes([station.waiting.length, station.limit, 0, 0]) + bodies_bytes(station.waiting.slots))
+            + bytes([station.waiting.length, station.limit, station.waiting_1.length, station.first])
+            + b"".join([bodies_bytes(queue_of(station, desk).slots) for desk in DESKS]))
 
 
 @functools.lru_cache(maxsize=256)
 def read_station(data):
-    if len(data) != STATION or data[3] or any(data[WAITING_AT + 2:WAITING_AT + WAITING_HEAD]):
+    if len(data) != STATION or data[3] or data[FIRST_AT] not in DESKS:
         return None
     parts = [data[at:at + PLACE] for at in range(HEAD, WAITING_AT, PLACE)]
     body = read_body(*BODY_FORM.unpack(data[4:HEAD]))
     lanes = [Queue(part[3], read_bodies(part[PLACE_HEAD:RECORD_AT])) for part in parts]
     table = tuple(read_table_record(part[RECORD_AT:]) for part in parts)
-    slots = read_bodies(data[WAITING_AT + WAITING_HEAD:])
+    queues = [Queue(data[count], read_bodies(data[at:at + EDITS])) for count, at in zip(COUNT_AT, EDITS_AT)]
     flags = [part[:2] for part in parts]
-    if (body is None or None in table or None in slots or any(None in lane.slots for lane in lanes)
+    if (body is None or None in table or any(None in queue.slots for queue in lanes + queues)
             or any(max(pair) > 1 for pair in flags)):
         return None
     return Station(data[0], data[1], data[2], body,
                    labels=tuple(part[2] for part in parts),
                    acked=tuple(acked == 1 for acked, _ in flags), held=tuple(held == 1 for _, held in flags),
-                   table=table, lanes=tuple(lanes), waiting=Queue(data[WAITING_AT], slots), limit=data[WAITING_AT + 1])
+                   table=table, lanes=tuple(lanes), waiting=queues[0], waiting_1=queues[1],
+                   limit=data[LIMIT_AT], first=data[FIRST_AT])
 
 
 def group_bytes(group):
@@ -132,8 +137,8 @@ def field_at(at):
     if at >= WAITING_AT:
         behind = at - WAITING_AT - WAITING_HEAD
         if behind < 0:
-            return ("number of waiting edits", "limit of waiting edits", "zero", "zero")[behind]
-        return f"waiting edit {behind // BODY}"
+            return ("edits waiting of desk 0", "limit of waiting edits", "edits waiting of desk 1", "desk that goes first")[behind]
+        return f"waiting edit {behind % EDITS // BODY} of desk {behind // EDITS}"
     k, behind = divmod(at - HEAD, PLACE)
     if behind < PLACE_HEAD:
         return f"{('acknowledged', 'held', 'label', 'lane length')[behind]} of station {k}"

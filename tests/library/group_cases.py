@@ -10,14 +10,15 @@ from model.group import fresh_group_state
 from model.queues import CAPACITY, DEFAULT_LIMIT, NO_LANE, Queue, replaced
 from model.records import PLACES, count_limit, successor
 from model.scripts import refused_edit
-from model.station import LARGEST_COUNT, fresh_state
+from model.station import DESKS, LARGEST_COUNT, fresh_state
 
 from . import formats
-from .cases import EDGES, NUMBERS, around, buffer, changed, no_stations, of_other_length, refused_station
+from .cases import (EDGES, NO_DESKS, NUMBERS, around, both_full, buffer, changed, no_stations, of_desks, of_other_length, refused_station,
+                    some_desk, with_room)
 from .station_cases import first_of, lent
 
 FRESH, LIMITED, POST, ROUND = (f"relay_group_{name}" for name in ("fresh", "fresh_limited", "post", "round"))
-ORDERS = {FRESH: (1, 9), LIMITED: (1, 13, 9), POST: (2, 1, 4, 3), ROUND: (2, 10, 14, 8, 9)}
+ORDERS = {FRESH: (1, 9), LIMITED: (1, 13, 9), POST: (2, 1, 15, 4, 3), ROUND: (2, 10, 14, 8, 9)}
 BEYOND = (16, 17, 255, 256, 2 ** 16, 2 ** 31, 2 ** 32 - 1)
 
 
@@ -27,8 +28,9 @@ def some_masks(rng, share=None):
     return array("H", [sum(1 << j for j in range(PLACES) if rng.random() < (share if i != j else 0.5)) for i in range(PLACES)])
 
 
-def post(rng, data, place, body=None):
-    return POST, lent(rng, data), place, *(body or rng.choice((states.random_edit, refused_edit))(rng))
+def post(rng, data, place, body=None, desk=None):
+    return (POST, lent(rng, data), place, some_desk(rng) if desk is None else desk,
+            *(body or rng.choice((states.random_edit, refused_edit))(rng)))
 
 
 def round_of(rng, data, masks, room=formats.ROUND):
@@ -73,6 +75,19 @@ def drawn(rng, count):
     for _ in range(count):
         n = rng.randint(1, PLACES)
         yield from both(rng, formats.group_bytes(some_group(rng, n)), n)
+
+
+def desks(rng):
+    """Two desks at one station of a group: each number of edits of either, which goes first, and that byte above 1."""
+    for n, place, limit in ((1, 0, 1), (3, 1, 2), (16, 15, DEFAULT_LIMIT)):
+        group = calm(rng, some_group(rng, n), n)
+        for s in of_desks(rng, group[place]._replace(limit=limit, acked=(True,) * PLACES)):
+            data = formats.group_bytes(replaced(group, place, s))
+            for desk in (*DESKS, rng.choice(NO_DESKS)):
+                yield post(rng, data, place, states.random_edit(rng), desk)
+            yield round_of(rng, data, array("H", [0] * PLACES))
+            no_desk = changed(data, formats.STATION * place + formats.FIRST_AT, [rng.choice((2, 3, 128, 255))])
+            yield rng.choice((round_of(rng, no_desk, some_masks(rng)), post(rng, no_desk, place, states.random_edit(rng), rng.choice(DESKS))))
 
 
 def run(rng, n, rounds):
@@ -130,8 +145,8 @@ def no_state(rng, count):
             some = list(no_stations(rng, data[at:at + formats.STATION]))
             for bad in rng.sample(some, count):
                 yield from both(rng, changed(data, at, bad), n)
-            for zero in (3, formats.WAITING_AT + rng.choice((2, 3))):
-                yield rng.choice(list(both(rng, changed(data, at + zero, [rng.choice((1, 128, 255))]), n)))
+            for wrong in (3, formats.FIRST_AT):
+                yield rng.choice(list(both(rng, changed(data, at + wrong, [rng.choice((2, 128, 255))]), n)))
         for length in (0, 1, formats.STATION, formats.GROUP - 1, formats.GROUP + 1, 2 * formats.GROUP):
             yield from both(rng, (data + data)[:length], n)
     for _ in range(4):
@@ -170,10 +185,10 @@ def limited_with(rng, faults):
 
 
 def inside(rng, least=1):
-    """A group in which each station has room for an edit, can write its frame and has empty lanes."""
+    """A group in which each station has room for an edit of each desk, can write its frame and has empty lanes."""
     n = rng.randint(least, PLACES)
     group = calm(rng, some_group(rng, n), n)
-    return n, tuple(s._replace(waiting=Queue(min(s.waiting.length, s.limit - 1), s.waiting.slots)) for s in group[:n]) + group[n:]
+    return n, tuple(map(with_room, group[:n])) + group[n:]
 
 
 def state_with(rng, n, group, faults):
@@ -190,10 +205,9 @@ def post_with(rng, faults):
     n, group = inside(rng)
     place = rng.randrange(n)
     if "3" in faults:
-        edits = tuple(states.random_edit(rng) for _ in range(CAPACITY))
-        group = tuple(s._replace(waiting=Queue(s.limit, edits)) for s in group[:n]) + group[n:]
+        group = tuple(both_full(rng, s) for s in group[:n]) + group[n:]
     return post(rng, state_with(rng, n, group, faults), rng.choice((n, *BEYOND)) if "1" in faults else place,
-                (refused_edit if "4" in faults else states.random_edit)(rng))
+                (refused_edit if "4" in faults else states.random_edit)(rng), rng.choice(NO_DESKS if "15" in faults else DESKS))
 
 
 def overflowing(rng, group, i, j):
@@ -263,7 +277,7 @@ def false_tables(rng, count):
         yield refusal, round_of(rng, formats.group_bytes(group), array("H", masks))
 
 
-FAULTS = {FRESH: (fresh_with, ("1", "9")), LIMITED: (limited_with, ("1", "13", "9")), POST: (post_with, ("2", "1", "4", "3")),
+FAULTS = {FRESH: (fresh_with, ("1", "9")), LIMITED: (limited_with, ("1", "13", "9")), POST: (post_with, ("2", "1", "15", "4", "3")),
           ROUND: (round_with, ("2", "10", "14", "8", "9, masks", "9, reports"))}
 
 

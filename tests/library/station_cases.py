@@ -9,15 +9,16 @@ from model.frames import frame_bytes, numbers_valid
 from model.queues import CAPACITY, DEFAULT_LIMIT, NO_LANE, Queue, replaced
 from model.records import PLACES, count_limit, successor
 from model.scripts import refused_edit
-from model.station import LARGEST_COUNT, fresh_state
+from model.station import DESKS, LARGEST_COUNT, fresh_state
 
 from . import formats
-from .cases import EDGES, NUMBERS, around, buffer, changed, lengths, no_stations, of_other_length, refused_station
+from .cases import (EDGES, NO_DESKS, NUMBERS, around, both_full, buffer, changed, lengths, no_stations, of_desks, of_other_length,
+                    refused_station, some_desk, with_room)
 
 LARGEST_FRAME = formats.SIZES["FRAME_MOST"]
 FRESH, LIMITED, POST, WRITE, HEAR, TURN = (f"relay_station_{name}" for name in (
     "fresh", "fresh_limited", "post", "write", "hear", "turn"))
-ORDERS = {FRESH: (1, 9), LIMITED: (1, 13, 9), POST: (2, 4, 3), WRITE: (2, 10, 9),
+ORDERS = {FRESH: (1, 9), LIMITED: (1, 13, 9), POST: (2, 15, 4, 3), WRITE: (2, 10, 9),
           HEAR: (2, 5, 6, 7, 14, 8, 9), TURN: (2, 9)}
 
 
@@ -41,8 +42,8 @@ def any_frame(rng, n):
 
 # One call of each kind on a state.
 
-def post(rng, data, body=None):
-    return POST, lent(rng, data), *(body or rng.choice((states.random_edit, refused_edit))(rng))
+def post(rng, data, body=None, desk=None):
+    return POST, lent(rng, data), some_desk(rng) if desk is None else desk, *(body or rng.choice((states.random_edit, refused_edit))(rng))
 
 
 def write(rng, data, room=LARGEST_FRAME, length=1):
@@ -93,6 +94,22 @@ def drawn(rng, count):
         yield from all_calls(rng, formats.station_bytes(s), some_frame(rng, s))
 
 
+def desks(rng):
+    """Two desks: each number of edits of either, which goes first, and that byte above 1; posts of both and of none, and turns."""
+    for n, limit in ((1, 1), (1, 2), (3, DEFAULT_LIMIT), (16, CAPACITY)):
+        s = states.random_station(rng, n, rng.randrange(n))._replace(limit=limit, acked=(True,) * PLACES)
+        for s in of_desks(rng, s):
+            free, full = (s._replace(lanes=replaced(s.lanes, s.own, lane)) for lane in (NO_LANE, Queue(1, (NEUTRAL, EMPTY))))
+            for desk in (*DESKS, rng.choice(NO_DESKS)):
+                yield post(rng, formats.station_bytes(s), states.random_edit(rng), desk)
+            for one in (free, full):
+                yield turn(rng, formats.station_bytes(one))
+            no_desk = changed(formats.station_bytes(free), formats.FIRST_AT, [rng.choice((2, 3, 128, 255))])
+            yield rng.choice((turn(rng, no_desk), post(rng, no_desk, states.random_edit(rng), rng.choice(DESKS))))
+    for desk in NUMBERS:
+        yield post(rng, formats.station_bytes(fresh_state(2, 1, DEFAULT_LIMIT)), states.random_edit(rng), desk)
+
+
 def heard_frames(rng, count):
     """Any bytes as a frame, by a station inside its limits."""
     for data, n, own in drawn_frames.cases(rng.random(), count):
@@ -136,7 +153,7 @@ def each_byte(rng, n, own, values):
     """A station with each of its bytes changed: to so many of the values at an edge, or to all where 0 is given."""
     s = states.random_station(rng, n, own)
     data, frame = formats.station_bytes(s._replace(lanes=(NO_LANE,) * n + s.lanes[n:])), some_frame(rng, s)
-    makers = (lambda bad: post(rng, bad, states.random_edit(rng)), lambda bad: write(rng, bad),
+    makers = (lambda bad: post(rng, bad, states.random_edit(rng), rng.choice(DESKS)), lambda bad: write(rng, bad),
               lambda bad: hear(rng, bad, frame), lambda bad: turn(rng, bad))
     for at, byte in enumerate(data):
         near = sorted({*EDGES, byte ^ 1, byte + 1 & 255, byte - 1 & 255, rng.randrange(256)} - {byte})
@@ -219,12 +236,11 @@ def limited_with(rng, faults):
 
 
 def inside(rng):
-    """A station of at least two whose lanes are empty, whose own count can be written and who has room for an edit."""
+    """A station of at least two whose lanes are empty, whose own count can be written and who has room for an edit of each desk."""
     n = rng.randint(2, PLACES)
     s = states.random_station(rng, n, rng.randrange(n))
     table = replaced(s.table, s.own, s.table[s.own]._replace(count=rng.randint(0, count_limit(n))))
-    waiting = Queue(min(s.waiting.length, s.limit - 1), s.waiting.slots)
-    return s._replace(lanes=(NO_LANE,) * n + s.lanes[n:], table=table, waiting=waiting)
+    return with_room(s._replace(lanes=(NO_LANE,) * n + s.lanes[n:], table=table))
 
 
 def state_with(rng, s, faults):
@@ -235,8 +251,9 @@ def state_with(rng, s, faults):
 def post_with(rng, faults):
     s = inside(rng)
     if "3" in faults:
-        s = s._replace(waiting=Queue(s.limit, tuple(states.random_edit(rng) for _ in range(CAPACITY))))
-    return post(rng, state_with(rng, s, faults), (refused_edit if "4" in faults else states.random_edit)(rng))
+        s = both_full(rng, s)
+    return post(rng, state_with(rng, s, faults), (refused_edit if "4" in faults else states.random_edit)(rng),
+                rng.choice(NO_DESKS if "15" in faults else DESKS))
 
 
 def write_with(rng, faults):
@@ -294,7 +311,7 @@ def false_frames(rng, count):
 
 
 FAULTS = {FRESH: (fresh_with, ("1, n", "1, own", "9")), LIMITED: (limited_with, ("1, n", "1, own", "13", "9")),
-          POST: (post_with, ("2", "4", "3")),
+          POST: (post_with, ("2", "15", "4", "3")),
           WRITE: (write_with, ("2", "10", "9, frame", "9, length")),
           HEAR: (hear_with, ("2", "5", "6", "7", "14", "8", "9")), TURN: (turn_with, ("2", "9"))}
 

@@ -13,8 +13,10 @@ from model import frames, group, hearing, outside, queues, station, states, turn
 from model.bodies import EMPTY, NEUTRAL
 from model.queues import NO_LANE, Queue, replaced
 from model.records import PLACES, own_label
+from model.station import DESKS, queue_of, with_queue
 
 from . import answers, formats, group_cases as groups, rooms, station_cases as stations
+from .cases import queue_of_length
 
 HEAR, POST, WRITE, TURN = stations.HEAR, stations.POST, stations.WRITE, stations.TURN
 U8 = ctypes.c_uint8
@@ -104,9 +106,35 @@ def all_unacknowledged(one, right=turns.end):
 
 
 def newest_first(one, right=turns.choose_body):
-    count = one.waiting.length
-    slots = one.waiting.slots[:count][::-1] + one.waiting.slots[count:]
-    return right(one._replace(waiting=one.waiting._replace(slots=slots)))
+    for desk in DESKS:
+        queue = queue_of(one, desk)
+        one = with_queue(one, desk, queue._replace(slots=queues.contents(queue)[::-1] + queue.slots[queue.length:]))
+    return right(one)
+
+
+def neutral_gives_way(one, right=turns.choose_body):
+    after, body = right(one)
+    return after._replace(first=1 - one.first) if body == NEUTRAL else after, body
+
+
+def alone_stays(one, right=turns.choose_body):
+    """Which desk goes first moves only where both wait."""
+    after, body = right(one)
+    return after if one.waiting.length and one.waiting_1.length else after._replace(first=one.first), body
+
+
+def post_gives_way(one, desk, queue, right=station.with_queue):
+    """A post lets the other desk go first."""
+    after = right(one, desk, queue)
+    return after._replace(first=1 - desk) if queue.length > queue_of(one, desk).length else after
+
+
+def body_before_desk(one, body, desk, right=station.append_edit):
+    return station.PostedStation(4, one) if right(one, body, 0).refusal == 4 else right(one, body, desk)
+
+
+def desk_0_judged(one, right=station.in_limits):
+    return right(one._replace(waiting_1=queues.NO_WAITING))
 
 
 def oldest_left(lane):
@@ -160,11 +188,19 @@ def any_flags(data, right=formats.read_station.__wrapped__):
     return right(bytes(data))
 
 
-def any_zeros(data, right=formats.read_station.__wrapped__):
-    """Bytes that must be zero, but for those of bodies and records, read as zero."""
-    if len(data) == formats.STATION:
-        data = data[:3] + bytes(1) + data[4:formats.WAITING_AT + 1] + bytes(3) + data[formats.WAITING_AT + 4:]
-    return right(data)
+def any_zero(data, right=formats.read_station.__wrapped__):
+    """The byte that must be zero, but for those of bodies and records, read as zero."""
+    return right(data[:3] + bytes(1) + data[4:] if len(data) == formats.STATION else data)
+
+
+def any_first(data, right=formats.read_station.__wrapped__):
+    """Every number above 1 of the desk that goes first read as 1."""
+    at = formats.FIRST_AT
+    return right(data[:at] + bytes([min(data[at], 1)]) + data[at + 1:] if len(data) == formats.STATION else data)
+
+
+def desks_exchanged(one, right=formats.station_bytes.__wrapped__):
+    return right(one._replace(waiting=one.waiting_1, waiting_1=one.waiting))
 
 
 def front_of(data, right=formats.read_station.__wrapped__):
@@ -238,8 +274,23 @@ ENGINE = {
     "a body left in the unused place of a lane": by_model(lane_without_oldest=oldest_left),
     "waiting slots past the number cleared by a post": by_model(put_last=slots_cleared),
     "waiting slots past the number moved by a start": by_model(without_oldest=one_slot_more),
-    "a queue of one less than the limit is full": by_model(queue_full=lambda one, desk: one.waiting[desk].length >= one.limit - 1),
-    "a queue is full at 32 only": by_model(queue_full=lambda one, desk: one.waiting[desk].length >= 32),
+    "a queue of one less than the limit is full": by_model(queue_full=lambda one, desk: queue_of(one, desk).length >= one.limit - 1),
+    "a queue is full at 32 only": by_model(queue_full=lambda one, desk: queue_of(one, desk).length >= 32),
+    "one limit over both desks": by_model(queue_full=lambda one, desk: one.waiting.length + one.waiting_1.length >= one.limit),
+    "a queue is full where the other desk's is": by_model(queue_full=lambda one, desk, right=station.queue_full: right(one, 0) or right(one, 1)),
+    "a queue is full where desk 0's is": by_model(queue_full=lambda one, desk, right=station.queue_full: right(one, 0)),
+    "every post is desk 0's": by_model(append_edit=lambda one, body, desk, right=station.append_edit: right(one, body, desk if desk > 1 else 0)),
+    "desk 2 posts": by_model(desk_valid=lambda desk: desk <= 2),
+    "15 after 4": by_model(append_edit=body_before_desk),
+    "the same desk twice while the other waits": by_model(other_desk=lambda desk: desk),
+    "desk 0 before desk 1, always": by_model(next_desk=lambda one: 0 if one.waiting.length else 1 if one.waiting_1.length else None),
+    "which desk goes first moved by Neutral": by_model(choose_body=neutral_gives_way),
+    "which desk goes first not moved by a desk that waits alone": by_model(choose_body=alone_stays),
+    "which desk goes first moved by a post": by_model(with_queue=post_gives_way),
+    "desk 1 first on a fresh station": by_model(fresh_state=lambda n, own, limit, right=station.fresh_state: right(n, own, limit)._replace(first=1)),
+    "the waiting edits of desk 1 not judged": by_model(in_limits=desk_0_judged),
+    "a number above 1 of the desk that goes first read as 1": by_model(read_station=any_first),
+    "the edits of desk 1 written before those of desk 0": by_model(station_bytes=desks_exchanged),
     "more may wait than the limit": by_model(waiting_in_limits=lambda waiting, limit, right=station.waiting_in_limits: right(waiting, max(limit, 32))),
     "the limit that is named not kept": by_model(fresh_state=lambda n, own, limit, right=station.fresh_state: right(n, own, 8)),
     "a limit of 33": by_model(limit_valid=lambda limit: 1 <= limit <= 33),
@@ -251,7 +302,7 @@ ENGINE = {
     "lanes from N up judged": by_model(in_limits=places_from_n_up),
     "bytes that are no body read as one": by_model(read_body=any_body),
     "flags above 1 read as 1": by_model(read_station=any_flags),
-    "bytes that must be zero not judged": by_model(read_station=any_zeros),
+    "a byte that must be zero not judged": by_model(read_station=any_zero),
     "what is not in use written as zero": by_model(station_bytes=unused_cleared),
 }
 
@@ -352,7 +403,9 @@ STATION = {
     "9 before the others at a turn": before_two(TURN, lambda buffers, _: 9 if buffers[1][1] < formats.TURN else 0),
     "9 before the others at writing": before_two(WRITE, lambda buffers, _: 9 if buffers[2][1] < 1 else 0),
     "5 before 2": before_two(HEAR, lambda buffers, _: 5 if buffers[1][1] % 16 != 4 else 0),
-    "4 before 2": before_two(POST, lambda _, lent: 4 if lent[1] > 4 else 0),
+    "4 before 2": before_two(POST, lambda _, lent: 4 if lent[2] > 4 else 0),
+    "15 before 2": before_two(POST, lambda _, lent: 15 if lent[1] > 1 else 0),
+    "post gives 4 for 15": one_for_another(POST, 15, 4),
     **dict(outside_buffers(stations.FRESH, 1)), **dict(outside_buffers(stations.LIMITED, 1)), **dict(outside_buffers(POST, 1)), **dict(outside_buffers(WRITE, 3)),
     **dict(outside_buffers(HEAR, 3)), **dict(outside_buffers(TURN, 2)),
 }
@@ -386,6 +439,8 @@ GROUP = {
     "9 before the others at a round": before_two(groups.ROUND, lambda buffers, _: 9 if buffers[1][1] < 16 else 0),
     "13 before 1": before_two(groups.LIMITED, lambda _, lent: 13 if lent[2] > 32 else 0),
     "the limit that is named from N up": by_model(fresh_group_state=limit_from_n_up),
+    "post gives 15 for 1": one_for_another(groups.POST, 1, 15),
+    "15 before 1": before_two(groups.POST, lambda _, lent: 15 if lent[2] > 1 else 0),
     "1 before 2": before_two(groups.POST, lambda _, lent: 1 if lent[1] > 15 else 0),
     "fewer masks accepted": told(lambda refusal, name, buffers: 0 if (name, refusal) == (groups.ROUND, 9) else refusal),
     **dict(outside_buffers(groups.FRESH, 1)), **dict(outside_buffers(groups.LIMITED, 1)), **dict(outside_buffers(groups.POST, 1)), **dict(outside_buffers(groups.ROUND, 3)),
@@ -402,7 +457,8 @@ def busy(rng, count, least=1, own=None):
         own_lane = s.lanes[s.own] if rng.random() < 0.5 else NO_LANE
         full = [Queue(one, (states.random_edit(rng), states.random_edit(rng))) for one in (1, 2)]
         s = s._replace(acked=(True,) * n + s.acked[n:], lanes=replaced(tuple(rng.choices(full, k=n)) + s.lanes[n:], s.own, own_lane),
-                       waiting=Queue(rng.choice((0, 1, s.limit - 1, s.limit)), tuple(states.random_edit(rng) for _ in range(32))))
+                       waiting=queue_of_length(rng, rng.choice((0, 1, s.limit - 1, s.limit))),
+                       waiting_1=queue_of_length(rng, rng.choice((0, 1, s.limit - 1, s.limit))))
         yield s
 
 
@@ -412,6 +468,7 @@ def station_cases(rng):
         found += [case for _, case in stations.at_once(rng, name, 4)]
     for s in busy(rng, 80):
         found += stations.all_calls(rng, formats.station_bytes(s), stations.some_frame(rng, s))
+    found += rng.sample(list(stations.desks(rng)), 150)
     found += stations.drawn(rng, 150)
     found += [(stations.LIMITED, stations.buffer(rng, formats.STATION), 2, 1, limit) for limit in (0, 1, 32, 33)]
     found += [(stations.FRESH, stations.buffer(rng, room), 5, 3) for room in stations.around(formats.STATION)]
@@ -431,10 +488,10 @@ def busy_groups(rng, count):
 
 def named_groups(rng):
     """Groups that show one fault each: two stations exchanged; a station whose broadcast ends while its own lane is full and an edit waits."""
-    fresh = group.fresh_group_state(4)
+    fresh = group.fresh_group_state(4, queues.DEFAULT_LIMIT)
     yield fresh[:1] + (fresh[2], fresh[1]) + fresh[3:]
     edit = states.random_edit(rng)
-    ends = station.post(outside.with_lane(fresh[1], 1, edit), edit).station
+    ends = station.post(outside.with_lane(fresh[1], 1, edit), edit, rng.choice(DESKS)).station
     yield replaced(fresh, 1, ends._replace(acked=tuple(k < 4 or acked for k, acked in enumerate(ends.acked))))
 
 
@@ -447,8 +504,9 @@ def group_cases(rng):
         found += [case for _, case in groups.at_once(rng, name, 1)]
     found += [(groups.LIMITED, groups.buffer(rng, formats.GROUP), n, limit) for n in (1, 3) for limit in (0, 1, 32, 33)]
     for n, given in busy_groups(rng, 20):
-        found += [groups.post(rng, formats.group_bytes(given), place, states.random_edit(rng)) for place in range(n)]
+        found += [groups.post(rng, formats.group_bytes(given), place, states.random_edit(rng), desk) for place in range(n) for desk in DESKS]
         found.append(groups.round_of(rng, formats.group_bytes(given), array("H", [0] * PLACES)))
+    found += rng.sample(list(groups.desks(rng)), 60)
     found += groups.drawn(rng, 30)
     found += groups.another_n(rng)
     found += [(groups.FRESH, groups.buffer(rng, room), 5) for room in groups.around(formats.GROUP)]

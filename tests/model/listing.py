@@ -32,15 +32,15 @@ def station_lines(rounds, place, report):
         yield listing_line(rounds, b"D", place, place, report.started_body)
 
 
-def listing_lines(script):
+def listing_lines(script, read=read_line, limit=LIMIT):
     group, n, rounds = None, None, 0
     for line in split_lines(script):
-        command = None if line is None else read_line(line, n)
+        command = None if line is None else read(line, n)
         if isinstance(command, SizeLine):
             n = command.n
-            group = groups.fresh(n, LIMIT).group
+            group = groups.fresh(n, limit).group
         elif isinstance(command, PostLine):
-            refusal, group = groups.post(group, command.station, command.body)
+            refusal, group = groups.post(group, command.station, command.body, command.desk)
             if refusal != DONE:
                 yield refused_post_line(rounds, command.station, n, refusal)
         elif command is not None and rounds < LAST_ROUND:

@@ -20,8 +20,9 @@ def script_line(letter, numbers):
 
 
 def call_line(call):
+    """The desk is named only where another than desk 0 posts, which no script of document 01 has."""
     if isinstance(call, PostLine):
-        return script_line(b"P", (call.station, *call.body))
+        return script_line(b"P", (call.station, *call.body, *[call.desk] * (call.desk != 0)))
     return script_line(b"R", call.masks)
 
 
@@ -144,7 +145,7 @@ def seeded_desks(seed, shape=None):
         if not isinstance(call, PostLine):
             return call
         desk = int(rng.random() < lean)
-        return call._replace(desk=desk if rng.random() < 0.97 else rng.choice((2, 3, 255, 2**32 - 1)))
+        return call._replace(desk=desk if rng.random() < 0.97 else rng.choice((2, 3, 255, 256, 999_999_999)))
     return n, [with_desk(call) for call in calls]
 
 

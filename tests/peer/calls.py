@@ -20,7 +20,6 @@ def compare():
     for number, (rng, s) in enumerate(states.some_stations(STATIONS, least_n=2)):
         body = rng.choice(states.ANY_BODIES + (states.random_edit(rng),))
         buffer = rng.randbytes(rng.choice((0, 3, 100, 260, 300)))
-        s = states.with_desk_1(rng, s)
         agree(f"station {number}", calls(s, body, rng.choice((0, 1, 0, 1, 2, 255)), buffer, states.some_frame(rng, s)))
     inside = states.random_station(random.Random("inside"), 5, 2)
     for name, s in outside.stations_outside(inside).items():
@@ -126,7 +125,7 @@ def visible_group(given, result):
 
 def some_group(rng, n):
     """Often with counts that can be written and lanes that have places, now and then with a wrong number."""
-    stations = [states.with_desk_1(rng, s) if k < n else s for k, s in enumerate(states.random_group(rng, n))]
+    stations = list(states.random_group(rng, n))
     changed = rng.random()
     for place, s in enumerate(stations[:n]):
         if changed < 0.9:

@@ -90,6 +90,28 @@ def call(name, *arguments):
     return exported(name)(*values)
 
 
+# As include/relay.h defines them.
+GROUP_BYTES, REPORT_BYTES, ROUND_BYTES = 23_872, 704, 11_264
+
+
+def group_fresh(n, limit):
+    """A fresh group as bytes, in which so many edits of a desk may wait at a station."""
+    state = array("B", bytes(GROUP_BYTES))
+    return call("relay_group_fresh_limited", state, n, limit), state
+
+
+def group_post(state, station, desk, kind, event, argument):
+    """Posts an edit; the state becomes the group with it, unless the post is refused."""
+    return call("relay_group_post", state, station, desk, kind, event, argument)
+
+
+def group_round(state, masks):
+    """Runs a round with a mask for each station; the state becomes the group after it. Gives the reports as bytes."""
+    reports = array("B", bytes(ROUND_BYTES))
+    sixteen = array("H", [*masks, *[0] * (PLACES - len(masks))])
+    return call("relay_group_round", state, sixteen, reports), reports
+
+
 def forecast(n, log):
     """For each of sixteen stations how many broadcasts end, and the round of the last. The log is an array of masks."""
     ends, last = array("H", [0] * PLACES), array("H", [0] * PLACES)

@@ -11,7 +11,7 @@ use borrow.Author.Tests.{ltb-true}
 use Rattle.kinds.specs.declared.Body.the-variants.{Empty}
 use Rattle.kinds.specs.Refusals.{done}
 use Rattle.kind_limits.specs.Limits.{postable}
-use Rattle.lanes.specs.Waiting.{hasRoom}
+use Rattle.lanes.specs.Waiting.{isDesk, hasRoom}
 use Rattle.station_rules.specs.declared.Station.{Station}
 use Rattle.station_rules.specs.declared.Taking.{Taking}
 use Rattle.station_rules.proofs.BodyLaws.{empty-inside}
@@ -57,14 +57,16 @@ map-cond false xs = refl
 post-small : (g : List Station) (x : group.Post) → (groupPostCall g x) .refusal < 1000
 unfolding groupPostRefusal
 post-small g x =
-    rw (post-refusal g x) (go (groupInside g) (ltb (x .station) (sizeOf g)) (postable (x .body)) (hasRoom (stationAt g (x .station) .waiting)))
+    rw (post-refusal g x)
+    (go (groupInside g) (ltb (x .station) (sizeOf g)) (isDesk (x .desk)) (postable (x .body)) (hasRoom (stationAt g (x .station) .waiting) (x .desk)))
   where
-    go : (t u v w : Bool) → cond (not t) 2 (cond (not u) 1 (cond (not v) 4 (cond (not w) 3 0))) < 1000
-    go false u v w = omega arith
-    go true false v w = omega arith
-    go true true false w = omega arith
-    go true true true true = omega arith
-    go true true true false = omega arith
+    go : (t u d v w : Bool) → cond (not t) 2 (cond (not u) 1 (cond (not d) 15 (cond (not v) 4 (cond (not w) 3 0)))) < 1000
+    go false u d v w = omega arith
+    go true false d v w = omega arith
+    go true true false v w = omega arith
+    go true true true false w = omega arith
+    go true true true true true = omega arith
+    go true true true true false = omega arith
 
 -- what calls do after a history
 pub record Logs (p n : ℕ) (H : History) (calls : List Call) : Type 0 where

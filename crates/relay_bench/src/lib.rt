@@ -113,13 +113,13 @@ fn masks_of(schedule: &[u8], number: u32) -> [u16; 16]
     masks_at(schedule, at)
 }
 
-// A post, by its number, made at its station.
+// A post, by its number, made at its station: sixteen are desk 0's, the next sixteen desk 1's, and so on.
 fn posted(g: [Station; 16], n: usize, post: u32) -> KeptGroup
     requires { ⌜ 1 ≤ n ⌝ }
 {
     let made = Post {
         station: place_of(post, n),
-        desk: 0,
+        desk: place_of(post / 16, 2),
         body: body_of(post),
     };
     group::post(g, made)

@@ -9,13 +9,13 @@ use lib.Dec.{eqb}
 use lib.ListN.{getD, length, replicate, set}
 use lib.Seq.{sets}
 use borrow.Author.Tests.{eqb-true}
-use Rattle.kinds.specs.declared.Body.{Body}
 use Rattle.kinds.specs.Refusals.{done, outsideLimits, shortBuffer}
 use Rattle.places.specs.Places.{allBelow, fill}
 use Rattle.places.proofs.Laws.{and-left}
 use Rattle.planning_spec.specs.Merge.{frontWritten}
 use Rattle.station_rules.specs.declared.Station.{Station}
 use Rattle.group_rules.specs.declared.KeptGroup.{KeptGroup}
+use Rattle.group_rules.specs.declared.Post.{Post}
 use Rattle.group_rules.specs.declared.RoundDone.{RoundDone}
 use Rattle.group_rules.specs.Calls.{groupPostCall, roundCall}
 use Rattle.station_bytes_spec.specs.Station.{stationWidth, isStationAt}
@@ -63,10 +63,10 @@ group-long b h = eqb-true (length b) groupWidth (and-left (eqb (length b) groupW
 
 module _ (b : List ℕ) (h : isGroup b ≡ false) where
   pub post-no-group :
-      (station : ℕ) (body : Body) →
-      (outsideLimits ≡ groupPostReturned b station body) × (b ≡ frontWritten outsideLimits (encodeGroup (groupPostAnswer b station body .group)) b)
+      (post : Post) →
+      (outsideLimits ≡ groupPostReturned b post) × (b ≡ frontWritten outsideLimits (encodeGroup (groupPostAnswer b post .group)) b)
   unfolding groupPostReturned
-  post-no-group station body = (state-refused (isGroup b) _ h, kept-whole _ _ b refused-is-2)
+  post-no-group post = (state-refused (isGroup b) _ h, kept-whole _ _ b refused-is-2)
 
   pub round-no-group :
       (masks reports : List ℕ) →
@@ -83,23 +83,23 @@ module _ (b : List ℕ) (h : isGroup b ≡ true) (g : List Station) (read : g �
   state-made t l made = front-made (encodeGroup t) b l (omega (arith, length-group t, group-long b h)) made
 
   -- post
-  module _ (station : ℕ) (body : Body) (k : KeptGroup) (call : k ≡ groupPostCall g (record { station = station; body = body })) where
-    post-is : k ≡ groupPostAnswer b station body
-    post-is = call ∙ ap (λ (t : List Station). groupPostCall t (record { station = station; body = body })) read
+  module _ (post : Post) (k : KeptGroup) (call : k ≡ groupPostCall g post) where
+    post-is : k ≡ groupPostAnswer b post
+    post-is = call ∙ ap (λ (t : List Station). groupPostCall t post) read
 
     pub post-refused :
         (k .refusal ≡ done → ⊥) →
-        (k .refusal ≡ groupPostReturned b station body) × (b ≡ frontWritten (k .refusal) (encodeGroup (groupPostAnswer b station body .group)) b)
+        (k .refusal ≡ groupPostReturned b post) × (b ≡ frontWritten (k .refusal) (encodeGroup (groupPostAnswer b post .group)) b)
     unfolding groupPostReturned
     post-refused d = (ap (λ (x : KeptGroup). x .refusal) post-is ∙ state-taken (isGroup b) _ h, kept-whole _ _ b d)
 
     pub post-done :
         k .refusal ≡ done → (l : List ℕ) → l ≡ sets b 0 (encodeGroup (k .group)) →
-        (done ≡ groupPostReturned b station body) × (l ≡ frontWritten done (encodeGroup (groupPostAnswer b station body .group)) b)
+        (done ≡ groupPostReturned b post) × (l ≡ frontWritten done (encodeGroup (groupPostAnswer b post .group)) b)
     unfolding groupPostReturned
     post-done fine l made = (
       sym fine ∙ ap (λ (x : KeptGroup). x .refusal) post-is ∙ state-taken (isGroup b) _ h,
-      state-made (groupPostAnswer b station body .group) l (made ∙ ap (λ (x : KeptGroup). sets b 0 (encodeGroup (x .group))) post-is),
+      state-made (groupPostAnswer b post .group) l (made ∙ ap (λ (x : KeptGroup). sets b 0 (encodeGroup (x .group))) post-is),
     )
 
   -- round

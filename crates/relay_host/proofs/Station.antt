@@ -63,9 +63,11 @@ unfolding isStation
 station-long b h = eqb-true (length b) stationWidth (and-left (eqb (length b) stationWidth) (isStationAt b 0) h)
 
 module _ (b : List ℕ) (h : isStation b ≡ false) where
-  pub post-no-station : (body : Body) → (outsideLimits ≡ postReturned b body) × (b ≡ frontWritten outsideLimits (encodeStation (postAnswer b body .station)) b)
+  pub post-no-station :
+      (desk : ℕ) (body : Body) →
+      (outsideLimits ≡ postReturned b desk body) × (b ≡ frontWritten outsideLimits (encodeStation (postAnswer b desk body .station)) b)
   unfolding postReturned
-  post-no-station body = (state-refused (isStation b) _ h, kept-whole _ _ b refused-is-2)
+  post-no-station desk body = (state-refused (isStation b) _ h, kept-whole _ _ b refused-is-2)
 
   pub hear-no-station :
       (frame taken : List ℕ) →
@@ -89,22 +91,22 @@ module _ (b : List ℕ) (h : isStation b ≡ true) (s : Station) (read : s ≡ d
   state-made t l made = front-made (encodeStation t) b l (omega (arith, length-station t, station-long b h)) made
 
   -- post
-  module _ (body : Body) (k : Kept) (call : k ≡ postCall s body) where
-    post-is : k ≡ postAnswer b body
-    post-is = call ∙ ap (λ (t : Station). postCall t body) read
+  module _ (desk : ℕ) (body : Body) (k : Kept) (call : k ≡ postCall s desk body) where
+    post-is : k ≡ postAnswer b desk body
+    post-is = call ∙ ap (λ (t : Station). postCall t desk body) read
 
     pub post-refused :
-        (k .refusal ≡ done → ⊥) → (k .refusal ≡ postReturned b body) × (b ≡ frontWritten (k .refusal) (encodeStation (postAnswer b body .station)) b)
+        (k .refusal ≡ done → ⊥) → (k .refusal ≡ postReturned b desk body) × (b ≡ frontWritten (k .refusal) (encodeStation (postAnswer b desk body .station)) b)
     unfolding postReturned
     post-refused d = (ap (λ (x : Kept). x .refusal) post-is ∙ state-taken (isStation b) _ h, kept-whole _ _ b d)
 
     pub post-done :
         k .refusal ≡ done → (l : List ℕ) → l ≡ sets b 0 (encodeStation (k .station)) →
-        (done ≡ postReturned b body) × (l ≡ frontWritten done (encodeStation (postAnswer b body .station)) b)
+        (done ≡ postReturned b desk body) × (l ≡ frontWritten done (encodeStation (postAnswer b desk body .station)) b)
     unfolding postReturned
     post-done fine l made = (
       sym fine ∙ ap (λ (x : Kept). x .refusal) post-is ∙ state-taken (isStation b) _ h,
-      state-made (postAnswer b body .station) l (made ∙ ap (λ (x : Kept). sets b 0 (encodeStation (x .station))) post-is),
+      state-made (postAnswer b desk body .station) l (made ∙ ap (λ (x : Kept). sets b 0 (encodeStation (x .station))) post-is),
     )
 
   -- hear

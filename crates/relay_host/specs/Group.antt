@@ -4,10 +4,10 @@ use Prim.Native.Nat.{ℕ}
 use mathlib.Core.Bool.{not}
 use mathlib.Core.List.{List}
 use lib.ListN.{getD}
-use Rattle.kinds.specs.declared.Body.{Body}
 use Rattle.kinds.specs.Refusals.{done, outsideLimits, refuse}
 use Rattle.places.specs.Places.{tabulate}
 use Rattle.group_rules.specs.declared.KeptGroup.{KeptGroup}
+use Rattle.group_rules.specs.declared.Post.{Post}
 use Rattle.group_rules.specs.declared.RoundDone.{RoundDone}
 use Rattle.group_rules.specs.Calls.{groupPostCall, roundCall}
 use Rattle.station_bytes_spec.specs.Group.{groupWidth, decodeGroup, isGroup}
@@ -22,18 +22,18 @@ groupRefusal b = refuse (not (isGroup b)) outsideLimits done
 unfoldable pub groupFreshReturned : KeptGroup → List ℕ → ℕ
 groupFreshReturned made state = orElse (made .refusal) (roomRefusal groupWidth state)
 
--- group post: 2, 1, 4, 3
-abbrev pub groupPostAnswer : List ℕ → ℕ → Body → KeptGroup
-groupPostAnswer state station body = groupPostCall (decodeGroup state) (record { station = station; body = body })
+-- group post: 2, 1, 15, 4, 3
+abbrev pub groupPostAnswer : List ℕ → Post → KeptGroup
+groupPostAnswer state post = groupPostCall (decodeGroup state) post
 
-unfoldable pub groupPostReturned : List ℕ → ℕ → Body → ℕ
-groupPostReturned state station body = orElse (groupRefusal state) ((groupPostAnswer state station body) .refusal)
+unfoldable pub groupPostReturned : List ℕ → Post → ℕ
+groupPostReturned state post = orElse (groupRefusal state) ((groupPostAnswer state post) .refusal)
 
 -- sixteen masks; those that are not there count as 0
 unfoldable pub sixteenMasks : List ℕ → List ℕ
 sixteenMasks masks = tabulate 16 (λ k. getD masks k 0)
 
--- round: 2, 10, 8, 9
+-- round: 2, 10, the first refused frame's 14 or 8, 9
 abbrev pub roundAnswer : List ℕ → List ℕ → RoundDone
 roundAnswer state masks = roundCall (decodeGroup state) (sixteenMasks masks)
 

@@ -43,19 +43,19 @@ namedBody kind event argument = cond (numbersInside kind event argument) (bodyOf
 unfoldable pub freshReturned : Kept → List ℕ → ℕ
 freshReturned made state = orElse (made .refusal) (roomRefusal stationWidth state)
 
--- post: 2, 4, 3
-abbrev pub postAnswer : List ℕ → Body → Kept
-postAnswer state body = postCall (stationOf state) body
+-- post: 2, 15, 4, 3
+abbrev pub postAnswer : List ℕ → ℕ → Body → Kept
+postAnswer state desk body = postCall (stationOf state) desk body
 
-unfoldable pub postReturned : List ℕ → Body → ℕ
-postReturned state body = orElse (stationRefusal state) ((postAnswer state body) .refusal)
+unfoldable pub postReturned : List ℕ → ℕ → Body → ℕ
+postReturned state desk body = orElse (stationRefusal state) ((postAnswer state desk body) .refusal)
 
 -- write: 2, 10, 9
 unfoldable pub writeReturned : List ℕ → List ℕ → List ℕ → ℕ
 writeReturned state frame lengths =
     orElse (stationRefusal state) (orElse ((writeCall (stationOf state) (length frame)) .refusal) (roomRefusal 1 lengths))
 
--- hear: 2, 5, 6, 7, 8, 9
+-- hear: 2, 5, 6, 7, 14, 8, 9
 abbrev pub hearAnswer : List ℕ → List ℕ → Heard
 hearAnswer state frame = hearCall (stationOf state) frame
 

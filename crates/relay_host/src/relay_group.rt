@@ -16,7 +16,7 @@ use kinds::refusals::OUTSIDE_LIMITS;
 use kinds::refusals::SHORT_BUFFER;
 use station_rules::Setup;
 
-const GROUP_WIDTH: usize = 17728;
+const GROUP_WIDTH: usize = 23872;
 
 const REPORTS_WIDTH: usize = 11264;
 
@@ -61,18 +61,21 @@ pub extern "C" fn relay_group_fresh_limited(state: &mut [u8], n: u32, limit: u32
     put_fresh(state, made)
 }
 
-// Group post: one more waiting edit at a station.
+// Group post: one more waiting edit of a desk at a station.
 #[no_mangle]
 pub extern "C" fn relay_group_post(
     state: &mut [u8],
     station: u32,
+    desk: u32,
     kind: u32,
     event: u32,
     argument: i32,
 ) -> u32
-    ensures { λ r. ⌜ (r ≡ groupPostReturned (now (state .entry)) station (namedBody kind event argument))
+    ensures { λ r. ⌜ (r ≡ groupPostReturned (now (state .entry))
+        (record { station = station; desk = desk; body = namedBody kind event argument }))
         × (now (state .exit) ≡ frontWritten r
-        (encodeGroup (groupPostAnswer (now (state .entry)) station (namedBody kind event argument) .group))
+        (encodeGroup (groupPostAnswer (now (state .entry))
+        (record { station = station; desk = desk; body = namedBody kind event argument }) .group))
         (now (state .entry))) ⌝ }
 {
     if !station_decoder::is_group(state) {
@@ -82,6 +85,7 @@ pub extern "C" fn relay_group_post(
     let body = super::relay_station::named_body(kind, event, argument);
     let post = Post {
         station: station as usize,
+        desk: desk as usize,
         body: body,
     };
     let kept = group::post(stations, post);

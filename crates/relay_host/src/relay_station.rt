@@ -16,7 +16,7 @@ use kinds::refusals::SHORT_BUFFER;
 use station_rules::Kept;
 use station_rules::Setup;
 
-const STATION_WIDTH: usize = 1108;
+const STATION_WIDTH: usize = 1492;
 
 const TURN_WIDTH: usize = 220;
 
@@ -72,12 +72,18 @@ pub extern "C" fn relay_station_fresh_limited(state: &mut [u8], n: u32, own: u32
     put_fresh(state, made)
 }
 
-// Post: one more waiting edit.
+// Post: one more waiting edit of a desk.
 #[no_mangle]
-pub extern "C" fn relay_station_post(state: &mut [u8], kind: u32, event: u32, argument: i32) -> u32
-    ensures { λ r. ⌜ (r ≡ postReturned (now (state .entry)) (namedBody kind event argument))
+pub extern "C" fn relay_station_post(
+    state: &mut [u8],
+    desk: u32,
+    kind: u32,
+    event: u32,
+    argument: i32,
+) -> u32
+    ensures { λ r. ⌜ (r ≡ postReturned (now (state .entry)) desk (namedBody kind event argument))
         × (now (state .exit) ≡ frontWritten r
-        (encodeStation (postAnswer (now (state .entry)) (namedBody kind event argument) .station))
+        (encodeStation (postAnswer (now (state .entry)) desk (namedBody kind event argument) .station))
         (now (state .entry))) ⌝ }
 {
     if !station_decoder::is_station(state) {
@@ -85,7 +91,7 @@ pub extern "C" fn relay_station_post(state: &mut [u8], kind: u32, event: u32, ar
     }
     let station = station_decoder::read_station(state);
     let body = named_body(kind, event, argument);
-    let kept = station::post(station, body);
+    let kept = station::post(station, desk as usize, body);
     if kept.refusal != DONE {
         return kept.refusal;
     }

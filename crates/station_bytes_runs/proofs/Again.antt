@@ -40,7 +40,7 @@ pub record Again (s : Station) : Type 0 where
 
 pub again : (s : Station) → Shaped s → Fitting s → stationInside s ≡ true → Again s
 again s shape f h =
-    let t : Typed s = record { shape = shape; body-typed = f .body; cell-typed = f .cells; edit-typed = λ i l. edit-fits (s .waiting) (f .edits) i } in
+    let t : Typed s = record { shape = shape; body-typed = f .body; cell-typed = f .cells; edit-typed = λ d i l. edit-fits (s .waiting) (f .edits) d i } in
     record { inside = h; accepted = inside-accepted s t h; decoded = inside-decoded s t h }
 
 -- what is refused with 2 first is inside where it is done
@@ -50,19 +50,19 @@ inside-first false x h = absurd (omega (arith, h))
 
 module _ (s : Station) (shape : Shaped s) (f : Fitting s) where
   -- post
-  module _ (b : Body) (g : BodyFits b) (fine : (postCall s b) .refusal ≡ done) where
+  module _ (d : ℕ) (b : Body) (g : BodyFits b) (fine : (postCall s d b) .refusal ≡ done) where
     post-inside : stationInside s ≡ true
     unfolding postCall
-    post-inside = inside-first (stationInside s) (postRefusal s b) fine
+    post-inside = inside-first (stationInside s) (postRefusal s d b) fine
 
-    post-station : (postCall s b) .station ≡ posted s b
+    post-station : (postCall s d b) .station ≡ posted s d b
     unfolding postCall
     post-station = rw (eq-eqb _ done fine)
 
-    pub post-again : Again ((postCall s b) .station)
+    pub post-again : Again ((postCall s d b) .station)
     post-again =
-        again ((postCall s b) .station) (subst Shaped (sym post-station) (posted-shaped s b shape)) (subst Fitting (sym post-station) (posted-fitting s b f g))
-        (post-call-inside s shape post-inside b)
+        again ((postCall s d b) .station) (subst Shaped (sym post-station) (posted-shaped s d b shape)) (subst Fitting (sym post-station) (posted-fitting s d b f g))
+        (post-call-inside s shape post-inside d b)
 
   -- turn
   module _ (fine : (turnCall s) .refusal ≡ done) where
@@ -152,8 +152,8 @@ module _ (b : List ℕ) (small : AllBytes b) where
   abbrev now : Station
   now = decodeStation b 0
 
-  pub after-post : (body : Body) → BodyFits body → (postCall now body) .refusal ≡ done → Again ((postCall now body) .station)
-  after-post body g fine = post-again now (station-shaped b small 0) (station-fitting b small 0) body g fine
+  pub after-post : (desk : ℕ) (body : Body) → BodyFits body → (postCall now desk body) .refusal ≡ done → Again ((postCall now desk body) .station)
+  after-post desk body g fine = post-again now (station-shaped b small 0) (station-fitting b small 0) desk body g fine
 
   pub after-turn : (turnCall now) .refusal ≡ done → Again ((turnCall now) .station)
   after-turn fine = turn-again now (station-shaped b small 0) (station-fitting b small 0) fine

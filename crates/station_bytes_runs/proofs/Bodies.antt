@@ -18,11 +18,12 @@ use Rattle.places.proofs.Keeps.{cond-keeps, set-keeps}
 use Rattle.frame_rules.specs.Words.{signed}
 use Rattle.lanes.specs.declared.Lane.{Lane}
 use Rattle.lanes.specs.declared.Slot.{Slot}
+use Rattle.lanes.specs.declared.Queue.{Queue}
 use Rattle.lanes.specs.declared.Waiting.{Waiting}
 use Rattle.lanes.specs.Lane.{bodies, laneOf, pushed, popped}
 use Rattle.lanes.specs.Queue.{noSlot, emptyQueue, queued, oldest, unqueued}
-use Rattle.lanes.specs.Waiting.{noneWaiting, waitingAt, withPosted, nextEdit, withoutNext}
-use Rattle.lanes.proofs.WaitingLaws.{WaitingSized}
+use Rattle.lanes.specs.Waiting.{noneWaiting, queueOf, waitingAt, withQueue, withPosted, nextDesk, nextEdit, withoutNext}
+use Rattle.lanes.proofs.WaitingLaws.{each-queue}
 use Rattle.station_bytes_spec.proofs.Body.{BodyFits}
 
 pub empty-fits : BodyFits Empty
@@ -115,39 +116,65 @@ cons-fits s xs f g = record { slot = go }
     go zero = f
     go (suc i) = g .slot i
 
-abbrev pub EditsFit : Waiting → Type 0
-EditsFit w = SlotsFit (w .queue .slots)
+-- a queue with a body put last, and with its oldest removed
+queued-fits : (q : Queue) → SlotsFit (q .slots) → (b : Body) → BodyFits b → SlotsFit ((queued q b) .slots)
+unfolding queued
+queued-fits q f b g =
+    slots-fit (set (q .slots) (q .len) (record { body = b }))
+    (λ i l.
+    set-keeps (λ (s : Slot). BodyFits (s .body)) (q .slots) (q .len) (record { body = b }) noSlot i
+    (rw (length-set (q .slots) (q .len) (record { body = b })) at l) (f .slot i) g)
+
+unqueued-fits : (q : Queue) → SlotsFit (q .slots) → SlotsFit ((unqueued q) .slots)
+unfolding unqueued
+unqueued-fits q f =
+    append-fits (take (q .len - 1) (drop 1 (q .slots))) (noSlot ∷ drop (q .len) (q .slots))
+    (take-fits (drop 1 (q .slots)) (drop-fits (q .slots) f 1) (q .len - 1))
+    (cons-fits noSlot (drop (q .len) (q .slots)) empty-fits (drop-fits (q .slots) f (q .len)))
+
+-- the edits of both desks fit
+pub record EditsFit (w : Waiting) : Type 0 where
+  pub zero-fits : SlotsFit (w .queue0 .slots)
+  pub one-fits : SlotsFit (w .queue1 .slots)
+
+abbrev QueueFits : Queue → Type 0
+QueueFits q = SlotsFit (q .slots)
 
 module _ (w : Waiting) (f : EditsFit w) where
-  pub posted-fit : (b : Body) → BodyFits b → EditsFit (withPosted w b)
-  unfolding withPosted queued
-  posted-fit b g =
-      slots-fit (set (w .queue .slots) (w .queue .len) (record { body = b }))
-      (λ i l.
-      set-keeps (λ (s : Slot). BodyFits (s .body)) (w .queue .slots) (w .queue .len) (record { body = b }) noSlot i
-      (rw (length-set (w .queue .slots) (w .queue .len) (record { body = b })) at l) (f .slot i) g)
+  queue-fits : (d : ℕ) → SlotsFit ((queueOf w d) .slots)
+  queue-fits d = each-queue QueueFits w (f .zero-fits) (f .one-fits) d
+
+  with-fits : (d : ℕ) (q : Queue) → SlotsFit (q .slots) → EditsFit (withQueue w d q)
+  with-fits d q g =
+      record {
+        zero-fits = cond-keeps QueueFits (eqb d 0) q (w .queue0) g (f .zero-fits);
+        one-fits = cond-keeps QueueFits (eqb d 0) (w .queue1) q (f .one-fits) g;
+      }
+
+  pub posted-fit : (d : ℕ) (b : Body) → BodyFits b → EditsFit (withPosted w d b)
+  unfolding withPosted
+  posted-fit d b g = with-fits d (queued (queueOf w d) b) (queued-fits (queueOf w d) (queue-fits d) b g)
 
   pub started-fit : EditsFit (withoutNext w)
-  unfolding withoutNext unqueued
+  unfolding withoutNext
   started-fit =
-      let slots = w .queue .slots in
-      append-fits (take (w .queue .len - 1) (drop 1 slots)) (noSlot ∷ drop (w .queue .len) slots)
-      (take-fits (drop 1 slots) (drop-fits slots f 1) (w .queue .len - 1)) (cons-fits noSlot (drop (w .queue .len) slots) empty-fits (drop-fits slots f (w .queue .len)))
+      let d = nextDesk w in
+      let e = with-fits d (unqueued (queueOf w d)) (unqueued-fits (queueOf w d) (queue-fits d)) in
+      record { zero-fits = e .zero-fits; one-fits = e .one-fits }
 
   pub next-fits : BodyFits (nextEdit w)
   unfolding nextEdit oldest
-  next-fits = f .slot 0
+  next-fits = queue-fits (nextDesk w) .slot 0
 
-  pub edit-fits : (i : ℕ) → BodyFits (waitingAt w i)
+  pub edit-fits : (d i : ℕ) → BodyFits (waitingAt w d i)
   unfolding waitingAt
-  edit-fits i = f .slot i
+  edit-fits d i = queue-fits d .slot i
 
 pub none-fit : (limit : ℕ) → EditsFit (noneWaiting limit)
 unfolding noneWaiting emptyQueue
-none-fit limit =
-    slots-fit (replicate 32 noSlot)
-    (λ i l. subst (λ (s : Slot). BodyFits (s .body)) (sym (getD-replicate 32 i noSlot noSlot (rw (length-replicate 32 noSlot) at l))) empty-fits)
-
-pub edits-fit : (w : Waiting) → WaitingSized w → ((i : ℕ) → i < 32 → BodyFits (waitingAt w i)) → EditsFit w
-unfolding waitingAt
-edits-fit w sized h = slots-fit (w .queue .slots) (λ i l. h i (omega (arith, sized .slots)))
+none-fit limit = record { zero-fits = empty; one-fits = empty }
+  where
+    empty : SlotsFit (replicate 32 noSlot)
+    empty =
+        slots-fit (replicate 32 noSlot)
+        (λ i l. subst (λ (s : Slot). BodyFits (s .body)) (sym (getD-replicate 32 i noSlot noSlot (rw (length-replicate 32 noSlot) at l))) empty-fits)

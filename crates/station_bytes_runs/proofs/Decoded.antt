@@ -5,7 +5,7 @@ use mathlib.Core.List.{List, [], _∷_, _++_}
 use Prim.Native.Nat.{ℕ, zero, suc, _+_, _*_, _<_, _≤_}
 use native.Mathlib.Omega.{arith}
 use lib.Dec.{ltb}
-use lib.ListN.{getD, drop, length-take, List·getD-eq-default}
+use lib.ListN.{getD, drop, length, length-take, List·getD-eq-default}
 use lib.Seq.{getD-take, getD-drop}
 use borrow.Author.Tests.{ltb-true, ltb-false}
 use Rattle.kinds.specs.Body.{bodyOf}
@@ -16,19 +16,21 @@ use Rattle.frame_rules.specs.Words.{wordAt, signed}
 use Rattle.frame_rules.specs.Record.{noRecord, recordFrom}
 use Rattle.frame_rules.specs.Frame.{part, recordsOf}
 use Rattle.lanes.specs.declared.Slot.{Slot}
+use Rattle.lanes.specs.declared.Queue.{Queue}
 use Rattle.lanes.specs.Lane.{noLane}
 use Rattle.lanes.specs.Queue.{noSlot}
-use Rattle.lanes.proofs.WaitingLaws.{WaitingSized}
+use Rattle.lanes.proofs.WaitingLaws.{WaitingSized, each-queue}
 use Rattle.station_rules.specs.State.{cellOf}
 use Rattle.station_rules.proofs.Setters.{Shaped}
 use Rattle.station_rules.proofs.LimitsHearing.{AllCarried}
 use Rattle.station_bytes_spec.specs.Bytes.{byteAt}
 use Rattle.station_bytes_spec.specs.Body.{decodeBody, decodeRecord}
-use Rattle.station_bytes_spec.specs.Station.{cellWidth, decodeLane, decodeCell, decodeWaiting, waitingPlace, cellIn, decodeStation}
+use Rattle.station_bytes_spec.specs.Waiting.{decodeEdits, secondPlace, decodeWaiting}
+use Rattle.station_bytes_spec.specs.Station.{cellWidth, decodeLane, decodeCell, waitingPlace, cellIn, decodeStation}
 use Rattle.station_bytes_spec.proofs.Bytes.{AllBytes, word-small}
 use Rattle.station_bytes_spec.proofs.Body.{BodyFits, RecordFits}
 use Rattle.station_bytes_spec.proofs.Station.{CellFits}
-use Rattle.station_bytes_runs.proofs.Bodies.{signed-fits, numbers-fit, slots-fit, EditsFit}
+use Rattle.station_bytes_runs.proofs.Bodies.{signed-fits, numbers-fit, SlotsFit, slots-fit, EditsFit}
 use Rattle.station_bytes_runs.proofs.Typed.{Fitting, AllFit, none, more}
 
 module _ (b : List ℕ) (bytes : AllBytes b) where
@@ -51,18 +53,29 @@ module _ (b : List ℕ) (bytes : AllBytes b) where
   unfolding decodeCell decodeLane
   cell-typed at = record { entry-fits = record-typed (at + 28); first-fits = body-typed (at + 4); second-fits = body-typed (at + 16) }
 
-  edits-typed : (at : ℕ) → EditsFit (decodeWaiting b at)
-  unfolding decodeWaiting
+  edits-typed : (at : ℕ) → SlotsFit (decodeEdits b at)
+  unfolding decodeEdits
   edits-typed at =
-      slots-fit (tabulate 32 (λ i. record { body = decodeBody b (at + 4 + 12 * i) }))
+      slots-fit (tabulate 32 (λ i. record { body = decodeBody b (at + 12 * i) }))
       (λ i l.
       subst (λ (s : Slot). BodyFits (s .body))
-      (sym (tabulate-at 32 (λ j. record { body = decodeBody b (at + 4 + 12 * j) }) i noSlot (omega (arith, length-tabulate {A = Slot} 32 (λ j. record { body = decodeBody b (at + 4 + 12 * j) })))))
-      (body-typed (at + 4 + 12 * i)))
+      (sym (tabulate-at 32 (λ j. record { body = decodeBody b (at + 12 * j) }) i noSlot (omega (arith, length-tabulate {A = Slot} 32 (λ j. record { body = decodeBody b (at + 12 * j) })))))
+      (body-typed (at + 12 * i)))
+
+  edits-sized : (at : ℕ) → length (decodeEdits b at) ≡ 32
+  unfolding decodeEdits
+  edits-sized at = length-tabulate {A = Slot} 32 (λ j. record { body = decodeBody b (at + 12 * j) })
+
+  waiting-typed : (at : ℕ) → EditsFit (decodeWaiting b at)
+  unfolding decodeWaiting
+  waiting-typed at = record { zero-fits = edits-typed (at + 4); one-fits = edits-typed (at + secondPlace) }
 
   waiting-sized : (at : ℕ) → WaitingSized (decodeWaiting b at)
   unfolding decodeWaiting
-  waiting-sized at = record { slots = length-tabulate {A = Slot} 32 (λ j. record { body = decodeBody b (at + 4 + 12 * j) }) }
+  waiting-sized at =
+      record {
+        slots = each-queue (λ (q : Queue). length (q .slots) ≡ 32) (decodeWaiting b at) (edits-sized (at + 4)) (edits-sized (at + secondPlace));
+      }
 
   -- a station, at any place
   module _ (at : ℕ) where
@@ -89,7 +102,7 @@ module _ (b : List ℕ) (bytes : AllBytes b) where
         own-body = unfold decodeStation in body-typed (at + 4)
 
         own-edits : EditsFit ((decodeStation b at) .waiting)
-        own-edits = unfold decodeStation in edits-typed (at + waitingPlace)
+        own-edits = unfold decodeStation in waiting-typed (at + waitingPlace)
 
     pub station-shaped : Shaped (decodeStation b at)
     unfolding decodeStation

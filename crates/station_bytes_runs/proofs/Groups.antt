@@ -17,7 +17,7 @@ use Rattle.label_words.proofs.Laws.{label-less, over-less}
 use Rattle.links.specs.Log.{hearsIn}
 use Rattle.frame_rules.specs.declared.Record.{Record}
 use Rattle.frame_rules.specs.Record.{recordLabel, framed}
-use Rattle.lanes.specs.Waiting.{waitingCount}
+use Rattle.lanes.specs.Waiting.{deskCount}
 use Rattle.lanes.proofs.WaitingLaws.{limit-most, inside-limit, inside-most}
 use Rattle.station_rules.specs.declared.Setup.{Setup}
 use Rattle.station_rules.specs.declared.Station.{Station}
@@ -47,7 +47,7 @@ use Rattle.station_bytes_runs.proofs.Decoded.{AllWords, no-words, words
 pub record OneByte (s : Station) : Type 0 where
   pub n : s .n < 256
   pub own : s .own < 256
-  pub count : waitingCount (s .waiting) < 256
+  pub count : (d : ℕ) → deskCount (s .waiting) d < 256
   pub limit : s .waiting .limit < 256
 
 inside-bytes : (s : Station) → Inside s → OneByte s
@@ -55,7 +55,7 @@ inside-bytes s i =
     record {
       n = omega (arith, i .high);
       own = omega (arith, i .own, i .high);
-      count = omega (arith, inside-most (s .waiting) (i .waiting));
+      count = λ d. omega (arith, inside-most (s .waiting) (i .waiting) d);
       limit = omega (arith, limit-most (s .waiting .limit) (inside-limit (s .waiting) (i .waiting)));
     }
 
@@ -71,7 +71,7 @@ fits s shape f b =
       table-long = shape .table;
       lanes-long = shape .lanes;
       cell-fits = f .cells;
-      waiting-fits = record { count-byte = b .count; limit-byte = b .limit; sized = shape .waiting; edit-fits = λ i l. edit-fits (s .waiting) (f .edits) i };
+      waiting-fits = record { count-byte = b .count; limit-byte = b .limit; sized = shape .waiting; edit-fits = λ d i l. edit-fits (s .waiting) (f .edits) d i };
     }
 
 -- a group of n as a call leaves it: inside its limits, and all sixteen stations of their types
@@ -150,8 +150,8 @@ module _ (n : ℕ) (g : List Station) (c : Kept n g) (x : Post) (f : BodyFits (x
           let a : Accepted g x = accepted g x (rw (post-refusal g x) at e) in
           let at : x .station < 16 = omega (arith, a .below, c .members .size, c .members .high) in
           subst (λ (h : List Station). Fitting (stationAt h k)) (sym (post-accepted g x e))
-          (set-keeps Fitting g (x .station) (posted (stationAt g (x .station)) (x .body)) noStation k (omega (arith, c .members .shape .places)) (c .fitting k l)
-          (posted-fitting (stationAt g (x .station)) (x .body) (c .fitting (x .station) at) f))
+          (set-keeps Fitting g (x .station) (posted (stationAt g (x .station)) (x .desk) (x .body)) noStation k (omega (arith, c .members .shape .places)) (c .fitting k l)
+          (posted-fitting (stationAt g (x .station)) (x .desk) (x .body) (c .fitting (x .station) at) f))
       go false e = subst (λ (h : List Station). Fitting (stationAt h k)) (sym (post-refused g x e)) (c .fitting k l)
 
   post-above : (k : ℕ) → n ≤ k → stationAt after k ≡ stationAt g k
@@ -161,7 +161,7 @@ module _ (n : ℕ) (g : List Station) (c : Kept n g) (x : Post) (f : BodyFits (x
       go true e =
           let a : Accepted g x = accepted g x (rw (post-refusal g x) at e) in
           ap (λ (h : List Station). stationAt h k) (post-accepted g x e)
-          ∙ getD-set-other g (x .station) k (posted (stationAt g (x .station)) (x .body)) noStation (λ q. omega (arith, q, a .below, c .members .size))
+          ∙ getD-set-other g (x .station) k (posted (stationAt g (x .station)) (x .desk) (x .body)) noStation (λ q. omega (arith, q, a .below, c .members .size))
       go false e = ap (λ (h : List Station). stationAt h k) (post-refused g x e)
 
   pub post-kept : Kept n after

@@ -140,9 +140,9 @@ fresh-fitting setup own l =
 
 -- ---- post
 
-pub posted-fitting : (s : Station) (b : Body) → Fitting s → BodyFits b → Fitting (posted s b)
+pub posted-fitting : (s : Station) (d : ℕ) (b : Body) → Fitting s → BodyFits b → Fitting (posted s d b)
 unfolding posted
-posted-fitting s b f g = waiting-fitting s f (withPosted (s .waiting) b) (posted-fit (s .waiting) (f .edits) b g)
+posted-fitting s d b f g = waiting-fitting s f (withPosted (s .waiting) d b) (posted-fit (s .waiting) (f .edits) d b g)
 
 -- ---- hearing
 

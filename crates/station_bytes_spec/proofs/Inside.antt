@@ -1,10 +1,10 @@
--- A station inside its limits is decoded from its encoding, whatever stands from N up and past a length: its limits make N, its own number, the number of waiting edits and their limit bytes, and its types say the rest.
+-- A station inside its limits is decoded from its encoding, whatever stands from N up and past a length: its limits make N, its own number, the numbers of waiting edits and their limit bytes, and its types say the rest.
 use mathlib.Core.Path.{_≡_}
 use mathlib.Core.Bool.{true}
 use Prim.Native.Nat.{ℕ, _<_}
 use native.Mathlib.Omega.{arith}
 use lib.ListN.{length}
-use Rattle.lanes.specs.Waiting.{waitingCount, waitingAt}
+use Rattle.lanes.specs.Waiting.{deskCount, waitingAt}
 use Rattle.lanes.proofs.WaitingLaws.{limit-most, inside-limit, inside-most}
 use Rattle.station_rules.specs.declared.Station.{Station}
 use Rattle.station_rules.specs.State.{cellOf}
@@ -20,11 +20,11 @@ pub record Typed (s : Station) : Type 0 where
   pub shape : Shaped s
   pub body-typed : BodyFits (s .body)
   pub cell-typed : (k : ℕ) → k < 16 → CellFits (cellOf s k)
-  pub edit-typed : (i : ℕ) → i < 32 → BodyFits (waitingAt (s .waiting) i)
+  pub edit-typed : (d i : ℕ) → i < 32 → BodyFits (waitingAt (s .waiting) d i)
 
 module _ (s : Station) (t : Typed s) (h : stationInside s ≡ true) where
-  few-wait : waitingCount (s .waiting) < 256
-  few-wait = omega (arith, inside-most (s .waiting) (inside-open s h .waiting))
+  few-wait : (d : ℕ) → deskCount (s .waiting) d < 256
+  few-wait d = omega (arith, inside-most (s .waiting) (inside-open s h .waiting) d)
 
   limit-small : s .waiting .limit < 256
   limit-small = omega (arith, limit-most (s .waiting .limit) (inside-limit (s .waiting) (inside-open s h .waiting)))

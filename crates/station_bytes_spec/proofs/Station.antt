@@ -13,19 +13,16 @@ use Rattle.places.specs.Places.{allBelow}
 use Rattle.places.proofs.Laws.{and-both, both, allBelow-at, allBelow-make, tabulate-at}
 use Rattle.frame_rules.specs.Words.{wordAt, wordBytes}
 use Rattle.frame_rules.specs.Record.{noRecord}
-use Rattle.lanes.specs.declared.Slot.{Slot}
-use Rattle.lanes.specs.declared.Waiting.{Waiting}
 use Rattle.lanes.specs.Lane.{noLane}
-use Rattle.lanes.specs.Queue.{noSlot}
-use Rattle.lanes.specs.Waiting.{waitingCount, waitingAt}
-use Rattle.lanes.proofs.WaitingLaws.{WaitingSized}
 use Rattle.station_rules.specs.declared.Station.{Station}
 use Rattle.station_rules.specs.State.{Cell, cellOf}
 use Rattle.station_bytes_spec.specs.Bytes.{byteAt, flagByte, asByte, span, joinedBelow}
 use Rattle.station_bytes_spec.specs.Body.{encodeBody, decodeBody, isBody, recordWidth, encodeRecord, isRecord}
-use Rattle.station_bytes_spec.specs.Station.{cellWidth, encodeCell, decodeLane, decodeCell, isCell, waitingWidth, encodeWaiting, decodeWaiting, isWaiting, cellsWidth, waitingPlace, stationWidth, encodeHead, encodeStation, cellIn, decodeStation, isStationAt, isStation}
+use Rattle.station_bytes_spec.specs.Waiting.{waitingWidth, encodeWaiting, decodeWaiting, isWaiting}
+use Rattle.station_bytes_spec.specs.Station.{cellWidth, encodeCell, decodeLane, decodeCell, isCell, cellsWidth, waitingPlace, stationWidth, encodeHead, encodeStation, cellIn, decodeStation, isStationAt, isStation}
 use Rattle.station_bytes_spec.proofs.Bytes.{Stands, AllBytes, stands-whole, stands-left, stands-right, first-byte, stands-word, joined-long, joined-ext, stands-joined, span-join, spans-joined, four-span, word-span, length-word, flag-read, flag-small, flag-back, byte-same, byte-small, tabulate-is}
 use Rattle.station_bytes_spec.proofs.Body.{BodyFits, length-body, body-decoded, body-accepted, body-encoded, RecordFits, length-record, record-decoded, record-accepted, record-encoded}
+use Rattle.station_bytes_spec.proofs.Waiting.{WaitingFits, length-waiting, waiting-decoded, waiting-accepted, waiting-encoded}
 
 -- ---- a cell
 
@@ -127,107 +124,9 @@ module _ (l : List ℕ) (bytes : AllBytes l) (at : ℕ) (room : at + cellWidth �
       ∙ ap (λ (r : List ℕ). r ++ span (at + 28) recordWidth l) (span-join l at 16 12 28 refl)
       ∙ span-join l at 28 recordWidth cellWidth refl
 
--- ---- the waiting edits
-
-pub record WaitingFits (w : Waiting) : Type 0 where
-  pub count-byte : waitingCount w < 256
-  pub limit-byte : w .limit < 256
-  pub sized : WaitingSized w
-  pub edit-fits : (i : ℕ) → i < 32 → BodyFits (waitingAt w i)
-
-module _ (w : Waiting) where
-  abbrev edits : List ℕ
-  edits = joinedBelow 32 (λ i. encodeBody (waitingAt w i))
-
-  length-edits : length edits ≡ 384
-  length-edits = joined-long 32 12 (λ i. encodeBody (waitingAt w i)) (λ i m. length-body (waitingAt w i))
-
-  abbrev heads : List ℕ
-  heads = asByte (waitingCount w) ∷ asByte (w .limit) ∷ 0 ∷ 0 ∷ []
-
-  pub length-waiting : length (encodeWaiting w) ≡ waitingWidth
-  unfolding encodeWaiting
-  length-waiting = length-append heads edits ∙ ap (λ (k : ℕ). 4 + k) length-edits
-
-  module _ (l : List ℕ) (at : ℕ) (f : WaitingFits w) (h : Stands l at (encodeWaiting w)) where
-    pub stands-heads : Stands l at heads
-    unfolding encodeWaiting
-    stands-heads = stands-left l at heads edits h
-
-    pub count-there : byteAt l at ≡ waitingCount w
-    count-there = first-byte l at _ _ stands-heads ∙ byte-same (waitingCount w) (f .count-byte)
-
-    pub limit-there : byteAt l (at + 1) ≡ w .limit
-    limit-there = stands-heads .is 1 (omega arith) ∙ byte-same (w .limit) (f .limit-byte)
-
-    pub stands-edit : (i : ℕ) → i < 32 → Stands l (at + 4 + 12 * i) (encodeBody (waitingAt w i))
-    unfolding encodeWaiting
-    stands-edit i m =
-        stands-joined l (at + 4) 32 12 (λ j. encodeBody (waitingAt w j)) (λ j q. length-body (waitingAt w j))
-        (stands-right l at heads edits 4 refl h) i m
-
-    edit-there : (i : ℕ) → i < 32 → decodeBody l (at + 4 + 12 * i) ≡ waitingAt w i
-    edit-there i m = body-decoded l (at + 4 + 12 * i) (waitingAt w i) (f .edit-fits i m) (stands-edit i m)
-
-    pub waiting-decoded : decodeWaiting l at ≡ w
-    unfolding decodeWaiting waitingCount waitingAt
-    waiting-decoded =
-        λ i. record {
-          limit = limit-there i;
-          queue =
-              record {
-                len = count-there i;
-                slots =
-                    tabulate-is 32 (λ j. record { body = decodeBody l (at + 4 + 12 * j) }) (w .queue .slots) noSlot (f .sized .slots)
-                    (λ j m. (λ k. record { body = edit-there j m k })) i;
-              };
-        }
-
-    pub waiting-accepted : isWaiting l at ≡ true
-    unfolding isWaiting
-    waiting-accepted =
-        and-both (and-both (eq-eqb _ _ (stands-heads .is 2 (omega arith))) (eq-eqb _ _ (stands-heads .is 3 (omega arith))))
-        (allBelow-make 32 (λ i. isBody l (at + 4 + 12 * i))
-        (λ i m. body-accepted l (at + 4 + 12 * i) (waitingAt w i) (f .edit-fits i m) (stands-edit i m)))
-
-module _ (l : List ℕ) (bytes : AllBytes l) (at : ℕ) (room : at + waitingWidth ≤ length l) where
-  edit-read : (i : ℕ) → i < 32 → waitingAt (decodeWaiting l at) i ≡ decodeBody l (at + 4 + 12 * i)
-  unfolding waitingAt decodeWaiting
-  edit-read i m =
-      ap (λ (s : Slot). s .body) (tabulate-at 32 (λ j. record { body = decodeBody l (at + 4 + 12 * j) }) i noSlot m)
-
-  count-read : waitingCount (decodeWaiting l at) ≡ byteAt l at
-  unfolding waitingCount decodeWaiting
-  count-read = refl
-
-  limit-read : (decodeWaiting l at) .limit ≡ byteAt l (at + 1)
-  unfolding decodeWaiting
-  limit-read = refl
-
-  pub waiting-encoded : isWaiting l at ≡ true → encodeWaiting (decodeWaiting l at) ≡ span at waitingWidth l
-  unfolding encodeWaiting isWaiting
-  waiting-encoded h =
-      let t₁ = eqb (byteAt l (at + 2)) 0 in
-      let t₂ = eqb (byteAt l (at + 3)) 0 in
-      let tests = both (t₁ && t₂) (allBelow 32 (λ i. isBody l (at + 4 + 12 * i))) h in
-      let zeros = both t₁ t₂ (tests .0) in
-      let third : 0 ≡ byteAt l (at + 2) = sym (eqb-true _ _ (zeros .0)) in
-      let fourth : 0 ≡ byteAt l (at + 3) = sym (eqb-true _ _ (zeros .1)) in
-      let count = ap asByte count-read ∙ byte-same (byteAt l at) (bytes .small at) in
-      let limit = ap asByte limit-read ∙ byte-same (byteAt l (at + 1)) (bytes .small (at + 1)) in
-      let edits =
-      joined-ext 32 (λ i. encodeBody (waitingAt (decodeWaiting l at) i)) (λ i. span (at + 4 + 12 * i) 12 l)
-      (λ i m.
-      ap encodeBody (edit-read i m)
-      ∙ body-encoded l bytes (at + 4 + 12 * i) (omega arith) (allBelow-at 32 (λ j. isBody l (at + 4 + 12 * j)) (tests .1) i m))
-      ∙ spans-joined l (at + 4) 32 12 in
-      (λ i. (count i ∷ limit i ∷ third i ∷ fourth i ∷ []) ++ edits i)
-      ∙ ap (λ (r : List ℕ). r ++ span (at + 4) 384 l) (four-span l at (omega arith))
-      ∙ span-join l at 4 384 388 refl
-
 -- ---- the station
 
--- what the types of a station say of it, and that N, its own number, the number of waiting edits and their limit are bytes
+-- what the types of a station say of it, and that N, its own number, the numbers of waiting edits and their limit are bytes
 pub record StationFits (s : Station) : Type 0 where
   pub n-byte : s .n < 256
   pub own-byte : s .own < 256

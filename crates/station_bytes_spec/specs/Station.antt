@@ -7,12 +7,11 @@ use lib.Dec.{eqb, leb}
 use lib.ListN.{length}
 use Rattle.places.specs.Places.{allBelow, tabulate}
 use Rattle.lanes.specs.declared.Lane.{Lane}
-use Rattle.lanes.specs.declared.Waiting.{Waiting}
-use Rattle.lanes.specs.Waiting.{waitingCount, waitingAt}
 use Rattle.station_rules.specs.declared.Station.{Station}
 use Rattle.station_rules.specs.State.{Cell, cellOf}
 use Rattle.station_bytes_spec.specs.Bytes.{byteAt, flagAt, flagByte, asByte, joinedBelow}
-use Rattle.station_bytes_spec.specs.Body.{bodyWidth, encodeBody, decodeBody, isBody, recordWidth, encodeRecord, decodeRecord, isRecord}
+use Rattle.station_bytes_spec.specs.Body.{encodeBody, decodeBody, isBody, recordWidth, encodeRecord, decodeRecord, isRecord}
+use Rattle.station_bytes_spec.specs.Waiting.{waitingWidth, encodeWaiting, decodeWaiting, isWaiting}
 
 -- what a station has of one station: whether it is acknowledged, whether a record of it is held, its label, the length of its lane, the lane's two bodies, the record
 abbrev pub cellWidth : ℕ
@@ -45,23 +44,6 @@ isCell b at =
     && isBody b (at + 4)
     && isBody b (at + 16)
     && isRecord b (at + 28)
-
--- the waiting edits: how many wait, the limit, two zeros, and 32 bodies
-abbrev pub waitingWidth : ℕ
-waitingWidth = 4 + bodyWidth * 32
-
-unfoldable pub encodeWaiting : Waiting → List ℕ
-encodeWaiting w = (asByte (waitingCount w) ∷ asByte (w .limit) ∷ 0 ∷ 0 ∷ []) ++ joinedBelow 32 (λ i. encodeBody (waitingAt w i))
-
-unfoldable pub decodeWaiting : List ℕ → ℕ → Waiting
-decodeWaiting b at =
-    record {
-      limit = byteAt b (at + 1);
-      queue = record { len = byteAt b at; slots = tabulate 32 (λ i. record { body = decodeBody b (at + 4 + bodyWidth * i) }) };
-    }
-
-unfoldable pub isWaiting : List ℕ → ℕ → Bool
-isWaiting b at = eqb (byteAt b (at + 2)) 0 && eqb (byteAt b (at + 3)) 0 && allBelow 32 (λ i. isBody b (at + 4 + bodyWidth * i))
 
 -- the whole station
 abbrev pub cellsWidth : ℕ

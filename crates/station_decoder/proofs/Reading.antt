@@ -27,7 +27,8 @@ use Rattle.lanes.specs.Queue.{noSlot}
 use Rattle.station_rules.specs.declared.Station.{Station}
 use Rattle.station_rules.specs.State.{noStation}
 use Rattle.station_bytes_spec.specs.Body.{bodyOfWords, wordsRight, decodeBody, isBody, decodeRecord, isRecord}
-use Rattle.station_bytes_spec.specs.Station.{cellWidth, decodeLane, decodeCell, isCell, decodeWaiting, isWaiting, cellIn, waitingPlace, decodeStation, isStationAt, stationWidth, isStation}
+use Rattle.station_bytes_spec.specs.Waiting.{decodeEdits, areEdits, secondPlace, decodeWaiting, isWaiting}
+use Rattle.station_bytes_spec.specs.Station.{cellWidth, decodeLane, decodeCell, isCell, cellIn, waitingPlace, decodeStation, isStationAt, stationWidth, isStation}
 use Rattle.station_bytes_spec.specs.Group.{groupWidth, decodeGroup, isGroup}
 use Rattle.station_bytes_spec.proofs.Bytes.{filled}
 
@@ -100,26 +101,26 @@ module _ (b : List ℕ) (at : ℕ) where
 
   -- ---- the waiting edits
 
-  abbrev edits : ℕ → Bool
-  edits i = isBody b (at + 4 + 12 * i)
+  pub no-edit : (i : ℕ) → i < 32 → isBody b (at + 12 * i) ≡ false → false ≡ areEdits b at
+  unfolding areEdits
+  no-edit i l h = sym (allBelow-fails 32 (λ j. isBody b (at + 12 * j)) i l h)
 
-  pub third-marked : (byteAt b (at + 2) ≡ 0 → ⊥) → false ≡ isWaiting b at
+  pub all-edits : (i : ℕ) → i ≡ 32 → allBelow i (λ j. isBody b (at + 12 * j)) ≡ true → true ≡ areEdits b at
+  unfolding areEdits
+  all-edits i e h = rw e at (sym h)
+
+  pub no-first : 1 < byteAt b (at + 3) → false ≡ isWaiting b at
   unfolding isWaiting
-  third-marked d = rw (ne-eqb _ _ d)
+  no-first h = rw (lt-leb _ _ h)
 
-  module _ (h₁ : byteAt b (at + 2) ≡ 0) where
-    pub fourth-marked : (byteAt b (at + 3) ≡ 0 → ⊥) → false ≡ isWaiting b at
+  module _ (h₁ : byteAt b (at + 3) ≤ 1) where
+    pub no-edits : areEdits b (at + 4) ≡ false → false ≡ isWaiting b at
     unfolding isWaiting
-    fourth-marked d = rw (eq-eqb _ _ h₁, ne-eqb _ _ d)
+    no-edits h = rw (le-leb _ _ h₁, h)
 
-    module _ (h₂ : byteAt b (at + 3) ≡ 0) where
-      pub no-edit : (i : ℕ) → i < 32 → edits i ≡ false → false ≡ isWaiting b at
-      unfolding isWaiting
-      no-edit i l h = rw (eq-eqb _ _ h₁, eq-eqb _ _ h₂) (sym (allBelow-fails 32 edits i l h))
-
-      pub all-edits : (i : ℕ) → i ≡ 32 → allBelow i edits ≡ true → true ≡ isWaiting b at
-      unfolding isWaiting
-      all-edits i e h = rw (eq-eqb _ _ h₁, eq-eqb _ _ h₂) (rw e at (sym h))
+    pub by-edits : areEdits b (at + 4) ≡ true → areEdits b (at + secondPlace) ≡ isWaiting b at
+    unfolding isWaiting
+    by-edits h = rw (le-leb _ _ h₁, h)
 
   -- ---- a station
 
@@ -193,16 +194,27 @@ module _ {A : Type 0} where
 -- ---- arrays that a loop has filled
 
 abbrev pub editIn : List ℕ → ℕ → ℕ → Slot
-editIn b at i = record { body = decodeBody b (at + 4 + 12 * i) }
+editIn b at i = record { body = decodeBody b (at + 12 * i) }
+
+pub edits-read :
+    (b : List ℕ) (at : ℕ) (slots : List Slot) (i : ℕ) → i ≡ 32 → slots ≡ fill i (editIn b at) (replicate 32 noSlot) → slots ≡ decodeEdits b at
+unfolding decodeEdits
+edits-read b at slots i e h = all-filled 32 i (editIn b at) slots (replicate 32 noSlot) noSlot refl e h
 
 pub waiting-read :
-    (b : List ℕ) (at len limit : ℕ) (slots : List Slot) (i : ℕ) → len ≡ byteAt b at → limit ≡ byteAt b (at + 1) → i ≡ 32 →
-    slots ≡ fill i (editIn b at) (replicate 32 noSlot) →
-    _≡_ {A = Waiting} (record { limit = limit; queue = record { len = len; slots = slots } }) (decodeWaiting b at)
+    (b : List ℕ) (at len₀ limit len₁ : ℕ) (slots₀ slots₁ : List Slot) → len₀ ≡ byteAt b at → limit ≡ byteAt b (at + 1) → len₁ ≡ byteAt b (at + 2) →
+    slots₀ ≡ decodeEdits b (at + 4) → slots₁ ≡ decodeEdits b (at + secondPlace) →
+    _≡_ {A = Waiting}
+    (record { limit = limit; queue0 = record { len = len₀; slots = slots₀ }; queue1 = record { len = len₁; slots = slots₁ }; «one_first» = flagAt b (at + 3) })
+    (decodeWaiting b at)
 unfolding decodeWaiting
-waiting-read b at len limit slots i l m e h =
-    let all = all-filled 32 i (editIn b at) slots (replicate 32 noSlot) noSlot refl e h in
-    (λ j. record { limit = m j; queue = record { len = l j; slots = all j } })
+waiting-read b at len₀ limit len₁ slots₀ slots₁ c l o z f =
+    λ i. record {
+      limit = l i;
+      queue0 = record { len = c i; slots = z i };
+      queue1 = record { len = o i; slots = f i };
+      «one_first» = flagAt b (at + 3);
+    }
 
 -- the five arrays of a station, read cell by cell below k
 pub record CellsRead (b : List ℕ) (at k : ℕ) (acked held : List Bool) (labels : List ℕ) (table : List Record) (lanes : List Lane) : Type 0 where

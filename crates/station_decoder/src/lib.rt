@@ -5,7 +5,8 @@ ghost use Prim.Native.Nat.{_+_, _≤_};
 ghost use lib.ListN.{length};
 ghost use Rattle.places.specs.Places.{allBelow};
 ghost use Rattle.station_bytes_spec.specs.Body.{bodyOfWords, wordsRight, decodeBody, isBody, recordWidth, decodeRecord, isRecord};
-ghost use Rattle.station_bytes_spec.specs.Station.{cellWidth, decodeLane, isCell, waitingWidth, decodeWaiting, isWaiting, cellsWidth, stationWidth, decodeStation, isStationAt, isStation};
+ghost use Rattle.station_bytes_spec.specs.Waiting.{editsWidth, decodeEdits, areEdits, waitingWidth, decodeWaiting, isWaiting};
+ghost use Rattle.station_bytes_spec.specs.Station.{cellWidth, decodeLane, isCell, cellsWidth, stationWidth, decodeStation, isStationAt, isStation};
 ghost use Rattle.station_bytes_spec.specs.Group.{groupWidth, decodeGroup, isGroup};
 ghost use Prim.Native.Nat.{_*_};
 use frame_rules::Record;
@@ -23,9 +24,11 @@ const CELL_WIDTH: usize = 44;
 
 const WAITING_PLACE: usize = 720;
 
-const STATION_WIDTH: usize = 1108;
+const SECOND_PLACE: usize = 388;
 
-const GROUP_WIDTH: usize = 17728;
+const STATION_WIDTH: usize = 1492;
+
+const GROUP_WIDTH: usize = 23872;
 
 // The body of three numbers, the third as a word.
 fn body_of_words(kind: u32, event: u32, word: u32) -> Body
@@ -152,28 +155,60 @@ fn cells_right(bytes: &[u8], at: usize) -> bool
     true
 }
 
-// The waiting edits at a place.
-fn read_waiting(bytes: &[u8], at: usize) -> Waiting
-    requires { ⌜ at + waitingWidth ≤ length (now bytes) ⌝ }
-    ensures { λ r. ⌜ r ≡ decodeWaiting (now (bytes .entry)) at ⌝ }
+// The edits of a desk at a place.
+fn read_edits(bytes: &[u8], at: usize) -> [Slot; 32]
+    requires { ⌜ at + editsWidth ≤ length (now bytes) ⌝ }
+    ensures { λ r. ⌜ r ≡ decodeEdits (now (bytes .entry)) at ⌝ }
 {
     let none = Slot { body: Body::Empty };
     let mut slots = [none; 32];
     let mut i: usize = 0;
     while i < 32 {
-        let body = read_body(bytes, at + 4 + BODY_WIDTH * i);
+        let body = read_body(bytes, at + BODY_WIDTH * i);
         slots[i] = Slot { body: body };
         i += 1;
     }
-    let len = record_reader::wide(bytes[at]);
+    slots
+}
+
+// Are the bytes at a place those of the edits of a desk?
+fn edits_right(bytes: &[u8], at: usize) -> bool
+    requires { ⌜ at + editsWidth ≤ length (now bytes) ⌝ }
+    ensures { λ r. ⌜ r ≡ areEdits (now (bytes .entry)) at ⌝ }
+{
+    let mut i: usize = 0;
+    while i < 32 {
+        if !body_right(bytes, at + BODY_WIDTH * i) {
+            return false;
+        }
+        i += 1;
+    }
+    true
+}
+
+// The waiting edits at a place.
+fn read_waiting(bytes: &[u8], at: usize) -> Waiting
+    requires { ⌜ at + waitingWidth ≤ length (now bytes) ⌝ }
+    ensures { λ r. ⌜ r ≡ decodeWaiting (now (bytes .entry)) at ⌝ }
+{
+    let slots0 = read_edits(bytes, at + 4);
+    let slots1 = read_edits(bytes, at + SECOND_PLACE);
+    let len0 = record_reader::wide(bytes[at]);
     let limit = record_reader::wide(bytes[at + 1]);
-    let queue = Queue {
-        len: len,
-        slots: slots,
+    let len1 = record_reader::wide(bytes[at + 2]);
+    let queue0 = Queue {
+        len: len0,
+        slots: slots0,
+    };
+    let queue1 = Queue {
+        len: len1,
+        slots: slots1,
     };
     Waiting {
         limit: limit,
-        queue: queue,
+        queue0: queue0,
+        queue1: queue1,
+        one_first: bytes[at + 3] == 1,
     }
 }
 
@@ -182,20 +217,13 @@ fn waiting_right(bytes: &[u8], at: usize) -> bool
     requires { ⌜ at + waitingWidth ≤ length (now bytes) ⌝ }
     ensures { λ r. ⌜ r ≡ isWaiting (now (bytes .entry)) at ⌝ }
 {
-    if bytes[at + 2] != 0 {
+    if 1 < bytes[at + 3] {
         return false;
     }
-    if bytes[at + 3] != 0 {
+    if !edits_right(bytes, at + 4) {
         return false;
     }
-    let mut i: usize = 0;
-    while i < 32 {
-        if !body_right(bytes, at + 4 + BODY_WIDTH * i) {
-            return false;
-        }
-        i += 1;
-    }
-    true
+    edits_right(bytes, at + SECOND_PLACE)
 }
 
 // The station at a place.

@@ -17,16 +17,18 @@ use Rattle.places.specs.Places.{tabulate}
 use Rattle.places.proofs.Laws.{length-tabulate}
 use Rattle.frame_rules.specs.Words.{wordBytes, unsigned}
 use Rattle.frame_rules.specs.declared.Record.{Record}
+use Rattle.lanes.specs.declared.Slot.{Slot}
 use Rattle.lanes.specs.declared.Waiting.{Waiting}
 use Rattle.lanes.specs.Queue.{noSlot}
-use Rattle.lanes.specs.Waiting.{waitingCount, waitingAt}
 use Rattle.station_rules.specs.declared.Station.{Station}
 use Rattle.station_rules.specs.State.{Cell, cellOf}
 use Rattle.station_bytes_spec.specs.Bytes.{flagByte, asByte, joinedBelow}
 use Rattle.station_bytes_spec.specs.Body.{encodeBody, encodeRecord}
-use Rattle.station_bytes_spec.specs.Station.{cellWidth, encodeCell, encodeWaiting, cellsWidth, waitingPlace, encodeHead, encodeStation}
+use Rattle.station_bytes_spec.specs.Waiting.{encodeEdits, secondPlace, encodeWaiting}
+use Rattle.station_bytes_spec.specs.Station.{cellWidth, encodeCell, cellsWidth, waitingPlace, encodeHead, encodeStation}
 use Rattle.station_bytes_spec.proofs.Bytes.{writes-meet, length-word, joined-long}
 use Rattle.station_bytes_spec.proofs.Body.{length-body}
+use Rattle.station_bytes_spec.proofs.Waiting.{length-edits}
 use Rattle.station_bytes_spec.proofs.Station.{length-cell}
 
 -- ---- one write after another
@@ -132,12 +134,24 @@ module _ (l : List ℕ) (at : ℕ) where
       (length-body (s .body)) (joined-long 16 cellWidth (λ k. encodeCell (cellOf s k)) (λ k m. length-cell (cellOf s k))) refl refl s₁ s₂ s₃ s₄
       ∙ (λ i. sets l at ((en i ∷ eo i ∷ s .count ∷ 0 ∷ []) ++ encodeBody (s .body) ++ cells ++ encodeWaiting (s .waiting)))
 
-  -- the waiting edits: their number and their limit, and then the bodies
+  -- the edits of a desk
+  pub edits-written :
+      (slots : List Slot) (l₁ : List ℕ) (i : ℕ) → i ≡ 32 → l₁ ≡ sets l at (joinedBelow i (λ j. encodeBody ((getD slots j noSlot) .body))) →
+      l₁ ≡ sets l at (encodeEdits slots)
+  unfolding encodeEdits
+  edits-written slots l₁ i e h = all-written l l₁ at 32 i (λ j. encodeBody ((getD slots j noSlot) .body)) e h
+
+  -- the waiting edits: four bytes, and then those of each desk
   pub waiting-written :
-      (w : Waiting) (c m : ℕ) (l₁ l₂ : List ℕ) (i : ℕ) → c ≡ asByte (w .queue .len) → m ≡ asByte (w .limit) → i ≡ 32 → l₁ ≡ sets l at (c ∷ m ∷ 0 ∷ 0 ∷ []) →
-      l₂ ≡ sets l₁ (at + 4) (joinedBelow i (λ j. encodeBody ((getD (w .queue .slots) j noSlot) .body))) → l₂ ≡ sets l at (encodeWaiting w)
-  unfolding encodeWaiting waitingCount waitingAt
-  waiting-written w c m l₁ l₂ i count limit e first second =
-      let edits : ℕ → List ℕ = λ j. encodeBody ((getD (w .queue .slots) j noSlot) .body) in
-      written-more l l₁ l₂ at (c ∷ m ∷ 0 ∷ 0 ∷ []) (joinedBelow 32 edits) 4 first refl (all-written l₁ l₂ (at + 4) 32 i edits e second)
-      ∙ (λ k. sets l at ((count k ∷ limit k ∷ 0 ∷ 0 ∷ []) ++ joinedBelow 32 edits))
+      (w : Waiting) (c m o f : ℕ) (l₁ l₂ l₃ : List ℕ) → c ≡ asByte (w .queue0 .len) → m ≡ asByte (w .limit) → o ≡ asByte (w .queue1 .len) → f ≡ flagByte (w .«one_first») →
+      l₁ ≡ sets l at (c ∷ m ∷ o ∷ f ∷ []) → l₂ ≡ sets l₁ (at + 4) (encodeEdits (w .queue0 .slots)) → l₃ ≡ sets l₂ (at + secondPlace) (encodeEdits (w .queue1 .slots)) →
+      l₃ ≡ sets l at (encodeWaiting w)
+  unfolding encodeWaiting
+  waiting-written w c m o f l₁ l₂ l₃ count limit other first s₁ s₂ s₃ =
+      let four = c ∷ m ∷ o ∷ f ∷ [] in
+      let zero = encodeEdits (w .queue0 .slots) in
+      let one = encodeEdits (w .queue1 .slots) in
+      let two = written-more l l₁ l₂ at four zero 4 s₁ refl s₂ in
+      let long : length (four ++ zero) ≡ secondPlace = length-append four zero ∙ ap (λ (k : ℕ). 4 + k) (length-edits (w .queue0 .slots)) in
+      written-more l l₂ l₃ at (four ++ zero) one secondPlace two long s₃
+      ∙ (λ k. sets l at ((count k ∷ limit k ∷ other k ∷ first k ∷ []) ++ zero ++ one))

@@ -8,11 +8,13 @@ ghost use lib.Seq.{sets};
 ghost use Rattle.station_rules.specs.State.{cellOf};
 ghost use Rattle.station_bytes_spec.specs.Bytes.{flagByte, asByte, joinedBelow};
 ghost use Rattle.station_bytes_spec.specs.Body.{encodeBody, recordWidth, encodeRecord};
-ghost use Rattle.station_bytes_spec.specs.Station.{cellWidth, encodeCell, waitingWidth, encodeWaiting, cellsWidth, stationWidth, encodeHead, encodeStation};
+ghost use Rattle.station_bytes_spec.specs.Waiting.{editsWidth, encodeEdits, waitingWidth, encodeWaiting};
+ghost use Rattle.station_bytes_spec.specs.Station.{cellWidth, encodeCell, cellsWidth, stationWidth, encodeStation};
 ghost use Rattle.station_bytes_spec.specs.Group.{groupWidth, encodeGroup};
 use frame_rules::Record;
 use kinds::Body;
 use lanes::Lane;
+use lanes::Slot;
 use lanes::Waiting;
 use record_writer::put_word;
 use station_rules::Station;
@@ -23,7 +25,9 @@ const CELL_WIDTH: usize = 44;
 
 const WAITING_PLACE: usize = 720;
 
-const STATION_WIDTH: usize = 1108;
+const SECOND_PLACE: usize = 388;
+
+const STATION_WIDTH: usize = 1492;
 
 // A flag as a byte.
 pub fn flag_byte(flag: bool) -> u8
@@ -130,21 +134,39 @@ fn put_cells(bytes: &mut [u8], at: usize, s: Station)
     }
 }
 
+// The edits of a desk, put at a place.
+fn put_edits(bytes: &mut [u8], at: usize, slots: [Slot; 32])
+    requires { ⌜ at + editsWidth ≤ length (now bytes) ⌝ }
+    ensures { λ _. ⌜ now (bytes .exit) ≡ sets (now (bytes .entry)) at (encodeEdits slots) ⌝ }
+{
+    let mut i: usize = 0;
+    while i < 32 {
+        let slot = slots[i];
+        let body = slot.body;
+        put_body(bytes, at + BODY_WIDTH * i, body);
+        i += 1;
+    }
+}
+
 // The waiting edits, put at a place.
 fn put_waiting(bytes: &mut [u8], at: usize, waiting: Waiting)
     requires { ⌜ at + waitingWidth ≤ length (now bytes) ⌝ }
     ensures { λ _. ⌜ now (bytes .exit) ≡ sets (now (bytes .entry)) at (encodeWaiting waiting) ⌝ }
 {
-    let queue = waiting.queue;
-    let slots = queue.slots;
-    put_four(bytes, at, as_byte(queue.len), as_byte(waiting.limit), 0, 0);
-    let mut i: usize = 0;
-    while i < 32 {
-        let slot = slots[i];
-        let body = slot.body;
-        put_body(bytes, at + 4 + BODY_WIDTH * i, body);
-        i += 1;
-    }
+    let queue0 = waiting.queue0;
+    let queue1 = waiting.queue1;
+    put_four(
+        bytes,
+        at,
+        as_byte(queue0.len),
+        as_byte(waiting.limit),
+        as_byte(queue1.len),
+        flag_byte(waiting.one_first),
+    );
+    let slots0 = queue0.slots;
+    let slots1 = queue1.slots;
+    put_edits(bytes, at + 4, slots0);
+    put_edits(bytes, at + SECOND_PLACE, slots1);
 }
 
 // A station, put at a place.

@@ -14,7 +14,7 @@ use Rattle.relay_host.proofs.relay_group.relay_group_post.Statement.{st
 use Rattle.relay_host.proofs.relay_group.relay_group_post.Tie as tie
 
 returns : tie.Need-returns
-returns c = post-no-group _ (sym (c .before .is-group .ensures) ∙ not-true _ (c .if1 .taken)) _ _
+returns c = post-no-group _ (sym (c .before .is-group .ensures) ∙ not-true _ (c .if1 .taken)) _
 
 read-group-requires : tie.Need-read-group-requires
 read-group-requires c κs = omega (arith, group-long _ (sym (c .before .before .is-group .ensures) ∙ not-false _ (c .before .if1 .left)))
@@ -25,8 +25,8 @@ returns-2 c =
     let r = z .before .before in
     let a = r .before .before .before .before .before .before in
     let body = z .before .named-body .ensures ∙ ap (namedBody (a .args .kind) (a .args .event)) (toZ-ofZ w32 (a .args .argument) (a .fits .argument)) in
-    post-refused _ (sym (r .before .before .before .is-group .ensures) ∙ not-false _ (r .before .before .if1 .left)) _ (r .read-group .ensures) (a .args .station) _ _
-    (z .post .ensures ∙ ap (λ (x : Body). groupPostCall (r .read-group .result) (record { station = a .args .station; body = x })) body) (c .if2 .taken)
+    post-refused _ (sym (r .before .before .before .is-group .ensures) ∙ not-false _ (r .before .before .if1 .left)) _ (r .read-group .ensures) _ _
+    (z .post .ensures ∙ ap (λ (x : Body). groupPostCall (r .read-group .result) (record { station = a .args .station; desk = a .args .desk; body = x })) body) (c .if2 .taken)
 
 put-group-requires : tie.Need-put-group-requires
 put-group-requires c κs =
@@ -39,8 +39,8 @@ returns-3 c =
     let r = z .before .before in
     let a = r .before .before .before .before .before .before in
     let body = z .before .named-body .ensures ∙ ap (namedBody (a .args .kind) (a .args .event)) (toZ-ofZ w32 (a .args .argument) (a .fits .argument)) in
-    post-done _ (sym (r .before .before .before .is-group .ensures) ∙ not-false _ (r .before .before .if1 .left)) _ (r .read-group .ensures) (a .args .station) _ _
-    (z .post .ensures ∙ ap (λ (x : Body). groupPostCall (r .read-group .result) (record { station = a .args .station; body = x })) body) (c .before .before .before .before .before .if2 .left) _ (c .before .before .put-group .ensures)
+    post-done _ (sym (r .before .before .before .is-group .ensures) ∙ not-false _ (r .before .before .if1 .left)) _ (r .read-group .ensures) _ _
+    (z .post .ensures ∙ ap (λ (x : Body). groupPostCall (r .read-group .result) (record { station = a .args .station; desk = a .args .desk; body = x })) body) (c .before .before .before .before .before .if2 .left) _ (c .before .before .put-group .ensures)
 
 pub relay-group-post-spec : {M : Type 1} → statement M
 relay-group-post-spec =

@@ -13,7 +13,7 @@ use Rattle.relay_host.proofs.relay_station.relay_station_post.Statement
 use Rattle.relay_host.proofs.relay_station.relay_station_post.Tie as tie
 
 returns : tie.Need-returns
-returns c = post-no-station _ (sym (c .before .is-station .ensures) ∙ not-true _ (c .if1 .taken)) _
+returns c = post-no-station _ (sym (c .before .is-station .ensures) ∙ not-true _ (c .if1 .taken)) _ _
 
 read-station-requires : tie.Need-read-station-requires
 read-station-requires c κs = omega (arith, station-long _ (sym (c .before .before .is-station .ensures) ∙ not-false _ (c .before .if1 .left)))
@@ -24,8 +24,8 @@ returns-2 c =
     let r = z .before .before in
     let a = r .before .before .before .before .before .before in
     let body = z .before .named-body .ensures ∙ ap (namedBody (a .args .kind) (a .args .event)) (toZ-ofZ w32 (a .args .argument) (a .fits .argument)) in
-    post-refused _ (sym (r .before .before .before .is-station .ensures) ∙ not-false _ (r .before .before .if1 .left)) _ (r .read-station .ensures) _ _
-    (z .post .ensures ∙ ap (postCall (r .read-station .result)) body) (c .if2 .taken)
+    post-refused _ (sym (r .before .before .before .is-station .ensures) ∙ not-false _ (r .before .before .if1 .left)) _ (r .read-station .ensures) _ _ _
+    (z .post .ensures ∙ ap (postCall (r .read-station .result) (a .args .desk)) body) (c .if2 .taken)
 
 put-station-requires : tie.Need-put-station-requires
 put-station-requires c κs =
@@ -38,8 +38,8 @@ returns-3 c =
     let r = z .before .before in
     let a = r .before .before .before .before .before .before in
     let body = z .before .named-body .ensures ∙ ap (namedBody (a .args .kind) (a .args .event)) (toZ-ofZ w32 (a .args .argument) (a .fits .argument)) in
-    post-done _ (sym (r .before .before .before .is-station .ensures) ∙ not-false _ (r .before .before .if1 .left)) _ (r .read-station .ensures) _ _
-    (z .post .ensures ∙ ap (postCall (r .read-station .result)) body) (c .before .before .before .before .before .if2 .left) _ (c .before .before .put-station .ensures)
+    post-done _ (sym (r .before .before .before .is-station .ensures) ∙ not-false _ (r .before .before .if1 .left)) _ (r .read-station .ensures) _ _ _
+    (z .post .ensures ∙ ap (postCall (r .read-station .result) (a .args .desk)) body) (c .before .before .before .before .before .if2 .left) _ (c .before .before .put-station .ensures)
 
 pub relay-station-post-spec : {M : Type 1} → statement M
 relay-station-post-spec =

@@ -1,0 +1,169 @@
+"""./relay run: extended scripts beside the model, scripts beside ./relay listing, and what it says of a malformed line."""
+
+import pathlib
+import random
+import re
+import tempfile
+import unittest
+
+from library.formats import SIZES
+from model import listing, malformed, scripts
+from model.extended import extended_listing
+from model.malformed import GOOD_POST, GOOD_ROUND, N2
+from program.damaged import damaged
+from relay_command import ROOT, run
+
+from relay import library, run as command  # from tools, which relay_command puts on the path
+
+DOCUMENT = (ROOT / "docs" / "EXTENDED-SCRIPTS.md").read_bytes()
+MALFORMED = b"     0 X  0 11 0        0        0\nEND\n"
+
+# A malformed second line of a group of two, and what is said of it.
+WORDS = {
+    b"P        0        2        7     100": "the line has 36 columns where P has 37 or 46: the letter and 4 or 5 numbers of nine columns",
+    b"P        0        2        7      100        0        0":
+        "the line has 55 columns where P has 37 or 46: the letter and 4 or 5 numbers of nine columns",
+    b"P        0        2        7      100       -1": "number in columns 38 to 46 has a minus, which only an argument may have",
+    b"P        0        2        7      100       01": "number in columns 38 to 46 has a leading zero",
+    b"P        0        2        7      100         ": "number in columns 38 to 46 is blank",
+    b"P        0        2       -7      100        1": "number in columns 20 to 28 has a minus, which only an argument may have",
+    b"D        0": "the line begins with 'D'; its letter is N, P or R",
+    b"R        2        1        1": "the line has 28 columns where R has 19: the letter and 2 numbers of nine columns",
+    b"N        2        1": "a second N; it stands once, on the first line",
+}
+
+
+def listed(script, limit=command.LIMIT, size=1 << 16):
+    """What is printed, in this process; the script comes in parts."""
+    reader, printed = command.RunReader(limit), []
+    for at in range(0, len(script), size):
+        reader.read(script[at:at + size])
+        printed.append(reader.taken())
+        if reader.fault:
+            break
+    else:
+        reader.close()
+    return ("".join(printed) + command.ending(reader)).encode()
+
+
+def given(*arguments, script):
+    """Exit status, standard output and standard error for a script on standard input."""
+    return run("run", *arguments, "-", given=script)
+
+
+class Extended(unittest.TestCase):
+    def test_beside_the_model(self):
+        """Both desks, numbers of none, and every limit."""
+        refusals = set()
+        for seed in range(120):
+            limit = scripts.seeded_limit(seed)
+            script = scripts.script_of(*scripts.seeded_desks(seed))
+            printed = listed(script, limit)
+            self.assertEqual(printed, extended_listing(script, limit), seed)
+            refusals |= {int(one) for one in re.findall(rb"(?m)^ *\d+ X...(...)", printed)}
+        self.assertEqual(refusals, {1, 3, 4, 15})
+
+    def test_desks_matter(self):
+        """Scripts that differ in desks alone are listed otherwise."""
+        other = 0
+        for seed in range(40):
+            n, calls = scripts.seeded_desks(seed)
+            base = [call._replace(desk=0) if isinstance(call, scripts.PostLine) else call for call in calls]
+            other += extended_listing(scripts.script_of(n, calls)) != extended_listing(scripts.script_of(n, base))
+        self.assertGreater(other, 20)
+
+    def test_in_parts(self):
+        script = scripts.script_of(*scripts.seeded_desks(5))
+        for size in (1, 2, 7, 46, 47, 1_000):
+            self.assertEqual(listed(script, size=size), extended_listing(script), size)
+
+    def test_damaged(self):
+        for seed in range(300):
+            rng = random.Random(f"damaged {seed}")
+            script = damaged(rng, scripts.script_of(*scripts.seeded_desks(rng.randrange(1_000))))
+            self.assertEqual(listed(script), extended_listing(script), script)
+
+    def test_command(self):
+        for seed in range(6):
+            script = scripts.script_of(*scripts.seeded_desks(seed))
+            self.assertEqual(given(script=script), (0, extended_listing(script).decode(), ""))
+            self.assertEqual(given("--limit", "1", script=script), (0, extended_listing(script, 1).decode(), ""))
+
+    def test_a_file(self):
+        example = ROOT / "examples" / "two-desks.script"
+        self.assertEqual(run("run", example), (0, extended_listing(example.read_bytes()).decode(), ""))
+
+    def test_sizes(self):
+        """The bytes that the command lends are as many as the header says."""
+        self.assertEqual((library.GROUP_BYTES, library.REPORT_BYTES, library.ROUND_BYTES),
+                         (SIZES["GROUP_BYTES"], SIZES["REPORT_BYTES"], SIZES["ROUND_BYTES"]))
+
+
+class Scripts(unittest.TestCase):
+    """A script without desks is listed as ./relay listing does it."""
+
+    def test_drawn(self):
+        for seed in range(12):
+            script = scripts.seeded_script(seed)
+            self.assertEqual(given(script=script), run("listing", "-", given=script), seed)
+
+    def test_malformed(self):
+        """What is printed is the same; the command says more on standard error, and its status is 1."""
+        for seed in range(12):
+            rng = random.Random(f"malformed {seed}")
+            script = damaged(rng, scripts.seeded_script(rng.randrange(1_000)))
+            self.assertEqual(given(script=script)[1], run("listing", "-", given=script)[1], script)
+
+    def test_beside_the_model(self):
+        for seed in range(100):
+            script = scripts.seeded_script(seed)
+            self.assertEqual(listed(script), listing.listing(script), seed)
+        for name, script, _ in malformed.malformed_scripts():
+            if not re.search(rb"(?m)^P.{45}$", script):
+                self.assertEqual(listed(script), listing.listing(script), name)
+
+
+class Errors(unittest.TestCase):
+    def test_words(self):
+        for line, words in WORDS.items():
+            self.assertEqual(given(script=N2 + line + b"\n" + GOOD_ROUND * 2),
+                             (1, MALFORMED.decode(), f"relay run: standard input, line 2: {words}\n"), line)
+
+    def test_the_file_is_named(self):
+        with tempfile.TemporaryDirectory() as folder:
+            script = pathlib.Path(folder, "my.script")
+            script.write_bytes(N2 + GOOD_ROUND * 2 + b"Q\n")
+            status, text, words = run("run", script)
+            self.assertEqual((status, words), (1, f"relay run: {script}, line 4: the line begins with 'Q'; its letter is N, P or R\n"))
+            self.assertEqual(text, extended_listing(script.read_bytes()).decode())
+
+    def test_the_end(self):
+        self.assertEqual(given(script=b"")[::2], (1, "relay run: standard input, line 1: the script is empty; "
+                                                     "its first line is N with the number of stations\n"))
+        self.assertEqual(given(script=N2 + GOOD_POST[:-1])[::2], (1, "relay run: standard input, line 2: the last line has no line end\n"))
+
+    def test_limits(self):
+        for limit in ("0", "33", "4294967295"):
+            self.assertEqual(given("--limit", limit, script=N2), (1, "", f"relay run: refused with 13: a limit is 1 to 32, not {limit}\n"))
+
+    def test_wrong_use(self):
+        for arguments in ((), ("a", "b"), ("--limit", "x", "-"), ("--limit", "-1", "-"), ("--limit", "4294967296", "-"), ("--desk", "1", "-")):
+            status, text, words = run("run", *arguments)
+            self.assertEqual((status, text), (2, ""))
+            self.assertIn("usage: ./relay run", words)
+        self.assertEqual(run("run", "/nowhere"), (2, "", "relay run: cannot read /nowhere: No such file or directory\n"))
+
+
+class Document(unittest.TestCase):
+    def test_examples(self):
+        """Each block marked `extended` has the listing after it, by the model and by the command."""
+        found = re.findall(rb"(?ms)^```(extended|listing)\n(.*?)^```$", DOCUMENT)
+        self.assertGreaterEqual(len(found), 6)
+        self.assertEqual([mark for mark, _ in found], [b"extended", b"listing"] * (len(found) // 2))
+        for (_, script), (_, printed) in zip(found[::2], found[1::2]):
+            self.assertEqual(extended_listing(script), printed, script)
+            self.assertEqual(given(script=script), (0, printed.decode(), ""), script)
+
+
+if __name__ == "__main__":
+    unittest.main()

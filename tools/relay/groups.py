@@ -1,0 +1,57 @@
+"""A group of the proved library, held as bytes: posts, rounds, and the listing lines of what a round reports.
+
+include/relay.h gives the places in a report.
+"""
+
+import struct
+
+from . import library
+
+BODY = struct.Struct("<IIi")          # kind, event, argument
+TAKINGS_AT, TAKING = 4, 4 + BODY.size
+TURN_AT = 484
+ENDED_BODY_AT, STARTED_BODY_AT, ROW_AT = TURN_AT + 4, TURN_AT + 16, TURN_AT + 28
+EDIT_KINDS = 2, 3, 4
+ZEROS = 0, 0, 0
+
+
+class Group:
+    def __init__(self, n, limit):
+        self.n = n
+        self.refusal, self.state = library.group_fresh(n, limit)
+
+    def post(self, station, desk, kind, event, argument):
+        """The refusal, 0 where the edit waits now."""
+        return library.group_post(self.state, station, desk, kind, event, argument)
+
+    def round(self, number, masks):
+        """The lines of a round, its number being told. From fresh no round is refused."""
+        refusal, reports = library.group_round(self.state, masks)
+        if refusal:
+            raise ValueError(f"a round from fresh is refused with {refusal}")
+        return [line for place in range(self.n) for line in station_lines(number, place, reports)]
+
+
+def body_at(reports, at):
+    return BODY.unpack_from(reports, at)
+
+
+def station_lines(number, place, reports):
+    """What one station did in one round: taken, aired, ended, started."""
+    at = place * library.REPORT_BYTES
+    for i in range(reports[at]):
+        taking = at + TAKINGS_AT + TAKING * i
+        yield line(number, "D", place, reports[taking], body_at(reports, taking + 4))
+    for source in range(library.PLACES if reports[at + TURN_AT] else 0):
+        body = body_at(reports, at + ROW_AT + BODY.size * source)
+        if body[0] in EDIT_KINDS:
+            yield line(number, "A", place, source, body)
+    if reports[at + TURN_AT + 1]:
+        yield line(number, "E", place, place, body_at(reports, at + ENDED_BODY_AT))
+        started = body_at(reports, at + STARTED_BODY_AT)
+        if started != ZEROS:
+            yield line(number, "D", place, place, started)
+
+
+def line(number, letter, station, source, body=ZEROS):
+    return "%6d %s%3d%3d%2d%9d%9d\n" % (number, letter, station, source, *body)
