@@ -111,7 +111,7 @@ module _ (setup : Setup) (high : setup .n ≤ 16) where
             (rw (getD-replicate 16 k (freshStation aloneSetup 0) noStation l) (fresh-shaped aloneSetup 0)) (λ j m. fresh-shaped setup j);
       }
 
-  fresh-edition : (k : ℕ) → k < n → stationAt (freshGroup setup) k .edition ≡ setup .edition
+  pub fresh-edition : (k : ℕ) → k < n → stationAt (freshGroup setup) k .edition ≡ setup .edition
   fresh-edition k l = rw (fresh-at k l) (fresh-self setup k .edition)
 
   pub fresh-members : 1 ≤ n → limitInside (setup .limit) ≡ true → setup .edition < 2 → Members n (freshGroup setup)

@@ -76,7 +76,7 @@ module _ (n : ℕ) (g : List Station) (c : Members n g) (x : Post) where
     posted-other j ne = getD-set-other g (x .station) j (posted (stationAt g (x .station)) (x .desk) (x .body)) noStation ne
 
     -- each keeps its edition
-    posted-edition : (j : ℕ) → stationAt (afterPost g x) j .edition ≡ stationAt g j .edition
+    pub posted-edition : (j : ℕ) → stationAt (afterPost g x) j .edition ≡ stationAt g j .edition
     posted-edition j =
         elim (ℕ-discrete j (x .station)) [
           | yes same ↦ subst (λ (i : ℕ). stationAt (afterPost g x) i .edition ≡ stationAt g i .edition) (sym same) here

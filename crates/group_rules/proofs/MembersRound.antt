@@ -120,7 +120,7 @@ module _ (n : ℕ) (g : List Station) (c : Members n g) (masks : List ℕ) (run 
       ]
 
   -- each keeps its edition
-  after-edition : (i : ℕ) → i < n → stationAt (afterRound g masks) i .edition ≡ stationAt g i .edition
+  pub after-edition : (i : ℕ) → i < n → stationAt (afterRound g masks) i .edition ≡ stationAt g i .edition
   after-edition i l = rw (after-at i l) (turn-edition ((heard g masks i) .station) ∙ run-hears i l .edition)
 
   after-member : (i : ℕ) → i < n → Member n (afterRound g masks) i
