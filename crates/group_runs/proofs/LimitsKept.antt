@@ -35,9 +35,9 @@ limitAt g p = (stationAt g p) .waiting .limit
 abbrev limitOf : Station → ℕ
 limitOf s = s .waiting .limit
 
-posted-limit : (s : Station) (b : Body) → limitOf (posted s b) ≡ limitOf s
+posted-limit : (s : Station) (d : ℕ) (b : Body) → limitOf (posted s d b) ≡ limitOf s
 unfolding posted withPosted
-posted-limit s b = refl
+posted-limit s d b = refl
 
 started-limit : (t : Bool) (w : Waiting) → (cond t (withoutNext w) w) .limit ≡ w .limit
 unfolding withoutNext
@@ -60,7 +60,7 @@ module _ (n : ℕ) (g : List Station) (c : Members n g) where
           ∙ elim (ℕ-discrete p k) [
             | yes same ↦
                 subst (λ (j : ℕ). limitAt (afterPost g x) j ≡ limitAt g j) (sym same)
-                (ap limitOf (posted-at n g c x below) ∙ posted-limit (stationAt g k) (x .body))
+                (ap limitOf (posted-at n g c x below) ∙ posted-limit (stationAt g k) (x .desk) (x .body))
             | no ne ↦ ap limitOf (posted-other n g c x below p ne)
           ]
       go false e = ap (λ (h : List Station). limitAt h p) (post-refused g x e)

@@ -219,7 +219,7 @@ rounds-lead n r total seed zero s a e h =
     record {
       session = s;
       path = stays;
-      there = record { size = a .size; rounds = a .rounds ∙ omega arith; reading = a .reading; members = a .members };
+      there = record { size = a .size; rounds = a .rounds ∙ omega arith; reading = a .reading; members = a .members; edition = a .edition };
       ends = no-line;
     }
 rounds-lead n r total seed (suc count) s a e h =

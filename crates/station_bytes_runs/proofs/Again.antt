@@ -10,6 +10,7 @@ use borrow.Author.Tests.{eqb-true, eq-eqb}
 use Rattle.kinds.specs.declared.Body.{Body}
 use Rattle.kinds.specs.Refusals.{done, outsideLimits, refuse}
 use Rattle.frame_rules.specs.Frame.{validNumber, frameRefusal, recordsOf, recordsInside, shapeWrong, addressWrong}
+use Rattle.kind_limits.specs.Limits.{isEdition}
 use Rattle.lanes.specs.Waiting.{limitInside, hasRoom}
 use Rattle.station_rules.specs.declared.Setup.{Setup}
 use Rattle.station_rules.specs.declared.Station.{Station}
@@ -136,17 +137,20 @@ module _ (s : Station) (shape : Shaped s) (f : Fitting s) where
 -- fresh, also where it is refused: the answer is then the fresh station of N = 1
 pub after-fresh : (setup : Setup) (own : ℕ) → Again ((freshCall setup own) .station)
 unfolding freshCall
-after-fresh setup own = go (validNumber (setup .n) own) (limitInside (setup .limit)) refl refl
+after-fresh setup own = go (validNumber (setup .n) own) (limitInside (setup .limit)) (isEdition (setup .edition)) refl refl refl
   where
     alone-again : Again (freshStation aloneSetup 0)
-    alone-again = again (freshStation aloneSetup 0) (fresh-shaped aloneSetup 0) (fresh-fitting aloneSetup 0 (omega arith)) (fresh-inside aloneSetup 0 refl refl)
+    alone-again = again (freshStation aloneSetup 0) (fresh-shaped aloneSetup 0) (fresh-fitting aloneSetup 0 (omega arith)) (fresh-inside aloneSetup 0 refl refl refl)
 
-    go : (t u : Bool) → validNumber (setup .n) own ≡ t → limitInside (setup .limit) ≡ u → Again ((freshCall setup own) .station)
-    go true true e d =
+    go :
+        (t u v : Bool) → validNumber (setup .n) own ≡ t → limitInside (setup .limit) ≡ u → isEdition (setup .edition) ≡ v →
+        Again ((freshCall setup own) .station)
+    go true true true e d k =
         let v = valid-parts (setup .n) own e in
-        rw (e, d) (again (freshStation setup own) (fresh-shaped setup own) (fresh-fitting setup own (omega (arith, v .1, v .2))) (fresh-inside setup own e d))
-    go true false e d = rw (e, d) alone-again
-    go false u e d = rw e alone-again
+        rw (e, d, k) (again (freshStation setup own) (fresh-shaped setup own) (fresh-fitting setup own (omega (arith, v .1, v .2))) (fresh-inside setup own e d k))
+    go true true false e d k = rw (e, d, k) alone-again
+    go true false v e d k = rw (e, d) alone-again
+    go false u v e d k = rw e alone-again
 
 module _ (b : List ℕ) (small : AllBytes b) where
   abbrev now : Station

@@ -47,6 +47,7 @@ use Rattle.station_bytes_runs.proofs.Decoded.{AllWords, no-words, words
 pub record OneByte (s : Station) : Type 0 where
   pub n : s .n < 256
   pub own : s .own < 256
+  pub edition : s .edition < 256
   pub count : (d : ℕ) → deskCount (s .waiting) d < 256
   pub limit : s .waiting .limit < 256
 
@@ -55,8 +56,9 @@ inside-bytes s i =
     record {
       n = omega (arith, i .high);
       own = omega (arith, i .own, i .high);
-      count = λ d. omega (arith, inside-most (s .waiting) (i .waiting) d);
-      limit = omega (arith, limit-most (s .waiting .limit) (inside-limit (s .waiting) (i .waiting)));
+      edition = omega (arith, i .known);
+      count = λ d. omega (arith, inside-most (s .edition) (s .waiting) (i .waiting) d);
+      limit = omega (arith, limit-most (s .waiting .limit) (inside-limit (s .edition) (s .waiting) (i .waiting)));
     }
 
 fits : (s : Station) → Shaped s → Fitting s → OneByte s → StationFits s
@@ -64,6 +66,7 @@ fits s shape f b =
     record {
       n-byte = b .n;
       own-byte = b .own;
+      edition-byte = b .edition;
       body-fits = f .body;
       acked-long = shape .acked;
       labels-long = shape .labels;
