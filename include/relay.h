@@ -6,7 +6,7 @@
    The library has no state of its own and allocates nothing. A call reads and writes the memory that it
    is lent, and no other; it keeps no pointer. So any number of threads may call at once, as long as no
    two of them lend the same memory, unless both only read it. A call of a station takes at most 16 KiB
-   of the thread's stack, one of a group at most 128 KiB, as the compiler lays them out today.
+   of the thread's stack, one of a group at most 192 KiB, as the compiler lays them out today.
 
    Lent memory is a pointer and a length, which counts elements and not bytes. A pointer is not null,
    also where its length is 0. Two buffers of one call must not overlap. Beyond that every argument may

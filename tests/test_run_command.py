@@ -55,7 +55,7 @@ class Extended(unittest.TestCase):
     def test_beside_the_model(self):
         """Both desks, numbers of none, and every limit."""
         refusals = set()
-        for seed in range(120):
+        for seed in range(60):
             limit = scripts.seeded_limit(seed)
             script = scripts.script_of(*scripts.seeded_desks(seed))
             printed = listed(script, limit)
@@ -78,7 +78,7 @@ class Extended(unittest.TestCase):
             self.assertEqual(listed(script, size=size), extended_listing(script), size)
 
     def test_damaged(self):
-        for seed in range(300):
+        for seed in range(120):
             rng = random.Random(f"damaged {seed}")
             script = damaged(rng, scripts.script_of(*scripts.seeded_desks(rng.randrange(1_000))))
             self.assertEqual(listed(script), extended_listing(script), script)
@@ -115,7 +115,7 @@ class Scripts(unittest.TestCase):
             self.assertEqual(given(script=script)[1], run("listing", "-", given=script)[1], script)
 
     def test_beside_the_model(self):
-        for seed in range(100):
+        for seed in range(50):
             script = scripts.seeded_script(seed)
             self.assertEqual(listed(script), listing.listing(script), seed)
         for name, script, _ in malformed.malformed_scripts():
@@ -150,7 +150,7 @@ class Errors(unittest.TestCase):
         for arguments in ((), ("a", "b"), ("--limit", "x", "-"), ("--limit", "-1", "-"), ("--limit", "4294967296", "-"), ("--desk", "1", "-")):
             status, text, words = run("run", *arguments)
             self.assertEqual((status, text), (2, ""))
-            self.assertIn("usage: ./relay run", words)
+            self.assertIn("usage: ./relay", words)
         self.assertEqual(run("run", "/nowhere"), (2, "", "relay run: cannot read /nowhere: No such file or directory\n"))
 
 

@@ -1,9 +1,9 @@
-"""The listing of an extended script, in which a post may name its desk.
+"""The listing of a script in which a post may name its desk.
 
-An extended script has the lines of a script (docs/SCRIPTS.md), and a P line may
-have a fifth number: the desk that posts, 0 or 1. Without it desk 0 posts. What is
-printed are the lines of a listing; of a script without desks it is just its
-listing. docs/EXTENDED-SCRIPTS.md tells more.
+An extended script has the lines of a script (docs/SCRIPTS.md), and a P line
+may have a fifth number: the desk that posts, 0 or 1. Without it desk 0 posts.
+What is printed are the lines of a listing; of a script without desks it is
+just its listing. docs/EXTENDED-SCRIPTS.md tells more.
 
 exit status: 1 also where a line is malformed, after the listing up to there
 

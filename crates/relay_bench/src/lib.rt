@@ -17,7 +17,7 @@ const MASKS_SIZE: usize = 32;
 const POST_EVERY: u32 = 8;
 
 // The bytes of a station: RELAY_STATION_BYTES of include/relay.h.
-const STATION_WIDTH: usize = 1108;
+const STATION_WIDTH: usize = 1492;
 
 const LOW: u64 = 4_294_967_296;
 
