@@ -88,7 +88,7 @@ module _ (s : Station) (shape : Shaped s) (f : Fitting s) where
     hear-refusal : ℕ
     hear-refusal =
         refuse (not (stationInside s)) outsideLimits
-        (refuse (not (eqb (frameRefusal bytes (s .n) (s .own)) done)) (frameRefusal bytes (s .n) (s .own)) (heard .refusal))
+        (refuse (not (eqb (frameRefusal (s .edition) bytes (s .n) (s .own)) done)) (frameRefusal (s .edition) bytes (s .n) (s .own)) (heard .refusal))
 
     hear-is : (hear-refusal ≡ done) × ((hearCall s bytes) .station ≡ heard .station)
     unfolding hearCall hear-refusal heard
@@ -102,17 +102,17 @@ module _ (s : Station) (shape : Shaped s) (f : Fitting s) where
     unfolding hear-refusal
     hear-inside = inside-first (stationInside s) _ (hear-is .0)
 
-    frame-fine : frameRefusal bytes (s .n) (s .own) ≡ done
+    frame-fine : frameRefusal (s .edition) bytes (s .n) (s .own) ≡ done
     unfolding hear-refusal
-    frame-fine = go (eqb (frameRefusal bytes (s .n) (s .own)) done) refl
+    frame-fine = go (eqb (frameRefusal (s .edition) bytes (s .n) (s .own)) done) refl
       where
-        go : (t : Bool) → eqb (frameRefusal bytes (s .n) (s .own)) done ≡ t → frameRefusal bytes (s .n) (s .own) ≡ done
+        go : (t : Bool) → eqb (frameRefusal (s .edition) bytes (s .n) (s .own)) done ≡ t → frameRefusal (s .edition) bytes (s .n) (s .own) ≡ done
         go true e = eqb-true _ done e
         go false e = rw (hear-inside, e) at (hear-is .0)
 
-    records-fine : recordsInside bytes (s .n) ≡ true
+    records-fine : recordsInside (s .edition) bytes (s .n) ≡ true
     unfolding frameRefusal
-    records-fine = go (shapeWrong bytes) (addressWrong bytes (s .n) (s .own)) (recordsInside bytes (s .n)) frame-fine
+    records-fine = go (shapeWrong bytes) (addressWrong (s .edition) bytes (s .n) (s .own)) (recordsInside (s .edition) bytes (s .n)) frame-fine
       where
         go : (a b c : Bool) → refuse a 5 (refuse b 6 (refuse (not c) 7 0)) ≡ 0 → c ≡ true
         go false false true z = refl
@@ -124,7 +124,7 @@ module _ (s : Station) (shape : Shaped s) (f : Fitting s) where
     unfolding heard
     heard-keeps =
         let high = inside-open s hear-inside .high in
-        frame-keeps (silent s) (recordsOf bytes) (all-fit (s .n) high (recordsOf bytes) (frame-carried (s .n) bytes records-fine) (frame-words bytes small))
+        frame-keeps (silent s) (recordsOf bytes) (all-fit (s .edition) (s .n) high (recordsOf bytes) (frame-carried (s .edition) (s .n) bytes records-fine) (frame-words bytes small))
         (record { shape = shape; fitting = f; size = high })
 
     pub hear-again : Again ((hearCall s bytes) .station)

@@ -113,11 +113,11 @@ fresh-kept setup ok =
       fitting = each Fitting (λ k l. fresh-fitting setup k (omega (arith, ok .high))) (fresh-fitting aloneSetup 0 (omega arith));
       bytes =
           each OneByte (λ k l. subst OneByte (at-below k l) (inside-bytes (stationAt (freshGroup setup) k) (members .member k l .inside)))
-          (inside-bytes (freshStation aloneSetup 0) (inside-open (freshStation aloneSetup 0) (fresh-inside aloneSetup 0 refl refl)));
+          (inside-bytes (freshStation aloneSetup 0) (inside-open (freshStation aloneSetup 0) (fresh-inside aloneSetup 0 refl refl refl)));
     }
   where
     members : Members (setup .n) (freshGroup setup)
-    members = fresh-members setup (ok .high) (ok .low) (ok .limited)
+    members = fresh-members setup (ok .high) (ok .low) (ok .limited) (ok .known)
 
     at-below : (k : ℕ) → k < setup .n → stationAt (freshGroup setup) k ≡ freshStation setup k
     at-below k l =
@@ -211,7 +211,7 @@ module _ (n : ℕ) (g : List Station) (c : Kept n g) (masks : List ℕ) where
     sent-fits i j l b =
         let s = stationAt g j in
         let inside = m .member j b .inside in
-        all-fit (s .n) (size-of j b) (sentRecords s) (sent-carried s inside (run .counts j (omega (arith, m .size)))) (sent-words s (size-of j b) (c .fitting j (omega (arith, m .high))))
+        all-fit (s .edition) (s .n) (size-of j b) (sentRecords s) (sent-carried s inside (run .counts j (omega (arith, m .size)))) (sent-words s (size-of j b) (c .fitting j (omega (arith, m .high))))
 
     heard-keeps : (i j : ℕ) → i < n → j ≤ n → Keeps ((heardBelow g masks i j) .station)
     unfolding heardBelow
