@@ -59,7 +59,7 @@ def read_line(line, n):
 
 
 def listing_line(rounds, letter, station, source, body):
-    return b"%6d %s%3d%3d%2d%9d%9d\n" % (rounds, letter, station, source, *body)
+    return b"%6d %s%3d%3d%2d%9d%9d\n" % (rounds, letter, station, source, *body[:3])
 
 
 def refused_post_line(rounds, station, n, refusal):

@@ -22,7 +22,7 @@ def script_line(letter, numbers):
 def call_line(call):
     """The desk is named only where another than desk 0 posts, which no script of document 01 has."""
     if isinstance(call, PostLine):
-        return script_line(b"P", (call.station, *call.body, *[call.desk] * (call.desk != 0)))
+        return script_line(b"P", (call.station, *call.body[:3], *[call.desk] * (call.desk != 0)))
     return script_line(b"R", call.masks)
 
 

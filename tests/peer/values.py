@@ -11,7 +11,7 @@ from model.station import Station
 
 
 def body_bytes(body):
-    return struct.pack("<BIi", *body)
+    return struct.pack("<BIi", *body[:3])
 
 
 def record_bytes(record):
