@@ -13,7 +13,7 @@ from array import array
 from .rooms import Room, held
 
 SHOWN = 10  # differences that are told; the others are only counted
-SECONDS = 60  # for a wrong call
+SECONDS = 60  # of processor time for a wrong call: other work on the machine plays no part
 FAULTY = 3  # the exit status of a test that is itself wrong
 
 
@@ -78,7 +78,7 @@ class Comparison:
         child = os.fork()
         if child == 0:
             status = FAULTY
-            signal.alarm(SECONDS)
+            signal.setitimer(signal.ITIMER_PROF, SECONDS)
             try:
                 other = type(self)(self.check, lambda *lent: wrong(self.call, *lent), self.model, told=False)
                 status = 0 if all(other.agrees(case) for case in cases) else 1
