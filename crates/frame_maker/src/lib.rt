@@ -42,7 +42,13 @@ fn held_fits(held: bool, edition: usize, n: usize, k: usize, r: Record) -> bool
 }
 
 // May the records at the held places of a table stand in a frame of this sender?
-fn table_fits(held: [bool; 16], table: [Record; 16], edition: usize, n: usize, sender: usize) -> bool
+fn table_fits(
+    held: [bool; 16],
+    table: [Record; 16],
+    edition: usize,
+    n: usize,
+    sender: usize,
+) -> bool
     requires { ⌜ (n ≤ 16) × (sender < n) ⌝ }
     ensures { λ r. ⌜ r ≡ tableFits edition n sender held table ⌝ }
 {

@@ -9,9 +9,20 @@ pub mod refusals;
 pub enum Body {
     Empty,
     Neutral,
-    Insert { channel: u8, event: u32, start: i32 },
-    Drop { channel: u8, event: u32 },
-    Shift { channel: u8, event: u32, frames: i32 },
+    Insert {
+        channel: u8,
+        event: u32,
+        start: i32,
+    },
+    Drop {
+        channel: u8,
+        event: u32,
+    },
+    Shift {
+        channel: u8,
+        event: u32,
+        frames: i32,
+    },
 }
 
 pub fn kind_of(body: Body) -> u32

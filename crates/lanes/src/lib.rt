@@ -243,8 +243,7 @@ pub fn next_edit(waiting: Waiting) -> Body
 
 // The waiting edits once the next one has started: the other desk goes first.
 pub fn without_next(waiting: Waiting) -> Waiting
-    requires {
-        ⌜ (0 < waitingSpec.waitingCount waiting)
+    requires { ⌜ (0 < waitingSpec.waitingCount waiting)
         × (waitingSpec.deskCount waiting (waitingSpec.nextDesk waiting) ≤ queueSpec.queueCapacity) ⌝ }
     ensures { λ r. ⌜ r ≡ waitingSpec.withoutNext waiting ⌝ }
 {

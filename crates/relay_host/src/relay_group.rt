@@ -64,7 +64,12 @@ pub extern "C" fn relay_group_fresh_limited(state: &mut [u8], n: u32, limit: u32
 
 // Group fresh, with a limit and an edition named.
 #[no_mangle]
-pub extern "C" fn relay_group_fresh_edition(state: &mut [u8], n: u32, limit: u32, edition: u32) -> u32
+pub extern "C" fn relay_group_fresh_edition(
+    state: &mut [u8],
+    n: u32,
+    limit: u32,
+    edition: u32,
+) -> u32
     ensures { λ r. ⌜ (r ≡ groupFreshReturned (groupFreshCall (record { n = n; limit = limit; edition = edition })) (now (state .entry)))
         × (now (state .exit) ≡ frontWritten r
         (encodeGroup (groupFreshCall (record { n = n; limit = limit; edition = edition }) .group))

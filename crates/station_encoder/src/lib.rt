@@ -59,7 +59,14 @@ pub fn put_body(bytes: &mut [u8], at: usize, body: Body)
     requires { ⌜ at + 12 ≤ length (now bytes) ⌝ }
     ensures { λ _. ⌜ now (bytes .exit) ≡ sets (now (bytes .entry)) at (encodeBody body) ⌝ }
 {
-    put_four(bytes, at, kinds::kind_of(body) as u8, kinds::channel_of(body), 0, 0);
+    put_four(
+        bytes,
+        at,
+        kinds::kind_of(body) as u8,
+        kinds::channel_of(body),
+        0,
+        0,
+    );
     put_word(bytes, at + 4, kinds::event_of(body));
     put_word(
         bytes,

@@ -82,14 +82,7 @@ fn record_inside(edition: usize, n: usize, own: usize, k: usize, record: Record)
 }
 
 // Is the record of station k inside its limits, if one is held?
-fn held_inside(
-    edition: usize,
-    n: usize,
-    own: usize,
-    k: usize,
-    held: bool,
-    record: Record,
-) -> bool
+fn held_inside(edition: usize, n: usize, own: usize, k: usize, held: bool, record: Record) -> bool
     requires { ⌜ (n ≤ 16) × (k < n) ⌝ }
     ensures { λ r. ⌜ r ≡ (not held || spec.recordInside edition n own k «record») ⌝ }
 {
@@ -152,7 +145,16 @@ pub fn station_inside(s: Station) -> bool
     }
     let mut k: usize = 0;
     while k < n {
-        if !place_inside(edition, n, own, k, s.labels[k], s.held[k], s.table[k], s.lanes[k]) {
+        if !place_inside(
+            edition,
+            n,
+            own,
+            k,
+            s.labels[k],
+            s.held[k],
+            s.table[k],
+            s.lanes[k],
+        ) {
             return false;
         }
         k += 1;

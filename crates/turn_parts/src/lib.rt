@@ -96,8 +96,7 @@ pub fn starts_edit(ended: bool, own_len: u8, waits: bool) -> bool
 
 // The edits that wait after the start.
 pub fn waiting_after(starts: bool, waiting: Waiting) -> Waiting
-    requires {
-        ⌜ (starts ≡ true → 0 < waitingCount waiting)
+    requires { ⌜ (starts ≡ true → 0 < waitingCount waiting)
         × (deskCount waiting (nextDesk waiting) ≤ queueCapacity) ⌝ }
     ensures { λ r. ⌜ r ≡ cond starts (withoutNext waiting) waiting ⌝ }
 {
