@@ -145,7 +145,7 @@ def editions(rng):
 
 def heard_frames(rng, count):
     """Any bytes as a frame, by a station inside its limits."""
-    for data, n, own in drawn_frames.cases(rng.random(), count):
+    for data, n, own, _ in drawn_frames.cases(rng.random(), count):
         n, own = (n, own) if numbers_valid(n, own) else (rng.randint(1, PLACES), 0)
         s = states.random_station(rng, n, own, data[3] % 2 if len(data) > 3 else 0)
         yield hear(rng, formats.station_bytes(s._replace(lanes=(NO_LANE,) * n + s.lanes[n:])), data)

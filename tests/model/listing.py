@@ -32,13 +32,13 @@ def station_lines(rounds, place, report):
         yield listing_line(rounds, b"D", place, place, report.started_body)
 
 
-def listing_lines(script, read=read_line, limit=LIMIT):
+def listing_lines(script, read=read_line, limit=LIMIT, edition=0):
     group, n, rounds = None, None, 0
     for line in split_lines(script):
         command = None if line is None else read(line, n)
         if isinstance(command, SizeLine):
             n = command.n
-            group = groups.fresh(n, limit).group
+            group = groups.fresh(n, limit, edition).group
         elif isinstance(command, PostLine):
             refusal, group = groups.post(group, command.station, command.body, command.desk)
             if refusal != DONE:
