@@ -1,4 +1,4 @@
-"""./relay run: extended scripts beside the model, scripts beside ./relay listing, and what it says of a malformed line."""
+"""./relay run: extended scripts beside the model, scripts beside ./relay listing, and its words for a bad line."""
 
 import pathlib
 import random
@@ -20,14 +20,18 @@ MALFORMED = b"     0 X  0 11 0        0        0\nEND\n"
 
 # A malformed second line of a group of two, and what is said of it.
 WORDS = {
-    b"P        0        2        7     100": "the line has 36 columns where P has 37, 46 or 55: the letter and 4, 5 or 6 numbers of nine columns",
+    b"P        0        2        7     100":
+        "the line has 36 columns where P has 37, 46 or 55: the letter and 4, 5 or 6 numbers of nine columns",
     b"P        0        2        7      100        0        0        0":
         "the line has 64 columns where P has 37, 46 or 55: the letter and 4, 5 or 6 numbers of nine columns",
-    b"P        0        2        7      100        0       -1": "number in columns 47 to 55 has a minus, which only an argument may have",
-    b"P        0        2        7      100       -1": "number in columns 38 to 46 has a minus, which only an argument may have",
+    b"P        0        2        7      100        0       -1":
+        "number in columns 47 to 55 has a minus, which only an argument may have",
+    b"P        0        2        7      100       -1":
+        "number in columns 38 to 46 has a minus, which only an argument may have",
     b"P        0        2        7      100       01": "number in columns 38 to 46 has a leading zero",
     b"P        0        2        7      100         ": "number in columns 38 to 46 is blank",
-    b"P        0        2       -7      100        1": "number in columns 20 to 28 has a minus, which only an argument may have",
+    b"P        0        2       -7      100        1":
+        "number in columns 20 to 28 has a minus, which only an argument may have",
     b"D        0": "the line begins with 'D'; its letter is N, P or R",
     b"R        2        1        1": "the line has 28 columns where R has 19: the letter and 2 numbers of nine columns",
     b"N        2        1": "a second N; it stands once, on the first line",
@@ -153,17 +157,20 @@ class Errors(unittest.TestCase):
             script = pathlib.Path(folder, "my.script")
             script.write_bytes(N2 + GOOD_ROUND * 2 + b"Q\n")
             status, text, words = run("run", script)
-            self.assertEqual((status, words), (1, f"relay run: {script}, line 4: the line begins with 'Q'; its letter is N, P or R\n"))
+            said = f"relay run: {script}, line 4: the line begins with 'Q'; its letter is N, P or R\n"
+            self.assertEqual((status, words), (1, said))
             self.assertEqual(text, extended_listing(script.read_bytes()).decode())
 
     def test_the_end(self):
         self.assertEqual(given(script=b"")[::2], (1, "relay run: standard input, line 1: the script is empty; "
                                                      "its first line is N with the number of stations\n"))
-        self.assertEqual(given(script=N2 + GOOD_POST[:-1])[::2], (1, "relay run: standard input, line 2: the last line has no line end\n"))
+        self.assertEqual(given(script=N2 + GOOD_POST[:-1])[::2],
+                         (1, "relay run: standard input, line 2: the last line has no line end\n"))
 
     def test_limits(self):
         for limit in ("0", "33", "4294967295"):
-            self.assertEqual(given("--limit", limit, script=N2), (1, "", f"relay run: refused with 13: a limit is 1 to 32, not {limit}\n"))
+            said = f"relay run: refused with 13: a limit is 1 to 32, not {limit}\n"
+            self.assertEqual(given("--limit", limit, script=N2), (1, "", said))
 
     def test_editions(self):
         for edition in ("2", "255", "256", "4294967295"):
@@ -171,7 +178,8 @@ class Errors(unittest.TestCase):
         self.assertEqual(given("--edition", "2", "--limit", "0", script=N2), (1, "", "relay run: refused with 13: a limit is 1 to 32, not 0\n"))
 
     def test_wrong_use(self):
-        for arguments in ((), ("a", "b"), ("--limit", "x", "-"), ("--limit", "-1", "-"), ("--limit", "4294967296", "-"), ("--edition", "x", "-"), ("--desk", "1", "-")):
+        for arguments in ((), ("a", "b"), ("--limit", "x", "-"), ("--limit", "-1", "-"), ("--limit", "4294967296", "-"),
+                          ("--edition", "x", "-"), ("--desk", "1", "-")):
             status, text, words = run("run", *arguments)
             self.assertEqual((status, text), (2, ""))
             self.assertIn("usage: ./relay", words)

@@ -91,7 +91,8 @@ def words(line, n, counts):
         length = f"more than {LONGEST_LINE}" if len(line) > LONGEST_LINE else f"{len(line)}"
         numbers = "one number" if allowed == (1,) else f"{one_of(allowed)} numbers"
         columns = one_of([1 + WIDTH * count for count in allowed])
-        return f"the line has {length} columns where {letter.decode()} has {columns}: the letter and {numbers} of nine columns"
+        form = f"{letter.decode()} has {columns}: the letter and {numbers} of nine columns"
+        return f"the line has {length} columns where {form}"
     for at in range(len(line) // WIDTH):
         wrong = number_words(line[1 + WIDTH * at:1 + WIDTH * (at + 1)], letter, at)
         if wrong:
