@@ -142,7 +142,7 @@ class Scripts(unittest.TestCase):
             script = scripts.seeded_script(seed)
             self.assertEqual(listed(script), listing.listing(script), seed)
         for name, script, _ in malformed.malformed_scripts():
-            if not re.search(rb"(?m)^P.{45}$", script):
+            if not re.search(rb"(?m)^P(.{45}|.{54})$", script):
                 self.assertEqual(listed(script), listing.listing(script), name)
 
 
