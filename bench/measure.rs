@@ -11,6 +11,9 @@ use relay_peer::{air_logs, forecast, frames, load, measured, merge, questions, r
 /// A slice and two numbers in, a number out: the form of everything that is measured but the forecast, the merge, the questions and the comparison of air logs.
 type Function = unsafe extern "C" fn(*const u8, usize, u32, u32) -> u32;
 
+/// A frame check: a frame, N, own number and edition.
+type Check = unsafe extern "C" fn(*const u8, usize, u32, u32, u32) -> u32;
+
 /// The forecast: a log and N in, the counts of ends and the rounds of the last into two buffers.
 type Forecast = unsafe extern "C" fn(*const u16, usize, u32, *mut u16, usize, *mut u16, usize) -> u32;
 
@@ -38,9 +41,9 @@ type Codec = unsafe extern "C" fn(*mut u8, usize, u32, u32) -> u32;
 
 /// The frame check of crate relay_host.
 #[cfg(relay_host)]
-const PROJECT_CHECK: Option<Function> = Some(relay_frame_check);
+const PROJECT_CHECK: Option<Check> = Some(relay_frame_check);
 #[cfg(not(relay_host))]
-const PROJECT_CHECK: Option<Function> = None;
+const PROJECT_CHECK: Option<Check> = None;
 
 /// The forecast of crate relay_host.
 #[cfg(relay_host)]
@@ -78,7 +81,7 @@ const PROJECT_LOAD: Option<Function> = Some(load_project);
 #[cfg(not(relay_host))]
 const PROJECT_LOAD: Option<Function> = None;
 
-const CHECK_PEERS: &[(&str, Function)] = &[
+const CHECK_PEERS: &[(&str, Check)] = &[
     ("Rust", frame_check_rust),
     #[cfg(gcc)]
     ("gcc -O2", frame_check_peer_gcc),
@@ -89,7 +92,7 @@ const CHECK_PEERS: &[(&str, Function)] = &[
 unsafe extern "C" {
     fn clock() -> c_long;
     #[cfg(relay_host)]
-    fn relay_frame_check(bytes: *const u8, len: usize, n: u32, own: u32) -> u32;
+    fn relay_frame_check(bytes: *const u8, len: usize, n: u32, own: u32, edition: u32) -> u32;
     #[cfg(relay_host)]
     fn relay_forecast(log: *const u16, len: usize, n: u32, ends: *mut u16, ends_len: usize, last: *mut u16, last_len: usize) -> u32;
     #[cfg(relay_host)]
@@ -130,7 +133,7 @@ unsafe extern "C" {
     #[cfg(relay_host)]
     fn relay_station_fresh(state: *mut u8, state_len: usize, n: u32, own: u32) -> u32;
     #[cfg(relay_host)]
-    fn relay_station_post(state: *mut u8, state_len: usize, desk: u32, kind: u32, event: u32, argument: i32) -> u32;
+    fn relay_station_post(state: *mut u8, state_len: usize, desk: u32, kind: u32, event: u32, argument: i32, channel: u32) -> u32;
     #[cfg(relay_host)]
     fn relay_station_write(state: *const u8, state_len: usize, frame: *mut u8, frame_len: usize, length: *mut u32, length_len: usize) -> u32;
     #[cfg(relay_host)]
@@ -142,15 +145,15 @@ unsafe extern "C" {
     #[cfg(relay_bench)]
     fn relay_bench_rounds(schedule: *const u8, len: usize, n: u32, rounds: u32) -> u32;
     #[cfg(gcc)]
-    fn frame_check_peer_gcc(bytes: *const u8, len: usize, n: u32, own: u32) -> u32;
+    fn frame_check_peer_gcc(bytes: *const u8, len: usize, n: u32, own: u32, edition: u32) -> u32;
     #[cfg(clang)]
-    fn frame_check_peer_clang(bytes: *const u8, len: usize, n: u32, own: u32) -> u32;
+    fn frame_check_peer_clang(bytes: *const u8, len: usize, n: u32, own: u32, edition: u32) -> u32;
 }
 
-extern "C" fn frame_check_rust(bytes: *const u8, len: usize, n: u32, own: u32) -> u32 {
+extern "C" fn frame_check_rust(bytes: *const u8, len: usize, n: u32, own: u32, edition: u32) -> u32 {
     // SAFETY: the measures below hand in a whole slice.
     let frame = unsafe { std::slice::from_raw_parts(bytes, len) };
-    refusals::number(&frames::check(frame, n as usize, own as usize))
+    refusals::number(&frames::check(frame, n as usize, own as usize, edition))
 }
 
 extern "C" fn rounds_rust(schedule: *const u8, len: usize, n: u32, rounds: u32) -> u32 {
@@ -219,7 +222,7 @@ fn play(recorded: &[Vec<Vec<u8>>], n: usize) -> Option<([u8; STATION_BYTES], u32
         done(relay_station_fresh(at, STATION_BYTES, n as u32, OWN as u32))?;
         for (round, frames) in recorded.iter().enumerate() {
             if let Some((desk, event, start)) = recorded::due(round, OWN) {
-                sum = mix(sum, (relay_station_post(at, STATION_BYTES, desk as u32, 2, event, start) == 0).into());
+                sum = mix(sum, (relay_station_post(at, STATION_BYTES, desk as u32, 2, event, start, 0) == 0).into());
             }
             done(relay_station_write(at, STATION_BYTES, frame.as_mut_ptr(), frame.len(), length.as_mut_ptr(), 1))?;
             sum = mix(mix(sum, length[0]), frame[round % length[0] as usize].into());
@@ -326,6 +329,12 @@ const CODED: u32 = 2_048;
 fn call(function: Function, bytes: &[u8], first: u32, second: u32) -> u32 {
     // SAFETY: pointer and length are those of a slice that lives through the call.
     unsafe { function(bytes.as_ptr(), bytes.len(), first, second) }
+}
+
+/// What station 0 of n answers to a frame of edition 0.
+fn check(function: Check, frame: &[u8], n: u32) -> u32 {
+    // SAFETY: pointer and length are those of a slice that lives through the call.
+    unsafe { function(frame.as_ptr(), frame.len(), n, 0, 0) }
 }
 
 /// A checksum of so many forecasts of a log.
@@ -528,7 +537,7 @@ fn main() -> ExitCode {
         let frames: Vec<_> = (0..64).map(|seed| frame(n, seed)).collect();
         let size = frames[0].len();
         for &(peer, function) in CHECK_PEERS {
-            let work = |function| frames.iter().cycle().take(CHECKS as usize).map(|frame| call(function, frame, n.into(), 0)).sum();
+            let work = |function| frames.iter().cycle().take(CHECKS as usize).map(|frame| check(function, frame, n.into())).sum();
             let name = format!("frame check of {size} bytes, peer {peer}");
             agree &= Measure { name, units: CHECKS, work: &work }.print(PROJECT_CHECK, function, span);
         }

@@ -189,10 +189,10 @@ pub unsafe extern "C" fn peer_call(name: u8, given: *const u8, given_len: usize,
 /// # Safety
 /// The pointer is that of a slice of the length given.
 #[unsafe(no_mangle)]
-pub unsafe extern "C" fn frame_check_peer_rust(bytes: *const u8, len: usize, n: u32, own: u32) -> u32 {
+pub unsafe extern "C" fn frame_check_peer_rust(bytes: *const u8, len: usize, n: u32, own: u32, edition: u32) -> u32 {
     // SAFETY: by the condition above.
     let frame = unsafe { std::slice::from_raw_parts(bytes, len) };
-    number(&frames::check(frame, n as usize, own as usize))
+    number(&frames::check(frame, n as usize, own as usize, edition))
 }
 
 /// The load generator, as relay_load of relay_host.

@@ -234,7 +234,7 @@ static int passes(const struct letter *letter, int own, int round, struct report
         return 0;
     }
     const uint8_t *frame = letter->bytes + STAMP;
-    uint32_t refusal = relay_frame_check(frame, letter->len - STAMP, N, (uint32_t)own);
+    uint32_t refusal = relay_frame_check(frame, letter->len - STAMP, N, (uint32_t)own, 0);
     if (refusal != RELAY_DONE) {
         report->refused++;
         snprintf(why, WHY, "refused with %u, %s", refusal, reason(refusal));

@@ -88,15 +88,15 @@ int main(int argc, char **argv)
     }
     must(relay_station_fresh(state, sizeof state, N, 0), "fresh");
     must(relay_station_fresh(other, sizeof other, N, 1), "fresh");
-    must(relay_station_post(state, sizeof state, 0, 2, 7, 100), "post");
+    must(relay_station_post(state, sizeof state, 0, 2, 7, 100, 0), "post");
     printf("posted: %u edit waits\n", (unsigned)state[720]);
-    printf("a drop with an argument is refused with %u\n", (unsigned)relay_station_post(state, sizeof state, 0, 3, 7, 100));
+    printf("a drop with an argument is refused with %u\n", (unsigned)relay_station_post(state, sizeof state, 0, 3, 7, 100, 0));
     save(argv[1], state);
     for (int round = 1; round <= ROUNDS; round++) {
         load(argv[1], state);
         must(relay_station_write(state, sizeof state, frame, sizeof frame, &length, 1), "write");
         must(relay_station_write(other, sizeof other, theirs, sizeof theirs, &their_length, 1), "write");
-        must(relay_frame_check(theirs, their_length, N, 0), "check");
+        must(relay_frame_check(theirs, their_length, N, 0, 0), "check");
         must(relay_station_hear(state, sizeof state, theirs, their_length, taken, sizeof taken), "hear");
         must(relay_station_turn(state, sizeof state, report, sizeof report), "turn");
         printf("round %d: a frame of %u bytes, %s from station 1\n", round, (unsigned)length, taken[1] ? "a body" : "nothing");

@@ -36,7 +36,7 @@ enum relay_refusal {
     RELAY_QUEUE_FULL = 3,     /* as many edits of the desk wait already as the station's limit */
     RELAY_NOT_AN_EDIT = 4,    /* the posted numbers are no edit of the kind table */
     RELAY_BAD_SHAPE = 5,      /* the length, byte 2 or byte 3 of a frame is wrong */
-    RELAY_BAD_ADDRESS = 6,    /* the frame is for another n, or its sender is own or not below n */
+    RELAY_BAD_ADDRESS = 6,    /* the frame is for another edition or n, or its sender is own or not below n */
     RELAY_BAD_RECORD = 7,     /* a record is outside its limits */
     RELAY_LANE_FULL = 8,      /* a lane that holds two bodies would get a third */
     RELAY_SHORT_BUFFER = 9,   /* a lent buffer is too short */
@@ -46,16 +46,18 @@ enum relay_refusal {
     RELAY_CONFLICT = 14,      /* a heard record has the label and the count of the held one, and differs from it */
     RELAY_BAD_DESK = 15,      /* a desk is neither 0 nor 1 */
     RELAY_BAD_LISTING = 16,   /* a listing has a line of another form, or does not end with its last line */
+    RELAY_BAD_EDITION = 17,   /* an edition is neither 0 nor 1, or an edit's channel is none of its edition */
     RELAY_BAD_QUESTION = 18,  /* a question is bad, is not whole, or is past the 64th */
     RELAY_BAD_CONTEST = 20    /* a contest has too many stations, sets or rounds, or no whole sets of masks */
 };
 
-/* Checks the len bytes at `bytes` as a frame heard by station `own` among n stations.
-   Any values of n and own may be given. `bytes` points at len readable bytes and is not null. No byte is changed.
-   Returns 0 where the frame is accepted, else, in this order, 1, 5, 6 or 7. */
-uint32_t relay_frame_check(const uint8_t *bytes, size_t len, uint32_t n, uint32_t own);
+/* Checks the len bytes at `bytes` as a frame heard by station `own` among n stations of an edition, 0 or 1.
+   Any values of n, own and edition may be given. `bytes` points at len readable bytes and is not null. No byte is
+   changed. Returns 0 where the frame is accepted, else, in this order, 1, 17, 5, 6 or 7. */
+uint32_t relay_frame_check(const uint8_t *bytes, size_t len, uint32_t n, uint32_t own, uint32_t edition);
 
-/* Bodies. A body is a kind with its event and its argument. Kinds 2 to 4 are edits.
+/* Bodies. A body is a kind with its event and its argument. Kinds 2 to 4 are edits. In edition 1 an edit has a
+   channel, 1 to 200; the channel of all others, and in edition 0 of all bodies, is 0.
 
        kind         event             argument
        0 Empty      0                 0
@@ -67,12 +69,13 @@ uint32_t relay_frame_check(const uint8_t *bytes, size_t len, uint32_t n, uint32_
    A body is 12 bytes. Here and below, a number of four bytes has its lowest byte first.
 
        0        kind
-       1 to 3   zero
+       1        channel
+       2, 3     zero
        4 to 7   event
        8 to 11  argument, in two's complement
 
-   Bytes that are no body: a kind above 4; a byte of 1 to 3 that is not zero; an event that is not 0 with
-   kind 0 or 1; an argument that is not 0 with kind 0, 1 or 3. */
+   Bytes that are no body: a kind above 4; a byte 2 or 3 that is not zero; a channel or an event that is not
+   0 with kind 0 or 1; an argument that is not 0 with kind 0, 1 or 3. */
 #define RELAY_BODY_BYTES 12
 
 /* A record is 16 bytes, as in a frame.
@@ -80,13 +83,12 @@ uint32_t relay_frame_check(const uint8_t *bytes, size_t len, uint32_t n, uint32_
        0         station
        1         count
        2         kind of its body
-       3         zero
+       3         channel of its body
        4 to 7    event
        8 to 11   argument, in two's complement
        12 to 15  labels: that of station k at bits 2k and 2k + 1 of this number
 
-   Bytes that are no record: those whose kind, event and argument are no body, and a byte 3 that is not
-   zero. */
+   Bytes that are no record: those whose kind, channel, event and argument are no body. */
 #define RELAY_RECORD_BYTES 16
 
 /* A longest frame: sixteen records behind four bytes. */
@@ -97,7 +99,7 @@ uint32_t relay_frame_check(const uint8_t *bytes, size_t len, uint32_t n, uint32_
        0                n, the number of stations
        1                own number
        2                own count
-       3                zero
+       3                edition
        4 to 15          present body
        16 + 44 k        what it has of station k, for k = 0 to 15:
            + 0            1 where station k is acknowledged, else 0
@@ -118,13 +120,13 @@ uint32_t relay_frame_check(const uint8_t *bytes, size_t len, uint32_t n, uint32_
    waiting edits, and the record of a station of which none is held. No call reads or judges those, and the calls
    keep them as document 01 says; a fresh station has them zero.
 
-   Bytes that are no station, and give 2: a length that is not 1,492; a flag or a byte 723 above 1; a byte
-   that must be zero and is not; twelve bytes that are no body; sixteen that are no record. All other bytes are a
-   station. It may still be outside its limits, which gives 2 as well. */
+   Bytes that are no station, and give 2: a length that is not 1,492; a flag or a byte 723 above 1; twelve
+   bytes that are no body; sixteen that are no record. All other bytes are a station. It may still be outside its
+   limits, which gives 2 as well: so an edition above 1, and a channel that is none of the edition. */
 #define RELAY_STATION_BYTES 1492
 
-/* A group is sixteen stations, one behind the other, 23,872 bytes: station k from 1,492 k on. Its n is that
-   of station 0. Stations from n up are neither judged nor changed, but their bytes must be a station's. */
+/* A group is sixteen stations, one behind the other, 23,872 bytes: station k from 1,492 k on. Its n and
+   its edition are those of station 0. Stations from n up are neither judged nor changed, but their bytes must be a station's. */
 #define RELAY_GROUP_BYTES 23872
 
 /* The report of a turn is 220 bytes.
@@ -189,12 +191,37 @@ uint32_t relay_station_fresh(uint8_t *state, size_t state_len, uint32_t n, uint3
 
        uint8_t state[RELAY_STATION_BYTES];
        relay_station_fresh_limited(state, sizeof state, 1, 0, 1);
-       uint32_t first = relay_station_post(state, sizeof state, 0, 2, 7, 100);
-       uint32_t second = relay_station_post(state, sizeof state, 0, 2, 8, 100);
-       uint32_t other = relay_station_post(state, sizeof state, 1, 2, 9, 100);
+       uint32_t first = relay_station_post(state, sizeof state, 0, 2, 7, 100, 0);
+       uint32_t second = relay_station_post(state, sizeof state, 0, 2, 8, 100, 0);
+       uint32_t other = relay_station_post(state, sizeof state, 1, 2, 9, 100, 0);
        printf("%u %u %u\n", (unsigned)first, (unsigned)second, (unsigned)other);   prints 0 3 0 */
 uint32_t relay_station_fresh_limited(uint8_t *state, size_t state_len, uint32_t n, uint32_t own,
                                      uint32_t limit);
+
+/* Makes a fresh station of an edition, at which so many edits of each desk may wait. It keeps both; no
+   call changes them. Where no edition is named it is 0.
+
+   state, state_len  where the station goes: room for at least RELAY_STATION_BYTES
+   n                 the number of stations, 1 to 16
+   own               the station's own number, below n
+   limit             how many edits of a desk may wait, 1 to RELAY_MOST_LIMIT
+   edition           the edition of the station's group, 0 or 1
+
+   Returns 0, or, and then nothing changes, in this order:
+       1    n is not 1 to 16, or own is not below n
+       13   limit is not 1 to 32
+       17   edition is neither 0 nor 1
+       9    state_len is less than RELAY_STATION_BYTES
+
+   Example: in edition 1 an edit of channel 5 is taken, and one without a channel is refused.
+
+       uint8_t state[RELAY_STATION_BYTES];
+       relay_station_fresh_edition(state, sizeof state, 2, 0, 8, 1);
+       uint32_t first = relay_station_post(state, sizeof state, 0, 2, 7, 100, 5);
+       uint32_t second = relay_station_post(state, sizeof state, 0, 2, 7, 100, 0);
+       printf("%u %u %d\n", (unsigned)first, (unsigned)second, state[3]);   prints 0 17 1 */
+uint32_t relay_station_fresh_edition(uint8_t *state, size_t state_len, uint32_t n, uint32_t own,
+                                     uint32_t limit, uint32_t edition);
 
 /* Posts an edit of a desk at a station: it waits behind those of the same desk that wait already. Where
    an edit may start and both desks have one, the desk that did not start the last edit goes first; a
@@ -203,24 +230,26 @@ uint32_t relay_station_fresh_limited(uint8_t *state, size_t state_len, uint32_t 
    state, state_len        the station, RELAY_STATION_BYTES bytes; it becomes the station with the edit
    desk                    the desk that posts, 0 or 1
    kind, event, argument   the edit
+   channel                 its channel: 1 to 200 in edition 1, 0 in edition 0
 
    Returns 0, or, and then nothing changes, in this order:
        2    the bytes are no station, or it is outside its limits
        15   desk is neither 0 nor 1
-       4    the three numbers are no edit of the kind table
+       4    kind, event and argument are no edit of the kind table
+       17   the channel is none of an edit in the station's edition
        3    as many edits of the desk wait already as the station's limit
 
    Example: desk 1 posts an insert at frame 100, and what is no edit; there is no desk 2.
 
        uint8_t state[RELAY_STATION_BYTES];
        relay_station_fresh(state, sizeof state, 1, 0);
-       uint32_t first = relay_station_post(state, sizeof state, 1, 2, 7, 100);
-       uint32_t second = relay_station_post(state, sizeof state, 1, 3, 7, 100);
-       uint32_t third = relay_station_post(state, sizeof state, 2, 2, 7, 100);
+       uint32_t first = relay_station_post(state, sizeof state, 1, 2, 7, 100, 0);
+       uint32_t second = relay_station_post(state, sizeof state, 1, 3, 7, 100, 0);
+       uint32_t third = relay_station_post(state, sizeof state, 2, 2, 7, 100, 0);
        printf("%u %u %u\n", (unsigned)first, (unsigned)second, (unsigned)third);   prints 0 4 15
        printf("%d %d\n", state[720], state[722]);                                 prints 0 1 */
 uint32_t relay_station_post(uint8_t *state, size_t state_len, uint32_t desk, uint32_t kind, uint32_t event,
-                            int32_t argument);
+                            int32_t argument, uint32_t channel);
 
 /* Writes the frame of a station: the records that its table holds.
 
@@ -290,7 +319,7 @@ uint32_t relay_station_hear(uint8_t *state, size_t state_len, const uint8_t *fra
 
        uint8_t state[RELAY_STATION_BYTES], report[RELAY_TURN_BYTES];
        relay_station_fresh(state, sizeof state, 1, 0);
-       relay_station_post(state, sizeof state, 0, 2, 7, 100);
+       relay_station_post(state, sizeof state, 0, 2, 7, 100, 0);
        relay_station_turn(state, sizeof state, report, sizeof report);
        printf("%d %d %d\n", report[0], report[1], report[16]);   prints 0 1 2
        relay_station_turn(state, sizeof state, report, sizeof report);
@@ -334,19 +363,44 @@ uint32_t relay_group_fresh(uint8_t *state, size_t state_len, uint32_t n);
               group[2 * RELAY_STATION_BYTES + 721]);   prints 0 32 8 */
 uint32_t relay_group_fresh_limited(uint8_t *state, size_t state_len, uint32_t n, uint32_t limit);
 
+/* Makes a fresh group of an edition with so many edits that may wait at each of its stations. From n up
+   stands the fresh station 0 of n = 1 with RELAY_DEFAULT_LIMIT and edition 0, whatever is named.
+
+   state, state_len  where the group goes: room for at least RELAY_GROUP_BYTES
+   n                 the number of stations, 1 to 16
+   limit             how many edits of a desk may wait at a station, 1 to RELAY_MOST_LIMIT
+   edition           the group's edition, 0 or 1
+
+   Returns 0, or, and then nothing changes, in this order:
+       1    n is not 1 to 16
+       13   limit is not 1 to 32
+       17   edition is neither 0 nor 1
+       9    state_len is less than RELAY_GROUP_BYTES
+
+   Example: a group of two in edition 1, and what stands behind it.
+
+       static uint8_t group[RELAY_GROUP_BYTES];
+       uint32_t refusal = relay_group_fresh_edition(group, sizeof group, 2, 8, 1);
+       printf("%u %d %d\n", (unsigned)refusal, group[RELAY_STATION_BYTES + 3],
+              group[2 * RELAY_STATION_BYTES + 3]);   prints 0 1 0 */
+uint32_t relay_group_fresh_edition(uint8_t *state, size_t state_len, uint32_t n, uint32_t limit,
+                                   uint32_t edition);
+
 /* Posts an edit of a desk at a station of a group.
 
    state, state_len        the group, RELAY_GROUP_BYTES bytes; it becomes the group with the edit
    station                 the station, below the group's n
    desk                    the desk that posts, 0 or 1
    kind, event, argument   the edit
+   channel                 its channel: 1 to 200 in edition 1, 0 in edition 0
 
    Returns 0, or, and then nothing changes, in this order:
-       2    the bytes are no group, or it is outside its limits: a station is, or has another n, or its own
-            number is not its place
+       2    the bytes are no group, or it is outside its limits: a station is, or has another n or
+            edition, or its own number is not its place
        1    station is not below n
        15   desk is neither 0 nor 1
-       4    the three numbers are no edit of the kind table
+       4    kind, event and argument are no edit of the kind table
+       17   the channel is none of an edit in the station's edition
        3    as many edits of the desk wait at the station already as its limit
 
    In a group inside its limits the answer to a desk depends on no edit of the other desk.
@@ -355,12 +409,12 @@ uint32_t relay_group_fresh_limited(uint8_t *state, size_t state_len, uint32_t n,
 
        static uint8_t group[RELAY_GROUP_BYTES];
        relay_group_fresh(group, sizeof group, 2);
-       uint32_t first = relay_group_post(group, sizeof group, 1, 1, 4, 7, -50);
-       uint32_t second = relay_group_post(group, sizeof group, 2, 1, 4, 7, -50);
+       uint32_t first = relay_group_post(group, sizeof group, 1, 1, 4, 7, -50, 0);
+       uint32_t second = relay_group_post(group, sizeof group, 2, 1, 4, 7, -50, 0);
        printf("%u %u %d\n", (unsigned)first, (unsigned)second,
               group[RELAY_STATION_BYTES + 722]);   prints 0 1 1 */
 uint32_t relay_group_post(uint8_t *state, size_t state_len, uint32_t station, uint32_t desk, uint32_t kind,
-                          uint32_t event, int32_t argument);
+                          uint32_t event, int32_t argument, uint32_t channel);
 
 /* Runs one round of a group: all frames are written first; then each station hears those of its mask by
    ascending sender and takes its turn.
@@ -371,8 +425,8 @@ uint32_t relay_group_post(uint8_t *state, size_t state_len, uint32_t station, ui
    reports, reports_len  where the reports go: room for at least RELAY_ROUND_BYTES
 
    Returns 0, or, and then nothing changes, in this order:
-       2    the bytes are no group, or it is outside its limits: a station is, or has another n, or its own
-            number is not its place
+       2    the bytes are no group, or it is outside its limits: a station is, or has another n or
+            edition, or its own number is not its place
        10   the count of a station's own record is above 2 * (n - 1)
        14 or 8, whichever the first refused frame gives, stations in order and then senders; one that meets
             both gives 14. 14: a record conflicts with the one that the hearer holds when the frame is

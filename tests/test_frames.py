@@ -126,7 +126,7 @@ class Refusals(unittest.TestCase):
         self.assertEqual(self.check(good + bytes(16)), 5)
         self.assertEqual(self.check(bytes([3, 1, 0, 0])), 5)
         self.assertEqual(self.check(bytes([3, 1, 17, 0]) + bytes(16 * 17)), 5)
-        for value in range(1, 256):
+        for value in range(2, 256):
             good[3] = value
             self.assertEqual(self.check(good), 5)
 

@@ -21,9 +21,11 @@ MALFORMED = b"     0 X  0 11 0        0        0\nEND\n"
 # A malformed second line of a group of two, and what is said of it.
 WORDS = {
     b"P        0        2        7     100":
-        "the line has 36 columns where P has 37 or 46: the letter and 4 or 5 numbers of nine columns",
-    b"P        0        2        7      100        0        0":
-        "the line has 55 columns where P has 37 or 46: the letter and 4 or 5 numbers of nine columns",
+        "the line has 36 columns where P has 37, 46 or 55: the letter and 4, 5 or 6 numbers of nine columns",
+    b"P        0        2        7      100        0        0        0":
+        "the line has 64 columns where P has 37, 46 or 55: the letter and 4, 5 or 6 numbers of nine columns",
+    b"P        0        2        7      100        0       -1":
+        "number in columns 47 to 55 has a minus, which only an argument may have",
     b"P        0        2        7      100       -1":
         "number in columns 38 to 46 has a minus, which only an argument may have",
     b"P        0        2        7      100       01": "number in columns 38 to 46 has a leading zero",
@@ -36,9 +38,9 @@ WORDS = {
 }
 
 
-def listed(script, limit=command.LIMIT, size=1 << 16):
+def listed(script, limit=command.LIMIT, size=1 << 16, edition=0):
     """What is printed, in this process; the script comes in parts."""
-    reader, printed = command.RunReader(limit), []
+    reader, printed = command.RunReader(limit, edition), []
     for at in range(0, len(script), size):
         reader.read(script[at:at + size])
         printed.append(reader.taken())
@@ -74,6 +76,24 @@ class Extended(unittest.TestCase):
             base = [call._replace(desk=0) if isinstance(call, scripts.PostLine) else call for call in calls]
             other += extended_listing(scripts.script_of(n, calls)) != extended_listing(scripts.script_of(n, base))
         self.assertGreater(other, 20)
+
+    def test_channels(self):
+        """Both editions with channels, those at their limits and numbers of none."""
+        refusals, channels = {0: set(), 1: set()}, set()
+        for seed in range(60):
+            script = scripts.script_of(*scripts.seeded_channels(seed))
+            for edition, met in refusals.items():
+                printed = listed(script, edition=edition)
+                self.assertEqual(printed, extended_listing(script, edition=edition), (seed, edition))
+                met |= {int(one) for one in re.findall(rb"(?m)^ *\d+ X...(...)", printed)}
+                channels |= {(edition, int(one)) for one in re.findall(rb"(?m)^ *\d+ [AED].{26}(....)$", printed)}
+        self.assertEqual(refusals, {0: {1, 4, 15, 17}, 1: {1, 3, 4, 15, 17}})
+        self.assertEqual({edition for edition, _ in channels}, {1})
+        self.assertGreaterEqual({channel for _, channel in channels}, {1, 200})
+
+    def test_no_channels(self):
+        """A post without a channel in edition 1 is refused with 17."""
+        self.assertEqual(listed(N2 + GOOD_POST, edition=1), b"     0 X  0 17 0        0        0\nEND\n")
 
     def test_in_parts(self):
         script = scripts.script_of(*scripts.seeded_desks(5))
@@ -122,7 +142,7 @@ class Scripts(unittest.TestCase):
             script = scripts.seeded_script(seed)
             self.assertEqual(listed(script), listing.listing(script), seed)
         for name, script, _ in malformed.malformed_scripts():
-            if not re.search(rb"(?m)^P.{45}$", script):
+            if not re.search(rb"(?m)^P(.{45}|.{54})$", script):
                 self.assertEqual(listed(script), listing.listing(script), name)
 
 
@@ -152,9 +172,14 @@ class Errors(unittest.TestCase):
             said = f"relay run: refused with 13: a limit is 1 to 32, not {limit}\n"
             self.assertEqual(given("--limit", limit, script=N2), (1, "", said))
 
+    def test_editions(self):
+        for edition in ("2", "255", "256", "4294967295"):
+            self.assertEqual(given("--edition", edition, script=N2), (1, "", f"relay run: refused with 17: an edition is 0 or 1, not {edition}\n"))
+        self.assertEqual(given("--edition", "2", "--limit", "0", script=N2), (1, "", "relay run: refused with 13: a limit is 1 to 32, not 0\n"))
+
     def test_wrong_use(self):
         for arguments in ((), ("a", "b"), ("--limit", "x", "-"), ("--limit", "-1", "-"), ("--limit", "4294967296", "-"),
-                          ("--desk", "1", "-")):
+                          ("--edition", "x", "-"), ("--desk", "1", "-")):
             status, text, words = run("run", *arguments)
             self.assertEqual((status, text), (2, ""))
             self.assertIn("usage: ./relay", words)
@@ -164,12 +189,13 @@ class Errors(unittest.TestCase):
 class Document(unittest.TestCase):
     def test_examples(self):
         """Each block marked `extended` has the listing after it, by the model and by the command."""
-        found = re.findall(rb"(?ms)^```(extended|listing)\n(.*?)^```$", DOCUMENT)
-        self.assertGreaterEqual(len(found), 6)
-        self.assertEqual([mark for mark, _ in found], [b"extended", b"listing"] * (len(found) // 2))
-        for (_, script), (_, printed) in zip(found[::2], found[1::2]):
-            self.assertEqual(extended_listing(script), printed, script)
-            self.assertEqual(given(script=script), (0, printed.decode(), ""), script)
+        found = re.findall(rb"(?ms)^```(extended|extended edition 1|listing)\n(.*?)^```$", DOCUMENT)
+        self.assertGreaterEqual(len(found), 8)
+        self.assertEqual([mark.split()[0] for mark, _ in found], [b"extended", b"listing"] * (len(found) // 2))
+        for (mark, script), (_, printed) in zip(found[::2], found[1::2]):
+            edition = len(mark.split()) // 3
+            self.assertEqual(extended_listing(script, edition=edition), printed, script)
+            self.assertEqual(given("--edition", str(edition), script=script), (0, printed.decode(), ""), script)
 
 
 if __name__ == "__main__":

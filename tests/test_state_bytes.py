@@ -108,7 +108,7 @@ class Reading(unittest.TestCase):
 
     def test_no_station(self):
         data = formats.station_bytes(fresh_state(2, 1, 9)._replace(lanes=(NO_LANE,) * PLACES))
-        for at, value in ((3, 1), (4, 5), (5, 1), (8, 1), (12, 1), (16, 2), (17, 2), (20, 5), (16 + 28 + 2, 5), (16 + 28 + 3, 1),
+        for at, value in ((4, 5), (5, 1), (6, 1), (7, 1), (8, 1), (12, 1), (16, 2), (17, 2), (20, 5), (16 + 28 + 2, 5), (16 + 28 + 3, 1),
                           (16 + 28 + 4, 1), (16 + 44 * 15, 255), (723, 2), (723, 255), (724 + 12 * 31, 9), (1_108, 5), (1_108 + 12 * 31, 9)):
             self.assertIsNone(formats.read_station(data[:at] + bytes([value]) + data[at + 1:]), at)
         for other in (b"", data[:-1], data + b"\0"):

@@ -114,13 +114,14 @@ class NoPartOfTheState(unittest.TestCase):
 class Post(unittest.TestCase):
     def test_appends(self):
         for _, one in some_stations(100):
-            refusal, after = station.post(one, EDIT)
+            edit = EDIT._replace(channel=one.edition)
+            refusal, after = station.post(one, edit)
             if one.waiting.length == one.limit:
                 self.assertEqual((refusal, after), (3, one))
                 self.assertEqual(station.post(one, NEUTRAL), (4, one))
             else:
                 self.assertEqual(refusal, 0)
-                self.assertEqual(contents(after.waiting), contents(one.waiting) + (EDIT,))
+                self.assertEqual(contents(after.waiting), contents(one.waiting) + (edit,))
                 self.assertEqual(after._replace(waiting=one.waiting), one)
 
     def test_each_desk(self):
@@ -128,12 +129,13 @@ class Post(unittest.TestCase):
         for rng, one in some_stations(200):
             for desk in (0, 1):
                 mine = station.queue_of(one, desk)
-                refusal, after = station.post(one, EDIT, desk)
+                edit = EDIT._replace(channel=one.edition)
+                refusal, after = station.post(one, edit, desk)
                 if mine.length == one.limit:
                     self.assertEqual((refusal, after), (3, one))
                     continue
                 self.assertEqual(refusal, 0)
-                self.assertEqual(contents(station.queue_of(after, desk)), contents(mine) + (EDIT,))
+                self.assertEqual(contents(station.queue_of(after, desk)), contents(mine) + (edit,))
                 self.assertEqual(station.with_queue(after, desk, mine), one)
 
     def test_desks_apart(self):
@@ -181,11 +183,11 @@ class WriteFrame(unittest.TestCase):
             self.assertEqual((refusal, length), (0, 4 + 16 * len(held)))
             self.assertEqual(buffer[length:], BUFFER[length:])
             frame = buffer[:length]
-            self.assertEqual(list(frame[:4]), [one.n, one.own, len(held), 0])
+            self.assertEqual(list(frame[:4]), [one.n, one.own, len(held), one.edition])
             part = states.state_part(one)
             self.assertEqual(frames.read_frame(frame), [part.table[k] for k in held])
             for own in set(range(one.n)) - {one.own}:
-                self.assertEqual(frames.check_frame(frame, one.n, own), 0)
+                self.assertEqual(frames.check_frame(frame, one.n, own, one.edition), 0)
             self.assertEqual(station.write_frame(one, frame), (0, length, frame))
             self.assertEqual(station.write_frame(one, BUFFER[:length - 1]),
                              (9, 0, BUFFER[:length - 1]))

@@ -34,6 +34,11 @@ pub fn numbers_in_limits(kind: u32, event: u32, argument: i32) -> bool {
         .is_some_and(|row| (row.least_event..=row.most_event).contains(&event) && (row.least_argument..=row.most_argument).contains(&argument))
 }
 
+/// Whether this kind has this channel: an edit of edition 1 has one, all else has 0.
+pub fn channel_in_limits(kind: u8, channel: u8, edition: u32) -> bool {
+    if edition == 1 && kind >= 2 { (1..=200).contains(&channel) } else { channel == 0 }
+}
+
 impl Body {
     /// The body of numbers that are inside the limits of their kind; Empty for all others.
     pub fn of_numbers(kind: u32, event: u32, argument: i32) -> Body {

@@ -1,8 +1,8 @@
 //! Records and frames as bytes.
 
-use crate::bodies::{Body, numbers_in_limits};
+use crate::bodies::{Body, channel_in_limits, numbers_in_limits};
 use crate::labels::{self, PLACES};
-use crate::refusals::Refusal::{self, BadAddress, BadNumber, BadRecord, BadShape};
+use crate::refusals::Refusal::{self, BadAddress, BadEdition, BadNumber, BadRecord, BadShape};
 use crate::refusals::require;
 
 pub const HEAD_SIZE: usize = 4;
@@ -60,9 +60,9 @@ impl Part<'_> {
         self.word(12)
     }
 
-    fn in_limits(&self, n: usize) -> bool {
+    fn in_limits(&self, n: usize, edition: u32) -> bool {
         self.station() < n
-            && self.0[3] == 0
+            && channel_in_limits(self.kind(), self.0[3], edition)
             && usize::from(self.count()) <= count_limit(n)
             && numbers_in_limits(self.kind().into(), self.event(), self.argument())
             && labels::word_in_limits(self.labels(), n)
@@ -84,28 +84,29 @@ pub fn numbers_valid(n: usize, own: usize) -> bool {
 }
 
 /// The frame check of the host.
-pub fn check(frame: &[u8], n: usize, own: usize) -> Result<(), Refusal> {
+pub fn check(frame: &[u8], n: usize, own: usize, edition: u32) -> Result<(), Refusal> {
     require(numbers_valid(n, own), BadNumber)?;
-    check_heard(frame, n, own)
+    require(edition <= 1, BadEdition)?;
+    check_heard(frame, n, own, edition)
 }
 
 /// The frame check of a hearer whose numbers are valid.
-pub fn check_heard(frame: &[u8], n: usize, own: usize) -> Result<(), Refusal> {
-    let &[frame_n, sender, records, zero, ..] = frame else { return Err(BadShape) };
+pub fn check_heard(frame: &[u8], n: usize, own: usize, edition: u32) -> Result<(), Refusal> {
+    let &[frame_n, sender, records, frame_edition, ..] = frame else { return Err(BadShape) };
     let records = usize::from(records);
-    require((1..=PLACES).contains(&records) && zero == 0 && frame.len() == HEAD_SIZE + RECORD_SIZE * records, BadShape)?;
+    require((1..=PLACES).contains(&records) && frame_edition <= 1 && frame.len() == HEAD_SIZE + RECORD_SIZE * records, BadShape)?;
     let sender = usize::from(sender);
-    require(usize::from(frame_n) == n && sender != own && sender < n, BadAddress)?;
-    require(records_right(frame, n, sender), BadRecord)
+    require(u32::from(frame_edition) == edition && usize::from(frame_n) == n && sender != own && sender < n, BadAddress)?;
+    require(records_right(frame, n, sender, edition), BadRecord)
 }
 
 /// Whether the records ascend, are inside their limits, and the sender's is among them.
-fn records_right(frame: &[u8], n: usize, sender: usize) -> bool {
+fn records_right(frame: &[u8], n: usize, sender: usize, edition: u32) -> bool {
     let mut least = 0;
     let mut sender_seen = false;
     for part in parts(frame) {
         let station = part.station();
-        if station < least || !part.in_limits(n) {
+        if station < least || !part.in_limits(n, edition) {
             return false;
         }
         least = station + 1;

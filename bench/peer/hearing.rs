@@ -11,7 +11,7 @@ impl Station {
     /// Hears a frame and gives the set of stations taken from, station k as bit k.
     pub fn hear(&mut self, frame: &[u8]) -> Result<u16, Refusal> {
         require(self.in_limits(), OutsideLimits)?;
-        frames::check_heard(frame, self.n, self.own)?;
+        frames::check_heard(frame, self.n, self.own, 0)?;
         let mut heard = *self;
         let mut taken = 0;
         heard.hear_records(frame, |source, _| taken |= 1 << source)?;

@@ -18,6 +18,7 @@ pub enum Refusal {
     Conflict = 14,
     BadDesk = 15,
     BadListing = 16,
+    BadEdition = 17,
     BadQuestion = 18,
 }
 

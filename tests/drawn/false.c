@@ -4,10 +4,10 @@
 
 enum { NOTHING, READS_AFTER, READS_BEFORE, WRITES, ACCEPTS, REFUSES, LABELS };
 
-uint32_t relay_frame_check(const uint8_t *bytes, size_t len, uint32_t n, uint32_t own)
+uint32_t relay_frame_check(const uint8_t *bytes, size_t len, uint32_t n, uint32_t own, uint32_t edition)
 {
     const volatile uint8_t *read = bytes;
-    uint32_t right = frame_check_peer(bytes, len, n, own);
+    uint32_t right = frame_check_peer(bytes, len, n, own, edition);
     if (FAULT == READS_AFTER && len > 200)
         return right + 0 * read[len];
     if (FAULT == READS_BEFORE && len > 200)

@@ -14,24 +14,27 @@ ARCHIVE = pathlib.Path(os.environ.get("RELAY_HOST_ARCHIVE", ROOT / "target" / "s
 FAULTS = {1: "reads the byte after a frame", 2: "reads the byte before a frame", 3: "writes to a frame", 4: "accepts any record of sixteen stations",
           5: "refuses full frames", 6: "gives another refusal for some labels"}
 
-SPECIAL = (0, 1, 2, 3, 4, 5, 15, 16, 17, 30, 31, 63, 64, 127, 128, 191, 192, 254, 255)
+SPECIAL = (0, 1, 2, 3, 4, 5, 15, 16, 17, 30, 31, 63, 64, 127, 128, 191, 192, 200, 201, 254, 255)
 LIMITS = sorted({limit + change for row in KINDS.values() for limit in row for change in (-1, 0, 1)} | {2 ** 31 - 1, -2 ** 31, 2 ** 32 - 1})
 
 
 # Frames from a seed.
 
 def some_case(rng):
-    """A frame with what was done to it, the N and the own number that it is checked with."""
-    n = rng.randint(1, 16)
+    """A frame with what was done to it, the N, the own number and the edition that it is checked with."""
+    n, edition = rng.randint(1, 16), rng.randrange(2)
     sender = rng.randrange(n)
     held = rng.choice((0.0, 0.5, 0.9, 1.0))
-    data = frames.frame_bytes(n, sender, [states.random_record(rng, n, k) for k in range(n) if k == sender or rng.random() < held])
+    data = frames.frame_bytes(n, sender, [states.random_record(rng, n, k, edition=edition) for k in range(n) if k == sender or rng.random() < held],
+                              edition)
     for _ in range(rng.choice((0, 1, 1, 1, 2, 3, 6))):
         data = rng.choice(CHANGES)(rng, data)
     own = rng.choice([k for k in range(n) if k != sender] or [0])
     if rng.random() < 0.08:
         n, own = rng.choice(((0, 0), (17, 0), (n, n), (n, sender), (n, 2 ** 32 - 1), (2 ** 32 - 1, 0), (256 + n, own), (n, 256 + own), (n % 16 + 1, 0)))
-    return data, n, own
+    if rng.random() < 0.05:
+        edition = rng.choice((1 - edition, 2, 255, 256 + edition, 2 ** 32 - 1))
+    return data, n, own, edition
 
 
 def any_bytes(rng):
@@ -40,8 +43,8 @@ def any_bytes(rng):
     data = rng.randbytes(rng.choice((rng.randrange(300), 4 + 16 * count)))
     n = rng.randint(0, 17)
     if rng.random() < 0.8:
-        data = bytes([n, rng.randrange(17), count, 0])[:len(data)] + data[4:]
-    return data, n, rng.randrange(17)
+        data = bytes([n, rng.randrange(17), count, rng.randrange(2)])[:len(data)] + data[4:]
+    return data, n, rng.randrange(17), rng.randrange(2)
 
 
 def at_any(rng, data, value):
@@ -105,8 +108,8 @@ def cases(seed, count):
 
 def case_bytes(case):
     """A case as tests/host/check_frames.c reads it."""
-    data, n, own = case
-    return b"".join(number.to_bytes(4, "little") for number in (len(data), n, own, frames.check_frame(*case))) + data
+    data, *how = case
+    return b"".join(number.to_bytes(4, "little") for number in (len(data), *how, frames.check_frame(*case))) + data
 
 
 # The driver.

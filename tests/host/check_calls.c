@@ -17,7 +17,7 @@
 
 #include "relay.h"
 
-enum { ROOM = 1 << 17, MOST = 8, BUFFERS = 3, CALLS = 10, SECONDS = 30 };
+enum { ROOM = 1 << 17, MOST = 8, BUFFERS = 3, CALLS = 12, SECONDS = 30 };
 
 struct buffer {
     uint32_t width, entries;
@@ -99,15 +99,17 @@ static uint32_t called(const struct call *c)
     const uint32_t *n = c->number;
     switch (c->name) {
     case 0: return relay_station_fresh(b[0].lent, b[0].entries, n[0], n[1]);
-    case 1: return relay_station_post(b[0].lent, b[0].entries, n[0], n[1], n[2], (int32_t)n[3]);
+    case 1: return relay_station_post(b[0].lent, b[0].entries, n[0], n[1], n[2], (int32_t)n[3], n[4]);
     case 2: return relay_station_write(b[0].lent, b[0].entries, b[1].lent, b[1].entries, (uint32_t *)(void *)b[2].lent, b[2].entries);
     case 3: return relay_station_hear(b[0].lent, b[0].entries, b[1].lent, b[1].entries, b[2].lent, b[2].entries);
     case 4: return relay_station_turn(b[0].lent, b[0].entries, b[1].lent, b[1].entries);
     case 5: return relay_group_fresh(b[0].lent, b[0].entries, n[0]);
-    case 6: return relay_group_post(b[0].lent, b[0].entries, n[0], n[1], n[2], n[3], (int32_t)n[4]);
+    case 6: return relay_group_post(b[0].lent, b[0].entries, n[0], n[1], n[2], n[3], (int32_t)n[4], n[5]);
     case 7: return relay_group_round(b[0].lent, b[0].entries, (const uint16_t *)(const void *)b[1].lent, b[1].entries, b[2].lent, b[2].entries);
     case 8: return relay_station_fresh_limited(b[0].lent, b[0].entries, n[0], n[1], n[2]);
     case 9: return relay_group_fresh_limited(b[0].lent, b[0].entries, n[0], n[1]);
+    case 10: return relay_station_fresh_edition(b[0].lent, b[0].entries, n[0], n[1], n[2], n[3]);
+    case 11: return relay_group_fresh_edition(b[0].lent, b[0].entries, n[0], n[1], n[2]);
     default: stop("there is no such call");
     }
 }
@@ -143,7 +145,7 @@ int main(void)
 {
     static const char *const names[CALLS] = {"relay_station_fresh", "relay_station_post", "relay_station_write", "relay_station_hear", "relay_station_turn",
                                              "relay_group_fresh", "relay_group_post", "relay_group_round", "relay_station_fresh_limited",
-                                             "relay_group_fresh_limited"};
+                                             "relay_group_fresh_limited", "relay_station_fresh_edition", "relay_group_fresh_edition"};
     unsigned long cases = 0, wrong = 0, done = 0;
     uint8_t *const rooms[BUFFERS] = {make_room(), make_room(), make_room()};
     struct call c;

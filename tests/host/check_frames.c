@@ -33,22 +33,22 @@ static int read_number(uint32_t *number)
     return 1;
 }
 
-/* Whether the frame, copied to this place, gets the right answer and is left as it was. */
-static int is_right(uint8_t *place, const uint8_t *frame, uint32_t len, uint32_t n, uint32_t own, uint32_t right, uint32_t *answer)
+/* Whether the frame, copied to this place and checked with N, own number and edition, gets the right answer and is left as it was. */
+static int is_right(uint8_t *place, const uint8_t *frame, uint32_t len, const uint32_t how[3], uint32_t right, uint32_t *answer)
 {
     memcpy(place, frame, len);
-    *answer = relay_frame_check(place, len, n, own);
+    *answer = relay_frame_check(place, len, how[0], how[1], how[2]);
     return *answer == right && memcmp(place, frame, len) == 0;
 }
 
 int main(int argc, char **argv)
 {
     unsigned long least = argc > 1 ? strtoul(argv[1], NULL, 10) : 0;
-    uint32_t len, n, own, right, answer;
-    unsigned long cases = 0, wrong = 0, answers[8] = {0};
+    uint32_t len, how[3], right, answer;
+    unsigned long cases = 0, wrong = 0, answers[18] = {0};
     uint8_t *room = make_room();
     while (read_number(&len)) {
-        if (!read_number(&n) || !read_number(&own) || !read_number(&right) || right > 7 || len > ROOM) {
+        if (!read_number(&how[0]) || !read_number(&how[1]) || !read_number(&how[2]) || !read_number(&right) || right > 17 || len > ROOM) {
             fprintf(stderr, "check_frames: the input breaks off\n");
             return 2;
         }
@@ -59,18 +59,19 @@ int main(int argc, char **argv)
             fprintf(stderr, "check_frames: the input breaks off\n");
             return 2;
         }
-        if (!is_right(bytes, copy, len, n, own, right, &answer) || !is_right(room, copy, len, n, own, right, &answer)
-            || !is_right(room + ROOM - len, copy, len, n, own, right, &answer)) {
+        if (!is_right(bytes, copy, len, how, right, &answer) || !is_right(room, copy, len, how, right, &answer)
+            || !is_right(room + ROOM - len, copy, len, how, right, &answer)) {
             if (wrong++ < 10)
-                fprintf(stderr, "case %lu: %u bytes, n %u, own %u: answer %u, the model's is %u\n", cases, len, n, own, answer, right);
+                fprintf(stderr, "case %lu: %u bytes, n %u, own %u, edition %u: answer %u, the model's is %u\n", cases, len, how[0], how[1], how[2], answer,
+                        right);
         }
         answers[right]++;
         cases++;
         free(bytes);
         free(copy);
     }
-    printf("frame check: %lu frames, %lu accepted, refused %lu (1) %lu (5) %lu (6) %lu (7), %lu wrong answers\n", cases, answers[0], answers[1],
-           answers[5], answers[6], answers[7], wrong);
+    printf("frame check: %lu frames, %lu accepted, refused %lu (1) %lu (17) %lu (5) %lu (6) %lu (7), %lu wrong answers\n", cases, answers[0], answers[1],
+           answers[17], answers[5], answers[6], answers[7], wrong);
     if (cases < least || (least && answers[0] == 0)) {
         printf("check_frames: too few frames to tell anything\n");
         wrong++;

@@ -16,8 +16,8 @@ def in_front(data, buffer):
     return data + bytes(buffer[len(data):])
 
 
-def station_fresh(state, n, own, *limit):
-    refusal, made = station.fresh(n, own, *limit)
+def station_fresh(state, n, own, *given):
+    refusal, made = station.fresh(n, own, *given)
     if refusal or len(state) < formats.STATION:
         return refusal or BUFFER_SHORT, [state]
     return DONE, [in_front(formats.station_bytes(made), state)]
@@ -25,6 +25,10 @@ def station_fresh(state, n, own, *limit):
 
 def station_fresh_limited(state, n, own, limit):
     return station_fresh(state, n, own, limit)
+
+
+def station_fresh_edition(state, n, own, limit, edition):
+    return station_fresh(state, n, own, limit, edition)
 
 
 def station_post(state, desk, *numbers):
@@ -65,8 +69,8 @@ def station_turn(state, report):
     return DONE, [formats.station_bytes(turned.station), in_front(formats.turn_bytes(turned), report)]
 
 
-def group_fresh(state, n, *limit):
-    refusal, made = group.fresh(n, *limit)
+def group_fresh(state, n, *given):
+    refusal, made = group.fresh(n, *given)
     if refusal or len(state) < formats.GROUP:
         return refusal or BUFFER_SHORT, [state]
     return DONE, [in_front(formats.group_bytes(made), state)]
@@ -74,6 +78,10 @@ def group_fresh(state, n, *limit):
 
 def group_fresh_limited(state, n, limit):
     return group_fresh(state, n, limit)
+
+
+def group_fresh_edition(state, n, limit, edition):
+    return group_fresh(state, n, limit, edition)
 
 
 def group_post(state, place, desk, *numbers):
@@ -98,7 +106,7 @@ def group_round(state, masks, reports):
 
 CALLS = {f"relay_{one.__name__}": one for one in (
     station_fresh, station_post, station_write, station_hear, station_turn, group_fresh, group_post, group_round,
-    station_fresh_limited, group_fresh_limited)}
+    station_fresh_limited, group_fresh_limited, station_fresh_edition, group_fresh_edition)}
 
 
 def answer(name, *arguments):

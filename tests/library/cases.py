@@ -5,7 +5,7 @@ import itertools
 from array import array
 
 from model import outside, states
-from model.bodies import DROP, SHIFT
+from model.bodies import CHANNELS, DROP, SHIFT
 from model.queues import CAPACITY, Queue
 from model.station import DESKS, queue_of, with_queue
 
@@ -15,7 +15,8 @@ SECONDS = 1_200  # after which a signal ends the test: a call that does not end 
 MOST_NUMBER = 2 ** 32 - 1
 NUMBERS = (*range(19), 31, 32, 33, 127, 128, 255, 256, 257, 2 ** 16, 2 ** 16 + 1, 2 ** 31 - 1, 2 ** 31, MOST_NUMBER)
 NO_DESKS = (2, 3, 255, 256, 257, 2 ** 16, 2 ** 31, 2 ** 32 - 2, MOST_NUMBER)  # numbers of no desk
-EDGES = (0, 1, 2, 3, 4, 5, 15, 16, 17, 31, 32, 33, 64, 127, 128, 254, 255)
+NO_EDITIONS = (2, 3, 255, 256, 257, 2 ** 16, 2 ** 31, 2 ** 32 - 2, MOST_NUMBER)  # numbers of no edition
+EDGES = (0, 1, 2, 3, 4, 5, 15, 16, 17, 31, 32, 33, 64, 127, 128, 200, 201, 254, 255)
 
 
 def buffer(rng, length):
@@ -42,11 +43,17 @@ def some_desk(rng):
     return rng.choice(DESKS) if rng.random() < 0.9 else rng.choice(NO_DESKS)
 
 
+def no_channels(edition):
+    """Numbers that are no channel of an edit in an edition."""
+    return [number for number in (*EDGES, 199, 202, 256, 257, 456, 2 ** 16, 2 ** 32 - 1)
+            if number not in (CHANNELS if edition else (0,))]
+
+
 # Waiting edits of two desks.
 
-def queue_of_length(rng, length):
+def queue_of_length(rng, length, edition=0):
     """So many edits, and edits in the slots past them too."""
-    return Queue(length, tuple(states.random_edit(rng) for _ in range(CAPACITY)))
+    return Queue(length, tuple(states.random_edit(rng, edition) for _ in range(CAPACITY)))
 
 
 def with_room(s):
@@ -58,13 +65,13 @@ def with_room(s):
 
 
 def both_full(rng, s):
-    return s._replace(waiting=queue_of_length(rng, s.limit), waiting_1=queue_of_length(rng, s.limit))
+    return s._replace(waiting=queue_of_length(rng, s.limit, s.edition), waiting_1=queue_of_length(rng, s.limit, s.edition))
 
 
 def of_desks(rng, s):
     """The station with each number of edits of either desk, from none to its limit, and either desk first."""
     for zero, one, first in itertools.product(sorted({0, 1, s.limit - 1, s.limit}), sorted({0, 1, s.limit - 1, s.limit}), DESKS):
-        yield s._replace(waiting=queue_of_length(rng, zero), waiting_1=queue_of_length(rng, one), first=first)
+        yield s._replace(waiting=queue_of_length(rng, zero, s.edition), waiting_1=queue_of_length(rng, one, s.edition), first=first)
 
 
 # Bytes that are no station.
@@ -82,18 +89,19 @@ def no_body(rng, data, at):
     event, argument = rng.randbytes(4), rng.randbytes(4)
     for kind in (SHIFT + 1, rng.randint(SHIFT + 1, 255), 255):
         yield changed(data, at, [kind])
-    for zero in (1, 2, 3):
+    for zero in (2, 3):
         yield changed(data, at + zero, [rng.choice((1, 128, 255))])
     for kind in (0, 1):
+        yield changed(data, at, bytes([kind, rng.choice((1, 200, 255)), *bytes(10)]))
         yield changed(data, at, bytes([kind, 0, 0, 0, 1 + rng.randrange(255), *event[1:], 0, 0, 0, 0]))
         yield changed(data, at, bytes([kind, 0, 0, 0, 0, 0, 0, 0, *argument[:3], 1 + rng.randrange(255)]))
     yield changed(data, at, bytes([DROP, 0, 0, 0, *event, 1 + rng.randrange(255), *argument[1:]]))
 
 
 def no_record(rng, data, at):
-    yield changed(data, at + 3, [rng.choice((1, 2, 128, 255))])
     yield changed(data, at + 2, [rng.randint(SHIFT + 1, 255)])
     for kind in (0, 1):
+        yield changed(data, at + 2, bytes([kind, rng.choice((1, 2, 128, 255)), *bytes(8)]))
         yield changed(data, at + 2, bytes([kind, 0, *bytes(3), 1 + rng.randrange(255), *bytes(4)]))
         yield changed(data, at + 2, bytes([kind, 0, *bytes(7), 1 + rng.randrange(255)]))
     yield changed(data, at + 2, bytes([DROP, 0, *rng.randbytes(4), 1 + rng.randrange(255), *rng.randbytes(3)]))
@@ -101,7 +109,6 @@ def no_record(rng, data, at):
 
 def no_stations(rng, data):
     """From the bytes of a station: bytes of that length that are none, with one thing wrong, in use or not."""
-    yield changed(data, 3, [rng.choice((1, 2, 128, 255))])
     for at in range(formats.HEAD, formats.WAITING_AT, formats.PLACE):
         for flag in (0, 1):
             for value in (2, rng.randint(2, 255), 255):
@@ -122,7 +129,7 @@ def refused_station(rng, station):
     if choice == 1:
         return rng.choice(list(no_stations(rng, data)))
     count = rng.choice(formats.COUNT_AT)
-    return changed(data, *rng.choice(((0, [0]), (0, [17]), (1, [station.n]), (count, [33]), (count, [station.limit + 1]),
+    return changed(data, *rng.choice(((0, [0]), (0, [17]), (1, [station.n]), (3, [2]), (3, [255]), (count, [33]), (count, [station.limit + 1]),
                                       (formats.LIMIT_AT, [0]), (formats.LIMIT_AT, [33]), (formats.FIRST_AT, [2]))))
 
 

@@ -33,17 +33,21 @@ COUNT_AT, LIMIT_AT, FIRST_AT = (WAITING_AT, WAITING_AT + 2), WAITING_AT + 1, WAI
 assert STATION == WAITING_AT + WAITING_HEAD + EDITS * len(DESKS)
 assert GROUP == PLACES * STATION and ROUND == PLACES * REPORT
 
-BODY_FORM = struct.Struct("<IIi")    # kind and three zero bytes, event, argument
+BODY_FORM = struct.Struct("<BBHIi")  # kind, channel, two zero bytes, event, argument
 RECORD_FORM = struct.Struct("<BBBBIiI")
 
 
 # Bodies and records.
 
-def read_body(kind, event, argument):
-    """The body of these numbers, or None: a kind without an event has 0 there, and so for the argument."""
-    if kind > SHIFT or kind <= NEUTRAL_KIND and event or kind in (*range(NEUTRAL_KIND + 1), DROP) and argument:
+def read_body(kind, channel, zero, event, argument):
+    """The body of these numbers, or None: a kind without an event or channel has 0 there, and so for the argument."""
+    if zero or kind > SHIFT or kind <= NEUTRAL_KIND and (event or channel) or kind in (*range(NEUTRAL_KIND + 1), DROP) and argument:
         return None
-    return Body(kind, event, argument)
+    return Body(kind, event, argument, channel)
+
+
+def body_bytes(body):
+    return BODY_FORM.pack(body.kind, body.channel, 0, body.event, body.argument)
 
 
 def read_bodies(data):
@@ -51,18 +55,19 @@ def read_bodies(data):
 
 
 def read_table_record(part):
-    station, count, kind, zero, event, argument, labels = RECORD_FORM.unpack(part)
-    body = read_body(kind, event, argument)
-    return None if zero or body is None else Record(station, count, body, unpack(labels))
+    station, count, kind, channel, event, argument, labels = RECORD_FORM.unpack(part)
+    body = read_body(kind, channel, 0, event, argument)
+    return None if body is None else Record(station, count, body, unpack(labels))
 
 
 def table_record_bytes(record):
     """Of an entry that is no label there are two bits."""
-    return RECORD_FORM.pack(record.station, record.count, record.body.kind, 0, *record.body[1:], pack([label & 3 for label in record.labels]))
+    kind, event, argument, channel = record.body
+    return RECORD_FORM.pack(record.station, record.count, kind, channel, event, argument, pack([label & 3 for label in record.labels]))
 
 
 def bodies_bytes(bodies):
-    return b"".join([BODY_FORM.pack(*body) for body in bodies])
+    return b"".join(map(body_bytes, bodies))
 
 
 # Stations and groups.
@@ -75,7 +80,7 @@ def place_bytes(station, k):
 
 @functools.lru_cache(maxsize=256)
 def station_bytes(station):
-    return (bytes([station.n, station.own, station.count, 0]) + BODY_FORM.pack(*station.body)
+    return (bytes([station.n, station.own, station.count, station.edition]) + body_bytes(station.body)
             + b"".join([place_bytes(station, k) for k in range(PLACES)])
             + bytes([station.waiting.length, station.limit, station.waiting_1.length, station.first])
             + b"".join([bodies_bytes(queue_of(station, desk).slots) for desk in DESKS]))
@@ -83,7 +88,7 @@ def station_bytes(station):
 
 @functools.lru_cache(maxsize=256)
 def read_station(data):
-    if len(data) != STATION or data[3] or data[FIRST_AT] not in DESKS:
+    if len(data) != STATION or data[FIRST_AT] not in DESKS:
         return None
     parts = [data[at:at + PLACE] for at in range(HEAD, WAITING_AT, PLACE)]
     body = read_body(*BODY_FORM.unpack(data[4:HEAD]))
@@ -98,7 +103,7 @@ def read_station(data):
                    labels=tuple(part[2] for part in parts),
                    acked=tuple(acked == 1 for acked, _ in flags), held=tuple(held == 1 for _, held in flags),
                    table=table, lanes=tuple(lanes), waiting=queues[0], waiting_1=queues[1],
-                   limit=data[LIMIT_AT], first=data[FIRST_AT])
+                   limit=data[LIMIT_AT], first=data[FIRST_AT], edition=data[3])
 
 
 def group_bytes(group):
@@ -120,7 +125,7 @@ def turn_bytes(turn):
 
 
 def report_bytes(report):
-    takings = b"".join([bytes([taking.source, 0, 0, 0]) + BODY_FORM.pack(*taking.body) for taking in report.takings])
+    takings = b"".join([bytes([taking.source, 0, 0, 0]) + body_bytes(taking.body) for taking in report.takings])
     return bytes([len(used_takings(report)), 0, 0, 0]) + takings + turn_bytes(report)
 
 
@@ -133,7 +138,7 @@ def taken_bytes(taken):
 def field_at(at):
     """What stands at a byte of a station."""
     if at < HEAD:
-        return ("n", "own number", "own count", "zero")[at] if at < 4 else "present body"
+        return ("n", "own number", "own count", "edition")[at] if at < 4 else "present body"
     if at >= WAITING_AT:
         behind = at - WAITING_AT - WAITING_HEAD
         if behind < 0:

@@ -4,7 +4,7 @@ import itertools
 from array import array
 
 from drawn import conflicts
-from model.bodies import EMPTY, NEUTRAL
+from model.bodies import EDITIONS, EMPTY, NEUTRAL
 from model import outside, states
 from model.group import fresh_group_state
 from model.queues import CAPACITY, DEFAULT_LIMIT, NO_LANE, Queue, replaced
@@ -13,12 +13,12 @@ from model.scripts import refused_edit
 from model.station import DESKS, LARGEST_COUNT, fresh_state
 
 from . import formats
-from .cases import (EDGES, NO_DESKS, NUMBERS, around, both_full, buffer, changed, no_stations, of_desks, of_other_length, refused_station,
+from .cases import (EDGES, NO_DESKS, NO_EDITIONS, NUMBERS, around, both_full, buffer, changed, no_channels, no_stations, of_desks, of_other_length, refused_station,
                     some_desk, with_room)
-from .station_cases import first_of, lent
+from .station_cases import first_of, lent, some_edit, some_setup
 
-FRESH, LIMITED, POST, ROUND = (f"relay_group_{name}" for name in ("fresh", "fresh_limited", "post", "round"))
-ORDERS = {FRESH: (1, 9), LIMITED: (1, 13, 9), POST: (2, 1, 15, 4, 3), ROUND: (2, 10, 14, 8, 9)}
+FRESH, LIMITED, EDITION, POST, ROUND = (f"relay_group_{name}" for name in ("fresh", "fresh_limited", "fresh_edition", "post", "round"))
+ORDERS = {FRESH: (1, 9), LIMITED: (1, 13, 9), EDITION: (1, 13, 17, 9), POST: (2, 1, 15, 4, 17, 3), ROUND: (2, 10, 14, 8, 9)}
 BEYOND = (16, 17, 255, 256, 2 ** 16, 2 ** 31, 2 ** 32 - 1)
 
 
@@ -30,7 +30,7 @@ def some_masks(rng, share=None):
 
 def post(rng, data, place, body=None, desk=None):
     return (POST, lent(rng, data), place, some_desk(rng) if desk is None else desk,
-            *(body or rng.choice((states.random_edit, refused_edit))(rng)))
+            *(body or some_edit(rng, data)))
 
 
 def round_of(rng, data, masks, room=formats.ROUND):
@@ -52,6 +52,9 @@ def fresh(rng):
     for limit in {*NUMBERS, *range(1, CAPACITY + 1)}:
         yield LIMITED, buffer(rng, formats.GROUP), rng.choice((1, 2, 15, 16, 0, 17)), limit
         yield LIMITED, buffer(rng, rng.choice(around(formats.GROUP))), rng.randint(1, PLACES), limit
+    for edition in (*EDITIONS, *NUMBERS, *NO_EDITIONS):
+        yield EDITION, buffer(rng, formats.GROUP), rng.choice((1, 2, 15, 16)), rng.randint(1, CAPACITY), edition
+        yield EDITION, buffer(rng, rng.choice(around(formats.GROUP))), rng.choice((1, 2, 16, 0, 17)), rng.choice((0, 1, 8, 32, 33)), edition
 
 
 def calm(rng, group, n):
@@ -66,7 +69,7 @@ def any_beyond(rng, group, n):
 
 
 def some_group(rng, n):
-    group = any_beyond(rng, states.random_group(rng, n), n)
+    group = any_beyond(rng, states.random_group(rng, n, rng.choice(EDITIONS)), n)
     return calm(rng, group, n) if rng.random() < 0.7 else group
 
 
@@ -84,21 +87,22 @@ def desks(rng):
         for s in of_desks(rng, group[place]._replace(limit=limit, acked=(True,) * PLACES)):
             data = formats.group_bytes(replaced(group, place, s))
             for desk in (*DESKS, rng.choice(NO_DESKS)):
-                yield post(rng, data, place, states.random_edit(rng), desk)
+                yield post(rng, data, place, states.random_edit(rng, s.edition), desk)
             yield round_of(rng, data, array("H", [0] * PLACES))
             no_desk = changed(data, formats.STATION * place + formats.FIRST_AT, [rng.choice((2, 3, 128, 255))])
-            yield rng.choice((round_of(rng, no_desk, some_masks(rng)), post(rng, no_desk, place, states.random_edit(rng), rng.choice(DESKS))))
+            yield rng.choice((round_of(rng, no_desk, some_masks(rng)), post(rng, no_desk, place, states.random_edit(rng, s.edition), rng.choice(DESKS))))
 
 
 def run(rng, n, rounds):
     """Posts and rounds from fresh."""
     def steps(step):
-        limit = rng.choice(((), (1,), (DEFAULT_LIMIT,), (CAPACITY,), (rng.randint(1, CAPACITY),)))
-        _, state = step(LIMITED if limit else FRESH, buffer(rng, formats.GROUP + rng.choice((0, 9))), n, *limit)
+        given = some_setup(rng)
+        edition = given[1] if len(given) > 1 else 0
+        _, state = step((FRESH, LIMITED, EDITION)[len(given)], buffer(rng, formats.GROUP + rng.choice((0, 9))), n, *given)
         state = bytes(state[:formats.GROUP])
         for _ in range(rounds):
             for _ in range(rng.choice((0, 1, 2, 3))):
-                edit = states.random_edit(rng) if rng.random() < 0.8 else None
+                edit = states.random_edit(rng, edition) if rng.random() < 0.8 else None
                 _, state = step(*post(rng, bytes(state), rng.choice((*range(n),) * 4 + BEYOND), edit))
             _, state, _, _ = step(*round_of(rng, bytes(state), some_masks(rng), formats.ROUND + rng.choice((0, 5))))
     return steps
@@ -120,6 +124,23 @@ def another_n(rng):
             yield from both(rng, formats.group_bytes(given), n)
 
 
+def other_edition(s):
+    """A fresh station with this number, of the other edition: inside its limits, but not in this group."""
+    return fresh_state(s.n, s.own, s.limit, 1 - s.edition)
+
+
+def mixed(rng):
+    """Request A9: fresh groups of each edition in which one station, or all but one, is of the other."""
+    for n in range(1, PLACES + 1):
+        for edition in EDITIONS:
+            given = fresh_group_state(n, DEFAULT_LIMIT, edition)
+            for place in {0, n // 2, n - 1, *range(n, min(n + 1, PLACES))}:
+                yield from both(rng, formats.group_bytes(replaced(given, place, other_edition(given[place]))), n)
+            others = tuple(map(other_edition, given[:n]))
+            yield from both(rng, formats.group_bytes(given[:1] + others[1:] + given[n:]), n)
+            yield from both(rng, formats.group_bytes(others + given[n:]), n)
+
+
 def outside_limits(rng, sizes=(2, 3, 16)):
     """One station of a group outside its limits, or with another n, or with another number than its place."""
     for n in sizes:
@@ -127,7 +148,7 @@ def outside_limits(rng, sizes=(2, 3, 16)):
         for place in {0, n // 2, n - 1}:
             s = given[place]
             named = list(outside.stations_outside(s).values())
-            named += [s._replace(n=n % PLACES + 1), s._replace(own=(place + 1) % n), s._replace(n=1), s._replace(n=1, own=0)]
+            named += [other_edition(s), s._replace(n=n % PLACES + 1), s._replace(own=(place + 1) % n), s._replace(n=1), s._replace(n=1, own=0)]
             for broken in named:
                 yield from both(rng, formats.group_bytes(replaced(given, place, broken)), n)
     for n in range(1, PLACES):
@@ -145,7 +166,7 @@ def no_state(rng, count):
             some = list(no_stations(rng, data[at:at + formats.STATION]))
             for bad in rng.sample(some, count):
                 yield from both(rng, changed(data, at, bad), n)
-            for wrong in (3, formats.FIRST_AT):
+            for wrong in (formats.FIRST_AT, formats.FIRST_AT):
                 yield rng.choice(list(both(rng, changed(data, at + wrong, [rng.choice((2, 128, 255))]), n)))
         for length in (0, 1, formats.STATION, formats.GROUP - 1, formats.GROUP + 1, 2 * formats.GROUP):
             yield from both(rng, (data + data)[:length], n)
@@ -184,6 +205,11 @@ def limited_with(rng, faults):
     return LIMITED, *fresh_with(rng, faults)[1:], limit
 
 
+def edition_with(rng, faults):
+    edition = rng.choice(NO_EDITIONS) if "17" in faults else rng.choice(EDITIONS)
+    return EDITION, *limited_with(rng, faults)[1:], edition
+
+
 def inside(rng, least=1):
     """A group in which each station has room for an edit of each desk, can write its frame and has empty lanes."""
     n = rng.randint(least, PLACES)
@@ -206,16 +232,20 @@ def post_with(rng, faults):
     place = rng.randrange(n)
     if "3" in faults:
         group = tuple(both_full(rng, s) for s in group[:n]) + group[n:]
+    edition = group[0].edition
+    edit = refused_edit(rng) if "4" in faults else states.random_edit(rng, edition)
+    if "17" in faults:
+        edit = edit._replace(channel=rng.choice(no_channels(edition)))
     return post(rng, state_with(rng, n, group, faults), rng.choice((n, *BEYOND)) if "1" in faults else place,
-                (refused_edit if "4" in faults else states.random_edit)(rng), rng.choice(NO_DESKS if "15" in faults else DESKS))
+                edit, rng.choice(NO_DESKS if "15" in faults else DESKS))
 
 
 def overflowing(rng, group, i, j):
     """The group in which station i, once it hears j alone, would put a third body into a lane."""
     hearer = group[i]
     own = group[j].table[j]
-    own = own._replace(body=states.random_edit(rng), labels=replaced(own.labels, j, successor(hearer.labels[j])))
-    full = Queue(2, (states.random_edit(rng), states.random_edit(rng)))
+    own = own._replace(body=states.random_edit(rng, hearer.edition), labels=replaced(own.labels, j, successor(hearer.labels[j])))
+    full = Queue(2, (states.random_edit(rng, hearer.edition), states.random_edit(rng, hearer.edition)))
     hearer = hearer._replace(held=replaced(hearer.held, j, False), lanes=replaced(hearer.lanes, j, full))
     sender = group[j]._replace(table=replaced(group[j].table, j, own))
     return replaced(replaced(group, i, hearer), j, sender)
@@ -229,7 +259,7 @@ def apart(group, n):
 def conflicting(rng, group, n, i, j):
     """Station i holds a record of a third station that the frame of j shows with the same label and count, and another body."""
     k = rng.choice([place for place in range(n) if place not in (i, j)])
-    shown = states.random_record(rng, n, k)
+    shown = states.random_record(rng, n, k, edition=group[i].edition)
     shown = shown._replace(count=min(shown.count, count_limit(n)))
     held = shown._replace(body=NEUTRAL if shown.body == EMPTY else EMPTY)
     put = lambda s, record: s._replace(held=replaced(s.held, k, True), table=replaced(s.table, k, record))
@@ -277,7 +307,8 @@ def false_tables(rng, count):
         yield refusal, round_of(rng, formats.group_bytes(group), array("H", masks))
 
 
-FAULTS = {FRESH: (fresh_with, ("1", "9")), LIMITED: (limited_with, ("1", "13", "9")), POST: (post_with, ("2", "1", "15", "4", "3")),
+FAULTS = {FRESH: (fresh_with, ("1", "9")), LIMITED: (limited_with, ("1", "13", "9")),
+          EDITION: (edition_with, ("1", "13", "17", "9")), POST: (post_with, ("2", "1", "15", "4", "17", "3")),
           ROUND: (round_with, ("2", "10", "14", "8", "9, masks", "9, reports"))}
 
 

@@ -4,7 +4,7 @@ import itertools
 
 from drawn import conflicts, frames as drawn_frames
 from model import outside, states
-from model.bodies import EMPTY, NEUTRAL
+from model.bodies import DROP, EDITIONS, EMPTY, KINDS, NEUTRAL, Body
 from model.frames import frame_bytes, numbers_valid
 from model.queues import CAPACITY, DEFAULT_LIMIT, NO_LANE, Queue, replaced
 from model.records import PLACES, count_limit, successor
@@ -12,13 +12,13 @@ from model.scripts import refused_edit
 from model.station import DESKS, LARGEST_COUNT, fresh_state
 
 from . import formats
-from .cases import (EDGES, NO_DESKS, NUMBERS, around, both_full, buffer, changed, lengths, no_stations, of_desks, of_other_length,
+from .cases import (EDGES, NO_DESKS, NO_EDITIONS, NUMBERS, around, both_full, buffer, changed, lengths, no_channels, no_stations, of_desks, of_other_length,
                     refused_station, some_desk, with_room)
 
 LARGEST_FRAME = formats.SIZES["FRAME_MOST"]
-FRESH, LIMITED, POST, WRITE, HEAR, TURN = (f"relay_station_{name}" for name in (
-    "fresh", "fresh_limited", "post", "write", "hear", "turn"))
-ORDERS = {FRESH: (1, 9), LIMITED: (1, 13, 9), POST: (2, 15, 4, 3), WRITE: (2, 10, 9),
+FRESH, LIMITED, EDITION, POST, WRITE, HEAR, TURN = (f"relay_station_{name}" for name in (
+    "fresh", "fresh_limited", "fresh_edition", "post", "write", "hear", "turn"))
+ORDERS = {FRESH: (1, 9), LIMITED: (1, 13, 9), EDITION: (1, 13, 17, 9), POST: (2, 15, 4, 17, 3), WRITE: (2, 10, 9),
           HEAR: (2, 5, 6, 7, 14, 8, 9), TURN: (2, 9)}
 
 
@@ -31,7 +31,9 @@ def lent(rng, data):
 
 def some_frame(rng, hearer):
     """A frame that the hearer's check accepts, or one that is alone."""
-    return states.some_frame(rng, hearer) if hearer.n > 1 else frame_bytes(1, 0, [states.random_record(rng, 1, 0)])
+    if hearer.n > 1:
+        return states.some_frame(rng, hearer)
+    return frame_bytes(1, 0, [states.random_record(rng, 1, 0, edition=hearer.edition)], hearer.edition)
 
 
 def any_frame(rng, n):
@@ -42,8 +44,15 @@ def any_frame(rng, n):
 
 # One call of each kind on a state.
 
+def some_edit(rng, data):
+    """An edit of the edition that the state's byte says, and now and then with another channel or none at all."""
+    edition = data[3] if len(data) > 3 else 0
+    edit = rng.choice((states.random_edit(rng, edition % 2), refused_edit(rng)))
+    return edit._replace(channel=rng.choice(no_channels(edition % 2))) if rng.random() < 0.1 else edit
+
+
 def post(rng, data, body=None, desk=None):
-    return POST, lent(rng, data), some_desk(rng) if desk is None else desk, *(body or rng.choice((states.random_edit, refused_edit))(rng))
+    return POST, lent(rng, data), some_desk(rng) if desk is None else desk, *(body or some_edit(rng, data))
 
 
 def write(rng, data, room=LARGEST_FRAME, length=1):
@@ -80,13 +89,17 @@ def fresh(rng):
             yield LIMITED, buffer(rng, formats.STATION), n, own, limit
     for limit in range(1, CAPACITY + 1):
         yield LIMITED, buffer(rng, formats.STATION), 3, 2, limit
+    for edition in (*EDITIONS, *NUMBERS, *NO_EDITIONS):
+        for n, own, limit in ((1, 0, 8), (2, 1, 1), (16, 15, 32), (16, 16, 8), (2, 0, 33), (0, 0, 0)):
+            yield EDITION, buffer(rng, rng.choice(around(formats.STATION))), n, own, limit, edition
+            yield EDITION, buffer(rng, formats.STATION), n, own, limit, edition
 
 
 def drawn(rng, count):
     """Stations inside their limits, with anything in places that are not in use; all four calls on each."""
     for _ in range(count):
         n = rng.randint(1, PLACES)
-        s = states.random_station(rng, n, rng.randrange(n))
+        s = states.random_station(rng, n, rng.randrange(n), rng.choice(EDITIONS))
         if rng.random() < 0.5:
             s = s._replace(lanes=(NO_LANE,) * n + s.lanes[n:])
         if rng.random() < 0.3:
@@ -97,24 +110,44 @@ def drawn(rng, count):
 def desks(rng):
     """Two desks: each number of edits of either, which goes first, and that byte above 1; posts of both and of none, and turns."""
     for n, limit in ((1, 1), (1, 2), (3, DEFAULT_LIMIT), (16, CAPACITY)):
-        s = states.random_station(rng, n, rng.randrange(n))._replace(limit=limit, acked=(True,) * PLACES)
+        s = states.random_station(rng, n, rng.randrange(n), rng.choice(EDITIONS))._replace(limit=limit, acked=(True,) * PLACES)
         for s in of_desks(rng, s):
             free, full = (s._replace(lanes=replaced(s.lanes, s.own, lane)) for lane in (NO_LANE, Queue(1, (NEUTRAL, EMPTY))))
             for desk in (*DESKS, rng.choice(NO_DESKS)):
-                yield post(rng, formats.station_bytes(s), states.random_edit(rng), desk)
+                yield post(rng, formats.station_bytes(s), states.random_edit(rng, s.edition), desk)
             for one in (free, full):
                 yield turn(rng, formats.station_bytes(one))
             no_desk = changed(formats.station_bytes(free), formats.FIRST_AT, [rng.choice((2, 3, 128, 255))])
-            yield rng.choice((turn(rng, no_desk), post(rng, no_desk, states.random_edit(rng), rng.choice(DESKS))))
+            yield rng.choice((turn(rng, no_desk), post(rng, no_desk, states.random_edit(rng, s.edition), rng.choice(DESKS))))
     for desk in NUMBERS:
         yield post(rng, formats.station_bytes(fresh_state(2, 1, DEFAULT_LIMIT)), states.random_edit(rng), desk)
 
 
+def editions(rng):
+    """Request A9: every channel of each kind in posts, frames and held states, in both editions; frames of the other."""
+    for edition in EDITIONS:
+        s = fresh_state(3, 1, DEFAULT_LIMIT, edition)
+        for kind, row in KINDS.items():
+            body = Body(kind, row.event_most, row.argument_most)
+            for channel in (*range(256), 256, 257, 456, 2 ** 16 + 1, 2 ** 31, 2 ** 32 - 1):
+                yield post(rng, formats.station_bytes(s), body._replace(channel=channel), rng.choice(DESKS))
+            for channel in range(256):
+                shown = states.random_record(rng, 3, 0)._replace(body=body._replace(channel=channel))
+                yield hear(rng, formats.station_bytes(s), frame_bytes(3, 0, [shown], edition))
+                if kind > 1:
+                    held = outside.with_record(s, 2, body=shown.body)
+                    yield rng.choice(list(all_calls(rng, formats.station_bytes(held), b"")))
+        for given in range(256):
+            frame = frame_bytes(3, 0, [states.random_record(rng, 3, 0, edition=edition)], edition)
+            yield hear(rng, formats.station_bytes(s), changed(frame, 3, [given]))
+            yield rng.choice(list(all_calls(rng, changed(formats.station_bytes(s), 3, [given]), frame)))
+
+
 def heard_frames(rng, count):
     """Any bytes as a frame, by a station inside its limits."""
-    for data, n, own in drawn_frames.cases(rng.random(), count):
+    for data, n, own, _ in drawn_frames.cases(rng.random(), count):
         n, own = (n, own) if numbers_valid(n, own) else (rng.randint(1, PLACES), 0)
-        s = states.random_station(rng, n, own)
+        s = states.random_station(rng, n, own, data[3] % 2 if len(data) > 3 else 0)
         yield hear(rng, formats.station_bytes(s._replace(lanes=(NO_LANE,) * n + s.lanes[n:])), data)
 
 
@@ -131,7 +164,7 @@ def frame_lengths(rng):
 def outside_limits(rng):
     """Each limit broken, in stations with and without anything else."""
     for n, own in ((2, 0), (2, 1), (5, 2), (16, 0), (16, 15)):
-        for s in (fresh_state(n, own, DEFAULT_LIMIT), states.random_station(rng, n, own)):
+        for s in (fresh_state(n, own, DEFAULT_LIMIT, rng.choice(EDITIONS)), states.random_station(rng, n, own, rng.choice(EDITIONS))):
             for broken in outside.stations_outside(s).values():
                 yield from all_calls(rng, formats.station_bytes(broken), some_frame(rng, s))
 
@@ -139,7 +172,7 @@ def outside_limits(rng):
 def no_state(rng):
     """Bytes that are no station: each field wrong, in use or not; other lengths; any bytes."""
     for n in (1, 4, 16):
-        data = formats.station_bytes(states.random_station(rng, n, rng.randrange(n)))
+        data = formats.station_bytes(states.random_station(rng, n, rng.randrange(n), rng.choice(EDITIONS)))
         for number, bad in enumerate(no_stations(rng, data)):
             yield list(all_calls(rng, bad, b""))[number % 4]
         for length in (0, 1, 3, 4, 15, 16, formats.STATION - 1, formats.STATION + 1, 2 * formats.STATION, formats.GROUP):
@@ -151,9 +184,9 @@ def no_state(rng):
 
 def each_byte(rng, n, own, values):
     """A station with each of its bytes changed: to so many of the values at an edge, or to all where 0 is given."""
-    s = states.random_station(rng, n, own)
+    s = states.random_station(rng, n, own, n % 2)
     data, frame = formats.station_bytes(s._replace(lanes=(NO_LANE,) * n + s.lanes[n:])), some_frame(rng, s)
-    makers = (lambda bad: post(rng, bad, states.random_edit(rng), rng.choice(DESKS)), lambda bad: write(rng, bad),
+    makers = (lambda bad: post(rng, bad, states.random_edit(rng, s.edition), rng.choice(DESKS)), lambda bad: write(rng, bad),
               lambda bad: hear(rng, bad, frame), lambda bad: turn(rng, bad))
     for at, byte in enumerate(data):
         near = sorted({*EDGES, byte ^ 1, byte + 1 & 255, byte - 1 & 255, rng.randrange(256)} - {byte})
@@ -164,7 +197,7 @@ def each_byte(rng, n, own, values):
 def buffers(rng):
     """Lent buffers of every kind of length."""
     for n in (1, 3, 16):
-        s = states.random_station(rng, n, n - 1)
+        s = states.random_station(rng, n, n - 1, n % 2)
         own = s.table[s.own]._replace(count=0)
         s = s._replace(lanes=(NO_LANE,) * n + s.lanes[n:], table=replaced(s.table, s.own, own))
         data, frame = formats.station_bytes(s), some_frame(rng, s)
@@ -187,17 +220,24 @@ def links(rng, n):
     return [[j for j in range(n) if j != i and rng.random() < share] for i in range(n)]
 
 
+def some_setup(rng):
+    """What a fresh call names: nothing, a limit, or a limit and an edition."""
+    limit = rng.choice((1, DEFAULT_LIMIT, CAPACITY, rng.randint(1, CAPACITY)))
+    return rng.choice(((), (limit,), (limit, 0), (limit, 1), (limit, 1)))
+
+
 def run(rng, n, rounds, false=0.0):
     """Posts and rounds from fresh. A share of the frames is damaged, late, or the hearer's own."""
     def steps(step):
-        limit = rng.choice(((), (1,), (DEFAULT_LIMIT,), (CAPACITY,), (rng.randint(1, CAPACITY),)))
-        held = [bytes(step(LIMITED if limit else FRESH, buffer(rng, formats.STATION + rng.choice((0, 7))), n, own, *limit)[1][:formats.STATION])
+        given = some_setup(rng)
+        edition = given[1] if len(given) > 1 else 0
+        held = [bytes(step((FRESH, LIMITED, EDITION)[len(given)], buffer(rng, formats.STATION + rng.choice((0, 7))), n, own, *given)[1][:formats.STATION])
                 for own in range(n)]
         late = [b""] * n
         for _ in range(rounds):
             for _ in range(rng.choice((0, 1, 1, 2, 40 if rng.random() < 0.05 else 3))):
                 k = rng.randrange(n)
-                _, held[k] = step(*post(rng, bytes(held[k]), states.random_edit(rng) if rng.random() < 0.8 else None))
+                _, held[k] = step(*post(rng, bytes(held[k]), states.random_edit(rng, edition) if rng.random() < 0.8 else None))
             frames = []
             for k in range(n):
                 refusal, _, frame, length = step(*write(rng, bytes(held[k]), rng.choice((LARGEST_FRAME, 4 + 16 * n, 300))))
@@ -235,10 +275,15 @@ def limited_with(rng, faults):
     return LIMITED, *fresh_with(rng, faults)[1:], limit
 
 
+def edition_with(rng, faults):
+    edition = rng.choice(NO_EDITIONS) if "17" in faults else rng.choice(EDITIONS)
+    return EDITION, *limited_with(rng, faults)[1:], edition
+
+
 def inside(rng):
     """A station of at least two whose lanes are empty, whose own count can be written and who has room for an edit of each desk."""
     n = rng.randint(2, PLACES)
-    s = states.random_station(rng, n, rng.randrange(n))
+    s = states.random_station(rng, n, rng.randrange(n), rng.choice(EDITIONS))
     table = replaced(s.table, s.own, s.table[s.own]._replace(count=rng.randint(0, count_limit(n))))
     return with_room(s._replace(lanes=(NO_LANE,) * n + s.lanes[n:], table=table))
 
@@ -252,8 +297,10 @@ def post_with(rng, faults):
     s = inside(rng)
     if "3" in faults:
         s = both_full(rng, s)
-    return post(rng, state_with(rng, s, faults), (refused_edit if "4" in faults else states.random_edit)(rng),
-                rng.choice(NO_DESKS if "15" in faults else DESKS))
+    edit = refused_edit(rng) if "4" in faults else states.random_edit(rng, s.edition)
+    if "17" in faults:
+        edit = edit._replace(channel=rng.choice(no_channels(s.edition)))
+    return post(rng, state_with(rng, s, faults), edit, rng.choice(NO_DESKS if "15" in faults else DESKS))
 
 
 def write_with(rng, faults):
@@ -268,7 +315,7 @@ def write_with(rng, faults):
 def conflicting(rng, s, sender, records):
     """The station holds a record of a third station with the label and count that the frame's has, and another body."""
     k = rng.choice([place for place in range(s.n) if place not in (s.own, sender)])
-    shown = states.random_record(rng, s.n, k)
+    shown = states.random_record(rng, s.n, k, edition=s.edition)
     shown = shown._replace(count=min(shown.count, count_limit(s.n)), labels=shown.labels[:s.n] + (0,) * (PLACES - s.n))
     held = shown._replace(body=NEUTRAL if shown.body == EMPTY else EMPTY)
     s = s._replace(held=replaced(s.held, k, True), table=replaced(s.table, k, held))
@@ -281,22 +328,22 @@ def hear_with(rng, faults):
         s = inside(rng)
     sender = rng.choice([k for k in range(s.n) if k != s.own])
     s = s._replace(held=tuple(held and (k == s.own or k >= s.n) for k, held in enumerate(s.held)))
-    records = states.random_records(rng, s.n, sender)
+    records = states.random_records(rng, s.n, sender, s.edition)
     if "14" in faults:
         s, records = conflicting(rng, s, sender, records)
     if "8" in faults:
         s = s._replace(held=replaced(s.held, sender, False),
-                       lanes=replaced(s.lanes, sender, Queue(2, (states.random_edit(rng), states.random_edit(rng)))))
-        records = [one._replace(body=states.random_edit(rng), labels=replaced(one.labels, sender, successor(s.labels[sender])))
+                       lanes=replaced(s.lanes, sender, Queue(2, (states.random_edit(rng, s.edition), states.random_edit(rng, s.edition)))))
+        records = [one._replace(body=states.random_edit(rng, s.edition), labels=replaced(one.labels, sender, successor(s.labels[sender])))
                    if one.station == sender else one for one in records]
-    frame = frame_bytes(s.n, sender, records)
+    frame = frame_bytes(s.n, sender, records, s.edition)
     if "7" in faults:
         at = 4 + 16 * rng.randrange(len(records))
-        frame = changed(frame, *rng.choice(((at + 3, [1]), (at + 2, [9]), (at + 1, [255]), (at + 15, [255]), (at + 7, [255]))))
+        frame = changed(frame, *rng.choice(((at + 3, [201]), (at + 2, [9]), (at + 1, [255]), (at + 15, [255]), (at + 7, [255]))))
     if "6" in faults:
-        frame = changed(frame, *rng.choice(((0, [s.n - 1]), (0, [255]), (1, [s.own]), (1, [s.n]), (1, [255]))))
+        frame = changed(frame, *rng.choice(((3, [1 - s.edition]), (0, [s.n - 1]), (0, [255]), (1, [s.own]), (1, [s.n]), (1, [255]))))
     if "5" in faults:
-        frame = rng.choice((changed(frame, 3, [1]), changed(frame, 2, [0]), changed(frame, 2, [17]), frame + b"\0", frame[:-1], frame[:3], b""))
+        frame = rng.choice((changed(frame, 3, [rng.choice((2, 3, 255))]), changed(frame, 2, [0]), changed(frame, 2, [17]), frame + b"\0", frame[:-1], frame[:3], b""))
     return hear(rng, state_with(rng, s, faults), frame, rng.choice((0, 1, 15)) if "9" in faults else formats.TAKEN)
 
 
@@ -311,7 +358,8 @@ def false_frames(rng, count):
 
 
 FAULTS = {FRESH: (fresh_with, ("1, n", "1, own", "9")), LIMITED: (limited_with, ("1, n", "1, own", "13", "9")),
-          POST: (post_with, ("2", "15", "4", "3")),
+          EDITION: (edition_with, ("1, n", "1, own", "13", "17", "9")),
+          POST: (post_with, ("2", "15", "4", "17", "3")),
           WRITE: (write_with, ("2", "10", "9, frame", "9, length")),
           HEAR: (hear_with, ("2", "5", "6", "7", "14", "8", "9")), TURN: (turn_with, ("2", "9"))}
 

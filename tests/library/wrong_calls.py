@@ -9,7 +9,7 @@ import sys
 from array import array
 from unittest import mock
 
-from model import frames, group, hearing, outside, queues, station, states, turns
+from model import bodies, frames, group, hearing, outside, queues, records, station, states, turns
 from model.bodies import EMPTY, NEUTRAL
 from model.queues import NO_LANE, Queue, replaced
 from model.records import PLACES, own_label
@@ -174,9 +174,9 @@ def last_label_not_judged(labels, n):
     return n < 2 or max(labels[:n - 1]) <= 2
 
 
-def any_body(kind, event, argument):
+def any_body(kind, channel, _zero, event, argument):
     """Bytes that are no body, read as one."""
-    return formats.Body(0, 0, 0) if kind > 4 else formats.Body(kind, event * (kind > 1), argument * (kind in (2, 4)))
+    return formats.Body(0, 0, 0) if kind > 4 else formats.Body(kind, event * (kind > 1), argument * (kind in (2, 4)), channel * (kind > 1))
 
 
 def any_flags(data, right=formats.read_station.__wrapped__):
@@ -188,9 +188,46 @@ def any_flags(data, right=formats.read_station.__wrapped__):
     return right(bytes(data))
 
 
-def any_zero(data, right=formats.read_station.__wrapped__):
-    """The byte that must be zero, but for those of bodies and records, read as zero."""
-    return right(data[:3] + bytes(1) + data[4:] if len(data) == formats.STATION else data)
+def any_zero(kind, channel, _zero, event, argument, right=formats.read_body):
+    """The bytes of a body that must be zero read as zero."""
+    return right(kind, channel, 0, event, argument)
+
+
+# Request A9.
+
+def channels_of(numbers):
+    """Other channels of an edit in edition 1."""
+    return lambda body, edition: body.channel in numbers if edition == 1 and bodies.edit_kind(body) else body.channel == 0
+
+
+def channel_in_edition_0(body, edition, right=bodies.channel_right):
+    return right(body, 1) if bodies.edit_kind(body) and body.channel else right(body, edition)
+
+
+def channel_of_no_edit(body, edition, right=bodies.channel_right):
+    return edition == 1 and not bodies.edit_kind(body) or right(body, edition)
+
+
+def without_channel(body):
+    return body._replace(channel=0)
+
+
+def channels_not_compared(seen, held, n, right=records.age):
+    plain = [None if one is None else one._replace(body=without_channel(one.body)) for one in (seen, held)]
+    return right(*plain, n)
+
+
+def no_channel_in_lanes(lane, body, right=queues.lane_with):
+    return right(lane, without_channel(body))
+
+
+def any_edition(given):
+    n = group.group_n(given)
+    return 1 <= n <= PLACES and all(one.n == n and one.own == place and station.in_limits(one) for place, one in enumerate(given[:n]))
+
+
+def edition_from_n_up(n, limit, edition=0):
+    return tuple(station.fresh_state(n, own, limit, edition) for own in range(n)) + (station.fresh_state(1, 0, 8, edition),) * (PLACES - n)
 
 
 def any_first(data, right=formats.read_station.__wrapped__):
@@ -244,8 +281,8 @@ def any_n(given):
     return 1 <= n <= PLACES and all(one.own == place and station.in_limits(one) for place, one in enumerate(given[:n]))
 
 
-def limit_from_n_up(n, limit):
-    return tuple(station.fresh_state(n, own, limit) for own in range(n)) + (station.fresh_state(1, 0, limit),) * (PLACES - n)
+def limit_from_n_up(n, limit, edition=0):
+    return tuple(station.fresh_state(n, own, limit, edition) for own in range(n)) + (station.fresh_state(1, 0, limit),) * (PLACES - n)
 
 
 def all_sixteen(given):
@@ -287,12 +324,12 @@ ENGINE = {
     "which desk goes first moved by Neutral": by_model(choose_body=neutral_gives_way),
     "which desk goes first not moved by a desk that waits alone": by_model(choose_body=alone_stays),
     "which desk goes first moved by a post": by_model(with_queue=post_gives_way),
-    "desk 1 first on a fresh station": by_model(fresh_state=lambda n, own, limit, right=station.fresh_state: right(n, own, limit)._replace(first=1)),
+    "desk 1 first on a fresh station": by_model(fresh_state=lambda *given, right=station.fresh_state: right(*given)._replace(first=1)),
     "the waiting edits of desk 1 not judged": by_model(in_limits=desk_0_judged),
     "a number above 1 of the desk that goes first read as 1": by_model(read_station=any_first),
     "the edits of desk 1 written before those of desk 0": by_model(station_bytes=desks_exchanged),
-    "more may wait than the limit": by_model(waiting_in_limits=lambda waiting, limit, right=station.waiting_in_limits: right(waiting, max(limit, 32))),
-    "the limit that is named not kept": by_model(fresh_state=lambda n, own, limit, right=station.fresh_state: right(n, own, 8)),
+    "more may wait than the limit": by_model(waiting_in_limits=lambda waiting, limit, edition, right=station.waiting_in_limits: right(waiting, max(limit, 32), edition)),
+    "the limit that is named not kept": by_model(fresh_state=lambda n, own, _limit, edition=0, right=station.fresh_state: right(n, own, 8, edition)),
     "a limit of 33": by_model(limit_valid=lambda limit: 1 <= limit <= 33),
     "a limit of 0": by_model(limit_valid=lambda limit: limit <= 32),
     "counts up to one more": by_model(count_limit=lambda n: 2 * n - 1),
@@ -302,7 +339,16 @@ ENGINE = {
     "lanes from N up judged": by_model(in_limits=places_from_n_up),
     "bytes that are no body read as one": by_model(read_body=any_body),
     "flags above 1 read as 1": by_model(read_station=any_flags),
-    "a byte that must be zero not judged": by_model(read_station=any_zero),
+    "a byte that must be zero not judged": by_model(read_body=any_zero),
+    "an edit without a channel in edition 1": by_model(channel_right=channels_of(range(201))),
+    "channel 201": by_model(channel_right=channels_of(range(1, 202))),
+    "no channel 200": by_model(channel_right=channels_of(range(1, 200))),
+    "no channel 1": by_model(channel_right=channels_of(range(2, 201))),
+    "channels in edition 0": by_model(channel_right=channel_in_edition_0),
+    "an edition above 1": by_model(edition_valid=lambda edition: True),
+    "edition 0 alone": by_model(edition_valid=lambda edition: edition == 0),
+    "the edition that is named not kept": by_model(fresh_state=lambda n, own, limit, _edition=0, right=station.fresh_state: right(n, own, limit)),
+    "no channel in a lane": by_model(lane_with=no_channel_in_lanes),
     "what is not in use written as zero": by_model(station_bytes=unused_cleared),
 }
 
@@ -406,7 +452,18 @@ STATION = {
     "4 before 2": before_two(POST, lambda _, lent: 4 if lent[2] > 4 else 0),
     "15 before 2": before_two(POST, lambda _, lent: 15 if lent[1] > 1 else 0),
     "post gives 4 for 15": one_for_another(POST, 15, 4),
-    **dict(outside_buffers(stations.FRESH, 1)), **dict(outside_buffers(stations.LIMITED, 1)), **dict(outside_buffers(POST, 1)), **dict(outside_buffers(WRITE, 3)),
+    "post gives 4 for 17": one_for_another(POST, 17, 4),
+    "17 before 4": before_two(POST, lambda _, lent: 17 if lent[5] > 200 else 0),
+    "3 before 17": one_for_another(POST, 17, 3),
+    "17 before 13": before_two(stations.EDITION, lambda _, lent: 17 if lent[4] > 1 else 0),
+    "9 before 17": one_for_another(stations.EDITION, 17, 9),
+    "hear gives 5 for 6": one_for_another(HEAR, 6, 5),
+    "the other edition heard": by_model(address_right=lambda data, n, own, _edition, right=frames.address_right: right(data, n, own, data[3])),
+    "5 for the other edition": by_model(shape_right=lambda data, right=frames.shape_right: right(data) and data[3] == 0),
+    "channels not compared": by_model(age=channels_not_compared),
+    "a channel of what is no edit": by_model(channel_right=channel_of_no_edit),
+    "the edition not written": by_model(written_frame=lambda one, right=station.written_frame: right(one._replace(edition=0))),
+    **dict(outside_buffers(stations.FRESH, 1)), **dict(outside_buffers(stations.LIMITED, 1)), **dict(outside_buffers(stations.EDITION, 1)), **dict(outside_buffers(POST, 1)), **dict(outside_buffers(WRITE, 3)),
     **dict(outside_buffers(HEAR, 3)), **dict(outside_buffers(TURN, 2)),
 }
 
@@ -421,6 +478,10 @@ GROUP = {
     "only the first station judged": by_model(group_in_limits=first_station_only),
     "numbers not judged against places": by_model(group_in_limits=numbers_not_judged),
     "another n not judged": by_model(group_in_limits=any_n),
+    "another edition not judged": by_model(group_in_limits=any_edition),
+    "the edition that is named from N up": by_model(fresh_group_state=edition_from_n_up),
+    "17 before 1": before_two(groups.EDITION, lambda _, lent: 17 if lent[3] > 1 else 0),
+    "post gives 3 for 17": one_for_another(groups.POST, 17, 3),
     "stations from N up judged": by_model(group_in_limits=all_sixteen),
     "10 judged at the first station alone": by_model(count_writable=lambda one: one.own > 0 or one.table[0].count <= 2 * (one.n - 1)),
     "takings not told": by_model(report_of=lambda takings, told, right=group.report_of: right([], told)),
@@ -443,7 +504,7 @@ GROUP = {
     "15 before 1": before_two(groups.POST, lambda _, lent: 15 if lent[2] > 1 else 0),
     "1 before 2": before_two(groups.POST, lambda _, lent: 1 if lent[1] > 15 else 0),
     "fewer masks accepted": told(lambda refusal, name, buffers: 0 if (name, refusal) == (groups.ROUND, 9) else refusal),
-    **dict(outside_buffers(groups.FRESH, 1)), **dict(outside_buffers(groups.LIMITED, 1)), **dict(outside_buffers(groups.POST, 1)), **dict(outside_buffers(groups.ROUND, 3)),
+    **dict(outside_buffers(groups.FRESH, 1)), **dict(outside_buffers(groups.LIMITED, 1)), **dict(outside_buffers(groups.EDITION, 1)), **dict(outside_buffers(groups.POST, 1)), **dict(outside_buffers(groups.ROUND, 3)),
 }
 
 
@@ -453,23 +514,26 @@ def busy(rng, count, least=1, own=None):
     """Stations with much in use: lanes and queues of each length, all acknowledged; of a given n and number where they are given."""
     for _ in range(count):
         n = rng.randint(1, PLACES) if own is None else least
-        s = states.random_station(rng, n, rng.randrange(n) if own is None else own)
+        s = states.random_station(rng, n, rng.randrange(n) if own is None else own, rng.randrange(2) if own is None else 1)
         own_lane = s.lanes[s.own] if rng.random() < 0.5 else NO_LANE
-        full = [Queue(one, (states.random_edit(rng), states.random_edit(rng))) for one in (1, 2)]
+        full = [Queue(one, (states.random_edit(rng, s.edition), states.random_edit(rng, s.edition))) for one in (1, 2)]
         s = s._replace(acked=(True,) * n + s.acked[n:], lanes=replaced(tuple(rng.choices(full, k=n)) + s.lanes[n:], s.own, own_lane),
-                       waiting=queue_of_length(rng, rng.choice((0, 1, s.limit - 1, s.limit))),
-                       waiting_1=queue_of_length(rng, rng.choice((0, 1, s.limit - 1, s.limit))))
+                       waiting=queue_of_length(rng, rng.choice((0, 1, s.limit - 1, s.limit)), s.edition),
+                       waiting_1=queue_of_length(rng, rng.choice((0, 1, s.limit - 1, s.limit)), s.edition))
         yield s
 
 
 def station_cases(rng):
     found = [case for _, case in stations.at_once(rng, HEAR, 2)]
-    for name in (stations.FRESH, stations.LIMITED, POST, WRITE, TURN):
+    for name in (stations.FRESH, stations.LIMITED, stations.EDITION, POST, WRITE, TURN):
         found += [case for _, case in stations.at_once(rng, name, 4)]
     for s in busy(rng, 80):
         found += stations.all_calls(rng, formats.station_bytes(s), stations.some_frame(rng, s))
     found += rng.sample(list(stations.desks(rng)), 150)
     found += stations.drawn(rng, 150)
+    found += rng.sample(list(stations.editions(rng)), 900)
+    found += [case for _, case in stations.false_frames(rng, 4)]
+    found += channel_edges(rng)
     found += [(stations.LIMITED, stations.buffer(rng, formats.STATION), 2, 1, limit) for limit in (0, 1, 32, 33)]
     found += [(stations.FRESH, stations.buffer(rng, room), 5, 3) for room in stations.around(formats.STATION)]
     found += stations.buffers(rng)
@@ -478,10 +542,24 @@ def station_cases(rng):
     return found
 
 
+def channel_edges(rng):
+    """Posts of the channels at their limits, in both editions, and records that differ in their channel alone."""
+    for edition in bodies.EDITIONS:
+        s = station.fresh_state(3, 1, 8, edition)
+        for channel in (0, 1, 200, 201, 255, 256):
+            yield stations.post(rng, formats.station_bytes(s), bodies.Body(3, 5, 0, channel), 0)
+    s = station.fresh_state(3, 1, 8, 1)
+    held = records.Record(2, 0, bodies.Body(3, 5, 0, 7), (0, 0, 1) + (0,) * 13)
+    s = s._replace(held=replaced(s.held, 2, True), table=replaced(s.table, 2, held))
+    sender = records.Record(0, 0, EMPTY, (1,) + (0,) * 15)
+    for body in (held.body, bodies.Body(3, 5, 0, 8)):
+        yield stations.hear(rng, formats.station_bytes(s), frames.frame_bytes(3, 0, [sender, held._replace(body=body)], 1))
+
+
 def busy_groups(rng, count):
     for _ in range(count):
         n = rng.randint(2, 5)
-        beyond = groups.any_beyond(rng, states.random_group(rng, n), n)[n:]
+        beyond = groups.any_beyond(rng, states.random_group(rng, n, 1), n)[n:]
         some = [next(busy(rng, 1, n, place)) for place in range(n)]
         yield n, tuple(one._replace(table=replaced(one.table, one.own, one.table[one.own]._replace(count=0))) for one in some) + beyond
 
@@ -500,15 +578,19 @@ def group_cases(rng):
     for given in named_groups(rng):
         found.append(groups.post(rng, formats.group_bytes(given), 1, states.random_edit(rng)))
         found.append(groups.round_of(rng, formats.group_bytes(given), array("H", [0] * PLACES)))
-    for name in (groups.FRESH, groups.LIMITED, groups.POST, groups.ROUND):
+    for name in (groups.FRESH, groups.LIMITED, groups.EDITION, groups.POST, groups.ROUND):
         found += [case for _, case in groups.at_once(rng, name, 1)]
     found += [(groups.LIMITED, groups.buffer(rng, formats.GROUP), n, limit) for n in (1, 3) for limit in (0, 1, 32, 33)]
     for n, given in busy_groups(rng, 20):
-        found += [groups.post(rng, formats.group_bytes(given), place, states.random_edit(rng), desk) for place in range(n) for desk in DESKS]
+        found += [groups.post(rng, formats.group_bytes(given), place, states.random_edit(rng, given[0].edition), desk) for place in range(n) for desk in DESKS]
         found.append(groups.round_of(rng, formats.group_bytes(given), array("H", [0] * PLACES)))
     found += rng.sample(list(groups.desks(rng)), 60)
     found += groups.drawn(rng, 30)
     found += groups.another_n(rng)
+    found += groups.mixed(rng)
+    found += [groups.post(rng, formats.group_bytes(group.fresh_group_state(2, 8, edition)), 1, bodies.Body(3, 5, 0, channel), 0)
+              for edition in bodies.EDITIONS for channel in (0, 1, 200, 201, 255)]
+    found += [(groups.EDITION, groups.buffer(rng, formats.GROUP), n, 8, edition) for n in (1, 3) for edition in (0, 1, 2)]
     found += [(groups.FRESH, groups.buffer(rng, room), 5) for room in groups.around(formats.GROUP)]
     found += groups.buffers(rng)
     found += groups.outside_limits(rng, (3,))

@@ -1,8 +1,8 @@
-"""Frames as bytes (document 01, "Frame bytes" and "Turned down")."""
+"""Frames as bytes (document 01, "Frame bytes" and "Turned down"; document 02, A9)."""
 
-from .bodies import Body
+from .bodies import EDITIONS, Body
 from .records import PLACES, Record, count_limit, pack, record_in_limits, unpack
-from .refusals import (BAD_FRAME_ADDRESS, BAD_FRAME_SHAPE, BAD_NUMBER, BAD_RECORD,
+from .refusals import (BAD_EDITION, BAD_FRAME_ADDRESS, BAD_FRAME_SHAPE, BAD_NUMBER, BAD_RECORD,
                        DONE)
 
 HEAD_SIZE = 4
@@ -22,24 +22,25 @@ def numbers_valid(n, own):
 
 def record_bytes(record, n):
     """Labels from n up are written 0."""
-    return (bytes([record.station, record.count, record.body.kind, 0])
+    return (bytes([record.station, record.count, record.body.kind, record.body.channel])
             + record.body.event.to_bytes(4, "little")
             + record.body.argument.to_bytes(4, "little", signed=True)
             + pack(record.labels[:n]).to_bytes(4, "little"))
 
 
 def read_record(part):
-    """The record in sixteen bytes, not yet judged; byte 3 is left to the check."""
+    """The record in sixteen bytes, not yet judged; byte 3 is the channel."""
     body = Body(part[2],
                 int.from_bytes(part[4:8], "little"),
-                int.from_bytes(part[8:12], "little", signed=True))
+                int.from_bytes(part[8:12], "little", signed=True),
+                part[3])
     return Record(part[0], part[1], body, unpack(int.from_bytes(part[12:16], "little")))
 
 
 # Whole frames.
 
-def frame_bytes(n, sender, records):
-    head = bytes([n, sender, len(records), 0])
+def frame_bytes(n, sender, records, edition=0):
+    head = bytes([n, sender, len(records), edition])
     return head + b"".join(record_bytes(record, n) for record in records)
 
 
@@ -58,12 +59,12 @@ def read_frame(data):
 def shape_right(data):
     return (len(data) >= HEAD_SIZE
             and 1 <= data[2] <= PLACES
-            and data[3] == 0
+            and data[3] in EDITIONS
             and len(data) == frame_size(data[2]))
 
 
-def address_right(data, n, own):
-    return data[0] == n and data[1] != own and data[1] < n
+def address_right(data, n, own, edition):
+    return data[3] == edition and data[0] == n and data[1] != own and data[1] < n
 
 
 def stations_right(stations, n, sender):
@@ -72,31 +73,32 @@ def stations_right(stations, n, sender):
     return ascending and all(k < n for k in stations) and sender in stations
 
 
-def frame_record_in_limits(record, n):
-    return (record_in_limits(record, n, count_limit(n))
+def frame_record_in_limits(record, n, edition):
+    return (record_in_limits(record, n, count_limit(n), edition)
             and all(label == 0 for label in record.labels[n:]))
 
 
-def records_right(data, n):
+def records_right(data, n, edition):
     records = read_frame(data)
     return (stations_right([record.station for record in records], n, data[1])
-            and all(part[3] == 0 for part in record_parts(data))
-            and all(frame_record_in_limits(record, n) for record in records))
+            and all(frame_record_in_limits(record, n, edition) for record in records))
 
 
-def frame_refusal(data, n, own):
-    """5, 6, 7 or 0, for a valid n and own number."""
+def frame_refusal(data, n, own, edition=0):
+    """5, 6, 7 or 0, for a valid n, own number and edition."""
     if not shape_right(data):
         return BAD_FRAME_SHAPE
-    if not address_right(data, n, own):
+    if not address_right(data, n, own, edition):
         return BAD_FRAME_ADDRESS
-    if not records_right(data, n):
+    if not records_right(data, n, edition):
         return BAD_RECORD
     return DONE
 
 
-def check_frame(data, n, own):
-    """The frame check that the host calls: 1, 5, 6, 7 or 0."""
+def check_frame(data, n, own, edition=0):
+    """The frame check that the host calls: 1, 17, 5, 6, 7 or 0."""
     if not numbers_valid(n, own):
         return BAD_NUMBER
-    return frame_refusal(data, n, own)
+    if edition not in EDITIONS:
+        return BAD_EDITION
+    return frame_refusal(data, n, own, edition)

@@ -11,8 +11,8 @@ from .frames import numbers_valid, read_frame
 from .hearing import FrameRefused, Taking, hear_records
 from .queues import DEFAULT_LIMIT, replaced
 from .records import PLACES
-from .refusals import BAD_LIMIT, BAD_NUMBER, COUNT_TOO_LARGE, DONE, OUTSIDE_LIMITS
-from .station import (append_edit, count_writable, fresh_state, in_limits, limit_valid, lone_state,
+from .refusals import BAD_EDITION, BAD_LIMIT, BAD_NUMBER, COUNT_TOO_LARGE, DONE, OUTSIDE_LIMITS
+from .station import (append_edit, count_writable, edition_valid, fresh_state, in_limits, limit_valid, lone_state,
                       written_frame)
 from .turns import NO_ROW, close_round
 
@@ -26,7 +26,8 @@ def group_n(group):
 def group_in_limits(group):
     n = group_n(group)
     return (1 <= n <= PLACES
-            and all(station.n == n and station.own == place and in_limits(station)
+            and all(station.n == n and station.edition == group[0].edition
+                    and station.own == place and in_limits(station)
                     for place, station in enumerate(group[:n])))
 
 
@@ -37,8 +38,8 @@ class FreshGroup(NamedTuple):
     group: tuple
 
 
-def fresh_group_state(n, limit):
-    stations = tuple(fresh_state(n, own, limit) for own in range(n))
+def fresh_group_state(n, limit, edition=0):
+    stations = tuple(fresh_state(n, own, limit, edition) for own in range(n))
     return stations + (lone_state(),) * (PLACES - n)
 
 
@@ -46,12 +47,14 @@ def lone_group_state():
     return fresh_group_state(1, DEFAULT_LIMIT)
 
 
-def fresh(n, limit=DEFAULT_LIMIT):
+def fresh(n, limit=DEFAULT_LIMIT, edition=0):
     if not 1 <= n <= PLACES:
         return FreshGroup(BAD_NUMBER, lone_group_state())
     if not limit_valid(limit):
         return FreshGroup(BAD_LIMIT, lone_group_state())
-    return FreshGroup(DONE, fresh_group_state(n, limit))
+    if not edition_valid(edition):
+        return FreshGroup(BAD_EDITION, lone_group_state())
+    return FreshGroup(DONE, fresh_group_state(n, limit, edition))
 
 
 # Post.

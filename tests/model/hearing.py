@@ -100,7 +100,7 @@ def hear_records(station, records):
 def hear(station, data):
     if not in_limits(station):
         return Heard(OUTSIDE_LIMITS, station, 0)
-    refusal = frame_refusal(data, station.n, station.own)
+    refusal = frame_refusal(data, station.n, station.own, station.edition)
     if refusal != DONE:
         return Heard(refusal, station, 0)
     try:

@@ -59,7 +59,9 @@ def read_line(line, n):
 
 
 def listing_line(rounds, letter, station, source, body):
-    return b"%6d %s%3d%3d%2d%9d%9d\n" % (rounds, letter, station, source, *body)
+    """A channel, which no edit of document 01 has, stands after the edit."""
+    channel = b"%4d" % body.channel if body.channel else b""
+    return b"%6d %s%3d%3d%2d%9d%9d%s\n" % (rounds, letter, station, source, *body[:3], channel)
 
 
 def refused_post_line(rounds, station, n, refusal):

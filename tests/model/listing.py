@@ -32,14 +32,14 @@ def station_lines(rounds, place, report):
         yield listing_line(rounds, b"D", place, place, report.started_body)
 
 
-def listing_lines(script, read=None, limit=None):
+def listing_lines(script, read=None, limit=None, edition=0):
     """Lines are read as document 01 has them, and the limit is the listing's, unless others are named."""
     group, n, rounds = None, None, 0
     for line in split_lines(script):
         command = None if line is None else (read or read_line)(line, n)
         if isinstance(command, SizeLine):
             n = command.n
-            group = groups.fresh(n, LIMIT if limit is None else limit).group
+            group = groups.fresh(n, LIMIT if limit is None else limit, edition).group
         elif isinstance(command, PostLine):
             refusal, group = groups.post(group, command.station, command.body, command.desk)
             if refusal != DONE:

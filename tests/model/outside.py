@@ -6,6 +6,11 @@ from .records import PLACES, Record, count_limit
 from .station import with_queue
 
 
+def edit_of(station):
+    """An edit inside its limits in the station's edition."""
+    return Body(DROP, 1, 0, station.edition)
+
+
 # Changes to a station.
 
 def at_place(station, field, k, value):
@@ -24,7 +29,7 @@ def with_lane(station, k, *bodies):
 
 
 def with_waiting(station, length, first, desk=0):
-    slots = (first,) + (Body(DROP, 1, 0),) * (CAPACITY - 1)
+    slots = (first,) + (edit_of(station),) * (CAPACITY - 1)
     return with_queue(station, desk, Queue(length, slots))
 
 
@@ -32,10 +37,31 @@ BAD_BODY = Body(DROP, 0, 0)
 TOO_LATE = Body(INSERT, 1, KINDS[INSERT].argument_most + 1)
 
 
+def wrong_channels(s):
+    """Edits whose channel is none of the station's edition, and what is no edit with one."""
+    return [Body(DROP, 1, 0, channel) for channel in ((0, 201, 255) if s.edition else (1, 200, 255))]
+
+
+def editions_outside(s):
+    """From a station inside its limits, of N at least 2: document 02, A9."""
+    own, other = s.own, (s.own + 1) % s.n
+    broken = {f"edition {edition}": s._replace(edition=edition) for edition in (2, 3, 128, 255)}
+    for body in wrong_channels(s):
+        name = f"channel {body.channel}"
+        broken |= {f"present body, {name}": s._replace(body=body),
+                   f"own record, {name}": with_record(s, own, body=body),
+                   f"other record, {name}": with_record(s, other, body=body),
+                   f"own lane, {name}": with_lane(s, own, body),
+                   f"lane, {name}": with_lane(s, other, NEUTRAL, body),
+                   f"waiting, {name}": with_waiting(s, 1, body),
+                   f"waiting at desk 1, {name}": with_waiting(s, 1, body, desk=1)}
+    return broken
+
+
 def stations_outside(s):
     """From a station inside its limits, of N at least 2: stations with one limit broken, by name."""
     own, other = s.own, (s.own + 1) % s.n
-    return {
+    return editions_outside(s) | {
         "N is 0": s._replace(n=0),
         "N is 17": s._replace(n=17),
         "N is 255": s._replace(n=255),
@@ -66,15 +92,15 @@ def stations_outside(s):
         "Neutral waiting": with_waiting(s._replace(limit=2), 2, NEUTRAL),
         "Empty waiting": with_waiting(s, 1, EMPTY),
         "bad edit waiting": with_waiting(s._replace(limit=32), 32, TOO_LATE),
-        "one more waiting than the limit": with_waiting(s, s.limit + 1, Body(DROP, 1, 0)),
-        "9 waiting at a limit of 8": with_waiting(s._replace(limit=8), 9, Body(DROP, 1, 0)),
-        "33 waiting": with_waiting(s._replace(limit=32), 33, Body(DROP, 1, 0)),
-        "255 waiting": with_waiting(s, 255, Body(DROP, 1, 0)),
+        "one more waiting than the limit": with_waiting(s, s.limit + 1, edit_of(s)),
+        "9 waiting at a limit of 8": with_waiting(s._replace(limit=8), 9, edit_of(s)),
+        "33 waiting": with_waiting(s._replace(limit=32), 33, edit_of(s)),
+        "255 waiting": with_waiting(s, 255, edit_of(s)),
         "Empty waiting at desk 1": with_waiting(s, 1, EMPTY, desk=1),
-        "one more waiting at desk 1 than the limit": with_waiting(s, s.limit + 1, Body(DROP, 1, 0), desk=1),
-        "255 waiting at desk 1": with_waiting(s, 255, Body(DROP, 1, 0), desk=1),
-        "a limit of 0": with_waiting(s._replace(limit=0), 0, Body(DROP, 1, 0)),
-        "a limit of 33": with_waiting(s._replace(limit=33), 0, Body(DROP, 1, 0)),
-        "33 waiting at a limit of 33": with_waiting(s._replace(limit=33), 33, Body(DROP, 1, 0)),
-        "a limit of 255": with_waiting(s._replace(limit=255), 0, Body(DROP, 1, 0)),
+        "one more waiting at desk 1 than the limit": with_waiting(s, s.limit + 1, edit_of(s), desk=1),
+        "255 waiting at desk 1": with_waiting(s, 255, edit_of(s), desk=1),
+        "a limit of 0": with_waiting(s._replace(limit=0), 0, edit_of(s)),
+        "a limit of 33": with_waiting(s._replace(limit=33), 0, edit_of(s)),
+        "33 waiting at a limit of 33": with_waiting(s._replace(limit=33), 33, edit_of(s)),
+        "a limit of 255": with_waiting(s._replace(limit=255), 0, edit_of(s)),
     }

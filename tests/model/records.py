@@ -2,7 +2,7 @@
 
 from typing import NamedTuple
 
-from .bodies import EMPTY, Body, body_in_limits
+from .bodies import EMPTY, Body, body_right
 
 PLACES = 16  # the most stations; every array of the state has this many entries
 
@@ -67,8 +67,9 @@ def labels_in_limits(labels, n):
     return max(labels[:n]) <= 2
 
 
-def record_in_limits(record, n, most):
-    """The limits that frames and tables share: the count at most the given one, body and labels."""
+def record_in_limits(record, n, most, edition):
+    """The limits that frames and tables share: the count at most the given one, body, channel and
+    labels."""
     return (record.count <= most
-            and body_in_limits(record.body)
+            and body_right(record.body, edition)
             and labels_in_limits(record.labels, n))

@@ -20,9 +20,10 @@ def script_line(letter, numbers):
 
 
 def call_line(call):
-    """The desk is named only where another than desk 0 posts, which no script of document 01 has."""
+    """The desk is named only where another than desk 0 posts or where there is a channel, which no script of document 01 has."""
     if isinstance(call, PostLine):
-        return script_line(b"P", (call.station, *call.body, *[call.desk] * (call.desk != 0)))
+        channel = [call.body.channel] * (call.body.channel != 0)
+        return script_line(b"P", (call.station, *call.body[:3], *[call.desk] * (call.desk != 0 or bool(channel)), *channel))
     return script_line(b"R", call.masks)
 
 
@@ -147,6 +148,19 @@ def seeded_desks(seed, shape=None):
         desk = int(rng.random() < lean)
         return call._replace(desk=desk if rng.random() < 0.97 else rng.choice((2, 3, 255, 256, 999_999_999)))
     return n, [with_desk(call) for call in calls]
+
+
+def seeded_channels(seed, shape=None):
+    """The same with a channel too, now and then none that there is."""
+    n, calls = seeded_desks(seed, shape)
+    rng = random.Random(f"channels {seed}")
+
+    def with_channel(call):
+        if not isinstance(call, PostLine):
+            return call
+        channel = rng.choice((1, 200, rng.randint(1, 200))) if rng.random() < 0.95 else rng.choice((0, 201, 255, 256, 257, 999_999_999))
+        return call._replace(body=call.body._replace(channel=channel))
+    return n, [with_channel(call) for call in calls]
 
 
 def seeded_limit(seed):

@@ -2,7 +2,7 @@
 
 import random
 
-from .bodies import DROP, EMPTY, INSERT, KINDS, NEUTRAL, SHIFT, Body
+from .bodies import CHANNELS, DROP, EMPTY, INSERT, KINDS, NEUTRAL, SHIFT, Body
 from .frames import frame_bytes
 from .queues import CAPACITY, LANE_LIMIT, NO_LANE, Queue, contents
 from .records import NO_RECORD, PLACES, Record, count_limit
@@ -21,22 +21,27 @@ def flags(*values):
 
 # Bodies and records.
 
-def random_of_kind(rng, kind):
+def random_channel(rng, edition):
+    """Of an edit."""
+    return rng.choice((CHANNELS[0], CHANNELS[-1], rng.choice(CHANNELS))) if edition else 0
+
+
+def random_of_kind(rng, kind, edition=0):
     row = KINDS[kind]
     return Body(kind, rng.randint(row.event_least, row.event_most),
-                rng.randint(row.argument_least, row.argument_most))
+                rng.randint(row.argument_least, row.argument_most), random_channel(rng, edition))
 
 
-def random_edit(rng):
-    return random_of_kind(rng, rng.choice((INSERT, DROP, SHIFT)))
+def random_edit(rng, edition=0):
+    return random_of_kind(rng, rng.choice((INSERT, DROP, SHIFT)), edition)
 
 
-def random_lane_body(rng):
-    return rng.choice((NEUTRAL, random_edit(rng)))
+def random_lane_body(rng, edition):
+    return rng.choice((NEUTRAL, random_edit(rng, edition)))
 
 
-def random_body(rng):
-    return rng.choice((EMPTY, NEUTRAL, random_edit(rng)))
+def random_body(rng, edition=0):
+    return rng.choice((EMPTY, NEUTRAL, random_edit(rng, edition)))
 
 
 def random_labels(rng, n, high):
@@ -45,47 +50,52 @@ def random_labels(rng, n, high):
     return tuple(rng.choices(range(3), k=n)) + tuple(rng.randbytes(rest) if high else bytes(rest))
 
 
-def random_record(rng, n, station, high=False):
+def random_record(rng, n, station, high=False, edition=0):
     """A record's labels have two bits each, those from n up too."""
     labels = tuple(label % 4 for label in random_labels(rng, n, high))
-    return Record(station, rng.randint(0, count_limit(n)), random_body(rng), labels)
+    return Record(station, rng.randint(0, count_limit(n)), random_body(rng, edition), labels)
 
 
-def random_records(rng, n, sender):
+def random_records(rng, n, sender, edition=0):
     """The records of a frame: the sender's and any others, ascending."""
-    return [random_record(rng, n, k) for k in range(n) if k == sender or rng.random() < 0.6]
+    return [random_record(rng, n, k, edition=edition) for k in range(n) if k == sender or rng.random() < 0.6]
 
 
 # Stations. Entries from N up, slots past a length and records that are not held hold anything.
 
 ANY_BODIES = (EMPTY, NEUTRAL, Body(DROP, 5, 0), Body(DROP, 0, 0),
               Body(INSERT, 2**32 - 1, 2**31 - 1), Body(SHIFT, 1, -2**31))
+ANY_CHANNELS = ANY_BODIES + (Body(DROP, 5, 0, 1), Body(DROP, 5, 0, 201), Body(SHIFT, 1, 1, 255))
 
 
-def any_record(rng):
+def any_bodies(edition):
+    return ANY_CHANNELS if edition else ANY_BODIES
+
+
+def any_record(rng, edition):
     """Any record, mostly outside its limits."""
-    return Record(*rng.randbytes(2), rng.choice(ANY_BODIES), tuple(rng.choices(range(4), k=PLACES)))
+    return Record(*rng.randbytes(2), rng.choice(any_bodies(edition)), tuple(rng.choices(range(4), k=PLACES)))
 
 
-def any_slots(rng, bodies, size):
+def any_slots(rng, bodies, size, edition):
     """The bodies, and anything in the slots after them."""
-    return tuple(bodies) + tuple(rng.choices(ANY_BODIES, k=size - len(bodies)))
+    return tuple(bodies) + tuple(rng.choices(any_bodies(edition), k=size - len(bodies)))
 
 
-def random_lane(rng, most):
-    bodies = [random_lane_body(rng) for _ in range(rng.randint(0, most))]
-    return Queue(len(bodies), any_slots(rng, bodies, LANE_LIMIT))
+def random_lane(rng, most, edition):
+    bodies = [random_lane_body(rng, edition) for _ in range(rng.randint(0, most))]
+    return Queue(len(bodies), any_slots(rng, bodies, LANE_LIMIT, edition))
 
 
-def any_lane(rng):
-    return Queue(rng.randrange(256), any_slots(rng, (), LANE_LIMIT))
+def any_lane(rng, edition):
+    return Queue(rng.randrange(256), any_slots(rng, (), LANE_LIMIT, edition))
 
 
-def random_station(rng, n, own):
+def random_station(rng, n, own, edition=0):
     """Inside its limits. The own record need not agree with the present values, and its count may
     be too large for a frame."""
     held = [k == own or rng.random() < 0.7 for k in range(n)]
-    table = [random_record(rng, n, k, high=True) if held[k] else any_record(rng) for k in range(n)]
+    table = [random_record(rng, n, k, True, edition) if held[k] else any_record(rng, edition) for k in range(n)]
     if rng.random() < 0.2:
         table[own] = table[own]._replace(count=rng.randint(0, LARGEST_COUNT))
     limit = rng.choice((1, 8, CAPACITY, rng.randint(1, CAPACITY)))
@@ -93,30 +103,32 @@ def random_station(rng, n, own):
     return Station(
         n, own,
         count=rng.choice((0, rng.randint(0, LARGEST_COUNT), LARGEST_COUNT)),
-        body=random_body(rng),
+        body=random_body(rng, edition),
         labels=random_labels(rng, n, high=True),
         acked=tuple([k == own or rng.random() < 0.8 for k in range(n)]
                     + [rng.random() < 0.5 for _ in range(rest)]),
         held=tuple(held + [rng.random() < 0.5 for _ in range(rest)]),
-        table=tuple(table + [any_record(rng) for _ in range(rest)]),
-        lanes=tuple([random_lane(rng, 1 if k == own else LANE_LIMIT) for k in range(n)]
-                    + [any_lane(rng) for _ in range(rest)]),
-        waiting=random_waiting(rng, limit),
+        table=tuple(table + [any_record(rng, edition) for _ in range(rest)]),
+        lanes=tuple([random_lane(rng, 1 if k == own else LANE_LIMIT, edition) for k in range(n)]
+                    + [any_lane(rng, edition) for _ in range(rest)]),
+        waiting=random_waiting(rng, limit, edition),
         limit=limit,
-        waiting_1=random_waiting(rng, limit),
-        first=rng.choice(DESKS))
+        waiting_1=random_waiting(rng, limit, edition),
+        first=rng.choice(DESKS),
+        edition=edition)
 
 
-def random_waiting(rng, limit):
+def random_waiting(rng, limit, edition=0):
     """A queue inside a limit, with anything in its slots past the length."""
-    bodies = [random_edit(rng) for _ in range(rng.choice((0, 1, rng.randint(0, limit), limit)))]
-    return Queue(len(bodies), any_slots(rng, bodies, CAPACITY))
+    bodies = [random_edit(rng, edition) for _ in range(rng.choice((0, 1, rng.randint(0, limit), limit)))]
+    return Queue(len(bodies), any_slots(rng, bodies, CAPACITY, edition))
 
 
-def random_group(rng, n):
-    """Inside its limits; places from n up hold a station with any N and number."""
-    stations = [random_station(rng, n, own) for own in range(n)]
-    beyond = random_station(rng, 1, 0)._replace(n=rng.randrange(256), own=rng.randrange(256))
+def random_group(rng, n, edition=0):
+    """Inside its limits; places from n up hold a station with any N, number and edition."""
+    stations = [random_station(rng, n, own, edition) for own in range(n)]
+    beyond = random_station(rng, 1, 0)._replace(n=rng.randrange(256), own=rng.randrange(256),
+                                                edition=rng.choice((0, 1, rng.randrange(256))))
     return tuple(stations + [beyond] * (PLACES - n))
 
 
@@ -125,13 +137,14 @@ def some_stations(number, least_n=1):
     for seed in range(number):
         rng = random.Random(seed)
         n = rng.randint(least_n, PLACES)
-        yield rng, random_station(rng, n, rng.randrange(n))
+        yield rng, random_station(rng, n, rng.randrange(n), seed % 2)
 
 
 def some_frame(rng, hearer):
     """A frame that the hearer's check accepts; its N is at least 2."""
     sender = rng.choice([k for k in range(hearer.n) if k != hearer.own])
-    return frame_bytes(hearer.n, sender, random_records(rng, hearer.n, sender))
+    return frame_bytes(hearer.n, sender, random_records(rng, hearer.n, sender, hearer.edition),
+                       hearer.edition)
 
 
 # What is part of the state, and what is only carried along.

@@ -24,9 +24,9 @@ def frame_checks():
     for name, library in libraries.items():
         if (BUILT / library).exists():
             check = ctypes.CDLL(BUILT / library)[f"frame_check_peer_{name}"]
-            check.argtypes = (ctypes.c_char_p, ctypes.c_size_t, ctypes.c_uint32, ctypes.c_uint32)
+            check.argtypes = (ctypes.c_char_p, ctypes.c_size_t, ctypes.c_uint32, ctypes.c_uint32, ctypes.c_uint32)
             check.restype = ctypes.c_uint32
-            yield name, lambda data, n, own, check=check: check(data, len(data), n, own)
+            yield name, lambda data, *how, check=check: check(data, len(data), *how)
 
 
 def call(name, data):

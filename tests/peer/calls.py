@@ -9,7 +9,7 @@ from model.records import PLACES
 
 from . import built
 from .compare import agree
-from .values import body_bytes, group_bytes, station_bytes
+from .values import body_bytes, group_bytes, of_edition_0, station_bytes
 
 STATIONS = 400
 GROUPS = 80
@@ -17,13 +17,14 @@ GROUPS = 80
 
 def compare():
     compare_fresh()
-    for number, (rng, s) in enumerate(states.some_stations(STATIONS, least_n=2)):
+    for number, (rng, drawn) in enumerate(states.some_stations(STATIONS, least_n=2)):
+        s = of_edition_0(drawn)
         body = rng.choice(states.ANY_BODIES + (states.random_edit(rng),))
         buffer = rng.randbytes(rng.choice((0, 3, 100, 260, 300)))
         agree(f"station {number}", calls(s, body, rng.choice((0, 1, 0, 1, 2, 255)), buffer, states.some_frame(rng, s)))
-    inside = states.random_station(random.Random("inside"), 5, 2)
-    for name, s in outside.stations_outside(inside).items():
-        agree(name, calls(s, states.ANY_BODIES[2], 1, bytes(260), b""))
+    inside = of_edition_0(states.random_station(random.Random("inside"), 5, 2))
+    for name in outside.stations_outside(inside).keys() - outside.editions_outside(inside).keys():
+        agree(name, calls(outside.stations_outside(inside)[name], states.ANY_BODIES[2], 1, bytes(260), b""))
     compare_rounds()
     compare_conflicts()
 
@@ -137,4 +138,4 @@ def some_group(rng, n):
         place = rng.randrange(n)
         s = stations[place]
         stations[place] = rng.choice((s._replace(own=(place + 1) % 17), s._replace(n=n % PLACES + 1)))
-    return tuple(stations)
+    return of_edition_0(tuple(stations))

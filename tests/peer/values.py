@@ -10,8 +10,19 @@ from model.records import PLACES, Record
 from model.station import Station
 
 
+def of_edition_0(value):
+    """The value without its channels and in edition 0: the peers hold neither (document 02, A9)."""
+    if isinstance(value, Body):
+        return value._replace(channel=0)
+    if not isinstance(value, tuple):
+        return value
+    parts = map(of_edition_0, value)
+    made = type(value)(*parts) if hasattr(value, "_fields") else tuple(parts)
+    return made._replace(edition=0) if isinstance(made, Station) else made
+
+
 def body_bytes(body):
-    return struct.pack("<BIi", *body)
+    return struct.pack("<BIi", *body[:3])
 
 
 def record_bytes(record):

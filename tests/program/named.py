@@ -93,7 +93,7 @@ def posts(n):
     """Every body at the first and the last station and at one that is not there, some at others, and rounds in which the accepted ones travel."""
     everyone = round_line(*[EVERYONE] * n)
     for place in (0, n - 1, n):
-        yield from (post_line(place, *body) for body in bodies())
+        yield from (post_line(place, *body[:3]) for body in bodies())
         yield everyone
     for place in (*range(n), 16, 17, 255, 256, 257, 65_536, 16_777_216, 999_999_999):
         yield post_line(place, INSERT, 1, 0)

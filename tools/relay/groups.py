@@ -7,22 +7,22 @@ import struct
 
 from . import library
 
-BODY = struct.Struct("<IIi")          # kind, event, argument
+BODY = struct.Struct("<BBxxIi")       # kind, channel, event, argument
 TAKINGS_AT, TAKING = 4, 4 + BODY.size
 TURN_AT = 484
 ENDED_BODY_AT, STARTED_BODY_AT, ROW_AT = TURN_AT + 4, TURN_AT + 16, TURN_AT + 28
 EDIT_KINDS = 2, 3, 4
-ZEROS = 0, 0, 0
+ZEROS = 0, 0, 0, 0
 
 
 class Group:
-    def __init__(self, n, limit):
+    def __init__(self, n, limit, edition=0):
         self.n = n
-        self.refusal, self.state = library.group_fresh(n, limit)
+        self.refusal, self.state = library.group_fresh(n, limit, edition)
 
-    def post(self, station, desk, kind, event, argument):
+    def post(self, station, desk, kind, event, argument, channel=0):
         """The refusal, 0 where the edit waits now."""
-        return library.group_post(self.state, station, desk, kind, event, argument)
+        return library.group_post(self.state, station, desk, kind, event, argument, channel)
 
     def round(self, number, masks):
         """The lines of a round, its number being told. From fresh no round is refused."""
@@ -54,4 +54,6 @@ def station_lines(number, place, reports):
 
 
 def line(number, letter, station, source, body=ZEROS):
-    return "%6d %s%3d%3d%2d%9d%9d\n" % (number, letter, station, source, *body)
+    """A line of a listing; an edit's channel, where it has one, stands after it."""
+    kind, channel, event, argument = body
+    return "%6d %s%3d%3d%2d%9d%9d" % (number, letter, station, source, kind, event, argument) + "%4d" % channel * (channel > 0) + "\n"

@@ -94,15 +94,15 @@ def call(name, *arguments):
 GROUP_BYTES, REPORT_BYTES, ROUND_BYTES = 23_872, 704, 11_264
 
 
-def group_fresh(n, limit):
-    """A fresh group as bytes, in which so many edits of a desk may wait at a station."""
+def group_fresh(n, limit, edition):
+    """A fresh group of an edition as bytes, in which so many edits of a desk may wait at a station."""
     state = array("B", bytes(GROUP_BYTES))
-    return call("relay_group_fresh_limited", state, n, limit), state
+    return call("relay_group_fresh_edition", state, n, limit, edition), state
 
 
-def group_post(state, station, desk, kind, event, argument):
+def group_post(state, station, desk, kind, event, argument, channel):
     """Posts an edit; the state becomes the group with it, unless the post is refused."""
-    return call("relay_group_post", state, station, desk, kind, event, argument)
+    return call("relay_group_post", state, station, desk, kind, event, argument, channel)
 
 
 def group_round(state, masks):

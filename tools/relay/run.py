@@ -1,9 +1,10 @@
-"""The listing of a script in which a post may name its desk.
+"""The listing of a script in which a post may name its desk and its channel.
 
 An extended script has the lines of a script (docs/SCRIPTS.md), and a P line
-may have a fifth number: the desk that posts, 0 or 1. Without it desk 0 posts.
-What is printed are the lines of a listing; of a script without desks it is
-just its listing. docs/EXTENDED-SCRIPTS.md tells more.
+may have a fifth number, the desk that posts, 0 or 1, and a sixth, the channel.
+Without them desk 0 posts, with channel 0. What is printed are the lines of a
+listing, in edition 1 with the channel after an edit; of a script in edition 0
+that names neither it is just its listing. docs/EXTENDED-SCRIPTS.md tells more.
 
 exit status: 1 also where a line is malformed, after the listing up to there
 
@@ -19,12 +20,12 @@ from . import groups, plans
 from .faults import Wrong
 
 LIMIT = 32         # of waiting edits of a desk, as the listing names it
-MALFORMED = 11
+MALFORMED, BAD_LIMIT = 11, 13
 LAST_LINE = "END\n"
 
 
-def limit(text):
-    """A number of 32 bits; whether it is a limit, the library judges."""
+def number(text):
+    """A number of 32 bits; whether it is a limit or an edition, the library judges."""
     number = plans.number(text, 2 ** 32 - 1)
     if number is None:
         raise ValueError(text)
@@ -33,32 +34,40 @@ def limit(text):
 
 def arguments(parser):
     parser.add_argument("script", metavar="SCRIPT", help="the extended script's file; '-' is standard input")
-    parser.add_argument("--limit", type=limit, default=LIMIT, metavar="L",
+    parser.add_argument("--limit", type=number, default=LIMIT, metavar="L",
                         help="how many edits of a desk may wait at a station, 1 to 32; without it 32, as in a listing")
+    parser.add_argument("--edition", type=number, default=0, metavar="E",
+                        help="the group's edition, 0 or 1; in edition 1 every edit has a channel; without it 0, as in a listing")
 
 
 class RunReader(ScriptReader):
     """Does the calls of an extended script line by line, and keeps what they print until it is taken."""
 
-    counts = {**COUNTS, b"P": (4, 5)}
+    counts = {**COUNTS, b"P": (4, 5, 6)}
 
-    def __init__(self, limit):
+    def __init__(self, limit, edition=0):
         super().__init__()
-        self.limit, self.group, self.printed = limit, None, []
+        self.limit, self.edition, self.group, self.printed = limit, edition, None, []
 
     def take(self, letter, numbers):
         if letter == b"N":
-            self.group = groups.Group(numbers[0], self.limit)
+            self.group = groups.Group(numbers[0], self.limit, self.edition)
             if self.group.refusal:
-                raise Wrong(f"refused with {self.group.refusal}: a limit is 1 to 32, not {self.limit}")
+                raise Wrong(f"refused with {self.group.refusal}: {self.fault_of_fresh()}")
         elif letter == b"P":
             self.post(*numbers)
         else:
             self.printed += self.group.round(self.rounds, numbers)
 
-    def post(self, station, kind, event, argument, desk=0):
+    def fault_of_fresh(self):
+        """Why there is no such group; its N was read already."""
+        if self.group.refusal == BAD_LIMIT:
+            return f"a limit is 1 to 32, not {self.limit}"
+        return f"an edition is 0 or 1, not {self.edition}"
+
+    def post(self, station, kind, event, argument, desk=0, channel=0):
         """A station that there is not is printed as 0."""
-        refusal = self.group.post(station, desk, kind, event, argument)
+        refusal = self.group.post(station, desk, kind, event, argument, channel)
         if refusal:
             self.printed.append(groups.line(self.rounds, "X", station if station < self.n else 0, refusal))
 
@@ -73,7 +82,7 @@ def ending(reader):
 
 
 def run(given):
-    reader = RunReader(given.limit)
+    reader = RunReader(given.limit, given.edition)
     for part in plans.parts(given.script):
         reader.read(part)
         sys.stdout.write(reader.taken())

@@ -10,11 +10,10 @@ use lib.ListN.{length, length-append}
 use borrow.Author.Tests.{ltb-true}
 use Rattle.kinds.specs.declared.Body.the-variants.{Empty}
 use Rattle.kinds.specs.Refusals.{done}
-use Rattle.kind_limits.specs.Limits.{postable}
+use Rattle.kind_limits.specs.Limits.{postable, onChannel}
 use Rattle.lanes.specs.Waiting.{isDesk, hasRoom}
 use Rattle.station_rules.specs.declared.Station.{Station}
 use Rattle.station_rules.specs.declared.Taking.{Taking}
-use Rattle.station_rules.proofs.BodyLaws.{empty-inside}
 use Rattle.group_rules.specs.declared.Post as group
 use Rattle.group_rules.specs.declared.RoundDone.{RoundDone}
 use Rattle.group_rules.specs.State.{stationAt, sizeOf, groupInside}
@@ -27,6 +26,7 @@ use Rattle.group_rules.proofs.PostsAccounted.{collect-last}
 use Rattle.lines.specs.Lines.{turnedDown}
 use Rattle.listing_rules.specs.Listing.{refusalText, refusedText}
 use Rattle.listing_rules.specs.Calls.{callText, callsText}
+use Rattle.air_logs_spec.proofs.Carried.{empty-kind}
 use Rattle.air_logs_spec.proofs.ReadBack.{in-columns}
 use Rattle.air_logs_spec.proofs.Prints.{Prints, prints-none, prints-as, prints-both}
 use Rattle.air_logs_spec.proofs.RoundLog.{logged, prints-other, airedIn, round-prints}
@@ -47,7 +47,7 @@ roundsOf (round masks ∷ cs) = suc (roundsOf cs)
 pub refusal-prints : (p u station refusal : ℕ) → u ≤ 999_999 → station < 1000 → refusal < 1000 → Prints p (refusalText u station refusal) []
 refusal-prints p u station refusal a b c =
     prints-other p true u turnedDown station refusal Empty refl
-    (λ e. in-columns u turnedDown station refusal Empty (omega arith) refl b c empty-inside)
+    (λ e. in-columns u turnedDown station refusal Empty (omega arith) refl b c empty-kind)
 
 map-cond : (t : Bool) (xs : List Taking) → cond t (map logged xs) [] ≡ map logged (cond t xs [])
 map-cond true xs = refl
@@ -58,15 +58,16 @@ post-small : (g : List Station) (x : group.Post) → (groupPostCall g x) .refusa
 unfolding groupPostRefusal
 post-small g x =
     rw (post-refusal g x)
-    (go (groupInside g) (ltb (x .station) (sizeOf g)) (isDesk (x .desk)) (postable (x .body)) (hasRoom (stationAt g (x .station) .waiting) (x .desk)))
+    (go (groupInside g) (ltb (x .station) (sizeOf g)) (isDesk (x .desk)) (postable (x .body)) (onChannel (stationAt g (x .station) .edition) (x .body)) (hasRoom (stationAt g (x .station) .waiting) (x .desk)))
   where
-    go : (t u d v w : Bool) → cond (not t) 2 (cond (not u) 1 (cond (not d) 15 (cond (not v) 4 (cond (not w) 3 0)))) < 1000
-    go false u d v w = omega arith
-    go true false d v w = omega arith
-    go true true false v w = omega arith
-    go true true true false w = omega arith
-    go true true true true true = omega arith
-    go true true true true false = omega arith
+    go : (t u d v o w : Bool) → cond (not t) 2 (cond (not u) 1 (cond (not d) 15 (cond (not v) 4 (cond (not o) 17 (cond (not w) 3 0))))) < 1000
+    go false u d v o w = omega arith
+    go true false d v o w = omega arith
+    go true true false v o w = omega arith
+    go true true true false o w = omega arith
+    go true true true true false w = omega arith
+    go true true true true true true = omega arith
+    go true true true true true false = omega arith
 
 -- what calls do after a history
 pub record Logs (p n : ℕ) (H : History) (calls : List Call) : Type 0 where

@@ -8,9 +8,11 @@ use mathlib.Core.List.{List, [], _∷_, _++_}
 use native.Mathlib.Omega.{arith}
 use lib.Dec.{ltb, eqb}
 use lib.ListN.{length, getD, replicate, List·getD-append, getD-replicate}
+use Rattle.kinds.specs.declared.Body.{Body}
 use Rattle.kinds.specs.declared.Body.the-variants.{Empty}
 use Rattle.kinds.specs.Refusals.{done}
-use Rattle.kind_limits.specs.Limits.{bodyInside}
+use Rattle.kind_limits.specs.Limits.{numbersInside, insideKind}
+use Rattle.kind_limits.proofs.Laws.{inside-kind}
 use Rattle.links.specs.Log.{hearsIn}
 use Rattle.places.proofs.Keeps.{cond-keeps}
 use Rattle.places.proofs.Laws.{allBelow-at, fill-below}
@@ -23,10 +25,11 @@ use Rattle.station_rules.specs.Hearing.{Hearing, takes, hearRecord, hearRecords
 use Rattle.station_rules.specs.Turn.{airs, rowOf, broadcastEnds, turnReport}
 use Rattle.station_rules.specs.Calls.{noTurn}
 use Rattle.station_rules.proofs.HearRecord.{heardOne, hearRecord-cases}
-use Rattle.station_rules.proofs.BodyLaws.{takeable-inside, empty-inside}
+use Rattle.station_rules.proofs.BodyLaws.{takeable-inside}
 use Rattle.station_rules.proofs.LimitsHear.{Carried}
 use Rattle.station_rules.proofs.LimitsHearing.{AllCarried}
 use Rattle.station_rules.proofs.LimitsSent.{sent-carried}
+use Rattle.station_rules.specs.Limits.{takeable}
 use Rattle.station_rules.proofs.LimitsTurn.{started-cases}
 use Rattle.station_rules.proofs.LimitsLane.{lane-first}
 use Rattle.station_rules.proofs.Setters.{Shaped}
@@ -37,8 +40,16 @@ use Rattle.group_rules.specs.Calls.{noTaking, heardBelow, heard, noReport, repo
 use Rattle.group_rules.proofs.Members.{Members}
 use Rattle.group_rules.proofs.MembersRound.{Runs, runs, run-hears, run-room}
 
+-- a body that a lane may hold is inside the limits of its kind, and so is Empty
+takeable-kind : (edition : ℕ) (b : Body) → takeable edition b ≡ true → insideKind b ≡ true
+takeable-kind edition b h = inside-kind edition b (takeable-inside edition b h)
+
+pub empty-kind : insideKind Empty ≡ true
+unfolding insideKind numbersInside
+empty-kind = refl
+
 abbrev Carries : ℕ → Taking → Type 0
-Carries n t = (t .source < n) × (bodyInside (t .body) ≡ true)
+Carries n t = (t .source < n) × (insideKind (t .body) ≡ true)
 
 abbrev AllTaken : ℕ → List Taking → Type 0
 AllTaken n [] = Unit {0}
@@ -54,24 +65,24 @@ taken-at n (x ∷ xs) a zero l = a .0
 taken-at n (x ∷ xs) a (suc k) l = taken-at n xs (a .1) k (omega arith)
 
 module _ (n : ℕ) where
-  took-record : (h : Hearing) (r : Record) → Carried n r → AllTaken n (h .takings) → AllTaken n ((hearRecord h r) .takings)
+  took-record : (e : ℕ) (h : Hearing) (r : Record) → Carried e n r → AllTaken n (h .takings) → AllTaken n ((hearRecord h r) .takings)
   unfolding heardOne
-  took-record h r c a =
-      hearRecord-cases (λ (x : Hearing). AllTaken n (x .takings)) h r (λ e. newer (takes (h .station) r)) (λ e. a) (λ e f. a)
+  took-record e h r c a =
+      hearRecord-cases (λ (x : Hearing). AllTaken n (x .takings)) h r (λ t. newer (takes (h .station) r)) (λ t. a) (λ t f. a)
     where
       newer : (u : Bool) → AllTaken n (h .takings ++ cond u (record { source = r .station; body = r .body } ∷ []) [])
-      newer true = taken-append n (h .takings) (record { source = r .station; body = r .body } ∷ []) a ((c .station, c .body), tt)
+      newer true = taken-append n (h .takings) (record { source = r .station; body = r .body } ∷ []) a ((c .station, inside-kind e (r .body) (c .body)), tt)
       newer false = taken-append n (h .takings) [] a tt
 
-  took-records : (h : Hearing) (rs : List Record) → AllCarried n rs → AllTaken n (h .takings) → AllTaken n ((hearRecords h rs) .takings)
+  took-records : (e : ℕ) (h : Hearing) (rs : List Record) → AllCarried e n rs → AllTaken n (h .takings) → AllTaken n ((hearRecords h rs) .takings)
   unfolding hearRecords
-  took-records h [] c a = a
-  took-records h (r ∷ rs) c a = took-records (hearRecord h r) rs (c .1) (took-record h r (c .0) a)
+  took-records e h [] c a = a
+  took-records e h (r ∷ rs) c a = took-records e (hearRecord h r) rs (c .1) (took-record e h r (c .0) a)
 
-  took-frame : (h : Hearing) (rs : List Record) → AllCarried n rs → AllTaken n (h .takings) → AllTaken n ((hearFrame h rs) .takings)
+  took-frame : (e : ℕ) (h : Hearing) (rs : List Record) → AllCarried e n rs → AllTaken n (h .takings) → AllTaken n ((hearFrame h rs) .takings)
   unfolding hearFrame
-  took-frame h rs c a =
-      cond-keeps (λ (x : Hearing). AllTaken n (x .takings)) (eqb (h .refusal) done) (hearRecords h rs) h (took-records h rs c a) a
+  took-frame e h rs c a =
+      cond-keeps (λ (x : Hearing). AllTaken n (x .takings)) (eqb (h .refusal) done) (hearRecords h rs) h (took-records e h rs c a) a
 
   module _ (g : List Station) (c : Members n g) (masks : List ℕ) (run : Runs g masks) (i : ℕ) where
     took-below : (j : ℕ) → j ≤ n → AllTaken n ((heardBelow g masks i j) .takings)
@@ -79,14 +90,14 @@ module _ (n : ℕ) where
     took-below zero l = tt
     took-below (suc j) l = go (hearsIn (sizeOf g) masks i j) (took-below j (omega arith))
       where
-        sent : AllCarried n (sentRecords (stationAt g j))
+        sent : AllCarried (stationAt g j .edition) n (sentRecords (stationAt g j))
         sent =
-            subst (λ (k : ℕ). AllCarried k (sentRecords (stationAt g j))) (c .member j l .size)
+            subst (λ (k : ℕ). AllCarried (stationAt g j .edition) k (sentRecords (stationAt g j))) (c .member j l .size)
             (sent-carried (stationAt g j) (c .member j l .inside) (run .counts j (omega (arith, c .size))))
 
         go : (t : Bool) → AllTaken n ((heardBelow g masks i j) .takings) →
             AllTaken n ((cond t (hearFrame (heardBelow g masks i j) (sentRecords (stationAt g j))) (heardBelow g masks i j)) .takings)
-        go true a = took-frame (heardBelow g masks i j) (sentRecords (stationAt g j)) sent a
+        go true a = took-frame (stationAt g j .edition) (heardBelow g masks i j) (sentRecords (stationAt g j)) sent a
         go false a = a
 
     took-all : AllTaken n ((heard g masks i) .takings)
@@ -94,37 +105,37 @@ module _ (n : ℕ) where
 
 -- a report that is inside its limits
 pub record Sound (n : ℕ) (r : Report) : Type 0 where
-  pub taken : (k : ℕ) → k < r .«takings_len» → (getD (r .takings) k noTaking .source < n) × (bodyInside (getD (r .takings) k noTaking .body) ≡ true)
-  pub aired : r .turn .aired ≡ true → (k : ℕ) → k < n → bodyInside (getD (r .turn .row) k noSlot .body) ≡ true
-  pub ended : bodyInside (r .turn .«ended_body») ≡ true
-  pub started : bodyInside (r .turn .«started_body») ≡ true
+  pub taken : (k : ℕ) → k < r .«takings_len» → (getD (r .takings) k noTaking .source < n) × (insideKind (getD (r .takings) k noTaking .body) ≡ true)
+  pub aired : r .turn .aired ≡ true → (k : ℕ) → k < n → insideKind (getD (r .turn .row) k noSlot .body) ≡ true
+  pub ended : insideKind (r .turn .«ended_body») ≡ true
+  pub started : insideKind (r .turn .«started_body») ≡ true
 
 none-sound : (n : ℕ) → Sound n noReport
 unfolding noReport noTurn
-none-sound n = record { taken = λ k l. absurd (omega arith); aired = λ e. absurd (false≢true e); ended = empty-inside; started = empty-inside }
+none-sound n = record { taken = λ k l. absurd (omega arith); aired = λ e. absurd (false≢true e); ended = empty-kind; started = empty-kind }
 
 module _ (n : ℕ) (g : List Station) (c : Members n g) (masks : List ℕ) where
   turn-aired :
       (s : Station) → Inside s → (turnReport s) .aired ≡ true → (k : ℕ) → k < s .n →
-      bodyInside (getD ((turnReport s) .row) k noSlot .body) ≡ true
+      insideKind (getD ((turnReport s) .row) k noSlot .body) ≡ true
   unfolding turnReport airs rowOf
   turn-aired s h e k l =
       rw (e, fill-below (s .n) (λ j. record { body = (laneAt s j) .first }) (replicate 16 noSlot) k noSlot l (omega (arith, h .high)))
-      (takeable-inside ((laneAt s k) .first)
-      (lane-first (cond (eqb k (s .own)) 1 2) (laneAt s k) (h .places k l .lane)
+      (takeable-kind (s .edition) ((laneAt s k) .first)
+      (lane-first (s .edition) (cond (eqb k (s .own)) 1 2) (laneAt s k) (h .places k l .lane)
       (ltb-true 0 ((laneAt s k) .len) (allBelow-at (s .n) (λ j. ltb 0 ((laneAt s j) .len)) e k l))))
 
-  turn-ended : (s : Station) → Inside s → bodyInside ((turnReport s) .«ended_body») ≡ true
+  turn-ended : (s : Station) → Inside s → insideKind ((turnReport s) .«ended_body») ≡ true
   unfolding turnReport
   turn-ended s h = go (broadcastEnds s)
     where
-      go : (t : Bool) → bodyInside (cond t (s .body) Empty) ≡ true
-      go true = h .body
-      go false = empty-inside
+      go : (t : Bool) → insideKind (cond t (s .body) Empty) ≡ true
+      go true = inside-kind (s .edition) (s .body) (h .body)
+      go false = empty-kind
 
-  turn-started : (s : Station) → Shaped s → Inside s → bodyInside ((turnReport s) .«started_body») ≡ true
+  turn-started : (s : Station) → Shaped s → Inside s → insideKind ((turnReport s) .«started_body») ≡ true
   unfolding turnReport
-  turn-started s shape h = started-cases s shape h (λ b. bodyInside b ≡ true) empty-inside (λ b t room. takeable-inside b t)
+  turn-started s shape h = started-cases s shape h (λ b. insideKind b ≡ true) empty-kind (λ b t room. takeable-kind (s .edition) b t)
 
   report-sound : Runs g masks → (i : ℕ) → i < n → Sound n (reportOf g masks i)
   unfolding reportOf

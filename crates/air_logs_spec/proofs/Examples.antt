@@ -20,13 +20,13 @@ abbrev aired : ℕ → ℕ → Body → List ℕ
 aired round p body = lineBytes round airing p 2 body
 
 abbrev one : List ℕ
-one = aired 3 0 (Drop 7) ++ aired 3 1 (Shift 99_999_999 (negsuc 89_999)) ++ lineBytes 4 delivered 0 0 Neutral ++ aired 4 0 (Drop 8) ++ endLine
+one = aired 3 0 (Drop 0 7) ++ aired 3 1 (Shift 0 99_999_999 (negsuc 89_999)) ++ lineBytes 4 delivered 0 0 Neutral ++ aired 4 0 (Drop 0 8) ++ endLine
 
 abbrev two : List ℕ
-two = aired 999_999 5 (Drop 7) ++ endLine
+two = aired 999_999 5 (Drop 0 7) ++ endLine
 
 abbrev three : List ℕ
-three = aired 9 5 (Drop 7) ++ aired 9 5 (Drop 9) ++ endLine
+three = aired 9 5 (Drop 0 7) ++ aired 9 5 (Drop 0 9) ++ endLine
 
 pub answers :
     (compareCall one 0 one 0 ≡ Equal)

@@ -55,7 +55,7 @@ module _ (script : List ℕ) where
               | no b ↦
                   (let lp : p < size script = omega arith in
                   let lq : q < size script = omega arith in
-                  let ok = accepted (setupOf (size script)) (record { low = omega arith; high = size-most script; limited = refl }) in
+                  let ok = accepted (setupOf (size script)) (record { low = omega arith; high = size-most script; limited = refl; known = omega arith }) in
                   rw (script-log script p lp, script-log script q lq)
                   (begins-agree (airedList (size script) (told script) p) (airedList (size script) (told script) q)
                   (demand-three (setupOf (size script)) ok (callsOf script) .aired-lists-agree p q lp lq)))

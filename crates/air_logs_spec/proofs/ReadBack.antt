@@ -12,7 +12,7 @@ use lib.Seq.{take-at, drop-at, getD-at}
 use borrow.Author.Tests.{lt-ltb, le-ltb}
 use Rattle.kinds.specs.declared.Body.{Body}
 use Rattle.kinds.specs.Body.{kindOf, eventOf, argumentOf}
-use Rattle.kind_limits.specs.Limits.{bodyInside}
+use Rattle.kind_limits.specs.Limits.{insideKind}
 use Rattle.kind_limits.proofs.Laws.{body-kind-short, body-event-short, body-argument-short}
 use Rattle.column_reader.specs.declared.Reading.the-variants.{Number}
 use Rattle.column_reader.specs.Reading.{readColumns}
@@ -173,7 +173,7 @@ whole-fits (negsuc n) h =
 -- the lines of a listing: rounds up to 999,999, stations and sources up to 999, bodies inside their limits
 pub in-columns :
     (round letter station source : ℕ) (body : Body) → round < 1_000_000 → isLetter letter ≡ true → station < 1000 → source < 1000 →
-    bodyInside body ≡ true → InColumns round letter station source body
+    insideKind body ≡ true → InColumns round letter station source body
 in-columns round letter station source body a b d e h =
     let k : kindOf body < 10 = body-kind-short body h in
     let v : eventOf body < 1_000_000_000 = body-event-short body h in

@@ -10,7 +10,7 @@ use lib.ListN.{getD}
 use borrow.Author.Tests.{ltb-true, lt-ltb, le-ltb, eq-eqb, ne-eqb}
 use Rattle.kinds.specs.declared.Body.{Body}
 use Rattle.kinds.specs.Body.{isEmpty, isEdit}
-use Rattle.kind_limits.specs.Limits.{bodyInside}
+use Rattle.kind_limits.specs.Limits.{insideKind}
 use Rattle.places.specs.Places.{gather}
 use Rattle.places.proofs.Laws.{and-left, map-gather}
 use Rattle.lanes.specs.declared.Slot.{Slot}
@@ -71,7 +71,7 @@ abbrev pub airedIn : ℕ → Report → List Taking
 airedIn n r = cond (r .turn .aired) (editsOf n (r .turn .row)) []
 
 module _ (p n round s : ℕ) (high : n ≤ 16) (l : s < n) (u : round < 1_000_000) where
-  fits : (letter source : ℕ) (body : Body) → isLetter letter ≡ true → source < n → bodyInside body ≡ true → InColumns round letter s source body
+  fits : (letter source : ℕ) (body : Body) → isLetter letter ≡ true → source < n → insideKind body ≡ true → InColumns round letter s source body
   fits letter source body e m h = in-columns round letter s source body u e (omega arith) (omega arith) h
 
   module _ (r : Report) (c : Sound n r) where

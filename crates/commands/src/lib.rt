@@ -18,12 +18,12 @@ ghost use Rattle.listing_rules.specs.Listing.{AnswersPost, postedBody, setupOf,
 // The limit of waiting edits that a listing names.
 const LISTING_LIMIT: usize = 32;
 
-// The body that a post's numbers name; Empty, which is no edit, where they name none.
+// The body that a post's numbers name, without a channel; Empty, which is no edit, where they name none.
 pub fn posted_body(kind: u32, event: u32, argument: i32) -> Body
     ensures { λ r. ⌜ r ≡ postedBody kind event argument ⌝ }
 {
     if kind_limits::numbers_inside(kind, event, argument) {
-        return kinds::body_of(kind, event, argument);
+        return kinds::body_of(kind, event, argument, 0);
     }
     Body::Empty
 }
@@ -61,8 +61,12 @@ fn put_post(s: Session, station: usize, refusal: u32, out: &mut [u8]) -> usize
 pub fn apply_size(s: Session, n: usize) -> Applied
     ensures { λ r. ⌜ (r .session ≡ sizedBy s n (groupFreshCall (setupOf n))) × (r .len ≡ 0) ⌝ }
 {
-    let limit = LISTING_LIMIT;
-    let made = group::fresh_limited(Setup { n, limit });
+    let setup = Setup {
+        n,
+        limit: LISTING_LIMIT,
+        edition: 0,
+    };
+    let made = group::fresh_limited(setup);
     let group = made.group;
     let session = Session {
         n,

@@ -57,7 +57,7 @@ alone-airs before x after taken room =
 
 -- two stations that hear each other; desk 1 of station 0 has posted, and then desk 0 does, with the same body
 abbrev of-desk : ℕ → Post
-of-desk desk = record { station = 0; desk = desk; body = Drop 7 }
+of-desk desk = record { station = 0; desk = desk; body = Drop 0 7 }
 
 abbrev both : List ℕ
 both = 2 ∷ 1 ∷ []

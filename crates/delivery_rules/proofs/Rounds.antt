@@ -10,9 +10,9 @@ use lib.ListN.{getD, length, take}
 use lib.Seq.{take-append-le, take-all}
 use Rattle.kinds.specs.Refusals.{done}
 use Rattle.kinds.proofs.Laws.{edit-not-empty}
-use Rattle.kind_limits.proofs.Laws.{postable-edit}
+use Rattle.kind_limits.proofs.Laws.{waiting-edit}
 use Rattle.lanes.specs.Waiting.{nextEdit}
-use Rattle.lanes.proofs.WaitingLaws.{next-postable}
+use Rattle.lanes.proofs.WaitingLaws.{next-fits}
 use Rattle.station_rules.specs.declared.Setup.{Setup}
 use Rattle.group_rules.specs.declared.RoundDone.{RoundDone}
 use Rattle.group_rules.specs.Calls.{groupFreshRefusal}
@@ -90,7 +90,7 @@ module _ (setup : Setup) (fresh : groupFreshRefusal setup ≡ done) (calls : Lis
             run-hears n (R .ready u) c (R .masks (suc u)) run p l .inside
             (run-room n (R .ready u) c (R .masks (suc u)) run p l) in
             let heard = run-heard R u p l in
-            edit-not-empty (nextEdit (((hearingIn R u p) .station) .waiting))
-            (postable-edit (nextEdit (((hearingIn R u p) .station) .waiting))
-            (next-postable (((hearingIn R u p) .station) .waiting) (rw (← heard) (inside .waiting)) w));
+            let h = (hearingIn R u p) .station in
+            edit-not-empty (nextEdit (h .waiting))
+            (waiting-edit (h .edition) (nextEdit (h .waiting)) (next-fits (h .edition) (h .waiting) (rw (← heard) (inside .waiting)) w));
       }

@@ -104,7 +104,7 @@ abbrev rounds : List (List ℕ) → List Call
 rounds log = map round log
 
 abbrev by : ℕ → ℕ → Post
-by station desk = record { station = station; desk = desk; body = Drop 7 }
+by station desk = record { station = station; desk = desk; body = Drop 0 7 }
 
 -- D(3 i + 4) for a desk alone: station 0 of three posts after two rounds, behind nothing, and by round 2 + 2 × 4
 -- station 2 has aired nothing

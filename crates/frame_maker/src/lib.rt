@@ -8,13 +8,14 @@ ghost use Rattle.frame_rules.specs.Record.{placeFits};
 ghost use Rattle.frame_rules.specs.Calls.{tableFits, frameWritten, frameBuffer};
 use frame_rules::Record;
 use frame_rules::Written;
+use kinds::refusals::BAD_EDITION;
 use kinds::refusals::BAD_NUMBER;
 use kinds::refusals::BAD_RECORD;
 
-// Is this a record of station k that a frame among n stations may carry?
-fn place_fits(n: usize, k: usize, r: Record) -> bool
+// Is this a record of station k that a frame of an edition among n stations may carry?
+fn place_fits(edition: usize, n: usize, k: usize, r: Record) -> bool
     requires { ⌜ (k < n) × (n ≤ 16) ⌝ }
-    ensures { λ b. ⌜ b ≡ placeFits n k r ⌝ }
+    ensures { λ b. ⌜ b ≡ placeFits edition n k r ⌝ }
 {
     if r.station as usize != k {
         return false;
@@ -23,31 +24,37 @@ fn place_fits(n: usize, k: usize, r: Record) -> bool
         return false;
     }
     let body = r.body;
-    if !kind_limits::body_inside(body) {
+    if !kind_limits::body_inside(edition, body) {
         return false;
     }
     label_words::labels_inside(r.labels, n)
 }
 
 // The same, if one is held at all.
-fn held_fits(held: bool, n: usize, k: usize, r: Record) -> bool
+fn held_fits(held: bool, edition: usize, n: usize, k: usize, r: Record) -> bool
     requires { ⌜ (k < n) × (n ≤ 16) ⌝ }
-    ensures { λ b. ⌜ b ≡ (not held || placeFits n k r) ⌝ }
+    ensures { λ b. ⌜ b ≡ (not held || placeFits edition n k r) ⌝ }
 {
     if !held {
         return true;
     }
-    place_fits(n, k, r)
+    place_fits(edition, n, k, r)
 }
 
 // May the records at the held places of a table stand in a frame of this sender?
-fn table_fits(held: [bool; 16], table: [Record; 16], n: usize, sender: usize) -> bool
+fn table_fits(
+    held: [bool; 16],
+    table: [Record; 16],
+    edition: usize,
+    n: usize,
+    sender: usize,
+) -> bool
     requires { ⌜ (n ≤ 16) × (sender < n) ⌝ }
-    ensures { λ r. ⌜ r ≡ tableFits n sender held table ⌝ }
+    ensures { λ r. ⌜ r ≡ tableFits edition n sender held table ⌝ }
 {
     let mut k: usize = 0;
     while k < n {
-        if !held_fits(held[k], n, k, table[k]) {
+        if !held_fits(held[k], edition, n, k, table[k]) {
             return false;
         }
         k += 1;
@@ -55,17 +62,19 @@ fn table_fits(held: [bool; 16], table: [Record; 16], n: usize, sender: usize) ->
     held[sender]
 }
 
-// Writing a frame: 1, 7, 9, or the length of the frame that a sender among n stations makes of the records at the held places of a table.
+// Writing a frame: 1, 17, 7, 9, or the length of the frame of an edition that a sender among n stations makes of the records
+// at the held places of a table.
 pub fn write_frame(
     buffer: &mut [u8],
     held: [bool; 16],
     table: [Record; 16],
+    edition: usize,
     n: usize,
     sender: usize,
 ) -> Written
     ensures { λ r.
-        ⌜ (r ≡ frameWritten n sender held table (length (now (buffer .entry))))
-        × (now (buffer .exit) ≡ frameBuffer n sender held table (now (buffer .entry))) ⌝ }
+        ⌜ (r ≡ frameWritten edition n sender held table (length (now (buffer .entry))))
+        × (now (buffer .exit) ≡ frameBuffer edition n sender held table (now (buffer .entry))) ⌝ }
 {
     if !numbers::valid_number(n, sender) {
         return Written {
@@ -73,11 +82,17 @@ pub fn write_frame(
             len: 0,
         };
     }
-    if !table_fits(held, table, n, sender) {
+    if !numbers::is_edition(edition) {
+        return Written {
+            refusal: BAD_EDITION,
+            len: 0,
+        };
+    }
+    if !table_fits(held, table, edition, n, sender) {
         return Written {
             refusal: BAD_RECORD,
             len: 0,
         };
     }
-    frame_writer::write_table(buffer, held, table, n, sender)
+    frame_writer::write_table(buffer, held, table, edition, n, sender)
 }

@@ -8,8 +8,8 @@ use kinds::Body;
 use kinds::refusals::DONE;
 
 // The records of a frame that the frame check accepts.
-pub fn read_frame(bytes: &[u8], n: usize, own: usize) -> Reading
-    ensures { λ r. ⌜ r ≡ reading (now (bytes .entry)) n own ⌝ }
+pub fn read_frame(bytes: &[u8], edition: usize, n: usize, own: usize) -> Reading
+    ensures { λ r. ⌜ r ≡ reading edition (now (bytes .entry)) n own ⌝ }
 {
     let none = Record {
         station: 0,
@@ -18,7 +18,7 @@ pub fn read_frame(bytes: &[u8], n: usize, own: usize) -> Reading
         labels: 0,
     };
     let mut records = [none; 16];
-    let refusal = frames::check_frame(bytes, n, own);
+    let refusal = frames::check_frame(bytes, edition, n, own);
     if refusal != DONE {
         return Reading {
             refusal: refusal,

@@ -4,7 +4,7 @@ use mathlib.Core.List.{List, [], _∷_, _++_, append-assoc}
 use Prim.Native.Nat.{ℕ, _+_, _*_}
 use native.Mathlib.Omega.{arith}
 use lib.ListN.{length, length-append}
-use Rattle.kinds.specs.Body.{kindOf, eventOf, argumentOf}
+use Rattle.kinds.specs.Body.{kindOf, eventOf, argumentOf, channelOf}
 use Rattle.label_words.proofs.Laws.{over-ext}
 use Rattle.frame_rules.specs.declared.Record.{Record}
 use Rattle.frame_rules.specs.Words.{wordBytes, unsigned}
@@ -22,9 +22,9 @@ length-records n [] = refl
 length-records n (r ∷ rs) =
     length-append (recordBytes n r) (recordsBytes n rs) ∙ omega (arith, length-record n r, length-records n rs)
 
-pub length-frame : (n sender : ℕ) (rs : List Record) → length (frameBytes n sender rs) ≡ 4 + 16 * length rs
+pub length-frame : (edition n sender : ℕ) (rs : List Record) → length (frameBytes edition n sender rs) ≡ 4 + 16 * length rs
 unfolding frameBytes
-length-frame n sender rs = omega (arith, length-records n rs)
+length-frame edition n sender rs = omega (arith, length-records n rs)
 
 pub records-append : (n : ℕ) (rs ss : List Record) → recordsBytes n (rs ++ ss) ≡ recordsBytes n rs ++ recordsBytes n ss
 unfolding recordsBytes
@@ -41,6 +41,6 @@ framed-bytes n r =
     r .station
     ∷ r .count
     ∷ kindOf (r .body)
-    ∷ 0
+    ∷ channelOf (r .body)
     ∷ wordBytes (eventOf (r .body)) ++ wordBytes (unsigned (argumentOf (r .body))) ++ wordBytes w)
     (over-ext n (recordLabel (framed n r)) (recordLabel r) 0 (λ k l. framed-label n r k l))

@@ -17,7 +17,7 @@ use Rattle.frame_rules.specs.Frame.{part, checkRefusal}
 use Rattle.frame_rules.specs.Calls.{entries, reading}
 
 pub record-is :
-    (p : List ℕ) {b : Body} {l : ℕ} → b ≡ bodyOf (getD p 2 0) (wordAt p 4) (signed (wordAt p 8)) → l ≡ wordAt p 12 →
+    (p : List ℕ) {b : Body} {l : ℕ} → b ≡ bodyOf (getD p 2 0) (wordAt p 4) (signed (wordAt p 8)) (getD p 3 0) → l ≡ wordAt p 12 →
     _≡_ {A = Record} (record { station = getD p 0 0; count = getD p 1 0; body = b; labels = l }) (recordFrom p)
 unfolding recordFrom
 record-is p h e = rw (h, e)
@@ -36,15 +36,15 @@ module _ (bytes : List ℕ) where
   unfolding fill
   entries-more k l r h e = rw (add-one k, h, e)
 
-  module _ (n own : ℕ) where
+  module _ (edition n own : ℕ) where
     pub reading-refused :
-        (r : ℕ) → r ≡ checkRefusal bytes n own → (r ≡ done → ⊥) →
-        _≡_ {A = Reading} (record { refusal = r; count = 0; records = replicate 16 noRecord }) (reading bytes n own)
+        (r : ℕ) → r ≡ checkRefusal edition bytes n own → (r ≡ done → ⊥) →
+        _≡_ {A = Reading} (record { refusal = r; count = 0; records = replicate 16 noRecord }) (reading edition bytes n own)
     unfolding reading
     reading-refused r e h = rw (← e, ne-eqb r 0 h)
 
     pub reading-done :
-        (k : ℕ) (l : List Record) → checkRefusal bytes n own ≡ done → k ≡ getD bytes 2 0 → l ≡ entriesBelow k →
-        _≡_ {A = Reading} (record { refusal = done; count = k; records = l }) (reading bytes n own)
+        (k : ℕ) (l : List Record) → checkRefusal edition bytes n own ≡ done → k ≡ getD bytes 2 0 → l ≡ entriesBelow k →
+        _≡_ {A = Reading} (record { refusal = done; count = k; records = l }) (reading edition bytes n own)
     unfolding reading entries
-    reading-done k l h e r = rw (eq-eqb (checkRefusal bytes n own) 0 h, r, e)
+    reading-done k l h e r = rw (eq-eqb (checkRefusal edition bytes n own) 0 h, r, e)

@@ -1,7 +1,7 @@
 -- A frame there and back, for every N. Record k of a written frame stands in part k, so each test of the check is one of the limits of the records;
 -- and the parts of an accepted frame are the bytes of the records that they hold, one after the other.
 use mathlib.Core.Path.{_≡_, refl, sym, ap, _∙_}
-use mathlib.Core.Bool.{Bool, true, false, not, _&&_, _||_, true≢false}
+use mathlib.Core.Bool.{Bool, true, false, _&&_, _||_, true≢false}
 use mathlib.Core.List.{List, [], _∷_, _++_, map, append-nil}
 use Prim.Native.Nat.{ℕ, zero, suc, pred, _+_, _*_, _≤_, _<_}
 use native.Mathlib.Decide.{ℕ-discrete, decLt}
@@ -9,15 +9,15 @@ use native.Mathlib.Omega.{arith}
 use lib.Dec.{ltb, eqb}
 use lib.ListN.{getD, take, drop, length, length-drop, List·getD-eq-default}
 use lib.Seq.{drop-cons, take-at, drop-at, take-all, take-add, drop-drop, getD-drop, getD-take, length-take-le}
-use borrow.Author.Tests.{lt-leb, eq-eqb, ne-eqb, ltb-true, eqb-true, not-false}
+use borrow.Author.Tests.{lt-leb, eq-eqb, ne-eqb, ltb-true}
 use Rattle.kinds.specs.Refusals.{done}
 use Rattle.places.specs.Places.{allBelow, anyBelow, tabulate}
-use Rattle.places.proofs.Laws.{or-left, and-both, and-left, and-right, allBelow-at, allBelow-make, anyBelow-ext, anyBelow-none, length-tabulate, tabulate-ext, tabulate-map}
+use Rattle.places.proofs.Laws.{and-both, and-left, and-right, allBelow-at, allBelow-make, anyBelow-ext, anyBelow-none, length-tabulate, tabulate-ext, tabulate-map}
 use Rattle.frame_rules.specs.declared.Record.{Record}
 use Rattle.frame_rules.specs.Record.{recordLabel, recordFrom, recordBytes, framed, noRecord, bytesInside, recordFits}
 use Rattle.frame_rules.specs.Frame.{part, recordStation, shapeWrong, addressWrong, recordsInside, frameRefusal, recordsOf, recordsBytes, frameBytes, recordsFit}
 use Rattle.frame_rules.proofs.Bytes.{length-record, length-frame, records-append}
-use Rattle.frame_rules.proofs.Check.{by-length, by-sender, accepted, Accepted, accepted-frame, Shape, shape}
+use Rattle.frame_rules.proofs.Check.{by-length, by-sender, accepted, Accepted, accepted-frame, Shape, shape, Address, address}
 use Rattle.frame_rules.proofs.RecordTrip.{fits-station, record-read, record-accepted, held-fits, held-zeros, bytes-written}
 
 -- ---- a frame that is written and read
@@ -36,23 +36,23 @@ record-part n (r ∷ rs) (suc k) h =
     ∙ ap (drop (16 * k)) (drop-at (recordBytes n r) (recordsBytes n rs) 16 (length-record n r)) in
     ap (take 16) past ∙ record-part n rs k (omega arith)
 
-module _ (n sender : ℕ) (rs : List Record) where
+module _ (edition n sender : ℕ) (rs : List Record) where
   abbrev station : ℕ → ℕ
   station k = (getD rs k noRecord) .station
 
   abbrev fine : ℕ → Bool
-  fine k = recordFits n (getD rs k noRecord) && (eqb k 0 || ltb (station (pred k)) (station k))
+  fine k = recordFits edition n (getD rs k noRecord) && (eqb k 0 || ltb (station (pred k)) (station k))
 
-  pub part-of-frame : (k : ℕ) → k < length rs → part (frameBytes n sender rs) k ≡ recordBytes n (getD rs k noRecord)
+  pub part-of-frame : (k : ℕ) → k < length rs → part (frameBytes edition n sender rs) k ≡ recordBytes n (getD rs k noRecord)
   unfolding frameBytes
   part-of-frame k h =
-      ap (take 16) (sym (drop-drop (16 * k) 4 (n ∷ sender ∷ length rs ∷ 0 ∷ recordsBytes n rs))) ∙ record-part n rs k h
+      ap (take 16) (sym (drop-drop (16 * k) 4 (n ∷ sender ∷ length rs ∷ edition ∷ recordsBytes n rs))) ∙ record-part n rs k h
 
-  station-of-frame : (k : ℕ) → k < length rs → recordStation (frameBytes n sender rs) k ≡ station k
+  station-of-frame : (k : ℕ) → k < length rs → recordStation (frameBytes edition n sender rs) k ≡ station k
   unfolding recordBytes
   station-of-frame k h = ap (λ (p : List ℕ). getD p 0 0) (part-of-frame k h)
 
-  module _ (few : n ≤ 16) (h : recordsFit n sender rs ≡ true) where
+  module _ (few : n ≤ 16) (h : recordsFit edition n sender rs ≡ true) where
     all-fine : allBelow (length rs) fine ≡ true
     unfolding recordsFit
     all-fine = and-left (allBelow (length rs) fine) (anyBelow (length rs) (λ k. eqb (station k) sender)) h
@@ -61,20 +61,20 @@ module _ (n sender : ℕ) (rs : List Record) where
     unfolding recordsFit
     one-sent = and-right (allBelow (length rs) fine) (anyBelow (length rs) (λ k. eqb (station k) sender)) h
 
-    record-fits : (k : ℕ) → k < length rs → recordFits n (getD rs k noRecord) ≡ true
+    record-fits : (k : ℕ) → k < length rs → recordFits edition n (getD rs k noRecord) ≡ true
     record-fits k l =
-        and-left (recordFits n (getD rs k noRecord)) (eqb k 0 || ltb (station (pred k)) (station k)) (allBelow-at (length rs) fine all-fine k l)
+        and-left (recordFits edition n (getD rs k noRecord)) (eqb k 0 || ltb (station (pred k)) (station k)) (allBelow-at (length rs) fine all-fine k l)
 
     ordered : (k : ℕ) → k < length rs → (eqb k 0 || ltb (station (pred k)) (station k)) ≡ true
     ordered k l =
-        and-right (recordFits n (getD rs k noRecord)) (eqb k 0 || ltb (station (pred k)) (station k)) (allBelow-at (length rs) fine all-fine k l)
+        and-right (recordFits edition n (getD rs k noRecord)) (eqb k 0 || ltb (station (pred k)) (station k)) (allBelow-at (length rs) fine all-fine k l)
 
     -- reading a written frame gives back its records
-    pub read-written : recordsOf (frameBytes n sender rs) ≡ map (framed n) rs
+    pub read-written : recordsOf (frameBytes edition n sender rs) ≡ map (framed n) rs
     unfolding recordsOf frameBytes
     read-written =
-        tabulate-ext (length rs) (λ k. recordFrom (part (frameBytes n sender rs) k)) (λ k. framed n (getD rs k noRecord))
-        (λ k l. ap recordFrom (part-of-frame k l) ∙ record-read n (getD rs k noRecord) few (record-fits k l))
+        tabulate-ext (length rs) (λ k. recordFrom (part (frameBytes edition n sender rs) k)) (λ k. framed n (getD rs k noRecord))
+        (λ k l. ap recordFrom (part-of-frame k l) ∙ record-read edition n (getD rs k noRecord) few (record-fits k l))
         ∙ tabulate-map (framed n) rs noRecord
 
     -- strictly ascending stations below n are at most n
@@ -94,47 +94,50 @@ module _ (n sender : ℕ) (rs : List Record) where
         ]
 
     last-below : station (pred (length rs)) < n
-    last-below = fits-station n (getD rs (pred (length rs)) noRecord) (record-fits (pred (length rs)) (omega (arith, some)))
+    last-below = fits-station edition n (getD rs (pred (length rs)) noRecord) (record-fits (pred (length rs)) (omega (arith, some)))
 
     pub at-most : length rs ≤ 16
     at-most = omega (arith, some, station-least (pred (length rs)) (omega (arith, some)), last-below)
 
     -- the frame check accepts a written frame
-    module _ (own : ℕ) (other : sender ≡ own → ⊥) (below : sender < n) where
+    module _ (own : ℕ) (other : sender ≡ own → ⊥) (below : sender < n) (known : edition < 2) where
       abbrev bytes : List ℕ
-      bytes = frameBytes n sender rs
+      bytes = frameBytes edition n sender rs
 
       shape-is : shapeWrong bytes ≡ false
       unfolding frameBytes
       shape-is =
-          let long : length bytes ≡ 4 + 16 * length rs = length-frame n sender rs in
-          sym (by-length bytes (omega arith) (λ e. omega (arith, some)) at-most refl) ∙ rw (eq-eqb (length bytes) (4 + 16 * length rs) long)
+          let long : length bytes ≡ 4 + 16 * length rs = length-frame edition n sender rs in
+          sym (by-length bytes (omega arith) (λ e. omega (arith, some)) at-most known) ∙ rw (eq-eqb (length bytes) (4 + 16 * length rs) long)
 
-      address-is : addressWrong bytes n own ≡ false
+      address-is : addressWrong edition bytes n own ≡ false
       unfolding frameBytes
-      address-is = sym (by-sender bytes n own refl other) ∙ lt-leb n sender below
+      address-is = sym (by-sender edition bytes n own refl refl other) ∙ lt-leb n sender below
 
-      records-are : recordsInside bytes n ≡ true
+      records-are : recordsInside edition bytes n ≡ true
       unfolding recordsInside frameBytes
       records-are =
           and-both
-          (allBelow-make (length rs) (λ k. bytesInside n (part bytes k) && (eqb k 0 || ltb (recordStation bytes (pred k)) (recordStation bytes k)))
+          (allBelow-make (length rs) (λ k. bytesInside edition n (part bytes k) && (eqb k 0 || ltb (recordStation bytes (pred k)) (recordStation bytes k)))
           (λ k l.
           and-both
-          (ap (bytesInside n) (part-of-frame k l) ∙ record-accepted n (getD rs k noRecord) few (record-fits k l))
+          (ap (bytesInside edition n) (part-of-frame k l) ∙ record-accepted edition n (getD rs k noRecord) few (record-fits k l))
           ((λ i. eqb k 0 || ltb (station-of-frame (pred k) (omega arith) i) (station-of-frame k l i)) ∙ ordered k l)))
           (anyBelow-ext (length rs) (λ k. eqb (recordStation bytes k) sender) (λ k. eqb (station k) sender)
           (λ k l. ap (λ (s : ℕ). eqb s sender) (station-of-frame k l))
           ∙ one-sent)
 
-      pub written-accepted : frameRefusal bytes n own ≡ done
-      written-accepted = sym (accepted bytes n own shape-is address-is records-are)
+      pub written-accepted : frameRefusal edition bytes n own ≡ done
+      written-accepted = sym (accepted edition bytes n own shape-is address-is records-are)
 
 -- ---- a frame that is read and written
 
-module _ (bytes : List ℕ) (n own : ℕ) (h : frameRefusal bytes n own ≡ done) where
-  pub yes-frame : Accepted bytes n own
-  yes-frame = accepted-frame bytes n own h
+module _ (edition : ℕ) (bytes : List ℕ) (n own : ℕ) (h : frameRefusal edition bytes n own ≡ done) where
+  pub yes-frame : Accepted edition bytes n own
+  yes-frame = accepted-frame edition bytes n own h
+
+  pub from-other : Address edition bytes n own
+  from-other = address edition bytes n own (yes-frame .address-right)
 
   pub form : Shape bytes
   form = shape bytes (yes-frame .shape-right)
@@ -142,30 +145,22 @@ module _ (bytes : List ℕ) (n own : ℕ) (h : frameRefusal bytes n own ≡ done
   abbrev count : ℕ
   count = getD bytes 2 0
 
-  number-is : n ≡ getD bytes 0 0
-  unfolding addressWrong
-  number-is =
-      let a = not (eqb (getD bytes 0 0) n) in
-      let b = eqb (getD bytes 1 0) own in
-      let c = not (ltb (getD bytes 1 0) n) in
-      sym (eqb-true (getD bytes 0 0) n (not-false (eqb (getD bytes 0 0) n) (or-left a b (or-left (a || b) c (yes-frame .address-right)))))
-
-  pub part-inside : (k : ℕ) → k < count → bytesInside n (part bytes k) ≡ true
+  pub part-inside : (k : ℕ) → k < count → bytesInside edition n (part bytes k) ≡ true
   unfolding recordsInside
   part-inside k l =
-      let fits : ℕ → Bool = λ j. bytesInside n (part bytes j) && (eqb j 0 || ltb (recordStation bytes (pred j)) (recordStation bytes j)) in
-      and-left (bytesInside n (part bytes k)) (eqb k 0 || ltb (recordStation bytes (pred k)) (recordStation bytes k))
+      let fits : ℕ → Bool = λ j. bytesInside edition n (part bytes j) && (eqb j 0 || ltb (recordStation bytes (pred j)) (recordStation bytes j)) in
+      and-left (bytesInside edition n (part bytes k)) (eqb k 0 || ltb (recordStation bytes (pred k)) (recordStation bytes k))
       (allBelow-at count fits (and-left (allBelow count fits) (anyBelow count (λ j. eqb (recordStation bytes j) (getD bytes 1 0))) (yes-frame .records-right)) k l)
 
   part-length : (k : ℕ) → k < count → length (part bytes k) ≡ 16
   part-length k l = length-take-le 16 (drop (4 + 16 * k) bytes) (rw length-drop (omega (arith, form .long)))
 
   -- the records of an accepted frame are inside their limits, and their labels from n up are 0
-  pub accepted-fits : (k : ℕ) → k < count → recordFits n (recordFrom (part bytes k)) ≡ true
-  accepted-fits k l = held-fits n (part bytes k) (part-inside k l)
+  pub accepted-fits : (k : ℕ) → k < count → recordFits edition n (recordFrom (part bytes k)) ≡ true
+  accepted-fits k l = held-fits edition n (part bytes k) (part-inside k l)
 
   pub accepted-zeros : (k : ℕ) → k < count → (j : ℕ) → n ≤ j → j < 16 → recordLabel (recordFrom (part bytes k)) j ≡ 0
-  accepted-zeros k l = held-zeros n (part bytes k) (part-inside k l)
+  accepted-zeros k l = held-zeros edition n (part bytes k) (part-inside k l)
 
   bytes-are : bytes ≡ getD bytes 0 0 ∷ getD bytes 1 0 ∷ getD bytes 2 0 ∷ getD bytes 3 0 ∷ drop 4 bytes
   bytes-are =
@@ -186,7 +181,7 @@ module _ (bytes : List ℕ) (n own : ℕ) (h : frameRefusal bytes n own ≡ done
 
     -- each part is what is written of the record that it holds
     pub part-written : (k : ℕ) → k < count → recordBytes n (recordFrom (part bytes k)) ≡ part bytes k
-    part-written k l = bytes-written (part bytes k) (part-small k l) n (part-length k l) (part-inside k l)
+    part-written k l = bytes-written (part bytes k) (part-small k l) edition n (part-length k l) (part-inside k l)
 
     -- the first c records are written as the first c parts
     parts-written : (c : ℕ) → c ≤ count → recordsBytes n (tabulate c (λ k. recordFrom (part bytes k))) ≡ take (16 * c) (drop 4 bytes)
@@ -202,18 +197,24 @@ module _ (bytes : List ℕ) (n own : ℕ) (h : frameRefusal bytes n own ≡ done
         ∙ sym (take-add (16 * c) 16 (drop 4 bytes))
         ∙ ap (λ (j : ℕ). take j (drop 4 bytes)) e
 
-    -- writing the records of an accepted frame, with its N and sender, gives its bytes again
-    pub write-read : frameBytes n (getD bytes 1 0) (recordsOf bytes) ≡ bytes
+    -- writing the records of an accepted frame, with its edition, N and sender, gives its bytes again
+    pub write-read : frameBytes edition n (getD bytes 1 0) (recordsOf bytes) ≡ bytes
     unfolding frameBytes recordsOf
     write-read =
         let f : ℕ → Record = λ k. recordFrom (part bytes k) in
         let all : take (16 * count) (drop 4 bytes) ≡ drop 4 bytes =
         take-all (16 * count) (drop 4 bytes) (rw length-drop (omega (arith, form .long))) in
-        (λ i. number-is i ∷ getD bytes 1 0 ∷ length-tabulate count f i ∷ sym (form .mark) i ∷ (parts-written count (omega arith) ∙ all) i)
+        (λ i.
+        sym (from-other .of-number) i
+        ∷ getD bytes 1 0
+        ∷ length-tabulate count f i
+        ∷ sym (from-other .of-edition) i
+        ∷ (parts-written count (omega arith) ∙ all) i)
         ∙ sym bytes-are
 
 -- M8: one record makes 20 bytes, sixteen make 260
 pub m8 :
-    (n sender : ℕ) (rs : List Record) →
-    (length rs ≡ 1 → length (frameBytes n sender rs) ≡ 20) × (length rs ≡ 16 → length (frameBytes n sender rs) ≡ 260)
-m8 n sender rs = (λ e. omega (arith, length-frame n sender rs), λ e. omega (arith, length-frame n sender rs))
+    (edition n sender : ℕ) (rs : List Record) →
+    (length rs ≡ 1 → length (frameBytes edition n sender rs) ≡ 20) × (length rs ≡ 16 → length (frameBytes edition n sender rs) ≡ 260)
+m8 edition n sender rs =
+    (λ e. omega (arith, length-frame edition n sender rs), λ e. omega (arith, length-frame edition n sender rs))

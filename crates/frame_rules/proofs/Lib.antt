@@ -12,5 +12,7 @@ pub mod TableTrip
 pub mod Fitting
 -- a body outside its limits
 pub mod Outside
+-- receivers that know no editions
+pub mod Editions
 -- examples
 pub mod Examples

@@ -4,115 +4,126 @@ use Prim.Native.Nat.{ℕ, _<_}
 use mathlib.Core.Bool.{Bool, true, false, _&&_, _||_}
 use mathlib.Core.List.{List}
 use mathlib.Core.Path.{_≡_}
-use lib.Dec.{ltb, eqb}
+use lib.Dec.{ltb}
 use lib.IntN.{ℤ}
 use lib.ListN.{getD}
-use borrow.Author.Tests.{ltb-true, lt-ltb, eqb-true, eq-eqb}
-use Rattle.kinds.specs.Body.{kindOf, eventOf, argumentOf}
-use Rattle.kind_limits.specs.Limits.{numbersInside, bodyInside}
+use borrow.Author.Tests.{ltb-true, lt-ltb}
+use Rattle.kinds.specs.Body.{kindOf, eventOf, argumentOf, channelOf}
+use Rattle.kind_limits.specs.Limits.{numbersInside, channelInside, insideKind, bodyInside}
 use Rattle.labels.specs.Label.{isLabel}
 use Rattle.label_words.specs.Packing.{labelsInside, zeroFrom}
 use Rattle.label_words.proofs.Laws.{inside-at, inside-make}
-use Rattle.places.proofs.Laws.{and-both, and-left, and-right}
+use Rattle.places.proofs.Laws.{both, and-both, and-left, and-right}
 use Rattle.frame_rules.specs.declared.Record.{Record}
 use Rattle.frame_rules.specs.Words.{wordAt, signed}
-use Rattle.frame_rules.specs.Record.{recordMark, recordLabel, countInside, fieldsInside, recordLimits, bytesInside, recordFits}
+use Rattle.frame_rules.specs.Record.{recordLabel, countInside, fieldsInside, recordLimits, bytesInside, recordFits}
 
 -- the fields
-record FieldsHold (n : ℕ) (free : Bool) (station count kind event : ℕ) (argument : ℤ) (labels : ℕ) : Type 0 where
+record FieldsHold (edition n : ℕ) (free : Bool) (station count kind event : ℕ) (argument : ℤ) (channel labels : ℕ) : Type 0 where
   below : station < n
   counted : (free || countInside n count) ≡ true
   numbers : numbersInside kind event argument ≡ true
+  on : channelInside edition kind channel ≡ true
   each : labelsInside n labels ≡ true
 
-module _ (n : ℕ) (free : Bool) (station count kind event : ℕ) (argument : ℤ) (labels : ℕ) where
-  fields-open : fieldsInside n free station count kind event argument labels ≡ true → FieldsHold n free station count kind event argument labels
+module _ (edition n : ℕ) (free : Bool) (station count kind event : ℕ) (argument : ℤ) (channel labels : ℕ) where
+  abbrev inside : Bool
+  inside = fieldsInside edition n free station count kind event argument channel labels
+
+  abbrev Hold : Type 0
+  Hold = FieldsHold edition n free station count kind event argument channel labels
+
+  fields-open : inside ≡ true → Hold
   fields-open h =
       let one = ltb station n in
       let two = free || countInside n count in
       let three = numbersInside kind event argument in
-      let four = labelsInside n labels in
-      let front : (one && two && three) ≡ true = and-left (one && two && three) four h in
+      let four = channelInside edition kind channel in
+      let five = labelsInside n labels in
+      let front : (one && two && three && four) ≡ true = and-left (one && two && three && four) five h in
+      let numbers : (one && two && three) ≡ true = and-left (one && two && three) four front in
       record {
-        below = ltb-true station n (and-left one two (and-left (one && two) three front));
-        counted = and-right one two (and-left (one && two) three front);
-        numbers = and-right (one && two) three front;
-        each = and-right (one && two && three) four h;
+        below = ltb-true station n (and-left one two (and-left (one && two) three numbers));
+        counted = and-right one two (and-left (one && two) three numbers);
+        numbers = and-right (one && two) three numbers;
+        on = and-right (one && two && three) four front;
+        each = and-right (one && two && three && four) five h;
       }
 
-  fields-make : FieldsHold n free station count kind event argument labels → fieldsInside n free station count kind event argument labels ≡ true
+  fields-make : Hold → inside ≡ true
   fields-make f =
       and-both
-      (and-both (and-both (lt-ltb station n (f .below)) (f .counted)) (f .numbers))
+      (and-both (and-both (and-both (lt-ltb station n (f .below)) (f .counted)) (f .numbers)) (f .on))
       (f .each)
 
 -- a record
-pub record LimitsHold (n : ℕ) (free : Bool) (r : Record) : Type 0 where
+pub record LimitsHold (edition n : ℕ) (free : Bool) (r : Record) : Type 0 where
   pub station : r .station < n
   pub count : (free || countInside n (r .count)) ≡ true
-  pub body : bodyInside (r .body) ≡ true
+  pub body : bodyInside edition (r .body) ≡ true
   pub labels : (j : ℕ) → j < n → isLabel (recordLabel r j) ≡ true
 
-module _ (n : ℕ) (free : Bool) (r : Record) where
-  pub limits-open : recordLimits n free r ≡ true → LimitsHold n free r
-  unfolding bodyInside recordLabel
+module _ (edition n : ℕ) (free : Bool) (r : Record) where
+  pub limits-open : recordLimits edition n free r ≡ true → LimitsHold edition n free r
+  unfolding bodyInside insideKind recordLabel
   limits-open h =
       let b = r .body in
-      let f = fields-open n free (r .station) (r .count) (kindOf b) (eventOf b) (argumentOf b) (r .labels) h in
-      record { station = f .below; count = f .counted; body = f .numbers; labels = inside-at n (r .labels) (f .each) }
+      let f = fields-open edition n free (r .station) (r .count) (kindOf b) (eventOf b) (argumentOf b) (channelOf b) (r .labels) h in
+      record { station = f .below; count = f .counted; body = and-both (f .numbers) (f .on); labels = inside-at n (r .labels) (f .each) }
 
-  pub limits-make : LimitsHold n free r → recordLimits n free r ≡ true
-  unfolding bodyInside recordLabel
+  pub limits-make : LimitsHold edition n free r → recordLimits edition n free r ≡ true
+  unfolding bodyInside insideKind recordLabel
   limits-make l =
       let b = r .body in
-      fields-make n free (r .station) (r .count) (kindOf b) (eventOf b) (argumentOf b) (r .labels)
-      (record { below = l .station; counted = l .count; numbers = l .body; each = inside-make n (r .labels) (l .labels) })
+      let parts = both (numbersInside (kindOf b) (eventOf b) (argumentOf b)) (channelInside edition (kindOf b) (channelOf b)) (l .body) in
+      fields-make edition n free (r .station) (r .count) (kindOf b) (eventOf b) (argumentOf b) (channelOf b) (r .labels)
+      (record { below = l .station; counted = l .count; numbers = parts .0; on = parts .1; each = inside-make n (r .labels) (l .labels) })
 
-module _ (n : ℕ) (r : Record) where
-  pub fits-open : recordFits n r ≡ true → LimitsHold n false r
+module _ (edition n : ℕ) (r : Record) where
+  pub fits-open : recordFits edition n r ≡ true → LimitsHold edition n false r
   unfolding recordFits
-  fits-open h = limits-open n false r h
+  fits-open h = limits-open edition n false r h
 
-  pub fits-make : LimitsHold n false r → recordFits n r ≡ true
+  pub fits-make : LimitsHold edition n false r → recordFits edition n r ≡ true
   unfolding recordFits
-  fits-make l = limits-make n false r l
+  fits-make l = limits-make edition n false r l
 
 -- sixteen bytes
-pub record BytesHold (n : ℕ) (p : List ℕ) : Type 0 where
+pub record BytesHold (edition n : ℕ) (p : List ℕ) : Type 0 where
   pub station : getD p 0 0 < n
   pub count : countInside n (getD p 1 0) ≡ true
   pub numbers : numbersInside (getD p 2 0) (wordAt p 4) (signed (wordAt p 8)) ≡ true
-  pub mark : getD p 3 0 ≡ 0
+  pub on : channelInside edition (getD p 2 0) (getD p 3 0) ≡ true
   pub labels : labelsInside n (wordAt p 12) ≡ true
   pub zeros : zeroFrom n (wordAt p 12) ≡ true
 
-module _ (n : ℕ) (p : List ℕ) where
+module _ (edition n : ℕ) (p : List ℕ) where
   abbrev fields : Bool
   fields =
-      fieldsInside n false (getD p 0 0) (getD p 1 0) (getD p 2 0) (wordAt p 4) (signed (wordAt p 8)) (wordAt p 12)
+      fieldsInside edition n false (getD p 0 0) (getD p 1 0) (getD p 2 0) (wordAt p 4) (signed (wordAt p 8)) (getD p 3 0)
+      (wordAt p 12)
 
-  abbrev marked : Bool
-  marked = eqb (getD p 3 0) recordMark
-
-  pub bytes-open : bytesInside n p ≡ true → BytesHold n p
+  pub bytes-open : bytesInside edition n p ≡ true → BytesHold edition n p
   unfolding bytesInside
   bytes-open h =
-      let front : (fields && marked) ≡ true = and-left (fields && marked) (zeroFrom n (wordAt p 12)) h in
-      let f = fields-open n false (getD p 0 0) (getD p 1 0) (getD p 2 0) (wordAt p 4) (signed (wordAt p 8)) (wordAt p 12) (and-left fields marked front) in
+      let f =
+      fields-open edition n false (getD p 0 0) (getD p 1 0) (getD p 2 0) (wordAt p 4) (signed (wordAt p 8)) (getD p 3 0)
+      (wordAt p 12)
+      (and-left fields (zeroFrom n (wordAt p 12)) h) in
       record {
         station = f .below;
         count = f .counted;
         numbers = f .numbers;
-        mark = eqb-true (getD p 3 0) 0 (and-right fields marked front);
+        on = f .on;
         labels = f .each;
-        zeros = and-right (fields && marked) (zeroFrom n (wordAt p 12)) h;
+        zeros = and-right fields (zeroFrom n (wordAt p 12)) h;
       }
 
-  pub bytes-make : BytesHold n p → bytesInside n p ≡ true
+  pub bytes-make : BytesHold edition n p → bytesInside edition n p ≡ true
   unfolding bytesInside
   bytes-make b =
       and-both
       (and-both
-      (and-both (and-both (and-both (lt-ltb (getD p 0 0) n (b .station)) (b .count)) (b .numbers)) (b .labels))
-      (eq-eqb (getD p 3 0) 0 (b .mark)))
+      (and-both (and-both (and-both (lt-ltb (getD p 0 0) n (b .station)) (b .count)) (b .numbers)) (b .on))
+      (b .labels))
       (b .zeros)

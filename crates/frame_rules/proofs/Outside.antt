@@ -7,7 +7,7 @@ use mathlib.Core.List.{List}
 use mathlib.Core.Path.{_≡_, refl, sym, _∙_}
 use lib.ListN.{getD}
 use Rattle.kinds.specs.Refusals.{badRecord}
-use Rattle.kind_limits.specs.Limits.{numbersInside}
+use Rattle.kind_limits.specs.Limits.{isEdition, numbersInside}
 use Rattle.places.proofs.Laws.{and-left, allBelow-at}
 use Rattle.frame_rules.specs.Words.{wordAt, signed}
 use Rattle.frame_rules.specs.Record.{bytesInside}
@@ -17,23 +17,23 @@ use Rattle.frame_rules.proofs.RecordTrip.{held-numbers}
 
 -- each record of a frame whose records are inside their limits is inside its own
 part-inside :
-    (bytes : List ℕ) (n k : ℕ) → recordsInside bytes n ≡ true → k < getD bytes 2 0 → bytesInside n (part bytes k) ≡ true
+    (edition : ℕ) (bytes : List ℕ) (n k : ℕ) → recordsInside edition bytes n ≡ true → k < getD bytes 2 0 → bytesInside edition n (part bytes k) ≡ true
 unfolding recordsInside
-part-inside bytes n k h l = and-left _ _ (allBelow-at (getD bytes 2 0) _ (and-left _ _ h) k l)
+part-inside edition bytes n k h l = and-left _ _ (allBelow-at (getD bytes 2 0) _ (and-left _ _ h) k l)
 
-module _ (bytes : List ℕ) (n own k : ℕ) where
+module _ (edition : ℕ) (bytes : List ℕ) (n own k : ℕ) where
   abbrev record-part : List ℕ
   record-part = part bytes k
 
   pub body-outside :
-      validNumber n own ≡ true → shapeWrong bytes ≡ false → addressWrong bytes n own ≡ false → k < getD bytes 2 0 →
+      validNumber n own ≡ true → isEdition edition ≡ true → shapeWrong bytes ≡ false → addressWrong edition bytes n own ≡ false → k < getD bytes 2 0 →
       numbersInside (getD record-part 2 0) (wordAt record-part 4) (signed (wordAt record-part 8)) ≡ false →
-      checkRefusal bytes n own ≡ badRecord
-  body-outside v a b l h = sym (by-frame bytes n own v) ∙ sym (refused-records bytes n own a b outside)
+      checkRefusal edition bytes n own ≡ badRecord
+  body-outside v w a b l h = sym (by-frame edition bytes n own v w) ∙ sym (refused-records edition bytes n own a b outside)
     where
-      outside : recordsInside bytes n ≡ false
-      outside = go (recordsInside bytes n) refl
+      outside : recordsInside edition bytes n ≡ false
+      outside = go (recordsInside edition bytes n) refl
         where
-          go : (t : Bool) → recordsInside bytes n ≡ t → recordsInside bytes n ≡ false
-          go true e = absurd (true≢false (sym (held-numbers n record-part (part-inside bytes n k e l)) ∙ h))
+          go : (t : Bool) → recordsInside edition bytes n ≡ t → recordsInside edition bytes n ≡ false
+          go true e = absurd (true≢false (sym (held-numbers edition n record-part (part-inside edition bytes n k e l)) ∙ h))
           go false e = e

@@ -7,10 +7,10 @@ use Prim.Native.Nat.{ℕ, _+_, _≤_, _<_}
 use native.Mathlib.Omega.{arith}
 use lib.IntN.{ℤ}
 use lib.ListN.{getD, length}
-use Rattle.kinds.specs.Body.{kindOf, eventOf, argumentOf, bodyOf}
-use Rattle.kind_limits.specs.Limits.{numbersInside, bodyInside}
+use Rattle.kinds.specs.Body.{kindOf, eventOf, argumentOf, channelOf, bodyOf}
+use Rattle.kind_limits.specs.Limits.{numbersInside, insideKind}
 use Rattle.kinds.proofs.Laws.{body-back}
-use Rattle.kind_limits.proofs.Laws.{kind-back, event-back, argument-back, inside-back, body-event-fits, body-argument-fits}
+use Rattle.kind_limits.proofs.Laws.{kind-back, event-back, argument-back, channel-back, inside-back, inside-kind, inside-channel, body-event-fits, body-argument-fits}
 use Rattle.labels.specs.Label.{isLabel}
 use Rattle.label_words.specs.Packing.{labelsOver, labelsInside, zeroFrom}
 use Rattle.label_words.proofs.Laws.{inside-at, inside-make, zeros-at, zeros-make, first-whole}
@@ -23,15 +23,15 @@ use Rattle.frame_rules.proofs.Spelled.{spelled, spelled-is, word-back, 
 
 -- ---- a record that is written and read
 
-pub fits-station : (n : ℕ) (r : Record) → recordFits n r ≡ true → r .station < n
-fits-station n r h = (fits-open n r h) .station
+pub fits-station : (edition n : ℕ) (r : Record) → recordFits edition n r ≡ true → r .station < n
+fits-station edition n r h = (fits-open edition n r h) .station
 
 -- what a frame carries of a record is inside the same limits
-pub framed-fits : (n : ℕ) (r : Record) → recordFits n r ≡ true → recordFits n (framed n r) ≡ true
+pub framed-fits : (edition n : ℕ) (r : Record) → recordFits edition n r ≡ true → recordFits edition n (framed n r) ≡ true
 unfolding framed
-framed-fits n r h =
-    let f = fits-open n r h in
-    fits-make n (framed n r)
+framed-fits edition n r h =
+    let f = fits-open edition n r h in
+    fits-make edition n (framed n r)
     (record {
       station = f .station;
       count = f .count;
@@ -39,46 +39,49 @@ framed-fits n r h =
       labels = λ j l. ap (λ (x : ℕ). isLabel x) (framed-label n r j l) ∙ f .labels j l;
     })
 
-module _ (n : ℕ) (r : Record) (few : n ≤ 16) (h : recordFits n r ≡ true) where
+module _ (edition n : ℕ) (r : Record) (few : n ≤ 16) (h : recordFits edition n r ≡ true) where
+  in-kind : insideKind (r .body) ≡ true
+  in-kind = inside-kind edition (r .body) ((fits-open edition n r h) .body)
+
   -- the words of its bytes
   event-word : wordAt (recordBytes n r) 4 ≡ eventOf (r .body)
   unfolding wordAt recordBytes wordBytes
-  event-word = bytes-back (eventOf (r .body)) (body-event-fits (r .body) ((fits-open n r h) .body))
+  event-word = bytes-back (eventOf (r .body)) (body-event-fits (r .body) in-kind)
 
   argument-word : wordAt (recordBytes n r) 8 ≡ unsigned (argumentOf (r .body))
   unfolding wordAt recordBytes wordBytes
   argument-word =
-      bytes-back (unsigned (argumentOf (r .body))) (unsigned-small (argumentOf (r .body)) (body-argument-fits (r .body) ((fits-open n r h) .body)))
+      bytes-back (unsigned (argumentOf (r .body))) (unsigned-small (argumentOf (r .body)) (body-argument-fits (r .body) in-kind))
 
   labels-word : wordAt (recordBytes n r) 12 ≡ (framed n r) .labels
   unfolding wordAt recordBytes wordBytes framed
   labels-word = bytes-back (labelsOver n (recordLabel r) 0) (framed-less n r few)
 
   argument-signed : signed (wordAt (recordBytes n r) 8) ≡ argumentOf (r .body)
-  argument-signed = ap signed argument-word ∙ signed-back (argumentOf (r .body)) (body-argument-fits (r .body) ((fits-open n r h) .body))
+  argument-signed = ap signed argument-word ∙ signed-back (argumentOf (r .body)) (body-argument-fits (r .body) in-kind)
 
   -- it is read back as the frame carries it
   pub record-read : recordFrom (recordBytes n r) ≡ framed n r
   unfolding recordFrom recordBytes framed
   record-read =
       let b = r .body in
-      let body : bodyOf (kindOf b) (wordAt (recordBytes n r) 4) (signed (wordAt (recordBytes n r) 8)) ≡ b =
-      (λ i. bodyOf (kindOf b) (event-word i) (argument-signed i)) ∙ body-back b in
+      let body : bodyOf (kindOf b) (wordAt (recordBytes n r) 4) (signed (wordAt (recordBytes n r) 8)) (channelOf b) ≡ b =
+      (λ i. bodyOf (kindOf b) (event-word i) (argument-signed i) (channelOf b)) ∙ body-back b in
       (λ i. record { station = r .station; count = r .count; body = body i; labels = labels-word i })
 
   -- and its bytes are inside their limits
-  pub record-accepted : bytesInside n (recordBytes n r) ≡ true
-  unfolding recordBytes bodyInside recordLabel
+  pub record-accepted : bytesInside edition n (recordBytes n r) ≡ true
+  unfolding recordBytes insideKind recordLabel
   record-accepted =
-      let f = fits-open n r h in
-      let g = fits-open n (framed n r) (framed-fits n r h) in
+      let f = fits-open edition n r h in
+      let g = fits-open edition n (framed n r) (framed-fits edition n r h) in
       let b = r .body in
-      bytes-make n (recordBytes n r)
+      bytes-make edition n (recordBytes n r)
       (record {
         station = f .station;
         count = f .count;
-        numbers = (λ i. numbersInside (kindOf b) (event-word i) (argument-signed i)) ∙ f .body;
-        mark = refl;
+        numbers = (λ i. numbersInside (kindOf b) (event-word i) (argument-signed i)) ∙ in-kind;
+        on = inside-channel edition b (f .body);
         labels = ap (labelsInside n) labels-word ∙ inside-make n ((framed n r) .labels) (g .labels);
         zeros = ap (zeroFrom n) labels-word ∙ zeros-make n ((framed n r) .labels) (λ k l b. framed-zero n r k l);
       })
@@ -86,25 +89,25 @@ module _ (n : ℕ) (r : Record) (few : n ≤ 16) (h : recordFits n r ≡ true) w
 -- ---- bytes that are read and written
 
 -- such bytes hold a record inside its limits, whose labels from n up are 0
-module _ (n : ℕ) (p : List ℕ) (h : bytesInside n p ≡ true) where
-  pub held-fits : recordFits n (recordFrom p) ≡ true
+module _ (edition n : ℕ) (p : List ℕ) (h : bytesInside edition n p ≡ true) where
+  pub held-fits : recordFits edition n (recordFrom p) ≡ true
   unfolding recordFrom recordLabel
   held-fits =
-      let b = bytes-open n p h in
-      fits-make n (recordFrom p)
+      let b = bytes-open edition n p h in
+      fits-make edition n (recordFrom p)
       (record {
         station = b .station;
         count = b .count;
-        body = inside-back (getD p 2 0) (wordAt p 4) (signed (wordAt p 8)) (b .numbers);
+        body = inside-back (getD p 2 0) (wordAt p 4) (signed (wordAt p 8)) (getD p 3 0) (b .numbers) edition (b .on);
         labels = inside-at n (wordAt p 12) (b .labels);
       })
 
   pub held-numbers : numbersInside (getD p 2 0) (wordAt p 4) (signed (wordAt p 8)) ≡ true
-  held-numbers = (bytes-open n p h) .numbers
+  held-numbers = (bytes-open edition n p h) .numbers
 
   pub held-zeros : (k : ℕ) → n ≤ k → k < 16 → recordLabel (recordFrom p) k ≡ 0
   unfolding recordFrom recordLabel
-  held-zeros = zeros-at n (wordAt p 12) ((bytes-open n p h) .zeros)
+  held-zeros = zeros-at n (wordAt p 12) ((bytes-open edition n p h) .zeros)
 
 module _ (p : List ℕ) (small : (i : ℕ) → getD p i 0 < 256) where
   word-small : (at : ℕ) → wordAt p at < 4_294_967_296
@@ -116,18 +119,24 @@ module _ (p : List ℕ) (small : (i : ℕ) → getD p i 0 < 256) where
   word-spelled at =
       word-back (getD p at 0) (getD p (at + 1) 0) (getD p (at + 2) 0) (getD p (at + 3) 0) (small at) (small (at + 1)) (small (at + 2)) (small (at + 3))
 
-  pub bytes-written : (n : ℕ) → length p ≡ 16 → bytesInside n p ≡ true → recordBytes n (recordFrom p) ≡ p
+  pub bytes-written : (edition n : ℕ) → length p ≡ 16 → bytesInside edition n p ≡ true → recordBytes n (recordFrom p) ≡ p
   unfolding recordBytes recordFrom recordLabel spelled
-  bytes-written n long h =
-      let f = bytes-open n p h in
+  bytes-written edition n long h =
+      let f = bytes-open edition n p h in
       let k = getD p 2 0 in
       let e = wordAt p 4 in
       let a = signed (wordAt p 8) in
-      let event = ap wordBytes (event-back k e a (f .numbers)) ∙ word-spelled 4 in
+      let c = getD p 3 0 in
+      let event = ap wordBytes (event-back k e a c (f .numbers)) ∙ word-spelled 4 in
       let argument =
-      ap (λ (z : ℤ). wordBytes (unsigned z)) (argument-back k e a (f .numbers))
+      ap (λ (z : ℤ). wordBytes (unsigned z)) (argument-back k e a c (f .numbers))
       ∙ ap wordBytes (unsigned-back (wordAt p 8) (word-small 8))
       ∙ word-spelled 8 in
       let labels = ap wordBytes (first-whole n (wordAt p 12) (word-small 12) (f .zeros)) ∙ word-spelled 12 in
-      (λ i. getD p 0 0 ∷ getD p 1 0 ∷ kind-back k e a (f .numbers) i ∷ sym (f .mark) i ∷ event i ++ argument i ++ labels i)
+      (λ i.
+      getD p 0 0
+      ∷ getD p 1 0
+      ∷ kind-back k e a c (f .numbers) i
+      ∷ channel-back k e a c (f .numbers) edition (f .on) i
+      ∷ event i ++ argument i ++ labels i)
       ∙ sym (spelled-is 16 0 p long)

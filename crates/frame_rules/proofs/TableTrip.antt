@@ -22,16 +22,16 @@ use Rattle.frame_rules.proofs.RecordTrip.{framed-fits}
 use Rattle.frame_rules.proofs.FrameTrip.{read-written, written-accepted}
 
 -- records in order: each inside its limits, of stations strictly ascending and below k
-record Sorted (n k : ℕ) (rs : List Record) : Type 0 where
-  fine : (i : ℕ) → i < length rs → recordFits n (getD rs i noRecord) ≡ true
+record Sorted (edition n k : ℕ) (rs : List Record) : Type 0 where
+  fine : (i : ℕ) → i < length rs → recordFits edition n (getD rs i noRecord) ≡ true
   below : (i : ℕ) → i < length rs → (getD rs i noRecord) .station < k
   rising : (i : ℕ) → suc i < length rs → (getD rs i noRecord) .station < (getD rs (suc i) noRecord) .station
 
-module _ (n k : ℕ) (rs : List Record) (s : Sorted n k rs) where
-  sorted-same : Sorted n (suc k) rs
+module _ (edition n k : ℕ) (rs : List Record) (s : Sorted edition n k rs) where
+  sorted-same : Sorted edition n (suc k) rs
   sorted-same = record { fine = s .fine; below = λ i l. omega (arith, s .below i l); rising = s .rising }
 
-  module _ (r : Record) (fits : recordFits n r ≡ true) (place : r .station ≡ k) where
+  module _ (r : Record) (fits : recordFits edition n r ≡ true) (place : r .station ≡ k) where
     old-at : (i : ℕ) → i < length rs → getD (rs ++ (r ∷ [])) i noRecord ≡ getD rs i noRecord
     old-at i l = List·getD-append rs (r ∷ []) noRecord i l
 
@@ -41,7 +41,7 @@ module _ (n k : ℕ) (rs : List Record) (s : Sorted n k rs) where
     longer : length (rs ++ (r ∷ [])) ≡ length rs + 1
     longer = length-append rs (r ∷ [])
 
-    sorted-more : Sorted n (suc k) (rs ++ (r ∷ []))
+    sorted-more : Sorted edition n (suc k) (rs ++ (r ∷ []))
     sorted-more =
         record {
           fine =
@@ -66,7 +66,7 @@ module _ (n k : ℕ) (rs : List Record) (s : Sorted n k rs) where
         }
 
 -- in order and with the sender's among them they fit a frame
-module _ (n k sender : ℕ) (rs : List Record) (s : Sorted n k rs) where
+module _ (edition n k sender : ℕ) (rs : List Record) (s : Sorted edition n k rs) where
   abbrev station : ℕ → ℕ
   station i = (getD rs i noRecord) .station
 
@@ -74,35 +74,35 @@ module _ (n k sender : ℕ) (rs : List Record) (s : Sorted n k rs) where
   rises zero l = refl
   rises (suc i) l = rw (ne-eqb (suc i) 0 (λ e. omega arith)) (lt-ltb (station i) (station (suc i)) (s .rising i l))
 
-  sorted-fit : anyBelow (length rs) (λ i. eqb (station i) sender) ≡ true → recordsFit n sender rs ≡ true
+  sorted-fit : anyBelow (length rs) (λ i. eqb (station i) sender) ≡ true → recordsFit edition n sender rs ≡ true
   unfolding recordsFit
   sorted-fit one =
       and-both
-      (allBelow-make (length rs) (λ i. recordFits n (getD rs i noRecord) && (eqb i 0 || ltb (station (pred i)) (station i)))
+      (allBelow-make (length rs) (λ i. recordFits edition n (getD rs i noRecord) && (eqb i 0 || ltb (station (pred i)) (station i)))
       (λ i l. and-both (s .fine i l) (rises i l)))
       one
 
 -- the records of a table
-module _ (n sender : ℕ) (held : List Bool) (table : List Record) (few : n ≤ 16)
+module _ (edition n sender : ℕ) (held : List Bool) (table : List Record) (few : n ≤ 16)
     (place : (k : ℕ) → k < n → getD held k false ≡ true → (getD table k noRecord) .station ≡ k)
-    (fits : (k : ℕ) → k < n → getD held k false ≡ true → recordFits n (getD table k noRecord) ≡ true) where
+    (fits : (k : ℕ) → k < n → getD held k false ≡ true → recordFits edition n (getD table k noRecord) ≡ true) where
   abbrev below : ℕ → List Record
   below k = gather k (λ j. getD held j false) (λ j. framed n (getD table j noRecord))
 
-  table-sorted : (k : ℕ) → k ≤ n → Sorted n k (below k)
+  table-sorted : (k : ℕ) → k ≤ n → Sorted edition n k (below k)
   unfolding gather framed
   table-sorted zero l =
       record { fine = λ i b. absurd (omega arith); below = λ i b. absurd (omega arith); rising = λ i b. absurd (omega arith) }
   table-sorted (suc k) l = go (getD held k false) refl (table-sorted k (omega arith))
     where
       go :
-          (b : Bool) → getD held k false ≡ b → Sorted n k (below k) →
-          Sorted n (suc k) (below k ++ cond b (framed n (getD table k noRecord) ∷ []) [])
+          (b : Bool) → getD held k false ≡ b → Sorted edition n k (below k) →
+          Sorted edition n (suc k) (below k ++ cond b (framed n (getD table k noRecord) ∷ []) [])
       go true e s =
-          sorted-more n k (below k) s (framed n (getD table k noRecord))
-          (framed-fits n (getD table k noRecord) (fits k (omega arith) e))
+          sorted-more edition n k (below k) s (framed n (getD table k noRecord))
+          (framed-fits edition n (getD table k noRecord) (fits k (omega arith) e))
           (place k (omega arith) e)
-      go false e s = rw (append-nil (below k)) (sorted-same n k (below k) s)
+      go false e s = rw (append-nil (below k)) (sorted-same edition n k (below k) s)
 
   -- the record of a held station is among them
   record Among (j : ℕ) (rs : List Record) : Type 0 where
@@ -143,18 +143,18 @@ module _ (n sender : ℕ) (held : List Bool) (table : List Record) (few : n ≤ 
           })
 
   module _ (own-held : getD held sender false ≡ true) (valid : sender < n) where
-    pub table-fits : recordsFit n sender (tableRecords n held table) ≡ true
+    pub table-fits : recordsFit edition n sender (tableRecords n held table) ≡ true
     unfolding tableRecords
     table-fits =
         let a = table-among sender own-held n valid (omega arith) in
-        sorted-fit n n sender (below n) (table-sorted n (omega arith))
+        sorted-fit edition n n sender (below n) (table-sorted n (omega arith))
         (anyBelow-hit (length (below n)) (λ i. eqb ((getD (below n) i noRecord) .station) sender) (a .at) (a .inside) (eq-eqb _ _ (a .is)))
 
     -- the frame of a table is read as the very records that the table sent
-    pub table-read : recordsOf (frameBytes n sender (tableRecords n held table)) ≡ tableRecords n held table
+    pub table-read : recordsOf (frameBytes edition n sender (tableRecords n held table)) ≡ tableRecords n held table
     unfolding tableRecords
     table-read =
-        read-written n sender (tableRecords n held table) few table-fits
+        read-written edition n sender (tableRecords n held table) few table-fits
         ∙ map-gather (framed n) n (λ j. getD held j false) (λ j. framed n (getD table j noRecord))
         ∙ gather-ext n (λ j. getD held j false) (λ j. getD held j false) (λ j. framed n (framed n (getD table j noRecord)))
         (λ j. framed n (getD table j noRecord))
@@ -162,5 +162,8 @@ module _ (n sender : ℕ) (held : List Bool) (table : List Record) (few : n ≤ 
         (λ k l. framed-twice n (getD table k noRecord))
 
     -- and every other station accepts it
-    pub table-accepted : (own : ℕ) → (sender ≡ own → ⊥) → frameRefusal (frameBytes n sender (tableRecords n held table)) n own ≡ done
-    table-accepted own other = written-accepted n sender (tableRecords n held table) few table-fits own other valid
+    pub table-accepted :
+        edition < 2 → (own : ℕ) → (sender ≡ own → ⊥) →
+        frameRefusal edition (frameBytes edition n sender (tableRecords n held table)) n own ≡ done
+    table-accepted known own other =
+        written-accepted edition n sender (tableRecords n held table) few table-fits own other valid known

@@ -4,7 +4,8 @@ use mathlib.Core.Bool.{Bool, false, cond, not, _&&_, _||_}
 use mathlib.Core.List.{List, _++_}
 use lib.ListN.{getD, drop, length, replicate}
 use lib.Dec.{ltb, eqb}
-use Rattle.kinds.specs.Refusals.{done, badNumber, badRecord, shortBuffer}
+use Rattle.kinds.specs.Refusals.{done, badNumber, badRecord, badEdition, shortBuffer}
+use Rattle.kind_limits.specs.Limits.{isEdition}
 use Rattle.places.specs.Places.{allBelow, fill, gather}
 use Rattle.frame_rules.specs.declared.Record.{Record}
 use Rattle.frame_rules.specs.declared.Reading.{Reading}
@@ -17,11 +18,11 @@ unfoldable pub entries : List ℕ → List Record
 entries bytes = fill (getD bytes 2 0) (λ k. recordFrom (part bytes k)) (replicate 16 noRecord)
 
 -- the answer to reading a frame: its records, or the refusal of the frame check and no record
-unfoldable pub reading : List ℕ → ℕ → ℕ → Reading
-reading bytes n own =
-    cond (eqb (checkRefusal bytes n own) done)
+unfoldable pub reading : ℕ → List ℕ → ℕ → ℕ → Reading
+reading edition bytes n own =
+    cond (eqb (checkRefusal edition bytes n own) done)
     (record { refusal = done; count = getD bytes 2 0; records = entries bytes })
-    (record { refusal = checkRefusal bytes n own; count = 0; records = replicate 16 noRecord })
+    (record { refusal = checkRefusal edition bytes n own; count = 0; records = replicate 16 noRecord })
 
 -- the records that a table holds of the first n stations, in their order, as a frame carries them
 unfoldable pub tableRecords : ℕ → List Bool → List Record → List Record
@@ -37,20 +38,21 @@ unfoldable pub bufferWith : List ℕ → List ℕ → List ℕ
 bufferWith frame buffer = cond (ltb (length buffer) (length frame)) buffer (frame ++ drop (length frame) buffer)
 
 -- the records at the held places may stand in a frame: each is of its place's station and inside the record limits, and the sender's is among them
-unfoldable pub tableFits : ℕ → ℕ → List Bool → List Record → Bool
-tableFits n sender held table =
-    allBelow n (λ k. not (getD held k false) || placeFits n k (getD table k noRecord)) && getD held sender false
+unfoldable pub tableFits : ℕ → ℕ → ℕ → List Bool → List Record → Bool
+tableFits edition n sender held table =
+    allBelow n (λ k. not (getD held k false) || placeFits edition n k (getD table k noRecord)) && getD held sender false
 
--- writing a frame judges N and the sender (1), then the records (7), then the buffer (9)
-unfoldable pub frameWritten : ℕ → ℕ → List Bool → List Record → ℕ → Written
-frameWritten n sender held table room =
+-- writing a frame judges N and the sender (1), the edition (17), then the records (7), then the buffer (9)
+unfoldable pub frameWritten : ℕ → ℕ → ℕ → List Bool → List Record → ℕ → Written
+frameWritten edition n sender held table room =
     cond (not (validNumber n sender)) (record { refusal = badNumber; len = 0 })
-    (cond (not (tableFits n sender held table)) (record { refusal = badRecord; len = 0 })
-    (written (frameBytes n sender (tableRecords n held table)) room))
+    (cond (not (isEdition edition)) (record { refusal = badEdition; len = 0 })
+    (cond (not (tableFits edition n sender held table)) (record { refusal = badRecord; len = 0 })
+    (written (frameBytes edition n sender (tableRecords n held table)) room)))
 
 -- the buffer afterwards: what is refused leaves it as it was
-unfoldable pub frameBuffer : ℕ → ℕ → List Bool → List Record → List ℕ → List ℕ
-frameBuffer n sender held table buffer =
-    cond (validNumber n sender && tableFits n sender held table)
-    (bufferWith (frameBytes n sender (tableRecords n held table)) buffer)
+unfoldable pub frameBuffer : ℕ → ℕ → ℕ → List Bool → List Record → List ℕ → List ℕ
+frameBuffer edition n sender held table buffer =
+    cond (validNumber n sender && isEdition edition && tableFits edition n sender held table)
+    (bufferWith (frameBytes edition n sender (tableRecords n held table)) buffer)
     buffer

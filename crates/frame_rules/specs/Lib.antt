@@ -2,4 +2,5 @@ pub mod Words
 pub mod Record
 pub mod Frame
 pub mod Calls
+pub mod Editions
 pub mod Inner

@@ -58,7 +58,7 @@ count-room n held k h e =
     let more = counted-more k held (heldCount k held) 1 refl (sym one) in
     omega (arith, more, count-mono n held (k + 1) (omega arith))
 
-module _ (n sender count : ℕ) (held : List Bool) (table : List Record) where
+module _ (edition n sender count : ℕ) (held : List Bool) (table : List Record) where
   -- the records at the held places below k
   abbrev recordsBelow : ℕ → List Record
   recordsBelow k = gather k (λ j. getD held j false) (λ j. framed n (getD table j noRecord))
@@ -76,7 +76,7 @@ module _ (n sender count : ℕ) (held : List Bool) (table : List Record) where
 
   -- the frame as far as it is written
   abbrev front : ℕ → List ℕ
-  front k = n ∷ sender ∷ count ∷ 0 ∷ recordsBytes n (recordsBelow k)
+  front k = n ∷ sender ∷ count ∷ edition ∷ recordsBytes n (recordsBelow k)
 
   front-length : (k : ℕ) → length (front k) ≡ 4 + 16 * heldCount k held
   front-length k = omega (arith, length-records n (recordsBelow k), count-is k)
@@ -87,11 +87,11 @@ module _ (n sender count : ℕ) (held : List Bool) (table : List Record) where
 
   -- the buffer with the four bytes of the head
   abbrev headed : List ℕ → List ℕ
-  headed l = set (set (set (set l 0 n) 1 sender) 2 count) 3 0
+  headed l = set (set (set (set l 0 n) 1 sender) 2 count) 3 edition
 
   headed-drop : (l : List ℕ) (m : ℕ) → 4 ≤ m → drop m (headed l) ≡ drop m l
   headed-drop l m h =
-      drop-set-lt m (set (set (set l 0 n) 1 sender) 2 count) 3 0 (omega arith)
+      drop-set-lt m (set (set (set l 0 n) 1 sender) 2 count) 3 edition (omega arith)
       ∙ drop-set-lt m (set (set l 0 n) 1 sender) 2 count (omega arith)
       ∙ drop-set-lt m (set l 0 n) 1 sender (omega arith)
       ∙ drop-set-lt m l 0 n (omega arith)
@@ -100,7 +100,7 @@ module _ (n sender count : ℕ) (held : List Bool) (table : List Record) where
   unfolding heldCount gather recordsBytes
   filled-none l h =
       record {
-        is = sets-eq (n ∷ sender ∷ count ∷ 0 ∷ []) l 0 h ∙ rw (headed-drop l 4 (omega arith));
+        is = sets-eq (n ∷ sender ∷ count ∷ edition ∷ []) l 0 h ∙ rw (headed-drop l 4 (omega arith));
       }
 
   module _ (old buffer : List ℕ) (k : ℕ) (f : Filled old k buffer) where
@@ -151,13 +151,13 @@ module _ (n sender count : ℕ) (held : List Bool) (table : List Record) where
         }
 
 -- what the call answers and leaves
-module _ (n sender : ℕ) (held : List Bool) (table : List Record) where
+module _ (edition n sender : ℕ) (held : List Bool) (table : List Record) where
   abbrev frame : List ℕ
-  frame = frameBytes n sender (tableRecords n held table)
+  frame = frameBytes edition n sender (tableRecords n held table)
 
   frame-length : length frame ≡ 4 + 16 * heldCount n held
   unfolding tableRecords
-  frame-length = length-frame n sender (tableRecords n held table) ∙ ap (λ (k : ℕ). 4 + 16 * k) (count-is n sender 0 held table n)
+  frame-length = length-frame edition n sender (tableRecords n held table) ∙ ap (λ (k : ℕ). 4 + 16 * k) (count-is edition n sender 0 held table n)
 
   module _ (count : ℕ) (right : count ≡ heldCount n held) (old : List ℕ) where
     module _ (h : length old < 4 + 16 * count) where
@@ -184,11 +184,11 @@ module _ (n sender : ℕ) (held : List Bool) (table : List Record) where
 
       pub done-buffer :
           (k : ℕ) (buffer : List ℕ) → k ≡ n →
-          Filled n sender count held table (set (set (set (set old 0 n) 1 sender) 2 count) 3 0) k buffer →
+          Filled edition n sender count held table (set (set (set (set old 0 n) 1 sender) 2 count) 3 edition) k buffer →
           buffer ≡ bufferWith frame old
       unfolding bufferWith frameBytes tableRecords
       done-buffer k buffer e f =
-          let past = headed-drop n sender count held table old (4 + 16 * heldCount k held) (omega arith) in
+          let past = headed-drop edition n sender count held table old (4 + 16 * heldCount k held) (omega arith) in
           let len : 4 + 16 * heldCount k held ≡ length frame = ap (λ (j : ℕ). 4 + 16 * heldCount j held) e ∙ sym frame-length in
-          let amount : count ≡ length (tableRecords n held table) = right ∙ sym (count-is n sender 0 held table n) in
+          let amount : count ≡ length (tableRecords n held table) = right ∙ sym (count-is edition n sender 0 held table n) in
           f .is ∙ rw (fits, past, len, e, amount)

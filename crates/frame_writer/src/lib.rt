@@ -11,7 +11,6 @@ use frame_rules::Record;
 use frame_rules::Written;
 use kinds::refusals::DONE;
 use kinds::refusals::SHORT_BUFFER;
-use record_writer::FRAME_MARK;
 
 // 1 where a place is held, else 0.
 fn one_if(held: bool) -> usize
@@ -34,18 +33,19 @@ fn held_count(held: [bool; 16], n: usize) -> usize
     count
 }
 
-// The frame that a sender among n stations makes of the records at the held places of a table.
+// The frame of an edition that a sender among n stations makes of the records at the held places of a table.
 pub fn write_table(
     buffer: &mut [u8],
     held: [bool; 16],
     table: [Record; 16],
+    edition: usize,
     n: usize,
     sender: usize,
 ) -> Written
-    requires { ⌜ (n ≤ 16) × (sender < 256) ⌝ }
+    requires { ⌜ (n ≤ 16) × (sender < 256) × (edition < 256) ⌝ }
     ensures { λ r.
-        ⌜ (r ≡ written (frameBytes n sender (tableRecords n held table)) (length (now (buffer .entry))))
-        × (now (buffer .exit) ≡ bufferWith (frameBytes n sender (tableRecords n held table)) (now (buffer .entry))) ⌝ }
+        ⌜ (r ≡ written (frameBytes edition n sender (tableRecords n held table)) (length (now (buffer .entry))))
+        × (now (buffer .exit) ≡ bufferWith (frameBytes edition n sender (tableRecords n held table)) (now (buffer .entry))) ⌝ }
 {
     let count = held_count(held, n);
     let len = 4 + 16 * count;
@@ -58,7 +58,7 @@ pub fn write_table(
     buffer[0] = n as u8;
     buffer[1] = sender as u8;
     buffer[2] = count as u8;
-    buffer[3] = FRAME_MARK;
+    buffer[3] = edition as u8;
     let mut at: usize = 4;
     let mut k: usize = 0;
     while k < n {

@@ -20,13 +20,13 @@ part-is bytes k =
     let e : 4 + 16 * k + 16 - (4 + 16 * k) ≡ 16 = omega arith in
     ap (λ (i : ℕ). take i (drop (4 + 16 * k) bytes)) e
 
-module _ (bytes : List ℕ) (n : ℕ) where
+module _ (edition : ℕ) (bytes : List ℕ) (n : ℕ) where
   -- record k is inside its limits, and its station above the one before it
   abbrev inOrder : ℕ → Bool
   inOrder k = eqb k 0 || ltb (recordStation bytes (pred k)) (recordStation bytes k)
 
   abbrev fine : ℕ → Bool
-  fine k = bytesInside n (part bytes k) && inOrder k
+  fine k = bytesInside edition n (part bytes k) && inOrder k
 
   abbrev sender's : ℕ → Bool
   sender's k = eqb (recordStation bytes k) (getD bytes 1 0)
@@ -55,7 +55,7 @@ module _ (bytes : List ℕ) (n : ℕ) where
   unfolding allBelow anyBelow
   checked-none = record { all = refl; hit = refl; next = refl }
 
-  module _ (k : ℕ) (found : Bool) (least : ℕ) (c : Checked k found least) (inside : bytesInside n (part bytes k) ≡ true) where
+  module _ (k : ℕ) (found : Bool) (least : ℕ) (c : Checked k found least) (inside : bytesInside edition n (part bytes k) ≡ true) where
     pub checked-more :
         (station sender : ℕ) → station ≡ recordStation bytes k → sender ≡ getD bytes 1 0 → least ≤ station →
         Checked (k + 1) (found || eqb station sender) (station + 1)
@@ -68,18 +68,18 @@ module _ (bytes : List ℕ) (n : ℕ) where
           next = refl;
         })
 
-    pub checked-order : k < getD bytes 2 0 → recordStation bytes k < least → false ≡ recordsInside bytes n
+    pub checked-order : k < getD bytes 2 0 → recordStation bytes k < least → false ≡ recordsInside edition bytes n
     unfolding recordsInside
     checked-order l h =
         let e : fine k ≡ false = ap₂ _&&_ inside (out-of-order k (rw (c .next) at h)) in
         rw (allBelow-fails (getD bytes 2 0) fine k l e)
 
-  pub checked-bytes : (k : ℕ) → k < getD bytes 2 0 → bytesInside n (part bytes k) ≡ false → false ≡ recordsInside bytes n
+  pub checked-bytes : (k : ℕ) → k < getD bytes 2 0 → bytesInside edition n (part bytes k) ≡ false → false ≡ recordsInside edition bytes n
   unfolding recordsInside
   checked-bytes k l h =
       let e : fine k ≡ false = rw h in
       rw (allBelow-fails (getD bytes 2 0) fine k l e)
 
-  pub checked-all : (k : ℕ) (found : Bool) (least : ℕ) → Checked k found least → k ≡ getD bytes 2 0 → found ≡ recordsInside bytes n
+  pub checked-all : (k : ℕ) (found : Bool) (least : ℕ) → Checked k found least → k ≡ getD bytes 2 0 → found ≡ recordsInside edition bytes n
   unfolding recordsInside
   checked-all k found least c e = rw (← e, c .all) (c .hit)

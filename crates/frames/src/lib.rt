@@ -7,17 +7,16 @@ ghost use lib.ListN.{length, getD};
 ghost use Rattle.frame_rules.specs.Record.{bytesInside};
 ghost use Rattle.frame_rules.specs.Frame.{shapeWrong, addressWrong, recordsInside, frameRefusal, checkRefusal};
 use kinds::refusals::BAD_ADDRESS;
+use kinds::refusals::BAD_EDITION;
 use kinds::refusals::BAD_NUMBER;
 use kinds::refusals::BAD_RECORD;
 use kinds::refusals::BAD_SHAPE;
 use kinds::refusals::DONE;
-use record_writer::FRAME_MARK;
-use record_writer::RECORD_MARK;
 
 // Are the sixteen bytes of a record inside its limits?
-fn record_inside(part: &[u8], n: usize) -> bool
+fn record_inside(part: &[u8], edition: usize, n: usize) -> bool
     requires { ⌜ (length (now part) ≡ 16) × (n ≤ 16) ⌝ }
-    ensures { λ r. ⌜ r ≡ bytesInside n (now (part .entry)) ⌝ }
+    ensures { λ r. ⌜ r ≡ bytesInside edition n (now (part .entry)) ⌝ }
 {
     if n <= record_reader::wide(part[0]) {
         return false;
@@ -30,7 +29,7 @@ fn record_inside(part: &[u8], n: usize) -> bool
     if !kind_limits::numbers_inside(part[2] as u32, event, argument) {
         return false;
     }
-    if part[3] != RECORD_MARK {
+    if !kind_limits::channel_inside(edition, part[2] as u32, part[3]) {
         return false;
     }
     label_words::word_inside(record_reader::word_at(part, 12), n)
@@ -50,17 +49,20 @@ fn shape_wrong(bytes: &[u8]) -> bool
     if 16 < count {
         return true;
     }
-    if bytes[3] != FRAME_MARK {
+    if 2 <= bytes[3] {
         return true;
     }
     bytes.len() != 4 + 16 * count
 }
 
-// Is the frame for another N, or from a sender that cannot be?
-fn address_wrong(bytes: &[u8], n: usize, own: usize) -> bool
+// Is the frame for another edition or another N, or from a sender that cannot be?
+fn address_wrong(bytes: &[u8], edition: usize, n: usize, own: usize) -> bool
     requires { ⌜ 4 ≤ length (now bytes) ⌝ }
-    ensures { λ r. ⌜ r ≡ addressWrong (now (bytes .entry)) n own ⌝ }
+    ensures { λ r. ⌜ r ≡ addressWrong edition (now (bytes .entry)) n own ⌝ }
 {
+    if record_reader::wide(bytes[3]) != edition {
+        return true;
+    }
     if record_reader::wide(bytes[0]) != n {
         return true;
     }
@@ -73,9 +75,9 @@ fn address_wrong(bytes: &[u8], n: usize, own: usize) -> bool
 
 // Are the records of a frame inside their limits, stations strictly ascending, the sender's among them? `least` is the least
 // station that the next record may be of.
-fn records_inside(bytes: &[u8], n: usize) -> bool
+fn records_inside(bytes: &[u8], edition: usize, n: usize) -> bool
     requires { ⌜ (length (now bytes) ≡ 4 + 16 * getD (now bytes) 2 0) × (n ≤ 16) ⌝ }
-    ensures { λ r. ⌜ r ≡ recordsInside (now (bytes .entry)) n ⌝ }
+    ensures { λ r. ⌜ r ≡ recordsInside edition (now (bytes .entry)) n ⌝ }
 {
     let count = record_reader::wide(bytes[2]);
     let sender = record_reader::wide(bytes[1]);
@@ -85,7 +87,7 @@ fn records_inside(bytes: &[u8], n: usize) -> bool
     while k < count {
         let at = 4 + 16 * k;
         let part = &bytes[at..at + 16];
-        if !record_inside(part, n) {
+        if !record_inside(part, edition, n) {
             return false;
         }
         let station = record_reader::wide(part[0]);
@@ -100,25 +102,25 @@ fn records_inside(bytes: &[u8], n: usize) -> bool
 }
 
 // What hearing judges of a frame: 5, 6, 7, in this order.
-pub fn frame_refusal(bytes: &[u8], n: usize, own: usize) -> u32
+pub fn frame_refusal(bytes: &[u8], edition: usize, n: usize, own: usize) -> u32
     requires { ⌜ n ≤ 16 ⌝ }
-    ensures { λ r. ⌜ r ≡ frameRefusal (now (bytes .entry)) n own ⌝ }
+    ensures { λ r. ⌜ r ≡ frameRefusal edition (now (bytes .entry)) n own ⌝ }
 {
     if shape_wrong(bytes) {
         return BAD_SHAPE;
     }
-    if address_wrong(bytes, n, own) {
+    if address_wrong(bytes, edition, n, own) {
         return BAD_ADDRESS;
     }
-    if records_inside(bytes, n) {
+    if records_inside(bytes, edition, n) {
         return DONE;
     }
     BAD_RECORD
 }
 
-// The frame check: 1, then what hearing judges.
-pub fn check_frame(bytes: &[u8], n: usize, own: usize) -> u32
-    ensures { λ r. ⌜ r ≡ checkRefusal (now (bytes .entry)) n own ⌝ }
+// The frame check: 1, 17, then what hearing judges.
+pub fn check_frame(bytes: &[u8], edition: usize, n: usize, own: usize) -> u32
+    ensures { λ r. ⌜ r ≡ checkRefusal edition (now (bytes .entry)) n own ⌝ }
 {
     if n < 1 {
         return BAD_NUMBER;
@@ -129,5 +131,8 @@ pub fn check_frame(bytes: &[u8], n: usize, own: usize) -> u32
     if n <= own {
         return BAD_NUMBER;
     }
-    frame_refusal(bytes, n, own)
+    if 2 <= edition {
+        return BAD_EDITION;
+    }
+    frame_refusal(bytes, edition, n, own)
 }

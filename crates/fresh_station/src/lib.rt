@@ -1,4 +1,4 @@
-// The fresh station, and what it is given where no limit is named.
+// The fresh station, and what it is given where neither limit nor edition is named.
 
 ghost use mathlib.Core.Path.{_≡_};
 ghost use Prim.Native.Nat.{_<_};
@@ -44,6 +44,7 @@ pub fn fresh_station(setup: Setup, own: usize) -> Station
     Station {
         n: setup.n,
         own: own,
+        edition: setup.edition,
         waiting: waiting,
         acked: acked,
         body: Body::Empty,
@@ -55,12 +56,13 @@ pub fn fresh_station(setup: Setup, own: usize) -> Station
     }
 }
 
-// What is given where no limit is named.
+// What is given where neither limit nor edition is named.
 pub fn sized(n: usize) -> Setup
     ensures { λ r. ⌜ r ≡ sized n ⌝ }
 {
     Setup {
         n,
         limit: DEFAULT_LIMIT,
+        edition: 0,
     }
 }

@@ -7,6 +7,7 @@ ghost use Rattle.group_rules.specs.State.{freshGroup};
 ghost use Rattle.group_rules.specs.Calls.{groupFreshCall, groupPostCall};
 use group_rules::KeptGroup;
 use group_rules::Post;
+use kinds::refusals::BAD_EDITION;
 use kinds::refusals::BAD_LIMIT;
 use kinds::refusals::BAD_NUMBER;
 use kinds::refusals::DONE;
@@ -20,8 +21,12 @@ fn fresh_group(setup: Setup) -> [Station; 16]
     requires { ⌜ setup .n ≤ 16 ⌝ }
     ensures { λ r. ⌜ r ≡ freshGroup setup ⌝ }
 {
-    let limit = DEFAULT_LIMIT;
-    let other = fresh_station::fresh_station(Setup { n: 1, limit }, 0);
+    let alone = Setup {
+        n: 1,
+        limit: DEFAULT_LIMIT,
+        edition: 0,
+    };
+    let other = fresh_station::fresh_station(alone, 0);
     let mut group = [other; 16];
     let mut k: usize = 0;
     while k < setup.n {
@@ -31,13 +36,14 @@ fn fresh_group(setup: Setup) -> [Station; 16]
     group
 }
 
-// Group fresh, with a limit named: the group, as it begins.
+// Group fresh, with a limit and an edition named: the group, as it begins.
 pub fn fresh_limited(setup: Setup) -> KeptGroup
     ensures { λ r. ⌜ r ≡ groupFreshCall setup ⌝ }
 {
     let alone = Setup {
         n: 1,
         limit: DEFAULT_LIMIT,
+        edition: 0,
     };
     if !numbers::valid_number(setup.n, 0) {
         let group = fresh_group(alone);
@@ -53,6 +59,13 @@ pub fn fresh_limited(setup: Setup) -> KeptGroup
             group: group,
         };
     }
+    if !numbers::is_edition(setup.edition) {
+        let group = fresh_group(alone);
+        return KeptGroup {
+            refusal: BAD_EDITION,
+            group: group,
+        };
+    }
     let group = fresh_group(setup);
     KeptGroup {
         refusal: DONE,
@@ -60,7 +73,7 @@ pub fn fresh_limited(setup: Setup) -> KeptGroup
     }
 }
 
-// Group fresh, with no limit named.
+// Group fresh, with neither named.
 pub fn fresh(n: usize) -> KeptGroup
     ensures { λ r. ⌜ r ≡ groupFreshCall (sized n) ⌝ }
 {

@@ -21,24 +21,33 @@ use Rattle.station_rules.specs.State.{recordOf}
 use Rattle.station_rules.specs.Calls.{ownCountInside, frameOf}
 use Rattle.station_rules.proofs.StationLimits.{Inside, inside-open}
 use Rattle.station_rules.proofs.WriteSteps.{frame-is}
-use Rattle.group_rules.specs.State.{stationAt, sizeOf, memberInside}
+use Rattle.group_rules.specs.State.{stationAt, sizeOf, editionOf, memberInside}
 use Rattle.group_frames.specs.Frames.{sendRefusal, partAfter, bytesAfter, worse, judgedBelow}
 
--- s is a station of a group of n, with number k, inside its limits
-abbrev pub member : ℕ → ℕ → Station → Bool
-member n k s = stationInside s && (eqb (s .n) n && eqb (s .own) k)
+-- s is a station of a group of n in an edition, with number k, inside its limits
+abbrev pub member : ℕ → ℕ → ℕ → Station → Bool
+member edition n k s = stationInside s && (eqb (s .n) n && eqb (s .edition) edition && eqb (s .own) k)
 
 -- one station
-module _ (n k : ℕ) (s : Station) where
-  module _ (m : member n k s ≡ true) where
+module _ (edition n k : ℕ) (s : Station) where
+  module _ (m : member edition n k s ≡ true) where
     inside : Inside s
     inside = inside-open s (and-left (stationInside s) _ m)
 
+    numbers : (eqb (s .n) n && eqb (s .edition) edition && eqb (s .own) k) ≡ true
+    numbers = and-right (stationInside s) _ m
+
+    front : (eqb (s .n) n && eqb (s .edition) edition) ≡ true
+    front = and-left (eqb (s .n) n && eqb (s .edition) edition) (eqb (s .own) k) numbers
+
     size : s .n ≡ n
-    size = eqb-true (s .n) n (and-left (eqb (s .n) n) _ (and-right (stationInside s) _ m))
+    size = eqb-true (s .n) n (and-left (eqb (s .n) n) (eqb (s .edition) edition) front)
+
+    agreed : s .edition ≡ edition
+    agreed = eqb-true (s .edition) edition (and-right (eqb (s .n) n) (eqb (s .edition) edition) front)
 
     own : s .own ≡ k
-    own = eqb-true (s .own) k (and-right (eqb (s .n) n) _ (and-right (stationInside s) _ m))
+    own = eqb-true (s .own) k (and-right (eqb (s .n) n && eqb (s .edition) edition) (eqb (s .own) k) numbers)
 
     pub low : 1 ≤ n
     low = omega (arith, inside .low, size)
@@ -49,31 +58,31 @@ module _ (n k : ℕ) (s : Station) where
     pub below : k < 16
     below = omega (arith, inside .own, inside .high, own)
 
-    pub may-write : (n ≤ 16) × (k < 256)
-    may-write = (high, omega (arith, below))
+    pub may-write : (n ≤ 16) × (k < 256) × (edition < 256)
+    may-write = (high, omega (arith, below), omega (arith, inside .known, agreed))
 
     count-is : ownCountInside s ≡ countInside n ((recordOf s k) .count)
     count-is i = countInside (size i) ((recordOf s (own i)) .count)
 
-    frame : frameBytes n k (tableRecords n (s .held) (s .table)) ≡ frameOf s
-    frame = sym (λ i. frameBytes (size i) (own i) (tableRecords (size i) (s .held) (s .table))) ∙ frame-is s
+    frame : frameBytes edition n k (tableRecords n (s .held) (s .table)) ≡ frameOf s
+    frame = sym (λ i. frameBytes (agreed i) (size i) (own i) (tableRecords (size i) (s .held) (s .table))) ∙ frame-is s
 
-  pub part-frame : (part : List ℕ) → sendRefusal n k s ≡ 0 → partAfter n k s part ≡ bufferWith (frameOf s) part
+  pub part-frame : (part : List ℕ) → sendRefusal edition n k s ≡ 0 → partAfter edition n k s part ≡ bufferWith (frameOf s) part
   unfolding partAfter
   part-frame part e = rw e
 
-  part-kept : (part : List ℕ) → (sendRefusal n k s ≡ 0 → ⊥) → partAfter n k s part ≡ part
+  part-kept : (part : List ℕ) → (sendRefusal edition n k s ≡ 0 → ⊥) → partAfter edition n k s part ≡ part
   unfolding partAfter
-  part-kept part d = rw (ne-eqb (sendRefusal n k s) 0 d)
+  part-kept part d = rw (ne-eqb (sendRefusal edition n k s) 0 d)
 
   module _ (b : List ℕ) where
     abbrev rest : List ℕ
     rest = drop (260 * k) b
 
     abbrev Sent : ℕ → List ℕ → Type 0
-    Sent r after = (r ≡ sendRefusal n k s) × (after ≡ bytesAfter n k s b)
+    Sent r after = (r ≡ sendRefusal edition n k s) × (after ≡ bytesAfter edition n k s b)
 
-    refused : (r : ℕ) → (r ≡ 0 → ⊥) → r ≡ sendRefusal n k s → Sent r b
+    refused : (r : ℕ) → (r ≡ 0 → ⊥) → r ≡ sendRefusal edition n k s → Sent r b
     refused r d e = (
       e,
       sym
@@ -82,18 +91,18 @@ module _ (n k : ℕ) (s : Station) where
           ∙ take-append-drop (260 * k) b),
     )
 
-    pub send-outside : member n k s ≡ false → Sent 2 b
+    pub send-outside : member edition n k s ≡ false → Sent 2 b
     unfolding sendRefusal
     send-outside m = refused 2 (λ e. absurd (omega arith)) (rw m)
 
-    pub send-count : member n k s ≡ true → countInside n ((recordOf s k) .count) ≡ false → Sent 10 b
+    pub send-count : member edition n k s ≡ true → countInside n ((recordOf s k) .count) ≡ false → Sent 10 b
     unfolding sendRefusal
     send-count m e = refused 10 (λ z. absurd (omega arith)) (rw (m, count-is m ∙ e))
 
     -- the part as it was written
-    module _ (m : member n k s ≡ true) (fits : countInside n ((recordOf s k) .count) ≡ true) (w : ℕ) (size : w ≡ 260) (made : List ℕ)
-        (is : made ≡ bufferWith (frameBytes n k (tableRecords n (s .held) (s .table))) (take w rest)) where
-      done : 0 ≡ sendRefusal n k s
+    module _ (m : member edition n k s ≡ true) (fits : countInside n ((recordOf s k) .count) ≡ true) (w : ℕ) (size : w ≡ 260) (made : List ℕ)
+        (is : made ≡ bufferWith (frameBytes edition n k (tableRecords n (s .held) (s .table))) (take w rest)) where
+      done : 0 ≡ sendRefusal edition n k s
       unfolding sendRefusal
       done = rw (m, count-is m ∙ fits)
 
@@ -115,9 +124,9 @@ length-with f b = go (ltb (length b) (length f)) refl
     go false e =
         omega (arith, length-append f (drop (length f) b), length-drop (length f) b, ltb-false (length b) (length f) e)
 
-pub length-after : (n k : ℕ) (s : Station) (b : List ℕ) → length (partAfter n k s b) ≡ length b
+pub length-after : (edition n k : ℕ) (s : Station) (b : List ℕ) → length (partAfter edition n k s b) ≡ length b
 unfolding partAfter
-length-after n k s b = go (eqb (sendRefusal n k s) 0)
+length-after edition n k s b = go (eqb (sendRefusal edition n k s) 0)
   where
     go : (t : Bool) → length (cond t (bufferWith (frameOf s) b) b) ≡ length b
     go true = length-with (frameOf s) b
@@ -156,7 +165,7 @@ module _ (g : List Station) where
   unfolding judgedBelow allBelow
   judged-none = refl
 
-  pub judged-more : (k : ℕ) → worse (judgedBelow g k) (sendRefusal (sizeOf g) k (stationAt g k)) ≡ judgedBelow g (k + 1)
+  pub judged-more : (k : ℕ) → worse (judgedBelow g k) (sendRefusal (editionOf g) (sizeOf g) k (stationAt g k)) ≡ judgedBelow g (k + 1)
   unfolding judgedBelow sendRefusal allBelow
   judged-more k =
       rw (add-one k)

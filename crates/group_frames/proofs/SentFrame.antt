@@ -30,19 +30,19 @@ module _ (s : Station) (c : Inside s) where
   abbrev records : List Record
   records = tableRecords (s .n) (s .held) (s .table)
 
-  pub frame-is : frameOf s ≡ frameBytes (s .n) (s .own) records
+  pub frame-is : frameOf s ≡ frameBytes (s .edition) (s .n) (s .own) records
   unfolding cellOf frameOf sentRecords tableRecords
   frame-is = refl
 
   module _ (fits : ownCountInside s ≡ true) where
     frame-length : length (frameOf s) ≡ 4 + 16 * length records
-    frame-length = ap length frame-is ∙ length-frame (s .n) (s .own) records
+    frame-length = ap length frame-is ∙ length-frame (s .edition) (s .n) (s .own) records
 
     records-few : length records ≤ 16
     unfolding cellOf
     records-few =
-        at-most (s .n) (s .own) records (c .high)
-        (table-fits (s .n) (s .own) (s .held) (s .table) (c .high) (place s c fits) (record-fits s c fits) (c .held) (c .own))
+        at-most (s .edition) (s .n) (s .own) records (c .high)
+        (table-fits (s .edition) (s .n) (s .own) (s .held) (s .table) (c .high) (place s c fits) (record-fits s c fits) (c .held) (c .own))
 
     pub frame-fits : length (frameOf s) ≤ 260
     frame-fits = omega (arith, frame-length, records-few)
@@ -51,14 +51,14 @@ module _ (s : Station) (c : Inside s) where
     unfolding cellOf frameOf sentRecords tableRecords frameBytes
     amount = refl
 
-    inside-parts : (k : ℕ) → k < length records → bytesInside (s .n) (part (frameOf s) k) ≡ true
+    inside-parts : (k : ℕ) → k < length records → bytesInside (s .edition) (s .n) (part (frameOf s) k) ≡ true
     unfolding recordsInside
     inside-parts k l =
         let ok =
-        accepted-frame (frameOf s) (s .n) (suc (s .own))
+        accepted-frame (s .edition) (frameOf s) (s .n) (suc (s .own))
         (sent-accepted s c fits (suc (s .own)) (λ e. absurd (omega arith)))
         .records-right in
-        and-left (bytesInside (s .n) (part (frameOf s) k)) _ (allBelow-at (getD (frameOf s) 2 0) _ (and-left _ _ ok) k (rw amount l))
+        and-left (bytesInside (s .edition) (s .n) (part (frameOf s) k)) _ (allBelow-at (getD (frameOf s) 2 0) _ (and-left _ _ ok) k (rw amount l))
 
     -- each part is what is written of its record
     part-read : (k : ℕ) → k < length records → recordFrom (part (frameOf s) k) ≡ getD records k noRecord
@@ -69,7 +69,7 @@ module _ (s : Station) (c : Inside s) where
 
     written-part : (k : ℕ) → k < length records → recordBytes (s .n) (recordFrom (part (frameOf s) k)) ≡ part (frameOf s) k
     written-part k l =
-        ap (recordBytes (s .n)) (part-read k l) ∙ sym (part-of-frame (s .n) (s .own) records k l)
+        ap (recordBytes (s .n)) (part-read k l) ∙ sym (part-of-frame (s .edition) (s .n) (s .own) records k l)
         ∙ ap (λ (f : List ℕ). part f k) (sym frame-is)
 
     -- where the frame stands
@@ -124,7 +124,7 @@ module _ (s : Station) (c : Inside s) where
             stations =
                 λ r l.
                 let low : r < length records = rw size-is at l in
-                let h = bytes-open (s .n) (part (frameOf s) r) (inside-parts r low) .station in
+                let h = bytes-open (s .edition) (s .n) (part (frameOf s) r) (inside-parts r low) .station in
                 omega (arith, n-is, h, sym (station-is r) ∙ ap (λ (p : List ℕ). getD p 0 0) (part-is r low));
             written =
                 λ r l.

@@ -14,7 +14,7 @@ use Rattle.frame_rules.specs.Calls.{bufferWith}
 use Rattle.places.proofs.Laws.{allBelow-at}
 use Rattle.station_rules.specs.declared.Station.{Station}
 use Rattle.station_rules.specs.Calls.{frameOf, ownCountInside}
-use Rattle.group_rules.specs.State.{stationAt, sizeOf, memberInside, groupInside}
+use Rattle.group_rules.specs.State.{stationAt, sizeOf, editionOf, memberInside, groupInside}
 use Rattle.group_frames.specs.Frames.{FramesBelow, sendRefusal, partAfter, bytesAfter, worse, judgedBelow}
 use Rattle.group_rules.proofs.Members.{member-open}
 use Rattle.group_limits.proofs.GroupLimits.{group-judged}
@@ -122,27 +122,27 @@ module _ (g : List Station) where
       (allBelow-at m (λ k. ownCountInside (stationAt g k)) (r .1) i l)
 
   module _ (k : ℕ) (below : k < 16) (refusal : ℕ) (bytes : List ℕ) (old : SentBelow g k refusal bytes)
-      (after : List ℕ) (after-is : after ≡ bytesAfter (sizeOf g) k (stationAt g k) bytes) (all : ℕ)
-      (all-is : all ≡ worse refusal (sendRefusal (sizeOf g) k (stationAt g k))) where
+      (after : List ℕ) (after-is : after ≡ bytesAfter (editionOf g) (sizeOf g) k (stationAt g k) bytes) (all : ℕ)
+      (all-is : all ≡ worse refusal (sendRefusal (editionOf g) (sizeOf g) k (stationAt g k))) where
     abbrev made : List ℕ
-    made = partAfter (sizeOf g) k (stationAt g k) (part k bytes)
+    made = partAfter (editionOf g) (sizeOf g) k (stationAt g k) (part k bytes)
 
     after-length : length after ≡ 4160
     after-length =
         ap length after-is
         ∙ whole-length k below bytes (old .long) made
-        (length-after (sizeOf g) k (stationAt g k) (part k bytes) ∙ part-length k below bytes (old .long))
+        (length-after (editionOf g) (sizeOf g) k (stationAt g k) (part k bytes) ∙ part-length k below bytes (old .long))
 
     all-judged : all ≡ judgedBelow g (k + 1)
-    all-judged = all-is ∙ ap (λ (r : ℕ). worse r (sendRefusal (sizeOf g) k (stationAt g k))) (old .judged) ∙ judged-more g k
+    all-judged = all-is ∙ ap (λ (r : ℕ). worse r (sendRefusal (editionOf g) (sizeOf g) k (stationAt g k))) (old .judged) ∙ judged-more g k
 
     all-frames : all ≡ 0 → FramesBelow g (k + 1) after
     all-frames e =
-        let r = worse-done refusal (sendRefusal (sizeOf g) k (stationAt g k)) (sym all-is ∙ e) in
+        let r = worse-done refusal (sendRefusal (editionOf g) (sizeOf g) k (stationAt g k)) (sym all-is ∙ e) in
         subst (FramesBelow g (k + 1)) (sym after-is)
         (frames-more g k below bytes (old .frames (r .0))
         (λ i l. fits-below (k + 1) (sym all-judged ∙ e) i (omega arith))
-        made (part-frame (sizeOf g) k (stationAt g k) (part k bytes) (r .1)))
+        made (part-frame (editionOf g) (sizeOf g) k (stationAt g k) (part k bytes) (r .1)))
 
     pub sent-more : SentBelow g (k + 1) all after
     sent-more = record { long = after-length; judged = all-judged; frames = all-frames }

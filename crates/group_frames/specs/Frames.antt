@@ -16,21 +16,21 @@ use Rattle.hearing_spec.specs.Buffer.{sizeIn, frameStart}
 use Rattle.hearing_spec.specs.Room.{FrameRoom}
 use Rattle.group_rules.specs.State.{stationAt, memberInside}
 
--- what a round judges of station k of a group of n before its frame is written: 2, 10
-unfoldable pub sendRefusal : ℕ → ℕ → Station → ℕ
-sendRefusal n k s =
-    refuse (not (stationInside s && (eqb (s .n) n && eqb (s .own) k))) outsideLimits
+-- what a round judges of station k of a group of n in an edition before its frame is written: 2, 10
+unfoldable pub sendRefusal : ℕ → ℕ → ℕ → Station → ℕ
+sendRefusal edition n k s =
+    refuse (not (stationInside s && (eqb (s .n) n && eqb (s .edition) edition && eqb (s .own) k))) outsideLimits
     (refuse (not (ownCountInside s)) countTooHigh done)
 
 -- its part of the bytes afterwards: its frame and then what stood past it, or as it was
-unfoldable pub partAfter : ℕ → ℕ → Station → List ℕ → List ℕ
-partAfter n k s part = cond (eqb (sendRefusal n k s) done) (bufferWith (frameOf s) part) part
+unfoldable pub partAfter : ℕ → ℕ → ℕ → Station → List ℕ → List ℕ
+partAfter edition n k s part = cond (eqb (sendRefusal edition n k s) done) (bufferWith (frameOf s) part) part
 
 -- all the bytes afterwards: the others stay
-abbrev pub bytesAfter : ℕ → ℕ → Station → List ℕ → List ℕ
-bytesAfter n k s bytes =
+abbrev pub bytesAfter : ℕ → ℕ → ℕ → Station → List ℕ → List ℕ
+bytesAfter edition n k s bytes =
     let rest = drop (frameStart k) bytes in
-    take (frameStart k) bytes ++ (partAfter n k s (take 260 rest) ++ drop 260 rest)
+    take (frameStart k) bytes ++ (partAfter edition n k s (take 260 rest) ++ drop 260 rest)
 
 -- of the refusals of two stations the one that the round answers: 2 before 10, and 10 before none
 unfoldable pub worse : ℕ → ℕ → ℕ

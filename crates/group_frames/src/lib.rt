@@ -9,13 +9,13 @@ use kinds::refusals::DONE;
 use kinds::refusals::OUTSIDE_LIMITS;
 use station_rules::Station;
 
-// Writes the frame of station k of a group of n into its part of the bytes; where it may not be
-// written, answers why.
-fn write_part(bytes: &mut [u8], s: Station, n: usize, k: usize) -> u32
+// Writes the frame of station k of a group of n in an edition into its part of the bytes; where it may
+// not be written, answers why.
+fn write_part(bytes: &mut [u8], s: Station, edition: usize, n: usize, k: usize) -> u32
     requires { ⌜ length (now bytes) ≡ 4160 ⌝ }
-    ensures { λ r. ⌜ (r ≡ spec.sendRefusal n k s) × (now (bytes .exit) ≡ spec.bytesAfter n k s (now (bytes .entry))) ⌝ }
+    ensures { λ r. ⌜ (r ≡ spec.sendRefusal edition n k s) × (now (bytes .exit) ≡ spec.bytesAfter edition n k s (now (bytes .entry))) ⌝ }
 {
-    if !group_limits::member_inside(s, n, k) {
+    if !group_limits::member_inside(s, edition, n, k) {
         return OUTSIDE_LIMITS;
     }
     let record = s.table[k];
@@ -25,7 +25,7 @@ fn write_part(bytes: &mut [u8], s: Station, n: usize, k: usize) -> u32
     let held = s.held;
     let table = s.table;
     let at = FRAME_ROOM * k;
-    frame_writer::write_table(&mut bytes[at..at + FRAME_ROOM], held, table, n, k);
+    frame_writer::write_table(&mut bytes[at..at + FRAME_ROOM], held, table, edition, n, k);
     DONE
 }
 
@@ -42,13 +42,13 @@ fn worse(a: u32, b: u32) -> u32
     b
 }
 
-// Writes the frame of station k of a group of n, where it may be written; gives the refusal of the
-// round, which was `refusal` before this station.
-pub fn send(bytes: &mut [u8], s: Station, n: usize, k: usize, refusal: u32) -> u32
+// Writes the frame of station k of a group of n in an edition, where it may be written; gives the
+// refusal of the round, which was `refusal` before this station.
+pub fn send(bytes: &mut [u8], s: Station, edition: usize, n: usize, k: usize, refusal: u32) -> u32
     requires { ⌜ length (now bytes) ≡ 4160 ⌝ }
     ensures { λ r.
-        ⌜ (r ≡ spec.worse refusal (spec.sendRefusal n k s)) × (now (bytes .exit) ≡ spec.bytesAfter n k s (now (bytes .entry))) ⌝ }
+        ⌜ (r ≡ spec.worse refusal (spec.sendRefusal edition n k s)) × (now (bytes .exit) ≡ spec.bytesAfter edition n k s (now (bytes .entry))) ⌝ }
 {
-    let judged = write_part(bytes, s, n, k);
+    let judged = write_part(bytes, s, edition, n, k);
     worse(refusal, judged)
 }

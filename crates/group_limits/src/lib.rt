@@ -7,11 +7,14 @@ ghost use Rattle.station_rules.specs.Limits.{stationInside};
 ghost use Rattle.group_rules.specs.State.{groupInside};
 use station_rules::Station;
 
-// Is s inside its limits, of a group of n, and its number k?
-pub fn member_inside(s: Station, n: usize, k: usize) -> bool
-    ensures { λ r. ⌜ r ≡ (stationInside s && (eqb (s .n) n && eqb (s .own) k)) ⌝ }
+// Is s inside its limits, of a group of n in an edition, and its number k?
+pub fn member_inside(s: Station, edition: usize, n: usize, k: usize) -> bool
+    ensures { λ r. ⌜ r ≡ (stationInside s && (eqb (s .n) n && eqb (s .edition) edition && eqb (s .own) k)) ⌝ }
 {
     if s.n != n {
+        return false;
+    }
+    if s.edition != edition {
         return false;
     }
     if s.own != k {
@@ -20,12 +23,13 @@ pub fn member_inside(s: Station, n: usize, k: usize) -> bool
     station_limits::station_inside(s)
 }
 
-// Is each station of the group inside its limits, of the group's N, and its number its place?
+// Is each station of the group inside its limits, of the group's N and edition, and its number its place?
 pub fn group_inside(g: [Station; 16]) -> bool
     ensures { λ r. ⌜ r ≡ groupInside g ⌝ }
 {
     let first = g[0];
     let n = first.n;
+    let edition = first.edition;
     if n < 1 {
         return false;
     }
@@ -34,7 +38,7 @@ pub fn group_inside(g: [Station; 16]) -> bool
     }
     let mut k: usize = 0;
     while k < n {
-        if !member_inside(g[k], n, k) {
+        if !member_inside(g[k], edition, n, k) {
             return false;
         }
         k += 1;

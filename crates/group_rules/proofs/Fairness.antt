@@ -47,7 +47,7 @@ module _ (n p d : ℕ) (below : p < n) (desk : isDesk d ≡ true) where
 
   -- as many wait as the list of them is long
   pub count-waits : (H : History) → Members n (H .group) → length (waits (H .group) p d) ≡ waitingAtDesk H p d
-  count-waits H c = edits-count ((stationAt (H .group) p) .waiting) (c .member p below .inside .waiting) d
+  count-waits H c = edits-count (stationAt (H .group) p .edition) ((stationAt (H .group) p) .waiting) (c .member p below .inside .waiting) d
 
   module _ (H : History) (c : Members n (H .group)) where
     post-step : (x : Post) → Step H (next H (post x))

@@ -28,7 +28,7 @@ members-continued n H (call ∷ calls) c = members-continued n (next H call) cal
 
 pub members-begun : (setup : Setup) → Accepts setup → Members (setup .n) ((begun setup) .group)
 unfolding begun
-members-begun setup ok = fresh-members setup (ok .high) (ok .low) (ok .limited)
+members-begun setup ok = fresh-members setup (ok .high) (ok .low) (ok .limited) (ok .known)
 
 module _ (setup : Setup) (ok : Accepts setup) (calls : List Call) where
   abbrev n : ℕ
@@ -46,7 +46,7 @@ module _ (setup : Setup) (ok : Accepts setup) (calls : List Call) where
       let member = history-members .member p l in
       let station = stationAt ((historyOf setup calls) .group) p in
       go (eqb s (station .own))
-      (lane-most (cond (eqb s (station .own)) 1 2) (laneAt station s) (member .inside .places s (omega (arith, member .size)) .lane))
+      (lane-most (station .edition) (cond (eqb s (station .own)) 1 2) (laneAt station s) (member .inside .places s (omega (arith, member .size)) .lane))
     where
       go : (t : Bool) → {len : ℕ} → len ≤ cond t 1 2 → len ≤ 2
       go true h = omega arith

@@ -1,4 +1,5 @@
--- Isolation: in a group inside its limits a post is judged by its own numbers, N, the limit of its station, and how many edits of its own desk wait there.
+-- Isolation: in a group inside its limits a post is judged by its own numbers, N, the edition, the limit of its station, and
+-- how many edits of its own desk wait there.
 use Prim.Native.Nat.{ℕ, _<_}
 use mathlib.Core.Bool.{Bool, true, false, cond, not}
 use mathlib.Core.Path.{_≡_, refl, sym, ap, _∙_}
@@ -6,8 +7,8 @@ use native.Mathlib.Omega.{arith}
 use lib.Dec.{ltb}
 use lib.ListN.{length}
 use borrow.Author.Tests.{ltb-true}
-use Rattle.kinds.specs.Refusals.{badNumber, notAnEdit, badDesk, queueFull, done, refuse}
-use Rattle.kind_limits.specs.Limits.{postable}
+use Rattle.kinds.specs.Refusals.{badNumber, notAnEdit, badDesk, badEdition, queueFull, done, refuse}
+use Rattle.kind_limits.specs.Limits.{postable, onChannel}
 use Rattle.lanes.specs.Waiting.{isDesk, hasRoom}
 use Rattle.lanes.proofs.WaitingLaws.{edits-count, room-same}
 use Rattle.station_rules.specs.Calls.{postRefusal}
@@ -18,7 +19,7 @@ use Rattle.group_rules.proofs.Members.{member-at}
 
 pub isolated : Isolated
 unfolding groupPostRefusal
-isolated g h x ig ih size limit edits = rw (ig, ih, size) (go (ltb (x .station) (sizeOf h)) refl)
+isolated g h x ig ih size edition limit edits = rw (ig, ih, size) (go (ltb (x .station) (sizeOf h)) refl)
   where
     go :
         (t : Bool) → ltb (x .station) (sizeOf h) ≡ t →
@@ -29,9 +30,14 @@ isolated g h x ig ih size limit edits = rw (ig, ih, size) (go (ltb (x .station) 
         let v = (stationAt g (x .station)) .waiting in
         let w = (stationAt h (x .station)) .waiting in
         let counts =
-        sym (edits-count v (member-at g ig (x .station) (omega arith) .inside .waiting) (x .desk))
+        sym (edits-count (stationAt g (x .station) .edition) v (member-at g ig (x .station) (omega arith) .inside .waiting) (x .desk))
         ∙ ap length edits
-        ∙ edits-count w (member-at h ih (x .station) below .inside .waiting) (x .desk) in
-        ap (λ (room : Bool). refuse (not (isDesk (x .desk))) badDesk (refuse (not (postable (x .body))) notAnEdit (refuse (not room) queueFull done)))
-        (room-same v w (x .desk) limit counts)
+        ∙ edits-count (stationAt h (x .station) .edition) w (member-at h ih (x .station) below .inside .waiting) (x .desk) in
+        let same : stationAt g (x .station) .edition ≡ stationAt h (x .station) .edition =
+        member-at g ig (x .station) (omega arith) .edition ∙ edition ∙ sym (member-at h ih (x .station) below .edition) in
+        let room = room-same v w (x .desk) limit counts in
+        (λ i.
+        refuse (not (isDesk (x .desk))) badDesk
+        (refuse (not (postable (x .body))) notAnEdit
+        (refuse (not (onChannel (same i) (x .body))) badEdition (refuse (not (room i)) queueFull done))))
     go false e = refl

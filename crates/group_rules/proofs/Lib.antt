@@ -8,6 +8,7 @@ pub mod FirstRefusal
 pub mod MembersRound
 pub mod CallSteps
 pub mod HistoryInside
+pub mod EditionKept
 -- accepted posts: in a turn, and over a list of calls
 pub mod Takings
 pub mod Interleaving

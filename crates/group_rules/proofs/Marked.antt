@@ -6,14 +6,15 @@ use mathlib.Core.List.{List, [], _∷_}
 use mathlib.Core.Path.{_≡_, refl, sym, ap, _∙_}
 use native.Mathlib.Omega.{arith}
 use lib.Dec.{eqb}
+use borrow.Author.Tests.{ltb-true}
 use lib.IntN.{ℤ}
 use lib.ListN.{getD, set}
 use Rattle.kinds.specs.declared.Body.{Body}
 use Rattle.kinds.specs.declared.Body.the-variants.{Empty, Neutral, Insert}
-use Rattle.kinds.specs.Body.{isEmpty}
-use Rattle.kind_limits.specs.Limits.{postable, bodyInside, numbersInside}
+use Rattle.kinds.specs.Body.{isEmpty, isEdit}
+use Rattle.kind_limits.specs.Limits.{isEdition, postable, onChannel, channelInside, insideKind, bodyInside, numbersInside}
 use Rattle.kinds.specs.Refusals.{done, notAnEdit}
-use Rattle.kind_limits.proofs.Laws.{postable-inside, postable-not-empty, argument-outside}
+use Rattle.kind_limits.proofs.Laws.{postable-edit, postable-kind, postable-not-empty, inside-make, argument-outside}
 use Rattle.kind_limits.proofs.Examples as kinds
 use Rattle.labels.proofs.Examples as labels
 use Rattle.label_words.specs.Packing.{labelIn, labelsInside}
@@ -56,9 +57,12 @@ module _ (g : List Station) (masks : List ℕ) (one : sizeOf g ≡ 1) where
       (ap (λ (k : ℕ). turnReport ((heardBelow g masks 0 k) .station)) one ∙ ap (λ (h : Hearing). turnReport (h .station)) hears-none)
 
 -- a group of one in which one edit is posted
-module _ (b : Body) (e : postable b ≡ true) where
-  inside : bodyInside b ≡ true
-  inside = postable-inside b e
+module _ (b : Body) (e : postable b ≡ true) (on : onChannel 0 b ≡ true) where
+  edit : isEdit b ≡ true
+  edit = postable-edit b e
+
+  inside : insideKind b ≡ true
+  inside = postable-kind b e
 
   kind : isEmpty b ≡ false
   kind = postable-not-empty b e
@@ -76,12 +80,12 @@ module _ (b : Body) (e : postable b ≡ true) where
 
   post-done : next (begun aloneSetup) (post (record { station = 0; desk = 0; body = b })) ≡ ready
   unfolding before groupRuns
-  post-done = simp e
+  post-done = simp (edit, inside, on)
 
   module _ (masks₁ masks₂ : List ℕ) where
     one-done : roundRefusal before masks₁ ≡ done
     unfolding before groupRuns
-    one-done = simp e
+    one-done = simp (edit, inside, on)
 
     size-after : sizeOf (afterRound before masks₁) ≡ 1
     unfolding before groupRuns
@@ -89,7 +93,7 @@ module _ (b : Body) (e : postable b ≡ true) where
 
     two-done : roundRefusal (afterRound before masks₁) masks₂ ≡ done
     unfolding before groupRuns
-    two-done = simp (kind, inside)
+    two-done = simp (kind, inside, on)
 
     abbrev ran : History
     ran = continued ready (round masks₁ ∷ round masks₂ ∷ [])
@@ -122,16 +126,20 @@ module _ (b : Body) (e : postable b ≡ true) where
 
 -- of two posts to a station with room, one that may be posted and one not, the first is taken and the second gives 4
 posts :
-    (s : Station) (d : ℕ) → stationInside s ≡ true → isDesk d ≡ true → deskCount (s .waiting) d < s .waiting .limit → (a b : Body) → postable a ≡ true → postable b ≡ false →
+    (s : Station) (d : ℕ) → stationInside s ≡ true → isDesk d ≡ true → deskCount (s .waiting) d < s .waiting .limit → (a b : Body) → postable a ≡ true → onChannel (s .edition) a ≡ true →
+    postable b ≡ false →
     ((postCall s d a) .refusal ≡ done) × ((postCall s d b) .refusal ≡ notAnEdit)
-posts s d i k room a b p q = (station.taken s i d k a p room, station.refused s i d k b q)
+posts s d i k room a b p o q = (station.taken s i d k a p o room, station.refused s i d k b q)
 
 -- a frame of one insert inside its limits is accepted
-framed : (start : ℤ) → bodyInside (Insert 1 start) ≡ true → checkRefusal (insertFrame start) 2 0 ≡ done
-unfolding recordsFit recordFits bodyInside labelsInside labelIn allBelow anyBelow
-framed start h =
-    sym (by-frame (insertFrame start) 2 0 refl)
-    ∙ frames.written-accepted 2 1 _ (omega arith) (simp h) 0 (λ e. omega arith) (omega arith)
+framed :
+    (edition channel : ℕ) (start : ℤ) → isEdition edition ≡ true → channelInside edition 2 channel ≡ true →
+    insideKind (Insert channel 1 start) ≡ true →
+    checkRefusal edition (insertFrame edition channel start) 2 0 ≡ done
+unfolding recordsFit recordFits insideKind labelsInside labelIn allBelow anyBelow
+framed edition channel start w on h =
+    sym (by-frame edition (insertFrame edition channel start) 2 0 refl w)
+    ∙ frames.written-accepted edition 2 1 _ (omega arith) (simp (h, on)) 0 (λ e. omega arith) (omega arith) (ltb-true edition 2 w)
 
 pub marked : Marked
 marked =
@@ -143,26 +151,28 @@ marked =
       m5 = words.m5;
       m6 = words.m6;
       m7 = words.m7;
-      m8-one = λ n sender r. frames.m8 n sender (r ∷ []) .0 refl;
-      m8-all = λ n sender rs sixteen. frames.m8 n sender rs .1 sixteen;
+      m8-one = λ edition n sender r. frames.m8 edition n sender (r ∷ []) .0 refl;
+      m8-all = λ edition n sender rs sixteen. frames.m8 edition n sender rs .1 sixteen;
       m9 =
-          λ s d inside desk room event least most.
-          let e = kinds.m9 event least most in posts s d inside desk room _ _ (e .0) (e .1);
+          λ s d inside desk room channel event on least most.
+          let e = kinds.m9 channel event least most in posts s d inside desk room _ _ (e .0) on (e .1);
       m10 =
-          λ s d inside desk room event least most.
-          let e = kinds.m10 event least most in posts s d inside desk room _ _ (e .0) (e .1);
-      m10-framed = framed _ (postable-inside _ (kinds.m10 1 (omega arith) (omega arith) .0));
+          λ s d inside desk room channel event on least most.
+          let e = kinds.m10 channel event least most in posts s d inside desk room _ _ (e .0) on (e .1);
+      m10-framed =
+          λ edition channel w on.
+          framed edition channel _ w on (postable-kind _ (kinds.m10 channel 1 (omega arith) (omega arith) .0));
       m10-frame =
-          λ bytes n own k valid shape address below kind start.
-          body-outside bytes n own k valid shape address below
+          λ edition bytes n own k valid known shape address below kind start.
+          body-outside edition bytes n own k valid known shape address below
           ((λ i. numbersInside (kind i) (wordAt (part bytes k) 4) (start i))
           ∙ argument-outside 2 (wordAt (part bytes k) 4) _ refl);
       m10-held =
-          λ s event holds.
-          let o = kinds.m10-outside event in
+          λ s channel event holds.
+          let o = kinds.m10-outside (s .edition) channel event in
           (held.post-two s _ o holds, held.write-two s _ o holds, held.hear-two s _ o holds, held.turn-two s _ o holds);
-      m11-room = λ s d b inside desk limit room e. station.m11-room s inside d desk b e limit room;
-      m11 = λ s d b inside desk limit full e. station.m11 s inside d desk b e limit full;
-      m12-starts = λ b masks₁ masks₂ e. starts b e masks₁ masks₂;
-      m12-airs = λ b masks₁ masks₂ e. aired b e masks₁ masks₂;
+      m11-room = λ s d b inside desk limit room e on. station.m11-room s inside d desk b e on limit room;
+      m11 = λ s d b inside desk limit full e on. station.m11 s inside d desk b e on limit full;
+      m12-starts = λ b masks₁ masks₂ e on. starts b e on masks₁ masks₂;
+      m12-airs = λ b masks₁ masks₂ e on. aired b e on masks₁ masks₂;
     }

@@ -8,7 +8,7 @@ use lib.IntN.{ℤ, pos, negsuc}
 use lib.ListN.{getD, length, replicate}
 use Rattle.kinds.specs.declared.Body.{Body}
 use Rattle.kinds.specs.declared.Body.the-variants.{Empty, Neutral, Insert, Shift}
-use Rattle.kind_limits.specs.Limits.{postable}
+use Rattle.kind_limits.specs.Limits.{isEdition, channelInside, onChannel, postable}
 use Rattle.kinds.specs.Refusals.{done, outsideLimits, queueFull, notAnEdit, badRecord}
 use Rattle.label_words.specs.Packing.{packed}
 use Rattle.labels.specs.Newer.{isNewer}
@@ -33,10 +33,11 @@ oneStation b masks₁ masks₂ = historyOf aloneSetup (post (record { station = 
 abbrev pub turnIn : History → ℕ → TurnReport
 turnIn H u = (reportIn (getD (H .rounds) u noRound) 0) .turn
 
--- the frame in which station 1 of two sends its own record alone, an insert of event 1 with this start
-abbrev pub insertFrame : ℤ → List ℕ
-insertFrame start =
-    frameBytes 2 1 (record { station = 1; count = 0; body = Insert 1 start; labels = 0 } ∷ [])
+-- the frame of an edition in which station 1 of two sends its own record alone, an insert of event 1 with this channel and
+-- start
+abbrev pub insertFrame : ℕ → ℕ → ℤ → List ℕ
+insertFrame edition channel start =
+    frameBytes edition 2 1 (record { station = 1; count = 0; body = Insert channel 1 start; labels = 0 } ∷ [])
 
 pub record Marked : Type 0 where
   -- M1, M2: at one label the count decides
@@ -50,28 +51,34 @@ pub record Marked : Type 0 where
   pub m6 : packed (2 ∷ 2 ∷ 1 ∷ []) ≡ 26
   pub m7 : packed (replicate 16 2) ≡ 0xAAAAAAAA
   -- M8: the length of a frame
-  pub m8-one : (n sender : ℕ) (r : Record) → length (frameBytes n sender (r ∷ [])) ≡ 20
-  pub m8-all : (n sender : ℕ) (rs : List Record) → length rs ≡ 16 → length (frameBytes n sender rs) ≡ 260
-  -- M9: a station inside its limits with room at a desk takes a shift by -90,000 and refuses -90,001
+  pub m8-one : (edition n sender : ℕ) (r : Record) → length (frameBytes edition n sender (r ∷ [])) ≡ 20
+  pub m8-all : (edition n sender : ℕ) (rs : List Record) → length rs ≡ 16 → length (frameBytes edition n sender rs) ≡ 260
+  -- M9: a station inside its limits with room at a desk takes a shift by -90,000 on a channel of its edition, and refuses
+  -- -90,001
   pub m9 :
-      (s : Station) (d : ℕ) → stationInside s ≡ true → isDesk d ≡ true → deskCount (s .waiting) d < s .waiting .limit → (event : ℕ) → 1 ≤ event → event ≤ 99_999_999 →
-      ((postCall s d (Shift event (negsuc 89_999))) .refusal ≡ done) × ((postCall s d (Shift event (negsuc 90_000))) .refusal ≡ notAnEdit)
+      (s : Station) (d : ℕ) → stationInside s ≡ true → isDesk d ≡ true → deskCount (s .waiting) d < s .waiting .limit →
+      (channel event : ℕ) → channelInside (s .edition) 4 channel ≡ true → 1 ≤ event → event ≤ 99_999_999 →
+      ((postCall s d (Shift channel event (negsuc 89_999))) .refusal ≡ done)
+      × ((postCall s d (Shift channel event (negsuc 90_000))) .refusal ≡ notAnEdit)
   -- M10, read with the numbers of request A6: it takes a start at 2,699,999 and refuses 2,700,000
   pub m10 :
-      (s : Station) (d : ℕ) → stationInside s ≡ true → isDesk d ≡ true → deskCount (s .waiting) d < s .waiting .limit → (event : ℕ) → 1 ≤ event → event ≤ 99_999_999 →
-      ((postCall s d (Insert event (pos 2_699_999))) .refusal ≡ done)
-      × ((postCall s d (Insert event (pos 2_700_000))) .refusal ≡ notAnEdit)
+      (s : Station) (d : ℕ) → stationInside s ≡ true → isDesk d ≡ true → deskCount (s .waiting) d < s .waiting .limit →
+      (channel event : ℕ) → channelInside (s .edition) 2 channel ≡ true → 1 ≤ event → event ≤ 99_999_999 →
+      ((postCall s d (Insert channel event (pos 2_699_999))) .refusal ≡ done)
+      × ((postCall s d (Insert channel event (pos 2_700_000))) .refusal ≡ notAnEdit)
   -- A6, in a frame: the check accepts a record with a start at 2,699,999; it gives 7 where any record of the frame has
   -- one at 2,700,000, unless the frame is refused earlier
-  pub m10-framed : checkRefusal (insertFrame (pos 2_699_999)) 2 0 ≡ done
+  pub m10-framed :
+      (edition channel : ℕ) → isEdition edition ≡ true → channelInside edition 2 channel ≡ true →
+      checkRefusal edition (insertFrame edition channel (pos 2_699_999)) 2 0 ≡ done
   pub m10-frame :
-      (bytes : List ℕ) (n own k : ℕ) →
-      validNumber n own ≡ true → shapeWrong bytes ≡ false → addressWrong bytes n own ≡ false →
+      (edition : ℕ) (bytes : List ℕ) (n own k : ℕ) →
+      validNumber n own ≡ true → isEdition edition ≡ true → shapeWrong bytes ≡ false → addressWrong edition bytes n own ≡ false →
       k < getD bytes 2 0 → getD (part bytes k) 2 0 ≡ 2 → signed (wordAt (part bytes k) 8) ≡ pos 2_700_000 →
-      checkRefusal bytes n own ≡ badRecord
+      checkRefusal edition bytes n own ≡ badRecord
   -- A6, in a state: on a station that holds a start at 2,700,000, wherever it stands, each call gives 2
   pub m10-held :
-      (s : Station) (event : ℕ) → Holds s (Insert event (pos 2_700_000)) →
+      (s : Station) (channel event : ℕ) → Holds s (Insert channel event (pos 2_700_000)) →
       ((d : ℕ) (b : Body) → (postCall s d b) .refusal ≡ outsideLimits)
       × ((room : ℕ) → (writeCall s room) .refusal ≡ outsideLimits)
       × ((bytes : List ℕ) → (hearCall s bytes) .refusal ≡ outsideLimits)
@@ -79,16 +86,18 @@ pub record Marked : Type 0 where
   -- M11, where the limit is 32: as long as fewer than 32 of a desk wait, an edit is accepted and waits; where 32 wait, one more is refused
   pub m11-room :
       (s : Station) (d : ℕ) (b : Body) → stationInside s ≡ true → isDesk d ≡ true → s .waiting .limit ≡ 32 → deskCount (s .waiting) d < 32 → postable b ≡ true →
+      onChannel (s .edition) b ≡ true →
       ((postCall s d b) .refusal ≡ done) × (waitingCount (((postCall s d b) .station) .waiting) ≡ waitingCount (s .waiting) + 1)
   pub m11 :
       (s : Station) (d : ℕ) (b : Body) → stationInside s ≡ true → isDesk d ≡ true → s .waiting .limit ≡ 32 → deskCount (s .waiting) d ≡ 32 → postable b ≡ true →
+      onChannel (s .edition) b ≡ true →
       (postCall s d b) .refusal ≡ queueFull
   -- M12: one edit at a station alone: in round 1 it starts where Empty ends; in round 2 it is aired and ends, and Neutral starts
   pub m12-starts :
-      (b : Body) (masks₁ masks₂ : List ℕ) → postable b ≡ true →
+      (b : Body) (masks₁ masks₂ : List ℕ) → postable b ≡ true → onChannel 0 b ≡ true →
       let t = turnIn (oneStation b masks₁ masks₂) 0 in
       (t .aired ≡ false) × (t .ended ≡ true) × (t .«ended_body» ≡ Empty) × (t .«started_body» ≡ b)
   pub m12-airs :
-      (b : Body) (masks₁ masks₂ : List ℕ) → postable b ≡ true →
+      (b : Body) (masks₁ masks₂ : List ℕ) → postable b ≡ true → onChannel 0 b ≡ true →
       let t = turnIn (oneStation b masks₁ masks₂) 1 in
       (t .aired ≡ true) × ((getD (t .row) 0 noSlot) .body ≡ b) × (t .ended ≡ true) × (t .«ended_body» ≡ b) × (t .«started_body» ≡ Neutral)

@@ -19,13 +19,14 @@ use Rattle.station_rules.specs.Limits.{stationInside}
 use Rattle.station_rules.proofs.Setters.{Shaped, fresh-self, fresh-shaped}
 use Rattle.station_rules.proofs.StationLimits.{Inside, inside-open, inside-make}
 use Rattle.station_rules.proofs.LimitsFresh.{fresh-holds}
-use Rattle.group_rules.specs.State.{noStation, stationAt, sizeOf, memberInside, groupInside, freshGroup}
+use Rattle.group_rules.specs.State.{noStation, stationAt, sizeOf, editionOf, memberInside, groupInside, freshGroup}
 use Rattle.group_rules.proofs.Setups.{Accepts}
 
 -- station k is a member of the group of n
 pub record Member (n : ℕ) (g : List Station) (k : ℕ) : Type 0 where
   pub inside : Inside (stationAt g k)
   pub size : stationAt g k .n ≡ n
+  pub edition : stationAt g k .edition ≡ editionOf g
   pub own : stationAt g k .own ≡ k
 
 -- the lengths that a group's arrays have by type
@@ -45,12 +46,15 @@ pub member-open : (g : List Station) (k : ℕ) → memberInside g k ≡ true →
 member-open g k h =
     let inside = stationInside (stationAt g k) in
     let size = eqb (stationAt g k .n) (sizeOf g) in
+    let edition = eqb (stationAt g k .edition) (editionOf g) in
     let own = eqb (stationAt g k .own) k in
-    let rest : (size && own) ≡ true = and-right inside (size && own) h in
+    let rest : (size && edition && own) ≡ true = and-right inside (size && edition && own) h in
+    let front : (size && edition) ≡ true = and-left (size && edition) own rest in
     record {
-      inside = inside-open (stationAt g k) (and-left inside (size && own) h);
-      size = eqb-true (stationAt g k .n) (sizeOf g) (and-left size own rest);
-      own = eqb-true (stationAt g k .own) k (and-right size own rest);
+      inside = inside-open (stationAt g k) (and-left inside (size && edition && own) h);
+      size = eqb-true (stationAt g k .n) (sizeOf g) (and-left size edition front);
+      edition = eqb-true (stationAt g k .edition) (editionOf g) (and-right size edition front);
+      own = eqb-true (stationAt g k .own) k (and-right (size && edition) own rest);
     }
 
 module _ (g : List Station) (h : groupInside g ≡ true) where
@@ -83,7 +87,11 @@ members-inside n g c =
     each k l =
         let m = c .member k l in
         and-both (inside-make (stationAt g k) (m .inside))
-        (and-both (eq-eqb (stationAt g k .n) (sizeOf g) (m .size ∙ sym (c .size))) (eq-eqb (stationAt g k .own) k (m .own)))
+        (and-both
+        (and-both
+        (eq-eqb (stationAt g k .n) (sizeOf g) (m .size ∙ sym (c .size)))
+        (eq-eqb (stationAt g k .edition) (editionOf g) (m .edition)))
+        (eq-eqb (stationAt g k .own) k (m .own)))
 
 module _ (setup : Setup) (high : setup .n ≤ 16) where
   abbrev n : ℕ
@@ -103,8 +111,11 @@ module _ (setup : Setup) (high : setup .n ≤ 16) where
             (rw (getD-replicate 16 k (freshStation aloneSetup 0) noStation l) (fresh-shaped aloneSetup 0)) (λ j m. fresh-shaped setup j);
       }
 
-  pub fresh-members : 1 ≤ n → limitInside (setup .limit) ≡ true → Members n (freshGroup setup)
-  fresh-members low limited =
+  pub fresh-edition : (k : ℕ) → k < n → stationAt (freshGroup setup) k .edition ≡ setup .edition
+  fresh-edition k l = rw (fresh-at k l) (fresh-self setup k .edition)
+
+  pub fresh-members : 1 ≤ n → limitInside (setup .limit) ≡ true → setup .edition < 2 → Members n (freshGroup setup)
+  fresh-members low limited known =
       record {
         low = low;
         high = high;
@@ -112,11 +123,12 @@ module _ (setup : Setup) (high : setup .n ≤ 16) where
         shape = fresh-shape;
         member =
             λ k l. record {
-              inside = rw (fresh-at k l) (fresh-holds setup k high l limited);
+              inside = rw (fresh-at k l) (fresh-holds setup k high l limited known);
               size = rw (fresh-at k l) (fresh-self setup k .n);
+              edition = fresh-edition k l ∙ sym (fresh-edition 0 low);
               own = rw (fresh-at k l) (fresh-self setup k .own);
             };
       }
 
 pub fresh-inside : (setup : Setup) → Accepts setup → groupInside (freshGroup setup) ≡ true
-fresh-inside setup ok = members-inside (setup .n) (freshGroup setup) (fresh-members setup (ok .high) (ok .low) (ok .limited))
+fresh-inside setup ok = members-inside (setup .n) (freshGroup setup) (fresh-members setup (ok .high) (ok .low) (ok .limited) (ok .known))

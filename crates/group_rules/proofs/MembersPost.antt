@@ -3,14 +3,15 @@
 use Prim.Native.Nat.{ℕ, _<_}
 use mathlib.Core.Bool.{Bool, true, false, cond, not, false≢true}
 use mathlib.Core.List.{List}
-use mathlib.Core.Path.{_≡_, refl, sym, subst, _∙_}
+use mathlib.Core.Path.{_≡_, refl, sym, ap, subst, _∙_}
 use native.Mathlib.Decide.{ℕ-discrete}
 use native.Mathlib.Omega.{arith}
 use lib.Dec.{eqb, ltb}
 use lib.ListN.{set, length-set}
 use lib.Seq.{getD-set-same, getD-set-other}
 use borrow.Author.Tests.{ltb-true}
-use Rattle.kind_limits.specs.Limits.{postable}
+use Rattle.kind_limits.specs.Limits.{postable, onChannel, mayWait}
+use Rattle.kind_limits.proofs.Laws.{waiting-make}
 use Rattle.kinds.specs.Refusals.{done}
 use Rattle.places.proofs.Keeps.{set-keeps}
 use Rattle.lanes.specs.Waiting.{isDesk, hasRoom}
@@ -30,24 +31,27 @@ pub record Accepted (g : List Station) (x : Post) : Type 0 where
   pub below : x .station < sizeOf g
   pub desk : isDesk (x .desk) ≡ true
   pub edit : postable (x .body) ≡ true
+  pub channel : onChannel (stationAt g (x .station) .edition) (x .body) ≡ true
   pub room : hasRoom (stationAt g (x .station) .waiting) (x .desk) ≡ true
 
 pub accepted : (g : List Station) (x : Post) → eqb (groupPostRefusal g x) done ≡ true → Accepted g x
 unfolding groupPostRefusal
 accepted g x h =
-    go (groupInside g) (ltb (x .station) (sizeOf g)) (isDesk (x .desk)) (postable (x .body)) (hasRoom (stationAt g (x .station) .waiting) (x .desk)) refl refl refl refl refl h
+    go (groupInside g) (ltb (x .station) (sizeOf g)) (isDesk (x .desk)) (postable (x .body)) (onChannel (stationAt g (x .station) .edition) (x .body))
+    (hasRoom (stationAt g (x .station) .waiting) (x .desk)) refl refl refl refl refl refl h
   where
     go :
-        (a c k d e : Bool) → groupInside g ≡ a → ltb (x .station) (sizeOf g) ≡ c → isDesk (x .desk) ≡ k → postable (x .body) ≡ d →
-        hasRoom (stationAt g (x .station) .waiting) (x .desk) ≡ e →
-        eqb (cond (not a) 2 (cond (not c) 1 (cond (not k) 15 (cond (not d) 4 (cond (not e) 3 0))))) 0 ≡ true → Accepted g x
-    go true true true true true p q t r s z =
-        record { inside = p; below = ltb-true (x .station) (sizeOf g) q; desk = t; edit = r; room = s }
-    go true true true true false p q t r s z = absurd (false≢true z)
-    go true true true false e p q t r s z = absurd (false≢true z)
-    go true true false d e p q t r s z = absurd (false≢true z)
-    go true false k d e p q t r s z = absurd (false≢true z)
-    go false c k d e p q t r s z = absurd (false≢true z)
+        (a c k d f e : Bool) → groupInside g ≡ a → ltb (x .station) (sizeOf g) ≡ c → isDesk (x .desk) ≡ k → postable (x .body) ≡ d →
+        onChannel (stationAt g (x .station) .edition) (x .body) ≡ f → hasRoom (stationAt g (x .station) .waiting) (x .desk) ≡ e →
+        eqb (cond (not a) 2 (cond (not c) 1 (cond (not k) 15 (cond (not d) 4 (cond (not f) 17 (cond (not e) 3 0)))))) 0 ≡ true → Accepted g x
+    go true true true true true true p q t r o s z =
+        record { inside = p; below = ltb-true (x .station) (sizeOf g) q; desk = t; edit = r; channel = o; room = s }
+    go true true true true true false p q t r o s z = absurd (false≢true z)
+    go true true true true false e p q t r o s z = absurd (false≢true z)
+    go true true true false f e p q t r o s z = absurd (false≢true z)
+    go true true false d f e p q t r o s z = absurd (false≢true z)
+    go true false k d f e p q t r o s z = absurd (false≢true z)
+    go false c k d f e p q t r o s z = absurd (false≢true z)
 
 pub post-accepted :
     (g : List Station) (x : Post) → eqb ((groupPostCall g x) .refusal) done ≡ true →
@@ -71,7 +75,19 @@ module _ (n : ℕ) (g : List Station) (c : Members n g) (x : Post) where
     pub posted-other : (j : ℕ) → (j ≡ x .station → ⊥) → stationAt (afterPost g x) j ≡ stationAt g j
     posted-other j ne = getD-set-other g (x .station) j (posted (stationAt g (x .station)) (x .desk) (x .body)) noStation ne
 
-    posted-member : postable (x .body) ≡ true → hasRoom (stationAt g (x .station) .waiting) (x .desk) ≡ true → (j : ℕ) → j < n → Member n (afterPost g x) j
+    -- each keeps its edition
+    pub posted-edition : (j : ℕ) → stationAt (afterPost g x) j .edition ≡ stationAt g j .edition
+    posted-edition j =
+        elim (ℕ-discrete j (x .station)) [
+          | yes same ↦ subst (λ (i : ℕ). stationAt (afterPost g x) i .edition ≡ stationAt g i .edition) (sym same) here
+          | no ne ↦ ap (λ (s : Station). s .edition) (posted-other j ne)
+        ]
+      where
+        here : stationAt (afterPost g x) (x .station) .edition ≡ stationAt g (x .station) .edition
+        here = rw posted-at (sym (posted-same (stationAt g (x .station)) (x .desk) (x .body) .edition))
+
+    posted-member :
+        mayWait (stationAt g (x .station) .edition) (x .body) ≡ true → hasRoom (stationAt g (x .station) .waiting) (x .desk) ≡ true → (j : ℕ) → j < n → Member n (afterPost g x) j
     posted-member edit room j l =
         elim (ℕ-discrete j (x .station)) [
           | yes same ↦ subst (Member n (afterPost g x)) (sym same) here
@@ -80,6 +96,7 @@ module _ (n : ℕ) (g : List Station) (c : Members n g) (x : Post) where
               record {
                 inside = rw (posted-other j ne) (m .inside);
                 size = rw (posted-other j ne) (m .size);
+                edition = posted-edition j ∙ m .edition ∙ sym (posted-edition 0);
                 own = rw (posted-other j ne) (m .own);
               }
         ]
@@ -91,10 +108,12 @@ module _ (n : ℕ) (g : List Station) (c : Members n g) (x : Post) where
               inside =
                   rw posted-at (posted-holds (stationAt g (x .station)) (x .desk) (x .body) (c .shape .stations (x .station) (omega (arith, c .high))) (m .inside) edit room);
               size = rw posted-at (sym (posted-same (stationAt g (x .station)) (x .desk) (x .body) .n) ∙ m .size);
+              edition = posted-edition (x .station) ∙ m .edition ∙ sym (posted-edition 0);
               own = rw posted-at (sym (posted-same (stationAt g (x .station)) (x .desk) (x .body) .own) ∙ m .own);
             }
 
-    set-members : postable (x .body) ≡ true → hasRoom (stationAt g (x .station) .waiting) (x .desk) ≡ true → Members n (afterPost g x)
+    set-members :
+        mayWait (stationAt g (x .station) .edition) (x .body) ≡ true → hasRoom (stationAt g (x .station) .waiting) (x .desk) ≡ true → Members n (afterPost g x)
     set-members edit room =
         record {
           low = c .low;
@@ -116,7 +135,7 @@ module _ (n : ℕ) (g : List Station) (c : Members n g) (x : Post) where
       go : (t : Bool) → eqb ((groupPostCall g x) .refusal) done ≡ t → Members n ((groupPostCall g x) .group)
       go true e =
           let a : Accepted g x = accepted g x (rw (post-refusal g x) at e) in
-          rw (post-accepted g x e) (set-members (omega (arith, a .below, c .size)) (a .edit) (a .room))
+          rw (post-accepted g x e) (set-members (omega (arith, a .below, c .size)) (waiting-make (stationAt g (x .station) .edition) (x .body) (a .edit) (a .channel)) (a .room))
       go false e = rw (post-refused g x e) c
 
 pub post-inside :

@@ -13,6 +13,7 @@ use Rattle.kinds.specs.Refusals.{done}
 use Rattle.links.specs.Log.{hearsIn}
 use Rattle.places.specs.Places.{anyBelow}
 use Rattle.places.proofs.Laws.{anyBelow-at, length-fill, fill-below, fill-above}
+use Rattle.frame_rules.specs.declared.Record.{Record}
 use Rattle.station_rules.specs.declared.Station.{Station}
 use Rattle.station_rules.specs.State.{sentRecords}
 use Rattle.station_rules.specs.Calls.{ownCountInside}
@@ -22,7 +23,7 @@ use Rattle.station_rules.proofs.Setters.{Shaped}
 use Rattle.station_rules.proofs.LimitsHearing.{Hears, AllCarried, hears-none, hears-frame, takings-bounded}
 use Rattle.station_rules.proofs.LimitsSent.{sent-carried}
 use Rattle.station_rules.proofs.LimitsTurn.{turn-holds}
-use Rattle.station_rules.proofs.TurnCells.{turn-n, turn-own, afterTurn-shaped}
+use Rattle.station_rules.proofs.TurnCells.{turn-n, turn-own, turn-edition, afterTurn-shaped}
 use Rattle.group_rules.specs.State.{noStation, stationAt, sizeOf, groupInside}
 use Rattle.group_rules.specs.Calls.{heardBelow, heard, firstRefusal, roundRefusal, afterRound, roundCall}
 use Rattle.group_rules.proofs.FirstRefusal.{first-done}
@@ -64,10 +65,12 @@ runs g masks h =
     go false b p q z = absurd (false≢true z)
 
 module _ (n : ℕ) (g : List Station) (c : Members n g) (masks : List ℕ) (counts : (k : ℕ) → k < n → ownCountInside (stationAt g k) ≡ true) where
-  carried : (i j : ℕ) → i < n → j < n → AllCarried (stationAt g i .n) (sentRecords (stationAt g j))
+  carried : (i j : ℕ) → i < n → j < n → AllCarried (stationAt g i .edition) (stationAt g i .n) (sentRecords (stationAt g j))
   carried i j l m =
-      subst (λ (k : ℕ). AllCarried k (sentRecords (stationAt g j))) (c .member j m .size ∙ sym (c .member i l .size))
-      (sent-carried (stationAt g j) (c .member j m .inside) (counts j m))
+      let sent : List Record = sentRecords (stationAt g j) in
+      subst (λ (e : ℕ). AllCarried e (stationAt g i .n) sent) (c .member j m .edition ∙ sym (c .member i l .edition))
+      (subst (λ (k : ℕ). AllCarried (stationAt g j .edition) k sent) (c .member j m .size ∙ sym (c .member i l .size))
+      (sent-carried (stationAt g j) (c .member j m .inside) (counts j m)))
 
   pub hears-below : (i j : ℕ) → i < n → j ≤ n → Hears (silent (stationAt g i)) (heardBelow g masks i j)
   unfolding heardBelow
@@ -116,6 +119,10 @@ module _ (n : ℕ) (g : List Station) (c : Members n g) (masks : List ℕ) (run 
             (afterTurn-shaped ((heard g masks i) .station) (run-hears i below .shaped))
       ]
 
+  -- each keeps its edition
+  pub after-edition : (i : ℕ) → i < n → stationAt (afterRound g masks) i .edition ≡ stationAt g i .edition
+  after-edition i l = rw (after-at i l) (turn-edition ((heard g masks i) .station) ∙ run-hears i l .edition)
+
   after-member : (i : ℕ) → i < n → Member n (afterRound g masks) i
   after-member i l =
       let hs = run-hears i l in
@@ -123,6 +130,7 @@ module _ (n : ℕ) (g : List Station) (c : Members n g) (masks : List ℕ) (run 
       record {
         inside = rw (after-at i l) (turn-holds ((heard g masks i) .station) (hs .shaped) (hs .inside (run-room i l)));
         size = rw (after-at i l) (turn-n ((heard g masks i) .station) ∙ hs .n ∙ m .size);
+        edition = after-edition i l ∙ m .edition ∙ sym (after-edition 0 (c .low));
         own = rw (after-at i l) (turn-own ((heard g masks i) .station) ∙ hs .own ∙ m .own);
       }
 

@@ -16,7 +16,7 @@ use Rattle.group_rules.proofs.Computing.{groupRuns}
 
 -- the post of a desk at a station, always of one body
 abbrev by : ℕ → ℕ → Post
-by station desk = record { station = station; desk = desk; body = Drop 7 }
+by station desk = record { station = station; desk = desk; body = Drop 0 7 }
 
 abbrev edit : ℕ → ℕ → ℕ → Edit
 edit source desk number = record { source = source; desk = desk; number = number }

@@ -37,19 +37,19 @@ with-lane g i k =
 
 -- station 2 shows station 1 with a drop, while station 1 shows Empty with that label and count
 abbrev two-faces : List Station
-two-faces = with-record fresh 2 1 0 (Drop 5) (0 ∷ 1 ∷ 0 ∷ [])
+two-faces = with-record fresh 2 1 0 (Drop 0 5) (0 ∷ 1 ∷ 0 ∷ [])
 
 -- the lane of station 2 is full at station 0, and station 2 sends a body
 abbrev full : List Station
-full = with-record (with-lane fresh 0 2) 2 2 0 (Drop 6) (0 ∷ 0 ∷ 1 ∷ [])
+full = with-record (with-lane fresh 0 2) 2 2 0 (Drop 0 6) (0 ∷ 0 ∷ 1 ∷ [])
 
 -- all of it, the conflict with what station 0 holds of station 1
 abbrev full-and-faces : List Station
-full-and-faces = with-record (with-record full 0 1 0 (Drop 5) (0 ∷ 1 ∷ 0 ∷ [])) 2 1 0 (Drop 5) (0 ∷ 1 ∷ 0 ∷ [])
+full-and-faces = with-record (with-record full 0 1 0 (Drop 0 5) (0 ∷ 1 ∷ 0 ∷ [])) 2 1 0 (Drop 0 5) (0 ∷ 1 ∷ 0 ∷ [])
 
 -- station 2 sends a conflict and a body for the full lane in one frame
 abbrev one-frame : List Station
-one-frame = with-record (with-record full 0 1 0 (Drop 4) (0 ∷ 1 ∷ 0 ∷ [])) 2 1 0 (Drop 5) (0 ∷ 1 ∷ 0 ∷ [])
+one-frame = with-record (with-record full 0 1 0 (Drop 0 4) (0 ∷ 1 ∷ 0 ∷ [])) 2 1 0 (Drop 0 5) (0 ∷ 1 ∷ 0 ∷ [])
 
 pub record FalseRounds : Type 0 where
   pub inside : (groupInside two-faces ≡ true) × (groupInside full-and-faces ≡ true) × (groupInside one-frame ≡ true)

@@ -14,11 +14,11 @@ use Rattle.group_rules.proofs.Computing.{groupRuns}
 use Rattle.group_rules.proofs.RunLines.{taken, aired, ended, linesOf, linesIn, edit, edits, run, seen, mesh}
 
 unfoldable pub seven : Body
-seven = Insert 7 (pos 100)
+seven = Insert 0 7 (pos 100)
 
 -- the calls of document 01's example
 unfoldable pub listing : History
-listing = historyOf (record { n = 2; limit = 32 }) (post (record { station = 0; desk = 0; body = seven }) ∷ replicate 3 (round (2 ∷ 1 ∷ [])))
+listing = historyOf (record { n = 2; limit = 32; edition = 0 }) (post (record { station = 0; desk = 0; body = seven }) ∷ replicate 3 (round (2 ∷ 1 ∷ [])))
 
 -- stations 0 and 2 hear station 1 only, and it hears both
 abbrev pub chain : History

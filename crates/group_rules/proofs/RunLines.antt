@@ -30,7 +30,7 @@ linesIn n H u p = linesOf n p (reportIn (getD (H .rounds) u noRound) p)
 
 -- the edit of station k
 unfoldable pub edit : ℕ → Body
-edit k = Drop (suc k)
+edit k = Drop 0 (suc k)
 
 -- the edits of n stations as a row airs them
 abbrev pub edits : ℕ → List Taking

@@ -20,11 +20,11 @@ use Rattle.station_rules.specs.declared.Taking.{Taking}
 use Rattle.lanes.specs.Lane.{bodies, laneOf, pushed, popped}
 use Rattle.lanes.specs.Queue.{noSlot}
 use Rattle.lanes.specs.Waiting.{isDesk, otherDesk, waitingEdits, waitingCount, firstDesk, nextDesk, nextEdit, withoutNext}
-use Rattle.lanes.proofs.WaitingLaws.{next-postable, started-edits, started-first}
+use Rattle.lanes.proofs.WaitingLaws.{next-fits, started-edits, started-first}
 use Rattle.station_rules.specs.State.{laneAt}
 use Rattle.station_rules.specs.Turn.{airs, rowOf, broadcastEnds, mayStart, startsEdit, startedBody, afterTurn}
 use Rattle.kinds.proofs.Laws.{edit-not-empty}
-use Rattle.kind_limits.proofs.Laws.{postable-edit}
+use Rattle.kind_limits.proofs.Laws.{waiting-edit}
 use Rattle.station_rules.proofs.Setters.{Shaped}
 use Rattle.station_rules.proofs.LimitsLane.{lane-most}
 use Rattle.station_rules.proofs.StationLimits.{Inside}
@@ -70,7 +70,7 @@ module _ (s : Station) (shape : Shaped s) (c : Inside s) where
   own-most : (laneAt s (s .own)) .len ≤ 2
   own-most =
       let most : _≡_ {A = ℕ} (cond (eqb (s .own) (s .own)) 1 2) 1 = rw (eq-eqb (s .own) (s .own) refl) in
-      let one : (laneAt s (s .own)) .len ≤ 1 = lane-most 1 (laneAt s (s .own)) (rw most at (c .places (s .own) (c .own) .lane)) in
+      let one : (laneAt s (s .own)) .len ≤ 1 = lane-most (s .edition) 1 (laneAt s (s .own)) (rw most at (c .places (s .own) (c .own) .lane)) in
       omega arith
 
   airs-own : airs s ≡ true → 0 < (laneAt s (s .own)) .len
@@ -79,7 +79,7 @@ module _ (s : Station) (shape : Shaped s) (c : Inside s) where
       (allBelow-at (s .n) (λ k. ltb 0 ((laneAt s k) .len)) (sym (airs-each s) ∙ e) (s .own) (c .own))
 
   next-is-edit : 0 < waitingCount (s .waiting) → isEdit (nextEdit (s .waiting)) ≡ true
-  next-is-edit w = postable-edit (nextEdit (s .waiting)) (next-postable (s .waiting) (c .waiting) w)
+  next-is-edit w = waiting-edit (s .edition) (nextEdit (s .waiting)) (next-fits (s .edition) (s .waiting) (c .waiting) w)
 
   -- the airing step
   aired-account :
@@ -109,7 +109,7 @@ module _ (s : Station) (shape : Shaped s) (c : Inside s) where
           ≡ startOf (nextDesk (s .waiting)) (startedBody s) d ++ waitingEdits (cond (startsEdit s) (withoutNext (s .waiting)) (s .waiting)) d
       go (anEdit e room w b) =
           rw (e, b, next-is-edit w)
-          (started-edits (s .waiting) d desk (shape .waiting) (c .waiting) w)
+          (started-edits (s .edition) (s .waiting) d desk (shape .waiting) (c .waiting) w)
       go (aNeutral e room b) = rw (e, b)
       go (nothing e b) = rw (e, b)
 

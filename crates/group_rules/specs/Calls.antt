@@ -4,7 +4,8 @@ use mathlib.Core.Bool.{cond, not, _&&_}
 use mathlib.Core.List.{List, _++_}
 use lib.ListN.{set, replicate, length}
 use lib.Dec.{leb, ltb, eqb}
-use Rattle.kinds.specs.Refusals.{done, badNumber, badLimit, outsideLimits, countTooHigh, refuse}
+use Rattle.kinds.specs.Refusals.{done, badNumber, badLimit, badEdition, outsideLimits, countTooHigh, refuse}
+use Rattle.kind_limits.specs.Limits.{isEdition}
 use Rattle.links.specs.Log.{hearsIn}
 use Rattle.places.specs.Places.{anyBelow, fill}
 use Rattle.lanes.specs.Waiting.{limitInside}
@@ -21,11 +22,12 @@ use Rattle.group_rules.specs.declared.KeptGroup.{KeptGroup}
 use Rattle.group_rules.specs.declared.RoundDone.{RoundDone}
 use Rattle.group_rules.specs.State.{stationAt, sizeOf, groupInside, freshGroup}
 
--- group fresh: 1, 13
+-- group fresh: 1, 13, 17
 unfoldable pub groupFreshRefusal : Setup → ℕ
 groupFreshRefusal setup =
     refuse (not (leb 1 (setup .n) && leb (setup .n) 16)) badNumber
-    (refuse (not (limitInside (setup .limit))) badLimit done)
+    (refuse (not (limitInside (setup .limit))) badLimit
+    (refuse (not (isEdition (setup .edition))) badEdition done))
 
 -- a refused call returns the fresh group of N = 1
 unfoldable pub groupFreshCall : Setup → KeptGroup
@@ -34,7 +36,7 @@ groupFreshCall setup =
     (record { refusal = done; group = freshGroup setup })
     (record { refusal = groupFreshRefusal setup; group = freshGroup aloneSetup })
 
--- group post: 2, 1, 15, 4, 3
+-- group post: 2, 1, 15, 4, 17, 3
 unfoldable pub groupPostRefusal : List Station → Post → ℕ
 groupPostRefusal g x =
     refuse (not (groupInside g)) outsideLimits

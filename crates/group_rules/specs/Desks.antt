@@ -12,7 +12,7 @@ use Rattle.lanes.specs.Waiting.{isDesk, otherDesk, waitingEdits, deskCount}
 use Rattle.station_rules.specs.declared.Setup.{Setup}
 use Rattle.station_rules.specs.declared.Station.{Station}
 use Rattle.group_rules.specs.declared.Post.{Post}
-use Rattle.group_rules.specs.State.{stationAt, sizeOf, groupInside}
+use Rattle.group_rules.specs.State.{stationAt, sizeOf, editionOf, groupInside}
 use Rattle.group_rules.specs.Calls.{groupFreshRefusal, groupPostRefusal}
 use Rattle.group_rules.specs.History.{History, Call, next, continued, historyOf, takingsOf, postsAt, postsOf, airedList}
 use Rattle.group_rules.specs.Demand.{Begins}
@@ -61,11 +61,11 @@ pub record Desks (n : ℕ) (H : History) : Type 0 where
 abbrev pub TwoDesks : Type 0
 TwoDesks = (setup : Setup) → groupFreshRefusal setup ≡ done → (calls : List Call) → Desks (setup .n) (historyOf setup calls)
 
--- isolation: two groups inside their limits that agree in N, in the limit of the post's station and in the waiting
--- edits of its desk refuse it alike
+-- isolation: two groups inside their limits that agree in N, in their edition, in the limit of the post's station and in
+-- the waiting edits of its desk refuse it alike
 abbrev pub Isolated : Type 0
 Isolated =
-    (g h : List Station) (x : Post) → groupInside g ≡ true → groupInside h ≡ true → sizeOf g ≡ sizeOf h →
+    (g h : List Station) (x : Post) → groupInside g ≡ true → groupInside h ≡ true → sizeOf g ≡ sizeOf h → editionOf g ≡ editionOf h →
     let v = (stationAt g (x .station)) .waiting in
     let w = (stationAt h (x .station)) .waiting in
     v .limit ≡ w .limit → waitingEdits v (x .desk) ≡ waitingEdits w (x .desk) →

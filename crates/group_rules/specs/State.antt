@@ -19,10 +19,15 @@ stationAt g k = getD g k noStation
 abbrev pub sizeOf : List Station → ℕ
 sizeOf g = (stationAt g 0) .n
 
--- station k is inside its limits, has the group's N, and its number is its place
+-- its edition is station 0's too (document 02, A9)
+abbrev pub editionOf : List Station → ℕ
+editionOf g = (stationAt g 0) .edition
+
+-- station k is inside its limits, has the group's N and edition, and its number is its place
 abbrev pub memberInside : List Station → ℕ → Bool
 memberInside g k =
-    stationInside (stationAt g k) && (eqb ((stationAt g k) .n) (sizeOf g) && eqb ((stationAt g k) .own) k)
+    let s = stationAt g k in
+    stationInside s && (eqb (s .n) (sizeOf g) && eqb (s .edition) (editionOf g) && eqb (s .own) k)
 
 -- the group is inside its limits
 unfoldable pub groupInside : List Station → Bool

@@ -10,13 +10,13 @@ use lib.ListN.{getD, length}
 use lib.Seq.{ext-getD}
 use borrow.Author.Tests.{eqb-true, eq-eqb}
 use Rattle.kinds.specs.declared.Body.{Body}
-use Rattle.kinds.specs.Body.{kindOf, eventOf, argumentOf}
+use Rattle.kinds.specs.Body.{kindOf, eventOf, argumentOf, channelOf}
 use Rattle.places.proofs.Laws.{allBelow-at, allBelow-make}
 use Rattle.label_words.specs.Packing.{labelsOver}
 use Rattle.label_words.proofs.Laws.{over-ext}
 use Rattle.frame_rules.specs.declared.Record.{Record}
 use Rattle.frame_rules.specs.Words.{wordBytes, unsigned}
-use Rattle.frame_rules.specs.Record.{recordMark, recordLabel, recordFrom, recordBytes}
+use Rattle.frame_rules.specs.Record.{recordLabel, recordFrom, recordBytes}
 use Rattle.station_rules.specs.Hearing.{agree}
 use Rattle.station_rules.proofs.Agree.{agree-make, agree-body, agree-labels}
 use Rattle.hearing_spec.specs.Heeding.{sameBytes}
@@ -42,7 +42,7 @@ agree-written n a b station count e =
     let labels : labelsOver n (recordLabel a) 0 ≡ labelsOver n (recordLabel b) 0 =
     over-ext n (recordLabel a) (recordLabel b) 0 (λ j l. agree-labels n a b e j l) in
     λ i.
-    station i ∷ count i ∷ kindOf (body i) ∷ recordMark
+    station i ∷ count i ∷ kindOf (body i) ∷ channelOf (body i)
     ∷ wordBytes (eventOf (body i)) ++ wordBytes (unsigned (argumentOf (body i))) ++ wordBytes (labels i)
 
 pub same-agree :

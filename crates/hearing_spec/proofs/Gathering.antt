@@ -21,7 +21,7 @@ use Rattle.station_rules.specs.declared.Taking.{Taking}
 use Rattle.station_rules.specs.State.{Cell, heldOf, recordOf}
 use Rattle.station_rules.specs.Hearing.{takes, replaced, heardNewer}
 use Rattle.station_rules.proofs.Setters.{Shaped, lane-at, table-made, held-made, station-made}
-use Rattle.station_rules.proofs.Cells.{heard-n, heard-own, heard-waiting, heard-body, heard-here, heard-other, heard-lanes, replaced-twice, replaced-framed}
+use Rattle.station_rules.proofs.Cells.{heard-n, heard-own, heard-edition, heard-waiting, heard-body, heard-here, heard-other, heard-lanes, replaced-twice, replaced-framed}
 use Rattle.hearing_spec.specs.Gathered.{pushedAll, actedOn, Gathered}
 
 pub pushedAll-append : (l : List Lane) (xs ys : List Taking) → pushedAll l (xs ++ ys) ≡ pushedAll (pushedAll l xs) ys
@@ -54,6 +54,7 @@ gathered-ext s st ts f g e c =
     record {
       n = c .n;
       own = c .own;
+      edition = c .edition;
       waiting = c .waiting;
       body = c .body;
       table = λ k l. c .table k l ∙ ap (λ (q : Record). replaced (s .n) (recordOf s k) q) (e k l);
@@ -70,6 +71,7 @@ module _ (s : Station) (most : s .n ≤ 16) where
       record {
         n = refl;
         own = refl;
+        edition = refl;
         waiting = refl;
         body = refl;
         table = λ k l. sym (replaced-framed (s .n) (recordOf s k));
@@ -86,6 +88,7 @@ module _ (s : Station) (most : s .n ≤ 16) where
       record {
         n = heard-n st r ∙ c .n;
         own = heard-own st r ∙ c .own;
+        edition = heard-edition st r ∙ c .edition;
         waiting = heard-waiting st r ∙ c .waiting;
         body = heard-body st r ∙ c .body;
         table = table;
@@ -117,7 +120,7 @@ unfolding actedOn
 acted-is s st ts tops holds shape₀ shape c held =
     station-made s st (fill (s .n) holds (s .held)) (fill (s .n) (λ k. replaced (s .n) (recordOf s k) (tops k)) (s .table))
     (pushedAll (s .lanes) ts)
-    (record { n = c .n; own = c .own; waiting = c .waiting; body = c .body; count = refl })
+    (record { n = c .n; own = c .own; edition = c .edition; waiting = c .waiting; body = c .body; count = refl })
     (held-made s st shape₀ shape (s .n) holds held (c .held-above))
     (table-made s st shape₀ shape (s .n) (λ k. replaced (s .n) (recordOf s k) (tops k)) (c .table) (c .table-above))
     (c .lanes)

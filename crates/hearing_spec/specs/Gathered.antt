@@ -32,6 +32,7 @@ actedOn s tops holds takings count acked labels =
 pub record Gathered (s st : Station) (takings : List Taking) (tops : ℕ → Record) : Type 0 where
   pub n : st .n ≡ s .n
   pub own : st .own ≡ s .own
+  pub edition : st .edition ≡ s .edition
   pub waiting : st .waiting ≡ s .waiting
   pub body : st .body ≡ s .body
   pub table : (k : ℕ) → k < s .n → recordOf st k ≡ replaced (s .n) (recordOf s k) (tops k)

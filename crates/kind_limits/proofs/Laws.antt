@@ -1,22 +1,22 @@
 -- Laws of the limits, for the crates above. Numbers inside their limits are those of their body, by the cases of the
--- table, since where a row's least is its most the number can be no other. Every limit is a number of 32 bits, and so is
+-- table, since where a row's least is its most the number can be no other, and a kind without a channel has channel 0. Every limit is a number of 32 bits, and so is
 -- all that lies between two of them. No law names a limit: a row can change, and the laws stand.
 use Prim.Native.Nat.{ℕ, zero, suc, _<_, _≤_}
 use native.Mathlib.Omega.{arith}
-use mathlib.Core.Bool.{Bool, true, false, _&&_, false≢true}
-use mathlib.Core.Path.{_≡_, refl, ap, _∙_}
-use lib.Dec.{ltb, leb}
+use mathlib.Core.Bool.{Bool, true, false, cond, _&&_, false≢true}
+use mathlib.Core.Path.{_≡_, refl, sym, ap, _∙_}
+use lib.Dec.{ltb, leb, eqb}
 use lib.IntN.{ℤ, pos, negsuc, natAbs}
 use lib.ListN.{length}
 use lib.Signed.{leZ, mag}
 use mir.Syntax.{w32}
 use mir.Val.{SFits}
-use borrow.Author.Tests.{leb-true, ltb-true}
+use borrow.Author.Tests.{leb-true, ltb-true, eqb-true}
 use Rattle.kinds.proofs.Laws.{edit-not-empty}
-use Rattle.places.proofs.Laws.{both}
+use Rattle.places.proofs.Laws.{both, and-both}
 use Rattle.kinds.specs.declared.Body.{Body}
-use Rattle.kinds.specs.Body.{kindOf, eventOf, argumentOf, bodyOf, isEmpty, isEdit}
-use Rattle.kind_limits.specs.Limits.{kinds, limitsOf, between, numbersInside, bodyInside, postable}
+use Rattle.kinds.specs.Body.{kindOf, eventOf, argumentOf, channelOf, bodyOf, isEmpty, isEdit}
+use Rattle.kind_limits.specs.Limits.{kinds, limitsOf, between, numbersInside, channelInside, onChannel, insideKind, bodyInside, postable, mayWait}
 
 -- what the test on a kind, an event and an argument says
 record Inside (k e : ℕ) (a : ℤ) : Type 0 where
@@ -48,39 +48,70 @@ only : (a : ℤ) → (leZ (pos 0) a && leZ a (pos 0)) ≡ true → pos 0 ≡ a
 only (pos n) h = ap pos (omega (arith, leb-true n 0 (both (leb 0 n) (leb n 0) h .1)))
 only (negsuc n) h = cc
 
--- the numbers of the body of k, e and a are k, e and a
-record Back (k e : ℕ) (a : ℤ) : Type 0 where
-  kind-is : kindOf (bodyOf k e a) ≡ k
-  event-is : eventOf (bodyOf k e a) ≡ e
-  argument-is : argumentOf (bodyOf k e a) ≡ a
+-- the numbers of the body of k, e, a and channel c are k, e and a
+record Back (k e : ℕ) (a : ℤ) (c : ℕ) : Type 0 where
+  kind-is : kindOf (bodyOf k e a c) ≡ k
+  event-is : eventOf (bodyOf k e a c) ≡ e
+  argument-is : argumentOf (bodyOf k e a c) ≡ a
 
-back : (k e : ℕ) (a : ℤ) → Inside k e a → Back k e a
+back : (k e : ℕ) (a : ℤ) (c : ℕ) → Inside k e a → Back k e a c
 unfolding bodyOf
-back zero e a r =
-    record { kind-is = refl; event-is = omega arith; argument-is = only a (r .argument) }
-back (suc zero) e a r =
-    record { kind-is = refl; event-is = omega arith; argument-is = only a (r .argument) }
-back (suc (suc zero)) e a r = record { kind-is = refl; event-is = refl; argument-is = refl }
-back (suc (suc (suc zero))) e a r =
-    record { kind-is = refl; event-is = refl; argument-is = only a (r .argument) }
-back (suc (suc (suc (suc zero)))) e a r =
-    record { kind-is = refl; event-is = refl; argument-is = refl }
-back (suc (suc (suc (suc (suc k))))) e a r = absurd (omega (arith, r .known))
+back zero e a c r = record { kind-is = refl; event-is = omega arith; argument-is = only a (r .argument) }
+back (suc zero) e a c r = record { kind-is = refl; event-is = omega arith; argument-is = only a (r .argument) }
+back (suc (suc zero)) e a c r = record { kind-is = refl; event-is = refl; argument-is = refl }
+back (suc (suc (suc zero))) e a c r = record { kind-is = refl; event-is = refl; argument-is = only a (r .argument) }
+back (suc (suc (suc (suc zero)))) e a c r = record { kind-is = refl; event-is = refl; argument-is = refl }
+back (suc (suc (suc (suc (suc k))))) e a c r = absurd (omega (arith, r .known))
+
+-- below kind 2 only channel 0 is inside, in either edition
+no-channel : (t : Bool) (c : ℕ) → cond (t && false) (leb 1 c && leb c 200) (eqb c 0) ≡ true → 0 ≡ c
+no-channel true c h = sym (eqb-true c 0 h)
+no-channel false c h = sym (eqb-true c 0 h)
+
+channel-is : (edition k e : ℕ) (a : ℤ) (c : ℕ) → k < length kinds → channelInside edition k c ≡ true → channelOf (bodyOf k e a c) ≡ c
+unfolding bodyOf channelInside
+channel-is edition zero e a c l h = no-channel (eqb edition 1) c h
+channel-is edition (suc zero) e a c l h = no-channel (eqb edition 1) c h
+channel-is edition (suc (suc zero)) e a c l h = refl
+channel-is edition (suc (suc (suc zero))) e a c l h = refl
+channel-is edition (suc (suc (suc (suc zero)))) e a c l h = refl
+channel-is edition (suc (suc (suc (suc (suc k))))) e a c l h = absurd (omega (arith, l))
 
 -- numbers inside their limits are those of their body, which is then inside its limits
-module _ (k e : ℕ) (a : ℤ) (h : numbersInside k e a ≡ true) where
-  pub kind-back : kindOf (bodyOf k e a) ≡ k
-  kind-back = (back k e a (inside k e a h)) .kind-is
+module _ (k e : ℕ) (a : ℤ) (c : ℕ) (h : numbersInside k e a ≡ true) where
+  pub kind-back : kindOf (bodyOf k e a c) ≡ k
+  kind-back = (back k e a c (inside k e a h)) .kind-is
 
-  pub event-back : eventOf (bodyOf k e a) ≡ e
-  event-back = (back k e a (inside k e a h)) .event-is
+  pub event-back : eventOf (bodyOf k e a c) ≡ e
+  event-back = (back k e a c (inside k e a h)) .event-is
 
-  pub argument-back : argumentOf (bodyOf k e a) ≡ a
-  argument-back = (back k e a (inside k e a h)) .argument-is
+  pub argument-back : argumentOf (bodyOf k e a c) ≡ a
+  argument-back = (back k e a c (inside k e a h)) .argument-is
 
-  pub inside-back : bodyInside (bodyOf k e a) ≡ true
+  module _ (edition : ℕ) (on : channelInside edition k c ≡ true) where
+    pub channel-back : channelOf (bodyOf k e a c) ≡ c
+    channel-back = channel-is edition k e a c ((inside k e a h) .known) on
+
+    pub inside-back : bodyInside edition (bodyOf k e a c) ≡ true
+    unfolding bodyInside insideKind
+    inside-back =
+        and-both
+        ((λ i. numbersInside (kind-back i) (event-back i) (argument-back i)) ∙ h)
+        ((λ i. channelInside edition (kind-back i) (channel-back i)) ∙ on)
+
+-- a body inside its limits is inside those of its kind and on a channel of its edition, and the other way round
+module _ (edition : ℕ) (b : Body) where
+  pub inside-kind : bodyInside edition b ≡ true → insideKind b ≡ true
   unfolding bodyInside
-  inside-back = (λ i. numbersInside (kind-back i) (event-back i) (argument-back i)) ∙ h
+  inside-kind h = both (insideKind b) (onChannel edition b) h .0
+
+  pub inside-channel : bodyInside edition b ≡ true → onChannel edition b ≡ true
+  unfolding bodyInside
+  inside-channel h = both (insideKind b) (onChannel edition b) h .1
+
+  pub inside-make : insideKind b ≡ true → onChannel edition b ≡ true → bodyInside edition b ≡ true
+  unfolding bodyInside
+  inside-make h on = and-both h on
 
 -- the limits of every row fit 32 bits, and so do the numbers between them
 record Small (k : ℕ) : Type 0 where
@@ -105,9 +136,9 @@ between-fits low (pos m) (negsuc h) p q e = absurd (false≢true (both (leZ low 
 between-fits (pos l) (negsuc m) high p q e = absurd (false≢true (both false (leZ (negsuc m) high) e .0))
 between-fits (negsuc l) (negsuc m) high p q e = record { sfits = omega (arith, leb-true m l (both (leb m l) (leZ (negsuc m) high) e .0)) }
 
-module _ (b : Body) (h : bodyInside b ≡ true) where
+module _ (b : Body) (h : insideKind b ≡ true) where
   facts : Inside (kindOf b) (eventOf b) (argumentOf b)
-  unfolding bodyInside
+  unfolding insideKind
   facts = inside (kindOf b) (eventOf b) (argumentOf b) h
 
   pub body-event-fits : eventOf b < 4_294_967_296
@@ -138,7 +169,7 @@ between-short low (pos m) (negsuc h) p q e = absurd (false≢true (both (leZ low
 between-short (pos l) (negsuc m) high p q e = absurd (false≢true (both false (leZ (negsuc m) high) e .0))
 between-short (negsuc l) (negsuc m) high p q e = omega (arith, leb-true m l (both (leb m l) (leZ (negsuc m) high) e .0))
 
-module _ (b : Body) (h : bodyInside b ≡ true) where
+module _ (b : Body) (h : insideKind b ≡ true) where
   pub body-kind-short : kindOf b < 10
   body-kind-short = omega (arith, facts b h .known)
 
@@ -151,27 +182,45 @@ module _ (b : Body) (h : bodyInside b ≡ true) where
       between-short (limitsOf (kindOf b) .«least_argument») (argumentOf b) (limitsOf (kindOf b) .«most_argument») (s .least) (s .most)
       (facts b h .argument)
 
--- what may be posted is an edit, and inside its limits
+-- what may be posted is an edit, and inside the limits of its kind
 pub postable-edit : (b : Body) → postable b ≡ true → isEdit b ≡ true
 unfolding postable
-postable-edit b h = both (isEdit b) (bodyInside b) h .0
+postable-edit b h = both (isEdit b) (insideKind b) h .0
 
-pub postable-inside : (b : Body) → postable b ≡ true → bodyInside b ≡ true
+pub postable-kind : (b : Body) → postable b ≡ true → insideKind b ≡ true
 unfolding postable
-postable-inside b h = both (isEdit b) (bodyInside b) h .1
+postable-kind b h = both (isEdit b) (insideKind b) h .1
 
 -- so it is not Empty
 pub postable-not-empty : (b : Body) → postable b ≡ true → isEmpty b ≡ false
 postable-not-empty b h = edit-not-empty b (postable-edit b h)
 
 -- inside the limits the kind alone decides what may be posted
-pub inside-postable : (b : Body) → bodyInside b ≡ true → postable b ≡ isEdit b
+pub inside-postable : (b : Body) → insideKind b ≡ true → postable b ≡ isEdit b
 unfolding postable
 inside-postable b h = rw h (and-true (isEdit b))
   where
     and-true : (t : Bool) → (t && true) ≡ t
     and-true true = refl
     and-true false = refl
+
+-- what may wait is an edit inside its limits: it may be posted, and its channel is one of its edition
+module _ (edition : ℕ) (b : Body) where
+  pub waiting-make : postable b ≡ true → onChannel edition b ≡ true → mayWait edition b ≡ true
+  unfolding mayWait
+  waiting-make h on = and-both (postable-edit b h) (inside-make edition b (postable-kind b h) on)
+
+  module _ (h : mayWait edition b ≡ true) where
+    pub waiting-edit : isEdit b ≡ true
+    unfolding mayWait
+    waiting-edit = both (isEdit b) (bodyInside edition b) h .0
+
+    pub waiting-inside : bodyInside edition b ≡ true
+    unfolding mayWait
+    waiting-inside = both (isEdit b) (bodyInside edition b) h .1
+
+    pub waiting-not-empty : isEmpty b ≡ false
+    waiting-not-empty = edit-not-empty b waiting-edit
 
 -- an argument outside its kind's limits puts the numbers outside, whatever the event
 last-no : (a b c : Bool) → c ≡ false → (a && (b && c)) ≡ false

@@ -1,14 +1,15 @@
--- Document 01, "Bodies, labels and records": the table of kinds, and when a body is inside its limits.
+-- Document 01, "Bodies, labels and records", and document 02, A9: the table of kinds, the channels of an edition, and
+-- when a body is inside its limits.
 use Prim.Native.Nat.{ℕ}
-use mathlib.Core.Bool.{Bool, _&&_}
+use mathlib.Core.Bool.{Bool, cond, _&&_}
 use mathlib.Core.List.{List, [], _∷_}
-use lib.Dec.{leb, ltb}
+use lib.Dec.{leb, ltb, eqb}
 use lib.IntN.{ℤ, pos, negsuc}
 use lib.ListN.{length, getD}
 use lib.Signed.{leZ}
 use Rattle.kinds.specs.declared.Body.{Body}
 use Rattle.kind_limits.specs.declared.Limits.{Limits}
-use Rattle.kinds.specs.Body.{kindOf, eventOf, argumentOf, isEdit}
+use Rattle.kinds.specs.Body.{kindOf, eventOf, argumentOf, channelOf, isEdit}
 
 -- a row of the table: the least and the most of the event, then of the argument
 abbrev pub row : ℕ → ℕ → ℤ → ℤ → Limits
@@ -38,10 +39,31 @@ between l event argument =
 unfoldable pub numbersInside : ℕ → ℕ → ℤ → Bool
 numbersInside kind event argument = ltb kind (length kinds) && between (limitsOf kind) event argument
 
--- the limits of a body: those of its kind's row
-unfoldable pub bodyInside : Body → Bool
-bodyInside b = numbersInside (kindOf b) (eventOf b) (argumentOf b)
+-- what is an edition: 0 or 1
+abbrev pub isEdition : ℕ → Bool
+isEdition edition = ltb edition 2
 
--- a body that may be posted (else refusal 4), and so one that may wait: an edit inside the limits of its kind
+-- the channel of a body of a kind in an edition: 1 to 200 for an edit in edition 1, else 0
+unfoldable pub channelInside : ℕ → ℕ → ℕ → Bool
+channelInside edition kind channel =
+    cond (eqb edition 1 && leb 2 kind) (leb 1 channel && leb channel 200) (eqb channel 0)
+
+-- the body's channel is one of its edition (else refusal 17, where it is posted)
+abbrev pub onChannel : ℕ → Body → Bool
+onChannel edition b = channelInside edition (kindOf b) (channelOf b)
+
+-- the body is inside the limits of its kind
+unfoldable pub insideKind : Body → Bool
+insideKind b = numbersInside (kindOf b) (eventOf b) (argumentOf b)
+
+-- the limits of a body in an edition: those of its kind, and of its channel
+unfoldable pub bodyInside : ℕ → Body → Bool
+bodyInside edition b = insideKind b && onChannel edition b
+
+-- a body that may be posted (else refusal 4): an edit inside the limits of its kind
 unfoldable pub postable : Body → Bool
-postable b = isEdit b && bodyInside b
+postable b = isEdit b && insideKind b
+
+-- a body that may wait at a station of an edition: an edit inside its limits
+unfoldable pub mayWait : ℕ → Body → Bool
+mayWait edition b = isEdit b && bodyInside edition b

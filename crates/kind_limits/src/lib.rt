@@ -1,7 +1,7 @@
-// The one table of kinds with their limits, and the tests of bodies by it.
+// The one table of kinds with their limits, the channels of an edition, and the tests of bodies by them.
 
 ghost use mathlib.Core.Path.{_≡_};
-ghost use Rattle.kind_limits.specs.Limits.{numbersInside, bodyInside, postable};
+ghost use Rattle.kind_limits.specs.Limits.{numbersInside, channelInside, onChannel, insideKind, bodyInside, postable, mayWait};
 use kinds::Body;
 
 // One row of the table of kinds: the least and the most of its event and of its argument.
@@ -67,17 +67,58 @@ pub fn numbers_inside(kind: u32, event: u32, argument: i32) -> bool
     false
 }
 
+// Is this the channel of a body of a kind in an edition?
+pub fn channel_inside(edition: usize, kind: u32, channel: u8) -> bool
+    ensures { λ r. ⌜ r ≡ channelInside edition kind channel ⌝ }
+{
+    if edition != 1 {
+        return channel == 0;
+    }
+    if kind < 2 {
+        return channel == 0;
+    }
+    if channel < 1 {
+        return false;
+    }
+    channel <= 200
+}
+
 // Is the body inside the limits of its kind? Each arm names its kind, so its row is known where the program is built.
-pub fn body_inside(body: Body) -> bool
-    ensures { λ r. ⌜ r ≡ bodyInside body ⌝ }
+fn inside_kind(body: Body) -> bool
+    ensures { λ r. ⌜ r ≡ insideKind body ⌝ }
 {
     match body {
         Body::Empty => numbers_inside(0, 0, 0),
         Body::Neutral => numbers_inside(1, 0, 0),
-        Body::Insert { event, start } => numbers_inside(2, event, start),
-        Body::Drop { event } => numbers_inside(3, event, 0),
-        Body::Shift { event, frames } => numbers_inside(4, event, frames),
+        Body::Insert {
+            channel: _,
+            event,
+            start,
+        } => numbers_inside(2, event, start),
+        Body::Drop { channel: _, event } => numbers_inside(3, event, 0),
+        Body::Shift {
+            channel: _,
+            event,
+            frames,
+        } => numbers_inside(4, event, frames),
     }
+}
+
+// Is the body's channel one of its edition?
+pub fn on_channel(edition: usize, body: Body) -> bool
+    ensures { λ r. ⌜ r ≡ onChannel edition body ⌝ }
+{
+    channel_inside(edition, kinds::kind_of(body), kinds::channel_of(body))
+}
+
+// Is the body inside its limits in an edition?
+pub fn body_inside(edition: usize, body: Body) -> bool
+    ensures { λ r. ⌜ r ≡ bodyInside edition body ⌝ }
+{
+    if !inside_kind(body) {
+        return false;
+    }
+    on_channel(edition, body)
 }
 
 // May the body be posted: is it an edit inside the limits of its kind?
@@ -87,5 +128,15 @@ pub fn postable(body: Body) -> bool
     if !kinds::is_edit(body) {
         return false;
     }
-    body_inside(body)
+    inside_kind(body)
+}
+
+// May the body wait at a station of an edition: is it an edit inside its limits?
+pub fn may_wait(edition: usize, body: Body) -> bool
+    ensures { λ r. ⌜ r ≡ mayWait edition body ⌝ }
+{
+    if !kinds::is_edit(body) {
+        return false;
+    }
+    body_inside(edition, body)
 }

@@ -10,16 +10,16 @@ use lib.IntN.{ℤ, pos, negsuc}
 use lib.Signed.{leZ}
 use Rattle.kinds.specs.declared.Body.{Body}
 use Rattle.kinds.specs.declared.Body.the-variants.{Empty, Neutral, Insert, Drop, Shift}
-use Rattle.kinds.specs.Body.{kindOf, eventOf, argumentOf, bodyOf, isEmpty, isEdit, sameBody}
+use Rattle.kinds.specs.Body.{kindOf, eventOf, argumentOf, channelOf, bodyOf, isEmpty, isEdit, sameBody}
 
 -- the body of a body's own numbers is that body
-pub body-back : (b : Body) → bodyOf (kindOf b) (eventOf b) (argumentOf b) ≡ b
+pub body-back : (b : Body) → bodyOf (kindOf b) (eventOf b) (argumentOf b) (channelOf b) ≡ b
 unfolding bodyOf
 body-back Empty = refl
 body-back Neutral = refl
-body-back (Insert event start) = refl
-body-back (Drop event) = refl
-body-back (Shift event frames) = refl
+body-back (Insert channel event start) = refl
+body-back (Drop channel event) = refl
+body-back (Shift channel event frames) = refl
 
 -- the kind of an edit is 2 or more, so an edit is not Empty
 pub edit-kind : (b : Body) → isEdit b ≡ true → 2 ≤ kindOf b
@@ -39,14 +39,24 @@ argument-refl : (a : ℤ) → leZ a a ≡ true
 argument-refl (pos m) = le-leb m m (omega arith)
 argument-refl (negsuc m) = le-leb m m (omega arith)
 
--- bodies with the same kind, event and argument are the same body
+-- bodies with the same kind, event, argument and channel are the same body
 pub same-body : (a b : Body) → sameBody a b ≡ true → a ≡ b
 same-body a b h =
-    let first = both (eqb (kindOf a) (kindOf b) && eqb (eventOf a) (eventOf b)) _ h in
-    let second = both (eqb (kindOf a) (kindOf b)) (eqb (eventOf a) (eventOf b)) (first .0) in
-    let third = both (leZ (argumentOf a) (argumentOf b)) (leZ (argumentOf b) (argumentOf a)) (first .1) in
+    let kinds = eqb (kindOf a) (kindOf b) in
+    let events = eqb (eventOf a) (eventOf b) in
+    let up = leZ (argumentOf a) (argumentOf b) in
+    let down = leZ (argumentOf b) (argumentOf a) in
+    let whole = both ((kinds && events) && (up && down)) (eqb (channelOf a) (channelOf b)) h in
+    let first = both (kinds && events) (up && down) (whole .0) in
+    let second = both kinds events (first .0) in
+    let third = both up down (first .1) in
     sym (body-back a)
-    ∙ rw (eqb-true (kindOf a) (kindOf b) (second .0), eqb-true (eventOf a) (eventOf b) (second .1), argument-same (argumentOf a) (argumentOf b) (third .0) (third .1)) (body-back b)
+    ∙ rw (
+      eqb-true (kindOf a) (kindOf b) (second .0),
+      eqb-true (eventOf a) (eventOf b) (second .1),
+      argument-same (argumentOf a) (argumentOf b) (third .0) (third .1),
+      eqb-true (channelOf a) (channelOf b) (whole .1),
+    ) (body-back b)
   where
     both : (x y : Bool) → (x && y) ≡ true → (x ≡ true) × (y ≡ true)
     both true true e = (refl, refl)
@@ -54,4 +64,10 @@ same-body a b h =
     both false y e = absurd (false≢true e)
 
 pub body-same : (b : Body) → sameBody b b ≡ true
-body-same b = rw (eq-eqb (kindOf b) (kindOf b) refl, eq-eqb (eventOf b) (eventOf b) refl, argument-refl (argumentOf b))
+body-same b =
+    rw (
+      eq-eqb (kindOf b) (kindOf b) refl,
+      eq-eqb (eventOf b) (eventOf b) refl,
+      argument-refl (argumentOf b),
+      eq-eqb (channelOf b) (channelOf b) refl,
+    )

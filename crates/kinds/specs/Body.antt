@@ -1,4 +1,5 @@
--- Document 01, "Bodies, labels and records": what each case of the body enum stands for, as the three numbers of a record.
+-- Document 01, "Bodies, labels and records", and document 02, A9: what each case of the body enum stands for, as the
+-- four numbers of a record.
 use Prim.Native.Nat.{ℕ}
 use mathlib.Core.Bool.{Bool, cond, _&&_}
 use lib.Dec.{leb, eqb}
@@ -11,25 +12,33 @@ use Rattle.kinds.specs.declared.Body.the-variants.{Empty, Neutral, Inser
 abbrev pub kindOf : Body → ℕ
 kindOf Empty = 0
 kindOf Neutral = 1
-kindOf (Insert event start) = 2
-kindOf (Drop event) = 3
-kindOf (Shift event frames) = 4
+kindOf (Insert channel event start) = 2
+kindOf (Drop channel event) = 3
+kindOf (Shift channel event frames) = 4
 
 -- the column "Event"
 abbrev pub eventOf : Body → ℕ
 eventOf Empty = 0
 eventOf Neutral = 0
-eventOf (Insert event start) = event
-eventOf (Drop event) = event
-eventOf (Shift event frames) = event
+eventOf (Insert channel event start) = event
+eventOf (Drop channel event) = event
+eventOf (Shift channel event frames) = event
 
 -- the column "Argument"
 abbrev pub argumentOf : Body → ℤ
 argumentOf Empty = pos 0
 argumentOf Neutral = pos 0
-argumentOf (Insert event start) = start
-argumentOf (Drop event) = pos 0
-argumentOf (Shift event frames) = frames
+argumentOf (Insert channel event start) = start
+argumentOf (Drop channel event) = pos 0
+argumentOf (Shift channel event frames) = frames
+
+-- the channel of an edit (document 02, A9)
+abbrev pub channelOf : Body → ℕ
+channelOf Empty = 0
+channelOf Neutral = 0
+channelOf (Insert channel event start) = channel
+channelOf (Drop channel event) = channel
+channelOf (Shift channel event frames) = channel
 
 -- kind 0, which is never taken
 abbrev pub isEmpty : Body → Bool
@@ -39,16 +48,18 @@ isEmpty b = eqb (kindOf b) 0
 abbrev pub isEdit : Body → Bool
 isEdit b = leb 2 (kindOf b)
 
--- kind, event and argument are the same
+-- kind, event, argument and channel are the same
 abbrev pub sameBody : Body → Body → Bool
 sameBody a b =
     (eqb (kindOf a) (kindOf b) && eqb (eventOf a) (eventOf b))
     && (leZ (argumentOf a) (argumentOf b) && leZ (argumentOf b) (argumentOf a))
+    && eqb (channelOf a) (channelOf b)
 
--- the body of a kind with its event and argument; numbers that the kind does not have are left out, and a number that is no kind gives Empty
-unfoldable pub bodyOf : ℕ → ℕ → ℤ → Body
-bodyOf kind event argument =
+-- the body of a kind with its event, argument and channel; numbers that the kind does not have are left out, and a number
+-- that is no kind gives Empty
+unfoldable pub bodyOf : ℕ → ℕ → ℤ → ℕ → Body
+bodyOf kind event argument channel =
     cond (eqb kind 1) Neutral
-    (cond (eqb kind 2) (Insert event argument)
-    (cond (eqb kind 3) (Drop event)
-    (cond (eqb kind 4) (Shift event argument) Empty)))
+    (cond (eqb kind 2) (Insert channel event argument)
+    (cond (eqb kind 3) (Drop channel event)
+    (cond (eqb kind 4) (Shift channel event argument) Empty)))

@@ -1,17 +1,28 @@
 // Bodies, and the refusal numbers.
 
 ghost use mathlib.Core.Path.{_≡_};
-ghost use Rattle.kinds.specs.Body.{kindOf, eventOf, argumentOf, bodyOf, isEmpty, isEdit};
+ghost use Rattle.kinds.specs.Body.{kindOf, eventOf, argumentOf, channelOf, bodyOf, isEmpty, isEdit};
 
 pub mod refusals;
 
-// What a record carries: document 01's five kinds, each with its own numbers.
+// What a record carries: document 01's five kinds, each with its own numbers, and the channel of an edit (document 02, A9).
 pub enum Body {
     Empty,
     Neutral,
-    Insert { event: u32, start: i32 },
-    Drop { event: u32 },
-    Shift { event: u32, frames: i32 },
+    Insert {
+        channel: u8,
+        event: u32,
+        start: i32,
+    },
+    Drop {
+        channel: u8,
+        event: u32,
+    },
+    Shift {
+        channel: u8,
+        event: u32,
+        frames: i32,
+    },
 }
 
 pub fn kind_of(body: Body) -> u32
@@ -20,9 +31,17 @@ pub fn kind_of(body: Body) -> u32
     match body {
         Body::Empty => 0,
         Body::Neutral => 1,
-        Body::Insert { event: _, start: _ } => 2,
-        Body::Drop { event: _ } => 3,
+        Body::Insert {
+            channel: _,
+            event: _,
+            start: _,
+        } => 2,
+        Body::Drop {
+            channel: _,
+            event: _,
+        } => 3,
         Body::Shift {
+            channel: _,
             event: _,
             frames: _,
         } => 4,
@@ -35,9 +54,17 @@ pub fn event_of(body: Body) -> u32
     match body {
         Body::Empty => 0,
         Body::Neutral => 0,
-        Body::Insert { event, start: _ } => event,
-        Body::Drop { event } => event,
-        Body::Shift { event, frames: _ } => event,
+        Body::Insert {
+            channel: _,
+            event,
+            start: _,
+        } => event,
+        Body::Drop { channel: _, event } => event,
+        Body::Shift {
+            channel: _,
+            event,
+            frames: _,
+        } => event,
     }
 }
 
@@ -47,9 +74,40 @@ pub fn argument_of(body: Body) -> i32
     match body {
         Body::Empty => 0,
         Body::Neutral => 0,
-        Body::Insert { event: _, start } => start,
-        Body::Drop { event: _ } => 0,
-        Body::Shift { event: _, frames } => frames,
+        Body::Insert {
+            channel: _,
+            event: _,
+            start,
+        } => start,
+        Body::Drop {
+            channel: _,
+            event: _,
+        } => 0,
+        Body::Shift {
+            channel: _,
+            event: _,
+            frames,
+        } => frames,
+    }
+}
+
+pub fn channel_of(body: Body) -> u8
+    ensures { λ r. ⌜ r ≡ channelOf body ⌝ }
+{
+    match body {
+        Body::Empty => 0,
+        Body::Neutral => 0,
+        Body::Insert {
+            channel,
+            event: _,
+            start: _,
+        } => channel,
+        Body::Drop { channel, event: _ } => channel,
+        Body::Shift {
+            channel,
+            event: _,
+            frames: _,
+        } => channel,
     }
 }
 
@@ -67,18 +125,24 @@ pub fn is_edit(body: Body) -> bool
     2 <= kind_of(body)
 }
 
-// The body of a kind with its event and argument. A kind leaves out the numbers that it does not have, and a number that is no kind gives Empty.
-pub fn body_of(kind: u32, event: u32, argument: i32) -> Body
-    ensures { λ r. ⌜ r ≡ bodyOf kind event argument ⌝ }
+// The body of a kind with its event, argument and channel. A kind leaves out the numbers that it does not have, and a number
+// that is no kind gives Empty.
+pub fn body_of(kind: u32, event: u32, argument: i32, channel: u8) -> Body
+    ensures { λ r. ⌜ r ≡ bodyOf kind event argument channel ⌝ }
 {
     match kind {
         1 => Body::Neutral,
         2 => Body::Insert {
+            channel: channel,
             event: event,
             start: argument,
         },
-        3 => Body::Drop { event: event },
+        3 => Body::Drop {
+            channel: channel,
+            event: event,
+        },
         4 => Body::Shift {
+            channel: channel,
             event: event,
             frames: argument,
         },

@@ -34,6 +34,8 @@ pub const BAD_DESK: u32 = 15;
 
 pub const BAD_LISTING: u32 = 16;
 
+pub const BAD_EDITION: u32 = 17;
+
 pub const BAD_QUESTION: u32 = 18;
 
 pub const BAD_CONTEST: u32 = 20;

@@ -1,4 +1,4 @@
--- A queue inside its limits stays so when an edit is put last where there is a place, and when the oldest is removed; what is oldest may be posted.
+-- A queue inside its limits stays so when an edit is put last where there is a place, and when the oldest is removed; what is oldest may wait.
 use Prim.Native.Nat.{ℕ, suc, _-_, _≤_, _<_}
 use mathlib.Core.Bool.{Bool, true, false, true≢false}
 use mathlib.Core.Path.{_≡_, refl, sym, ap, _∙_}
@@ -9,7 +9,7 @@ use lib.ListN.{getD, length, List·getD-eq-default}
 use lib.Seq.{getD-set-same, getD-set-other}
 use borrow.Author.Tests.{leb-true, leb-false, le-leb}
 use Rattle.kinds.specs.declared.Body.{Body}
-use Rattle.kind_limits.specs.Limits.{postable}
+use Rattle.kind_limits.specs.Limits.{mayWait}
 use Rattle.places.specs.Places.{allBelow}
 use Rattle.places.proofs.Laws.{and-both, and-left, and-right, allBelow-at, allBelow-make}
 use Rattle.lanes.specs.declared.Slot.{Slot}
@@ -21,35 +21,35 @@ use Rattle.lanes.proofs.QueueLaws.{unqueued-at}
 abbrev slotBody : Queue → ℕ → Body
 slotBody q i = (getD (q .slots) i noSlot) .body
 
-pub queue-most : (limit : ℕ) (q : Queue) → queueInside limit q ≡ true → q .len ≤ limit
+pub queue-most : (edition limit : ℕ) (q : Queue) → queueInside edition limit q ≡ true → q .len ≤ limit
 unfolding queueInside
-queue-most limit q h = leb-true (q .len) limit (and-left (leb (q .len) limit) (allBelow (q .len) (λ i. postable (slotBody q i))) h)
+queue-most edition limit q h = leb-true (q .len) limit (and-left (leb (q .len) limit) (allBelow (q .len) (λ i. mayWait edition (slotBody q i))) h)
 
-pub queue-postable : (limit : ℕ) (q : Queue) → queueInside limit q ≡ true → (i : ℕ) → i < q .len → postable (slotBody q i) ≡ true
+pub queue-waiting : (edition limit : ℕ) (q : Queue) → queueInside edition limit q ≡ true → (i : ℕ) → i < q .len → mayWait edition (slotBody q i) ≡ true
 unfolding queueInside
-queue-postable limit q h =
-    allBelow-at (q .len) (λ i. postable (slotBody q i)) (and-right (leb (q .len) limit) (allBelow (q .len) (λ i. postable (slotBody q i))) h)
+queue-waiting edition limit q h =
+    allBelow-at (q .len) (λ i. mayWait edition (slotBody q i)) (and-right (leb (q .len) limit) (allBelow (q .len) (λ i. mayWait edition (slotBody q i))) h)
 
--- past the slots there is no body that may be posted, so that no length counts more than they are
-empty-refused : postable (noSlot .body) ≡ false
-unfolding postable
-empty-refused = refl
+-- past the slots there is no body that may wait, so that no length counts more than they are
+empty-refused : (edition : ℕ) → mayWait edition (noSlot .body) ≡ false
+unfolding mayWait
+empty-refused edition = refl
 
-pub queue-slots : (limit : ℕ) (q : Queue) → queueInside limit q ≡ true → q .len ≤ length (q .slots)
-queue-slots limit q h = go (leb (q .len) (length (q .slots))) refl
+pub queue-slots : (edition limit : ℕ) (q : Queue) → queueInside edition limit q ≡ true → q .len ≤ length (q .slots)
+queue-slots edition limit q h = go (leb (q .len) (length (q .slots))) refl
   where
     go : (t : Bool) → leb (q .len) (length (q .slots)) ≡ t → q .len ≤ length (q .slots)
     go true e = leb-true (q .len) (length (q .slots)) e
     go false e =
         absurd
         (true≢false
-        (sym (queue-postable limit q h (length (q .slots)) (leb-false (q .len) (length (q .slots)) e))
-        ∙ ap (λ (x : Slot). postable (x .body)) (List·getD-eq-default (q .slots) noSlot (omega arith))
-        ∙ empty-refused))
+        (sym (queue-waiting edition limit q h (length (q .slots)) (leb-false (q .len) (length (q .slots)) e))
+        ∙ ap (λ (x : Slot). mayWait edition (x .body)) (List·getD-eq-default (q .slots) noSlot (omega arith))
+        ∙ empty-refused edition))
 
-pub queue-make : (limit : ℕ) (q : Queue) → q .len ≤ limit → ((i : ℕ) → i < q .len → postable (slotBody q i) ≡ true) → queueInside limit q ≡ true
+pub queue-make : (edition limit : ℕ) (q : Queue) → q .len ≤ limit → ((i : ℕ) → i < q .len → mayWait edition (slotBody q i) ≡ true) → queueInside edition limit q ≡ true
 unfolding queueInside
-queue-make limit q l h = and-both (le-leb (q .len) limit l) (allBelow-make (q .len) (λ i. postable (slotBody q i)) h)
+queue-make edition limit q l h = and-both (le-leb (q .len) limit l) (allBelow-make (q .len) (λ i. mayWait edition (slotBody q i)) h)
 
 pub queued-len : (q : Queue) (b : Body) → (queued q b) .len ≡ suc (q .len)
 unfolding queued
@@ -70,25 +70,25 @@ queued-before q b i l =
     (getD-set-other (q .slots) (q .len) i (record { body = b }) noSlot (λ e. absurd (omega arith)))
 
 pub queued-inside :
-    (limit : ℕ) (q : Queue) (b : Body) → length (q .slots) ≡ queueCapacity → limit ≤ queueCapacity → queueInside limit q ≡ true → q .len < limit → postable b ≡ true →
-    queueInside limit (queued q b) ≡ true
-queued-inside limit q b shape high h l e = queue-make limit (queued q b) (omega (arith, queued-len q b)) each
+    (edition limit : ℕ) (q : Queue) (b : Body) → length (q .slots) ≡ queueCapacity → limit ≤ queueCapacity → queueInside edition limit q ≡ true → q .len < limit → mayWait edition b ≡ true →
+    queueInside edition limit (queued q b) ≡ true
+queued-inside edition limit q b shape high h l e = queue-make edition limit (queued q b) (omega (arith, queued-len q b)) each
   where
-    each : (i : ℕ) → i < (queued q b) .len → postable (slotBody (queued q b) i) ≡ true
+    each : (i : ℕ) → i < (queued q b) .len → mayWait edition (slotBody (queued q b) i) ≡ true
     each i m =
         elim (ℕ-discrete i (q .len)) [
           | yes same ↦ rw (same, queued-last q b (omega arith)) e
-          | no ne ↦ rw (queued-before q b i (omega (arith, queued-len q b))) (queue-postable limit q h i (omega (arith, queued-len q b)))
+          | no ne ↦ rw (queued-before q b i (omega (arith, queued-len q b))) (queue-waiting edition limit q h i (omega (arith, queued-len q b)))
         ]
 
 pub unqueued-inside :
-    (limit : ℕ) (q : Queue) → length (q .slots) ≡ queueCapacity → limit ≤ queueCapacity → queueInside limit q ≡ true → queueInside limit (unqueued q) ≡ true
-unqueued-inside limit q shape high h =
-    let most : q .len ≤ limit = queue-most limit q h in
+    (edition limit : ℕ) (q : Queue) → length (q .slots) ≡ queueCapacity → limit ≤ queueCapacity → queueInside edition limit q ≡ true → queueInside edition limit (unqueued q) ≡ true
+unqueued-inside edition limit q shape high h =
+    let most : q .len ≤ limit = queue-most edition limit q h in
     let len : (unqueued q) .len ≡ q .len - 1 = unqueued-len q in
-    queue-make limit (unqueued q) (omega arith)
-    (λ i m. ap (λ (x : Slot). postable (x .body)) (unqueued-at q i (omega arith) (omega arith)) ∙ queue-postable limit q h (suc i) (omega arith))
+    queue-make edition limit (unqueued q) (omega arith)
+    (λ i m. ap (λ (x : Slot). mayWait edition (x .body)) (unqueued-at q i (omega arith) (omega arith)) ∙ queue-waiting edition limit q h (suc i) (omega arith))
 
-pub oldest-postable : (limit : ℕ) (q : Queue) → queueInside limit q ≡ true → 0 < q .len → postable (oldest q) ≡ true
+pub oldest-waiting : (edition limit : ℕ) (q : Queue) → queueInside edition limit q ≡ true → 0 < q .len → mayWait edition (oldest q) ≡ true
 unfolding oldest
-oldest-postable limit q h l = queue-postable limit q h 0 l
+oldest-waiting edition limit q h l = queue-waiting edition limit q h 0 l

@@ -11,14 +11,14 @@ use lib.ListN.{length}
 use borrow.Author.Tests.{ltb-true, ltb-false, lt-ltb, le-ltb, leb-true, le-leb, eq-eqb, ne-eqb}
 use Rattle.places.proofs.Laws.{both, and-both, and-left, and-right}
 use Rattle.kinds.specs.declared.Body.{Body}
-use Rattle.kind_limits.specs.Limits.{postable}
+use Rattle.kind_limits.specs.Limits.{mayWait}
 use Rattle.places.specs.Places.{allBelow}
 use Rattle.lanes.specs.declared.Queue.{Queue}
 use Rattle.lanes.specs.declared.Waiting.{Waiting}
 use Rattle.lanes.specs.Queue.{queueCapacity, queueBodies, emptyQueue, queued, oldest, unqueued, queueInside}
 use Rattle.lanes.specs.Waiting.{isDesk, otherDesk, limitInside, noneWaiting, queueOf, waitingEdits, deskCount, waitingCount, waitingAt, hasRoom, withQueue, withFirst, withPosted, firstDesk, nextDesk, nextEdit, withoutNext, waitingInside}
 use Rattle.lanes.proofs.QueueLaws.{bodies-empty, length-queueBodies, bodies-queued, bodies-unqueued, queued-slots, unqueued-slots}
-use Rattle.lanes.proofs.QueueLimits.{queue-most, queue-postable, queue-slots, queued-len, unqueued-len, queued-inside, unqueued-inside, oldest-postable}
+use Rattle.lanes.proofs.QueueLimits.{queue-most, queue-waiting, queue-slots, queued-len, unqueued-len, queued-inside, unqueued-inside, oldest-waiting}
 
 -- the arrays have their length by their type
 pub record WaitingSized (w : Waiting) : Type 0 where
@@ -113,9 +113,9 @@ pub none-first : (limit : ℕ) → firstDesk (noneWaiting limit) ≡ 0
 unfolding firstDesk noneWaiting
 none-first limit = refl
 
-pub none-inside : (limit : ℕ) → limitInside limit ≡ true → waitingInside (noneWaiting limit) ≡ true
+pub none-inside : (edition limit : ℕ) → limitInside limit ≡ true → waitingInside edition (noneWaiting limit) ≡ true
 unfolding waitingInside noneWaiting emptyQueue queueInside allBelow
-none-inside limit e = rw (e, le-leb 0 limit (omega arith))
+none-inside edition limit e = rw (e, le-leb 0 limit (omega arith))
 
 -- room for one more
 pub room-below : (w : Waiting) (d : ℕ) → deskCount w d < w .limit → hasRoom w d ≡ true
@@ -136,48 +136,48 @@ unfolding hasRoom
 room-same v w d l c = (λ i. ltb (c i) (l i))
 
 -- what is inside its limits has a limit that its arrays have room for, and queues by it
-pub inside-limit : (w : Waiting) → waitingInside w ≡ true → limitInside (w .limit) ≡ true
+pub inside-limit : (edition : ℕ) (w : Waiting) → waitingInside edition w ≡ true → limitInside (w .limit) ≡ true
 unfolding waitingInside
-inside-limit w i =
-    and-left (limitInside (w .limit)) (queueInside (w .limit) (w .queue0) && queueInside (w .limit) (w .queue1)) i
+inside-limit edition w i =
+    and-left (limitInside (w .limit)) (queueInside edition (w .limit) (w .queue0) && queueInside edition (w .limit) (w .queue1)) i
 
-inside-both : (w : Waiting) → waitingInside w ≡ true → (queueInside (w .limit) (w .queue0) ≡ true) × (queueInside (w .limit) (w .queue1) ≡ true)
+inside-both : (edition : ℕ) (w : Waiting) → waitingInside edition w ≡ true → (queueInside edition (w .limit) (w .queue0) ≡ true) × (queueInside edition (w .limit) (w .queue1) ≡ true)
 unfolding waitingInside
-inside-both w i =
-    both (queueInside (w .limit) (w .queue0)) (queueInside (w .limit) (w .queue1))
-    (and-right (limitInside (w .limit)) (queueInside (w .limit) (w .queue0) && queueInside (w .limit) (w .queue1)) i)
+inside-both edition w i =
+    both (queueInside edition (w .limit) (w .queue0)) (queueInside edition (w .limit) (w .queue1))
+    (and-right (limitInside (w .limit)) (queueInside edition (w .limit) (w .queue0) && queueInside edition (w .limit) (w .queue1)) i)
 
 inside-make :
-    (w : Waiting) → limitInside (w .limit) ≡ true → (queueInside (w .limit) (w .queue0) ≡ true) × (queueInside (w .limit) (w .queue1) ≡ true) →
-    waitingInside w ≡ true
+    (edition : ℕ) (w : Waiting) → limitInside (w .limit) ≡ true → (queueInside edition (w .limit) (w .queue0) ≡ true) × (queueInside edition (w .limit) (w .queue1) ≡ true) →
+    waitingInside edition w ≡ true
 unfolding waitingInside
-inside-make w l p = and-both l (and-both (p .0) (p .1))
+inside-make edition w l p = and-both l (and-both (p .0) (p .1))
 
-inside-queue : (w : Waiting) → waitingInside w ≡ true → (d : ℕ) → queueInside (w .limit) (queueOf w d) ≡ true
-inside-queue w i d =
-    let parts = inside-both w i in
-    each-queue (λ (q : Queue). queueInside (w .limit) q ≡ true) w (parts .0) (parts .1) d
+inside-queue : (edition : ℕ) (w : Waiting) → waitingInside edition w ≡ true → (d : ℕ) → queueInside edition (w .limit) (queueOf w d) ≡ true
+inside-queue edition w i d =
+    let parts = inside-both edition w i in
+    each-queue (λ (q : Queue). queueInside edition (w .limit) q ≡ true) w (parts .0) (parts .1) d
 
-pub inside-most : (w : Waiting) → waitingInside w ≡ true → (d : ℕ) → deskCount w d ≤ queueCapacity
+pub inside-most : (edition : ℕ) (w : Waiting) → waitingInside edition w ≡ true → (d : ℕ) → deskCount w d ≤ queueCapacity
 unfolding deskCount
-inside-most w i d =
-    omega (arith, limit-most (w .limit) (inside-limit w i), queue-most (w .limit) (queueOf w d) (inside-queue w i d))
+inside-most edition w i d =
+    omega (arith, limit-most (w .limit) (inside-limit edition w i), queue-most edition (w .limit) (queueOf w d) (inside-queue edition w i d))
 
-pub room-most : (w : Waiting) (d : ℕ) → waitingInside w ≡ true → hasRoom w d ≡ true → deskCount w d < queueCapacity
-room-most w d i h = omega (arith, limit-most (w .limit) (inside-limit w i), room-count w d h)
+pub room-most : (edition : ℕ) (w : Waiting) (d : ℕ) → waitingInside edition w ≡ true → hasRoom w d ≡ true → deskCount w d < queueCapacity
+room-most edition w d i h = omega (arith, limit-most (w .limit) (inside-limit edition w i), room-count w d h)
 
 -- how many wait
 pub count-both : (w : Waiting) → waitingCount w ≡ deskCount w 0 + deskCount w 1
 unfolding waitingCount
 count-both w = refl
 
-pub edits-count : (w : Waiting) → waitingInside w ≡ true → (d : ℕ) → length (waitingEdits w d) ≡ deskCount w d
+pub edits-count : (edition : ℕ) (w : Waiting) → waitingInside edition w ≡ true → (d : ℕ) → length (waitingEdits w d) ≡ deskCount w d
 unfolding waitingEdits deskCount
-edits-count w i d = length-queueBodies (queueOf w d) (queue-slots (w .limit) (queueOf w d) (inside-queue w i d))
+edits-count edition w i d = length-queueBodies (queueOf w d) (queue-slots edition (w .limit) (queueOf w d) (inside-queue edition w i d))
 
-pub waiting-postable : (w : Waiting) → waitingInside w ≡ true → (d i : ℕ) → i < deskCount w d → postable (waitingAt w d i) ≡ true
+pub waiting-fits : (edition : ℕ) (w : Waiting) → waitingInside edition w ≡ true → (d i : ℕ) → i < deskCount w d → mayWait edition (waitingAt w d i) ≡ true
 unfolding deskCount waitingAt
-waiting-postable w i d = queue-postable (w .limit) (queueOf w d) (inside-queue w i d)
+waiting-fits edition w i d = queue-waiting edition (w .limit) (queueOf w d) (inside-queue edition w i d)
 
 -- one more of a desk, posted last
 
@@ -221,13 +221,13 @@ unfolding withPosted
 posted-limit w d b = refl
 
 pub posted-inside :
-    (w : Waiting) (d : ℕ) (b : Body) → WaitingSized w → waitingInside w ≡ true → hasRoom w d ≡ true → postable b ≡ true → waitingInside (withPosted w d b) ≡ true
+    (edition : ℕ) (w : Waiting) (d : ℕ) (b : Body) → WaitingSized w → waitingInside edition w ≡ true → hasRoom w d ≡ true → mayWait edition b ≡ true → waitingInside edition (withPosted w d b) ≡ true
 unfolding withPosted
-posted-inside w d b c i h e =
-    let parts = inside-both w i in
-    inside-make (withQueue w d (queued (queueOf w d) b)) (inside-limit w i)
-    (queue-each (λ (q : Queue). queueInside (w .limit) q ≡ true) w d (queued (queueOf w d) b)
-    (queued-inside (w .limit) (queueOf w d) b (c .slots d) (limit-most (w .limit) (inside-limit w i)) (inside-queue w i d) (unfold deskCount in (room-count w d h)) e)
+posted-inside edition w d b c i h e =
+    let parts = inside-both edition w i in
+    inside-make edition (withQueue w d (queued (queueOf w d) b)) (inside-limit edition w i)
+    (queue-each (λ (q : Queue). queueInside edition (w .limit) q ≡ true) w d (queued (queueOf w d) b)
+    (queued-inside edition (w .limit) (queueOf w d) b (c .slots d) (limit-most (w .limit) (inside-limit edition w i)) (inside-queue edition w i d) (unfold deskCount in (room-count w d h)) e)
     (parts .0)
     (parts .1))
 
@@ -276,9 +276,9 @@ next-waits w l = go (ltb 0 (deskCount w (firstDesk w))) refl
     go true e = ltb-true 0 (deskCount w (firstDesk w)) e
     go false e = rest (firstDesk w) (first-desk w) (ltb-false 0 (deskCount w (firstDesk w)) e)
 
-pub next-postable : (w : Waiting) → waitingInside w ≡ true → 0 < waitingCount w → postable (nextEdit w) ≡ true
+pub next-fits : (edition : ℕ) (w : Waiting) → waitingInside edition w ≡ true → 0 < waitingCount w → mayWait edition (nextEdit w) ≡ true
 unfolding nextEdit
-next-postable w i l = oldest-postable (w .limit) (queueOf w (nextDesk w)) (inside-queue w i (nextDesk w)) (unfold deskCount in (next-waits w l))
+next-fits edition w i l = oldest-waiting edition (w .limit) (queueOf w (nextDesk w)) (inside-queue edition w i (nextDesk w)) (unfold deskCount in (next-waits w l))
 
 -- the next one started: its desk has one less, the other as many and goes first
 
@@ -312,10 +312,10 @@ started-sized w l c =
     }
 
 pub started-edits :
-    (w : Waiting) (e : ℕ) → isDesk e ≡ true → WaitingSized w → waitingInside w ≡ true → 0 < waitingCount w →
+    (edition : ℕ) (w : Waiting) (e : ℕ) → isDesk e ≡ true → WaitingSized w → waitingInside edition w ≡ true → 0 < waitingCount w →
     waitingEdits w e ≡ cond (eqb (nextDesk w) e) (nextEdit w ∷ []) [] ++ waitingEdits (withoutNext w) e
 unfolding waitingEdits nextEdit
-started-edits w e k c i l =
+started-edits edition w e k c i l =
     elim (ℕ-discrete (nextDesk w) e) [
       | yes same ↦
           subst
@@ -333,7 +333,7 @@ started-edits w e k c i l =
     front : queueBodies (queueOf w (nextDesk w)) ≡ oldest (queueOf w (nextDesk w)) ∷ queueBodies new
     front =
         bodies-unqueued (queueOf w (nextDesk w)) (unfold deskCount in (next-waits w l))
-        (unfold deskCount in (omega (arith, inside-most w i (nextDesk w), c .slots (nextDesk w))))
+        (unfold deskCount in (omega (arith, inside-most edition w i (nextDesk w), c .slots (nextDesk w))))
 
 pub started-first : (w : Waiting) → firstDesk (withoutNext w) ≡ otherDesk (nextDesk w)
 unfolding firstDesk withoutNext
@@ -347,14 +347,14 @@ pub started-limit : (w : Waiting) → (withoutNext w) .limit ≡ w .limit
 unfolding withoutNext
 started-limit w = refl
 
-pub started-inside : (w : Waiting) → WaitingSized w → waitingInside w ≡ true → waitingInside (withoutNext w) ≡ true
+pub started-inside : (edition : ℕ) (w : Waiting) → WaitingSized w → waitingInside edition w ≡ true → waitingInside edition (withoutNext w) ≡ true
 unfolding withoutNext
-started-inside w c i =
+started-inside edition w c i =
     let d = nextDesk w in
     let new = unqueued (queueOf w d) in
-    let parts = inside-both w i in
-    inside-make (withFirst (withQueue w d new) (otherDesk d)) (inside-limit w i)
-    (queue-each (λ (q : Queue). queueInside (w .limit) q ≡ true) w d new
-    (unqueued-inside (w .limit) (queueOf w d) (c .slots d) (limit-most (w .limit) (inside-limit w i)) (inside-queue w i d))
+    let parts = inside-both edition w i in
+    inside-make edition (withFirst (withQueue w d new) (otherDesk d)) (inside-limit edition w i)
+    (queue-each (λ (q : Queue). queueInside edition (w .limit) q ≡ true) w d new
+    (unqueued-inside edition (w .limit) (queueOf w d) (c .slots d) (limit-most (w .limit) (inside-limit edition w i)) (inside-queue edition w i d))
     (parts .0)
     (parts .1))

@@ -6,7 +6,7 @@ use lib.Dec.{leb}
 use lib.ListN.{take, drop, set, getD, replicate}
 use Rattle.kinds.specs.declared.Body.{Body}
 use Rattle.kinds.specs.declared.Body.the-variants.{Empty}
-use Rattle.kind_limits.specs.Limits.{postable}
+use Rattle.kind_limits.specs.Limits.{mayWait}
 use Rattle.places.specs.Places.{allBelow}
 use Rattle.lanes.specs.declared.Slot.{Slot}
 use Rattle.lanes.specs.declared.Queue.{Queue}
@@ -38,6 +38,7 @@ oldest q = (getD (q .slots) 0 noSlot) .body
 unfoldable pub unqueued : Queue → Queue
 unqueued q = record { len = q .len - 1; slots = take (q .len - 1) (drop 1 (q .slots)) ++ (noSlot ∷ drop (q .len) (q .slots)) }
 
--- no more than a limit, and each may be posted
-unfoldable pub queueInside : ℕ → Queue → Bool
-queueInside limit q = leb (q .len) limit && allBelow (q .len) (λ i. postable ((getD (q .slots) i noSlot) .body))
+-- no more than a limit, and each may wait in this edition
+unfoldable pub queueInside : ℕ → ℕ → Queue → Bool
+queueInside edition limit q =
+    leb (q .len) limit && allBelow (q .len) (λ i. mayWait edition ((getD (q .slots) i noSlot) .body))

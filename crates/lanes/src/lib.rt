@@ -123,10 +123,10 @@ fn unqueued(queue: Queue) -> Queue
     }
 }
 
-// Are there no more bodies in the queue than a limit, which it has room for, and may each be posted?
-fn queue_inside(queue: Queue, limit: usize) -> bool
+// Are there no more bodies in the queue than a limit, which it has room for, and may each wait in this edition?
+fn queue_inside(queue: Queue, edition: usize, limit: usize) -> bool
     requires { ⌜ limit ≤ queueSpec.queueCapacity ⌝ }
-    ensures { λ r. ⌜ r ≡ queueSpec.queueInside limit queue ⌝ }
+    ensures { λ r. ⌜ r ≡ queueSpec.queueInside edition limit queue ⌝ }
 {
     let len = queue.len;
     if limit < len {
@@ -136,7 +136,7 @@ fn queue_inside(queue: Queue, limit: usize) -> bool
     while i < len {
         let slot = queue.slots[i];
         let body = slot.body;
-        if !kind_limits::postable(body) {
+        if !kind_limits::may_wait(edition, body) {
             return false;
         }
         i += 1;
@@ -243,7 +243,8 @@ pub fn next_edit(waiting: Waiting) -> Body
 
 // The waiting edits once the next one has started: the other desk goes first.
 pub fn without_next(waiting: Waiting) -> Waiting
-    requires { ⌜ (0 < waitingSpec.waitingCount waiting) × (waitingSpec.waitingInside waiting ≡ true) ⌝ }
+    requires { ⌜ (0 < waitingSpec.waitingCount waiting)
+        × (waitingSpec.deskCount waiting (waitingSpec.nextDesk waiting) ≤ queueSpec.queueCapacity) ⌝ }
     ensures { λ r. ⌜ r ≡ waitingSpec.withoutNext waiting ⌝ }
 {
     let queue0 = waiting.queue0;
@@ -266,18 +267,18 @@ pub fn without_next(waiting: Waiting) -> Waiting
     }
 }
 
-// Are the waiting edits inside their limits?
-pub fn waiting_inside(waiting: Waiting) -> bool
-    ensures { λ r. ⌜ r ≡ waitingSpec.waitingInside waiting ⌝ }
+// Are the waiting edits inside their limits in an edition?
+pub fn waiting_inside(edition: usize, waiting: Waiting) -> bool
+    ensures { λ r. ⌜ r ≡ waitingSpec.waitingInside edition waiting ⌝ }
 {
     let limit = waiting.limit;
     if !limit_inside(limit) {
         return false;
     }
     let queue0 = waiting.queue0;
-    if !queue_inside(queue0, limit) {
+    if !queue_inside(queue0, edition, limit) {
         return false;
     }
     let queue1 = waiting.queue1;
-    queue_inside(queue1, limit)
+    queue_inside(queue1, edition, limit)
 }

@@ -57,7 +57,7 @@ module _ (s : Station) (bytes : List ℕ) (start : ℕ) (may : MayListen s bytes
   lens-are k l = fill-below 16 (λ j. (getD (s .lanes) j noLane) .len) (replicate 16 0) k 0 l (omega arith)
 
   lane-two : (k : ℕ) → k < s .n → (laneAt s k) .len ≤ 2
-  lane-two k l = go (eqb k (s .own)) (lane-most (cond (eqb k (s .own)) 1 2) (laneAt s k) (inside .places k l .lane))
+  lane-two k l = go (eqb k (s .own)) (lane-most (s .edition) (cond (eqb k (s .own)) 1 2) (laneAt s k) (inside .places k l .lane))
     where
       go : (t : Bool) → (laneAt s k) .len ≤ cond t 1 2 → (laneAt s k) .len ≤ 2
       go true h = omega arith

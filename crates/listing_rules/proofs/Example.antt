@@ -10,7 +10,7 @@ use Rattle.listing_rules.specs.Listing.{listingOf}
 use Rattle.listing_rules.proofs.Computing.{listingRuns}
 
 abbrev edit : Rattle.kinds.specs.declared.Body.Body
-edit = Insert 7 (pos 100)
+edit = Insert 0 7 (pos 100)
 
 abbrev roundOf : ℕ → ℕ → List ℕ
 roundOf a b = 82 ∷ natColumns 9 a ++ natColumns 9 b ++ (10 ∷ [])

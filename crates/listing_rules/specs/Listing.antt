@@ -34,13 +34,13 @@ sessionBegun = record { n = 0; rounds = 0; stopped = false; group = freshGroup a
 abbrev pub listingLimit : ℕ
 listingLimit = 32
 
--- what an `N` line gives the fresh group
+-- what an `N` line gives the fresh group: scripts run edition 0 (document 02, A9)
 abbrev pub setupOf : ℕ → Setup
-setupOf n = record { n = n; limit = listingLimit }
+setupOf n = record { n = n; limit = listingLimit; edition = 0 }
 
--- the body that a post's numbers name; numbers that no body has are posted as Empty, which is no edit
+-- the body that a post's numbers name, without a channel; numbers that no body has are posted as Empty, which is no edit
 unfoldable pub postedBody : ℕ → ℕ → ℤ → Body
-postedBody kind event argument = cond (numbersInside kind event argument) (bodyOf kind event argument) Empty
+postedBody kind event argument = cond (numbersInside kind event argument) (bodyOf kind event argument 0) Empty
 
 -- what a `P` line gives the group post: scripts post as desk 0 (document 02, A7)
 abbrev pub postOf : ℕ → ℕ → ℕ → ℤ → group.Post

@@ -15,17 +15,18 @@ use Rattle.kinds.specs.declared.Body.{Body}
 use Rattle.kinds.specs.declared.Body.the-variants.{Insert}
 use Rattle.kinds.specs.Body.{bodyOf}
 use Rattle.kinds.specs.Refusals.{done, queueFull, refuse}
-use Rattle.kind_limits.specs.Limits.{numbersInside, bodyInside, postable}
+use Rattle.kind_limits.specs.Limits.{numbersInside, channelInside, onChannel, insideKind, postable}
 use Rattle.kind_limits.proofs.Examples.{insert-small}
 use Rattle.places.specs.Places.{gather}
 use Rattle.station_rules.specs.declared.Station.{Station}
-use Rattle.group_rules.specs.State.{stationAt, sizeOf, groupInside}
+use Rattle.group_rules.specs.State.{stationAt, sizeOf, editionOf, groupInside}
 use Rattle.lanes.specs.Waiting.{isDesk, hasRoom}
 use Rattle.group_rules.specs.declared.Post as group
 use Rattle.group_rules.specs.Calls.{groupFreshCall, groupFreshRefusal, groupPostRefusal, groupPostCall, roundCall}
-use Rattle.group_rules.proofs.Members.{Members, members-inside, fresh-members}
+use Rattle.group_rules.proofs.Members.{Members, members-inside, fresh-members, fresh-edition}
 use Rattle.group_rules.proofs.MembersPost.{post-members, post-refusal}
 use Rattle.group_rules.proofs.MembersRound.{round-members}
+use Rattle.group_rules.proofs.EditionKept.{post-edition, round-edition}
 use Rattle.script.specs.declared.Command.{Command}
 use Rattle.script.specs.declared.Command.the-variants.{Size, Post, Round, Malformed}
 use Rattle.script.specs.Line.{commandOf, masksOf}
@@ -45,27 +46,37 @@ record At (n r : ℕ) (s : Session) : Type 0 where
   rounds : s .rounds ≡ r
   reading : s .stopped ≡ false
   members : Members n (s .group)
+  edition : editionOf (s .group) ≡ 0
 
 -- what a draw posts is an edit
 insert-inside : (d : ℕ) → d ≤ 65535 → numbersInside 2 (d + 1) (pos d) ≡ true
 insert-inside d h = insert-small (d + 1) d (omega arith) (omega arith) h
 
-insert-made : (d : ℕ) → d ≤ 65535 → postedBody 2 (d + 1) (pos d) ≡ Insert (d + 1) (pos d)
+insert-made : (d : ℕ) → d ≤ 65535 → postedBody 2 (d + 1) (pos d) ≡ Insert 0 (d + 1) (pos d)
 unfolding postedBody bodyOf
 insert-made d h = rw (insert-inside d h)
 
 is-insert : (d : ℕ) → d ≤ 65535 → postable (postedBody 2 (d + 1) (pos d)) ≡ true
-unfolding postable bodyInside
+unfolding postable insideKind
 is-insert d h = rw (insert-made d h) (insert-inside d h)
+
+-- in edition 0, where it has no channel
+no-channel : (d : ℕ) → d ≤ 65535 → onChannel 0 (postedBody 2 (d + 1) (pos d)) ≡ true
+unfolding channelInside
+no-channel d h = rw (insert-made d h)
 
 post-room :
     (n : ℕ) (g : List Station) (x : group.Post) → Members n g → x .station < n → isDesk (x .desk) ≡ true → postable (x .body) ≡ true →
+    onChannel (editionOf g) (x .body) ≡ true →
     ((groupPostCall g x) .refusal ≡ done) ⊎ ((groupPostCall g x) .refusal ≡ queueFull)
 unfolding groupPostRefusal
-post-room n g x c h d e =
-    rw (post-refusal g x, members-inside n g c, lt-ltb (x .station) (sizeOf g) (omega (arith, c .size)), d, e)
+post-room n g x c h d e o =
+    rw (post-refusal g x, members-inside n g c, lt-ltb (x .station) (sizeOf g) (omega (arith, c .size)), d, e, on)
     (go (not (hasRoom (stationAt g (x .station) .waiting) (x .desk))))
   where
+    on : onChannel (stationAt g (x .station) .edition) (x .body) ≡ true
+    on = ap (λ (k : ℕ). onChannel k (x .body)) (c .member (x .station) h .edition) ∙ o
+
     go : (t : Bool) → (refuse t queueFull done ≡ done) ⊎ (refuse t queueFull done ≡ queueFull)
     go true = inr refl
     go false = inl refl
@@ -91,7 +102,8 @@ module _ (n r : ℕ) (s : Session) (a : At n r s) where
           formed = λ f. let z : _≡_ {A = ℕ} 0 1 = cc in omega arith;
           room =
               ⊎-elim (λ q. inl (ap (postAnswer s) e ∙ q)) (λ q. inr (ap (postAnswer s) e ∙ q))
-              (post-room n (s .group) (postOf p 2 (d + 1) (pos d)) (a .members) h refl (is-insert d small));
+              (post-room n (s .group) (postOf p 2 (d + 1) (pos d)) (a .members) h refl (is-insert d small)
+              (ap (λ (k : ℕ). onChannel k (postedBody 2 (d + 1) (pos d))) (a .edition) ∙ no-channel d small));
         }
 
     post-after : At n r (after s (postLine p d))
@@ -103,6 +115,7 @@ module _ (n r : ℕ) (s : Session) (a : At n r s) where
           rounds = a .rounds;
           reading = refl;
           members = post-members n (s .group) (a .members) (postOf p 2 (d + 1) (pos d));
+          edition = post-edition n (s .group) (a .members) (postOf p 2 (d + 1) (pos d)) 0 ∙ a .edition;
         })
 
   module _ (seed : ℕ) where
@@ -130,6 +143,7 @@ module _ (n r : ℕ) (s : Session) (a : At n r s) where
           rounds = omega (arith, a .rounds);
           reading = refl;
           members = round-members n (s .group) (a .members) (masksOf (s .n) (maskLine seed n));
+          edition = round-edition n (s .group) (a .members) (masksOf (s .n) (maskLine seed n)) 0 (a .members .low) ∙ a .edition;
         })
 
 -- lines that are fine, from one session to another
@@ -205,7 +219,7 @@ rounds-lead n r total seed zero s a e h =
     record {
       session = s;
       path = stays;
-      there = record { size = a .size; rounds = a .rounds ∙ omega arith; reading = a .reading; members = a .members };
+      there = record { size = a .size; rounds = a .rounds ∙ omega arith; reading = a .reading; members = a .members; edition = a .edition };
       ends = no-line;
     }
 rounds-lead n r total seed (suc count) s a e h =
@@ -232,7 +246,7 @@ module _ (n : ℕ) (low : 1 ≤ n) (high : n ≤ 16) where
   unfolding obeyed sizedBy groupFreshCall groupFreshRefusal sessionBegun
   size-after =
       rw (obeys sessionBegun (sizeLine n) (Size n) refl said-size, le-leb 1 n low, le-leb n 16 high)
-      (record { size = refl; rounds = refl; reading = refl; members = fresh-members (setupOf n) high low refl })
+      (record { size = refl; rounds = refl; reading = refl; members = fresh-members (setupOf n) high low refl (omega arith); edition = fresh-edition (setupOf n) high 0 low })
 
 -- what goes through all lines goes through the text of them
 goes-through : {s t : Session} {ls : List (List ℕ)} → Goes s ls t → t .stopped ≡ false → restText t 0 ≡ [] → Through s (allLines ls) t

@@ -1,7 +1,8 @@
-// Which numbers of stations, which stations and which counts there may be.
+// Which numbers of stations, which stations, editions and counts there may be.
 
 ghost use mathlib.Core.Path.{_≡_};
 ghost use Prim.Native.Nat.{_≤_};
+ghost use Rattle.kind_limits.specs.Limits.{isEdition};
 ghost use Rattle.frame_rules.specs.Frame.{validNumber};
 ghost use Rattle.frame_rules.specs.Record.{countInside};
 
@@ -16,6 +17,13 @@ pub fn valid_number(n: usize, own: usize) -> bool
         return false;
     }
     own < n
+}
+
+// Is this an edition?
+pub fn is_edition(edition: usize) -> bool
+    ensures { λ r. ⌜ r ≡ isEdition edition ⌝ }
+{
+    edition < 2
 }
 
 // May a record in a frame have this count?

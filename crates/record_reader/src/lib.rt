@@ -47,7 +47,7 @@ pub fn read_record(part: &[u8]) -> Record
 {
     let event = word_at(part, 4);
     let argument = signed(word_at(part, 8));
-    let body = kinds::body_of(part[2] as u32, event, argument);
+    let body = kinds::body_of(part[2] as u32, event, argument, part[3]);
     let labels = word_at(part, 12);
     Record {
         station: part[0],

@@ -11,7 +11,7 @@ use mir.Val.{SFits, toZ, ofZ}
 use mir.ValLaws.{toZ-ofZ}
 use Rattle.kinds.specs.declared.Body.{Body}
 use Rattle.kinds.specs.declared.Body.the-variants.{Empty, Neutral, Insert, Drop, Shift}
-use Rattle.kinds.specs.Body.{kindOf, eventOf, argumentOf}
+use Rattle.kinds.specs.Body.{kindOf, eventOf, argumentOf, channelOf}
 use Rattle.label_words.specs.Packing.{labelIn, labelsOver}
 use Rattle.frame_rules.specs.declared.Record.{Record}
 use Rattle.frame_rules.specs.Words.{wordBytes, unsigned}
@@ -22,9 +22,9 @@ use Rattle.frame_rules.proofs.Labels.{labels-of}
 pub kind-small : (b : Body) → kindOf b ≤ 4
 kind-small Empty = omega arith
 kind-small Neutral = omega arith
-kind-small (Insert event start) = omega arith
-kind-small (Drop event) = omega arith
-kind-small (Shift event frames) = omega arith
+kind-small (Insert channel event start) = omega arith
+kind-small (Drop channel event) = omega arith
+kind-small (Shift channel event frames) = omega arith
 
 sixteen :
     (p : List ℕ) → length p ≡ 16 → (a b c d e f g : ℕ) →
@@ -37,17 +37,17 @@ sixteen p h a b c d e f g =
 
 module _ (n : ℕ) (r : Record) (p : List ℕ) (fit : length p ≡ 16) where
   pub record-made :
-      (k e : ℕ) (z : ℤ) (u w : ℕ) (l₁ l₂ l₃ : List ℕ) →
-      k ≡ kindOf (r .body) → e ≡ eventOf (r .body) → SFits w32 z → z ≡ argumentOf (r .body) → u ≡ unsigned (toZ w32 (ofZ w32 z)) →
+      (k c e : ℕ) (z : ℤ) (u w : ℕ) (l₁ l₂ l₃ : List ℕ) →
+      k ≡ kindOf (r .body) → c ≡ channelOf (r .body) → e ≡ eventOf (r .body) → SFits w32 z → z ≡ argumentOf (r .body) → u ≡ unsigned (toZ w32 (ofZ w32 z)) →
       w ≡ labelsOver n (labelIn (r .labels)) 0 →
-      l₁ ≡ sets (set (set (set (set p 0 (r .station)) 1 (r .count)) 2 k) 3 0) 4 (wordBytes e) →
+      l₁ ≡ sets (set (set (set (set p 0 (r .station)) 1 (r .count)) 2 k) 3 c) 4 (wordBytes e) →
       l₂ ≡ sets l₁ 8 (wordBytes u) →
       l₃ ≡ sets l₂ 12 (wordBytes w) →
       l₃ ≡ recordBytes n r
   unfolding recordBytes
-  record-made k e z u w l₁ l₂ l₃ kind event f argument number labels s₁ s₂ s₃ =
+  record-made k c e z u w l₁ l₂ l₃ kind channel event f argument number labels s₁ s₂ s₃ =
       let u-is : u ≡ unsigned (argumentOf (r .body)) = number ∙ ap unsigned (toZ-ofZ w32 z f ∙ argument) in
       s₃
       ∙ ap (λ (l : List ℕ). sets l 12 (wordBytes w)) (s₂ ∙ ap (λ (l : List ℕ). sets l 8 (wordBytes u)) s₁)
-      ∙ sixteen p fit (r .station) (r .count) k 0 e u w
-      ∙ (λ i. r .station ∷ r .count ∷ kind i ∷ 0 ∷ wordBytes (event i) ++ wordBytes (u-is i) ++ wordBytes ((labels ∙ labels-of n r 0) i))
+      ∙ sixteen p fit (r .station) (r .count) k c e u w
+      ∙ (λ i. r .station ∷ r .count ∷ kind i ∷ channel i ∷ wordBytes (event i) ++ wordBytes (u-is i) ++ wordBytes ((labels ∙ labels-of n r 0) i))

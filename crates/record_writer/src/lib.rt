@@ -8,11 +8,6 @@ ghost use Rattle.frame_rules.specs.Words.{wordBytes, unsigned};
 ghost use Rattle.frame_rules.specs.Record.{recordBytes};
 use frame_rules::Record;
 
-// Byte 3 of a frame, and byte 3 of a record, are zero.
-pub const FRAME_MARK: u8 = 0;
-
-pub const RECORD_MARK: u8 = 0;
-
 // The four bytes of a number, put at a place.
 pub fn put_word(bytes: &mut [u8], at: usize, word: u32)
     requires { ⌜ at + 4 ≤ length (now bytes) ⌝ }
@@ -44,7 +39,7 @@ pub fn write_record(part: &mut [u8], n: usize, r: Record)
     part[0] = r.station;
     part[1] = r.count;
     part[2] = kinds::kind_of(body) as u8;
-    part[3] = RECORD_MARK;
+    part[3] = kinds::channel_of(body);
     put_word(part, 4, kinds::event_of(body));
     put_word(part, 8, unsigned(kinds::argument_of(body)));
     put_word(part, 12, label_words::over(n, r.labels, 0));

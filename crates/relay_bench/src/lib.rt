@@ -92,6 +92,7 @@ fn masks_at(schedule: &[u8], at: usize) -> [u16; 16]
 // The body of a post.
 fn body_of(post: u32) -> Body {
     Body::Insert {
+        channel: 0,
         event: 1 + post % 99_999_999,
         start: (post % 1_000_000) as i32,
     }
@@ -129,8 +130,12 @@ fn posted(g: [Station; 16], n: usize, post: u32) -> KeptGroup
 fn run(schedule: &[u8], n: usize, rounds: u32) -> u32
     requires { ⌜ (1 ≤ n) × (n ≤ 16) × (32 ≤ length (now schedule)) ⌝ }
 {
-    let limit = QUEUE_CAPACITY;
-    let fresh = group::fresh_limited(Setup { n, limit });
+    let setup = Setup {
+        n,
+        limit: QUEUE_CAPACITY,
+        edition: 0,
+    };
+    let fresh = group::fresh_limited(setup);
     let mut g = fresh.group;
     let mut sum: u64 = 0;
     let mut number: u32 = 0;

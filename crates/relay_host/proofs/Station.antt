@@ -21,6 +21,7 @@ use Rattle.station_rules.specs.declared.Heard.{Heard}
 use Rattle.station_rules.specs.declared.Turned.{Turned}
 use Rattle.station_rules.specs.declared.Station.{Station}
 use Rattle.station_rules.specs.Calls.{postCall, hearCall, turnCall}
+use Rattle.station_bytes_spec.specs.Bytes.{asByte}
 use Rattle.station_bytes_spec.specs.Station.{stationWidth, encodeStation, decodeStation, isStationAt, isStation}
 use Rattle.station_bytes_spec.specs.Reports.{turnWidth, encodeTurn, encodeFlags}
 use Rattle.station_bytes_spec.proofs.Station.{length-station}
@@ -185,13 +186,13 @@ module _ (b : List ℕ) (h : isStation b ≡ true) (s : Station) (read : s ≡ d
             front-made (encodeTurn (a .report)) report m (omega (arith, length-turn (a .report))) (told ∙ ap (λ (x : Turned). sets report 0 (encodeTurn (x .report))) turn-is),
           )
 
--- ---- the body that three numbers name
+-- ---- the body that four numbers name
 
-module _ (kind event : ℕ) (argument : ℤ) where
-  pub body-named : numbersInside kind event argument ≡ true → bodyOf kind event argument ≡ namedBody kind event argument
+module _ (kind event : ℕ) (argument : ℤ) (channel : ℕ) where
+  pub body-named : numbersInside kind event argument ≡ true → bodyOf kind event argument (asByte channel) ≡ namedBody kind event argument channel
   unfolding namedBody
   body-named h = rw h
 
-  pub body-none : numbersInside kind event argument ≡ false → Empty ≡ namedBody kind event argument
+  pub body-none : numbersInside kind event argument ≡ false → Empty ≡ namedBody kind event argument channel
   unfolding namedBody
   body-none h = rw h

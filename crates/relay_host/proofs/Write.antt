@@ -60,7 +60,7 @@ module _ (s : Station) (size : ℕ) where
   frame-few : writeRefusal s size ≡ done → length (frameOf s) ≤ 260
   unfolding frameOf sentRecords
   frame-few h =
-      omega (arith, length-frame (s .n) (s .own) (sentRecords s), gather-few (s .n) (heldOf s) (λ k. framed (s .n) (recordOf s k)), (inside-open s (inside-done h)) .high)
+      omega (arith, length-frame (s .edition) (s .n) (s .own) (sentRecords s), gather-few (s .n) (heldOf s) (λ k. framed (s .n) (recordOf s k)), (inside-open s (inside-done h)) .high)
 
 -- what refuses a frame, the room apart, refuses it whatever the room is
 any-room : (s : Station) (one other : ℕ) → orElse (writeRefusal s one) shortBuffer ≡ orElse (writeRefusal s other) shortBuffer

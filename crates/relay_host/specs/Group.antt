@@ -18,11 +18,11 @@ use Rattle.relay_host.specs.Station.{orElse, roomRefusal}
 abbrev pub groupRefusal : List ℕ → ℕ
 groupRefusal b = refuse (not (isGroup b)) outsideLimits done
 
--- group fresh, by what the group's call answers: 1, 13, 9
+-- group fresh, by what the group's call answers: 1, 13, 17, 9
 unfoldable pub groupFreshReturned : KeptGroup → List ℕ → ℕ
 groupFreshReturned made state = orElse (made .refusal) (roomRefusal groupWidth state)
 
--- group post: 2, 1, 15, 4, 3
+-- group post: 2, 1, 15, 4, 17, 3
 abbrev pub groupPostAnswer : List ℕ → Post → KeptGroup
 groupPostAnswer state post = groupPostCall (decodeGroup state) post
 

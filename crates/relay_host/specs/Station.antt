@@ -16,6 +16,7 @@ use Rattle.station_rules.specs.declared.Heard.{Heard}
 use Rattle.station_rules.specs.declared.Turned.{Turned}
 use Rattle.station_rules.specs.declared.Station.{Station}
 use Rattle.station_rules.specs.Calls.{postCall, writeCall, hearCall, turnCall}
+use Rattle.station_bytes_spec.specs.Bytes.{asByte}
 use Rattle.station_bytes_spec.specs.Station.{stationWidth, decodeStation, isStation}
 use Rattle.station_bytes_spec.specs.Reports.{turnWidth}
 
@@ -35,15 +36,16 @@ stationRefusal b = refuse (not (isStation b)) outsideLimits done
 abbrev pub stationOf : List ℕ → Station
 stationOf b = decodeStation b 0
 
--- the body that three numbers name: Empty, which is no edit, where they are the numbers of none inside its limits
-unfoldable pub namedBody : ℕ → ℕ → ℤ → Body
-namedBody kind event argument = cond (numbersInside kind event argument) (bodyOf kind event argument) Empty
+-- the body that four numbers name: Empty, which is no edit, where kind, event and argument are those of none inside its
+-- limits; a channel above 255 counts as 255, which is none of an edition
+unfoldable pub namedBody : ℕ → ℕ → ℤ → ℕ → Body
+namedBody kind event argument channel = cond (numbersInside kind event argument) (bodyOf kind event argument (asByte channel)) Empty
 
--- fresh, by what the station's call answers: 1, 13, 9
+-- fresh, by what the station's call answers: 1, 13, 17, 9
 unfoldable pub freshReturned : Kept → List ℕ → ℕ
 freshReturned made state = orElse (made .refusal) (roomRefusal stationWidth state)
 
--- post: 2, 15, 4, 3
+-- post: 2, 15, 4, 17, 3
 abbrev pub postAnswer : List ℕ → ℕ → Body → Kept
 postAnswer state desk body = postCall (stationOf state) desk body
 

@@ -12,10 +12,10 @@ mod relay_merge;
 mod relay_questions;
 mod relay_station;
 
-// The frame check: 0, or the refusal, for any bytes and any two numbers.
+// The frame check: 0, or the refusal, for any bytes and any three numbers.
 #[no_mangle]
-pub extern "C" fn relay_frame_check(bytes: &[u8], n: u32, own: u32) -> u32
-    ensures { λ r. ⌜ r ≡ checkRefusal (now (bytes .entry)) n own ⌝ }
+pub extern "C" fn relay_frame_check(bytes: &[u8], n: u32, own: u32, edition: u32) -> u32
+    ensures { λ r. ⌜ r ≡ checkRefusal edition (now (bytes .entry)) n own ⌝ }
 {
-    frames::check_frame(bytes, n as usize, own as usize)
+    frames::check_frame(bytes, edition as usize, n as usize, own as usize)
 }

@@ -36,7 +36,7 @@ fn put_fresh(state: &mut [u8], made: KeptGroup) -> u32
     DONE
 }
 
-// Group fresh, with no limit named: n stations, as they begin.
+// Group fresh, with neither limit nor edition named: n stations, as they begin.
 #[no_mangle]
 pub extern "C" fn relay_group_fresh(state: &mut [u8], n: u32) -> u32
     ensures { λ r. ⌜ (r ≡ groupFreshReturned (groupFreshCall (sized n)) (now (state .entry)))
@@ -49,13 +49,36 @@ pub extern "C" fn relay_group_fresh(state: &mut [u8], n: u32) -> u32
 // Group fresh, with a limit named.
 #[no_mangle]
 pub extern "C" fn relay_group_fresh_limited(state: &mut [u8], n: u32, limit: u32) -> u32
-    ensures { λ r. ⌜ (r ≡ groupFreshReturned (groupFreshCall (record { n = n; limit = limit })) (now (state .entry)))
+    ensures { λ r. ⌜ (r ≡ groupFreshReturned (groupFreshCall (record { n = n; limit = limit; edition = 0 })) (now (state .entry)))
         × (now (state .exit) ≡ frontWritten r
-        (encodeGroup (groupFreshCall (record { n = n; limit = limit }) .group)) (now (state .entry))) ⌝ }
+        (encodeGroup (groupFreshCall (record { n = n; limit = limit; edition = 0 }) .group)) (now (state .entry))) ⌝ }
 {
     let setup = Setup {
         n: n as usize,
         limit: limit as usize,
+        edition: 0,
+    };
+    let made = group::fresh_limited(setup);
+    put_fresh(state, made)
+}
+
+// Group fresh, with a limit and an edition named.
+#[no_mangle]
+pub extern "C" fn relay_group_fresh_edition(
+    state: &mut [u8],
+    n: u32,
+    limit: u32,
+    edition: u32,
+) -> u32
+    ensures { λ r. ⌜ (r ≡ groupFreshReturned (groupFreshCall (record { n = n; limit = limit; edition = edition })) (now (state .entry)))
+        × (now (state .exit) ≡ frontWritten r
+        (encodeGroup (groupFreshCall (record { n = n; limit = limit; edition = edition }) .group))
+        (now (state .entry))) ⌝ }
+{
+    let setup = Setup {
+        n: n as usize,
+        limit: limit as usize,
+        edition: edition as usize,
     };
     let made = group::fresh_limited(setup);
     put_fresh(state, made)
@@ -70,19 +93,20 @@ pub extern "C" fn relay_group_post(
     kind: u32,
     event: u32,
     argument: i32,
+    channel: u32,
 ) -> u32
     ensures { λ r. ⌜ (r ≡ groupPostReturned (now (state .entry))
-        (record { station = station; desk = desk; body = namedBody kind event argument }))
+        (record { station = station; desk = desk; body = namedBody kind event argument channel }))
         × (now (state .exit) ≡ frontWritten r
         (encodeGroup (groupPostAnswer (now (state .entry))
-        (record { station = station; desk = desk; body = namedBody kind event argument }) .group))
+        (record { station = station; desk = desk; body = namedBody kind event argument channel }) .group))
         (now (state .entry))) ⌝ }
 {
     if !station_decoder::is_group(state) {
         return OUTSIDE_LIMITS;
     }
     let stations = station_decoder::read_group(state);
-    let body = super::relay_station::named_body(kind, event, argument);
+    let body = super::relay_station::named_body(kind, event, argument, channel);
     let post = Post {
         station: station as usize,
         desk: desk as usize,

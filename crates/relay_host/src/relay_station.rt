@@ -20,12 +20,13 @@ const STATION_WIDTH: usize = 1492;
 
 const TURN_WIDTH: usize = 220;
 
-// The body that three numbers name; Empty where they are the numbers of none inside its limits.
-pub fn named_body(kind: u32, event: u32, argument: i32) -> Body
-    ensures { λ r. ⌜ r ≡ namedBody kind event argument ⌝ }
+// The body that four numbers name; Empty where kind, event and argument are those of none inside its limits.
+pub fn named_body(kind: u32, event: u32, argument: i32, channel: u32) -> Body
+    ensures { λ r. ⌜ r ≡ namedBody kind event argument channel ⌝ }
 {
     if kind_limits::numbers_inside(kind, event, argument) {
-        return kinds::body_of(kind, event, argument);
+        let byte = station_encoder::as_byte(channel as usize);
+        return kinds::body_of(kind, event, argument, byte);
     }
     Body::Empty
 }
@@ -46,7 +47,7 @@ fn put_fresh(state: &mut [u8], made: Kept) -> u32
     DONE
 }
 
-// Fresh, with no limit named: station own of n, as it begins.
+// Fresh, with neither limit nor edition named: station own of n, as it begins.
 #[no_mangle]
 pub extern "C" fn relay_station_fresh(state: &mut [u8], n: u32, own: u32) -> u32
     ensures { λ r. ⌜ (r ≡ freshReturned (freshCall (sized n) own) (now (state .entry)))
@@ -60,13 +61,37 @@ pub extern "C" fn relay_station_fresh(state: &mut [u8], n: u32, own: u32) -> u32
 // Fresh, with a limit named.
 #[no_mangle]
 pub extern "C" fn relay_station_fresh_limited(state: &mut [u8], n: u32, own: u32, limit: u32) -> u32
-    ensures { λ r. ⌜ (r ≡ freshReturned (freshCall (record { n = n; limit = limit }) own) (now (state .entry)))
+    ensures { λ r. ⌜ (r ≡ freshReturned (freshCall (record { n = n; limit = limit; edition = 0 }) own) (now (state .entry)))
         × (now (state .exit) ≡ frontWritten r
-        (encodeStation (freshCall (record { n = n; limit = limit }) own .station)) (now (state .entry))) ⌝ }
+        (encodeStation (freshCall (record { n = n; limit = limit; edition = 0 }) own .station)) (now (state .entry))) ⌝ }
 {
     let setup = Setup {
         n: n as usize,
         limit: limit as usize,
+        edition: 0,
+    };
+    let made = station::fresh_limited(setup, own as usize);
+    put_fresh(state, made)
+}
+
+// Fresh, with a limit and an edition named.
+#[no_mangle]
+pub extern "C" fn relay_station_fresh_edition(
+    state: &mut [u8],
+    n: u32,
+    own: u32,
+    limit: u32,
+    edition: u32,
+) -> u32
+    ensures { λ r. ⌜ (r ≡ freshReturned (freshCall (record { n = n; limit = limit; edition = edition }) own) (now (state .entry)))
+        × (now (state .exit) ≡ frontWritten r
+        (encodeStation (freshCall (record { n = n; limit = limit; edition = edition }) own .station))
+        (now (state .entry))) ⌝ }
+{
+    let setup = Setup {
+        n: n as usize,
+        limit: limit as usize,
+        edition: edition as usize,
     };
     let made = station::fresh_limited(setup, own as usize);
     put_fresh(state, made)
@@ -80,17 +105,18 @@ pub extern "C" fn relay_station_post(
     kind: u32,
     event: u32,
     argument: i32,
+    channel: u32,
 ) -> u32
-    ensures { λ r. ⌜ (r ≡ postReturned (now (state .entry)) desk (namedBody kind event argument))
+    ensures { λ r. ⌜ (r ≡ postReturned (now (state .entry)) desk (namedBody kind event argument channel))
         × (now (state .exit) ≡ frontWritten r
-        (encodeStation (postAnswer (now (state .entry)) desk (namedBody kind event argument) .station))
+        (encodeStation (postAnswer (now (state .entry)) desk (namedBody kind event argument channel) .station))
         (now (state .entry))) ⌝ }
 {
     if !station_decoder::is_station(state) {
         return OUTSIDE_LIMITS;
     }
     let station = station_decoder::read_station(state);
-    let body = named_body(kind, event, argument);
+    let body = named_body(kind, event, argument, channel);
     let kept = station::post(station, desk as usize, body);
     if kept.refusal != DONE {
         return kept.refusal;

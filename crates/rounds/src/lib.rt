@@ -50,6 +50,7 @@ pub fn round(g: [Station; 16], masks: [u16; 16]) -> RoundDone
     let mut taken = [0u16; 480];
     let first = group[0];
     let n = first.n;
+    let edition = first.edition;
     if !numbers::valid_number(n, 0) {
         return RoundDone {
             refusal: OUTSIDE_LIMITS as usize,
@@ -60,7 +61,7 @@ pub fn round(g: [Station; 16], masks: [u16; 16]) -> RoundDone
     let mut refusal = DONE;
     let mut k: usize = 0;
     while k < n {
-        refusal = group_frames::send(&mut bytes, group[k], n, k, refusal);
+        refusal = group_frames::send(&mut bytes, group[k], edition, n, k, refusal);
         k += 1;
     }
     if refusal != DONE {

@@ -5,6 +5,7 @@ ghost use Rattle.station_rules.specs.State.{sized};
 ghost use Rattle.station_rules.specs.Calls.{freshCall, postCall, noTurn, turnCall};
 use kinds::Body;
 use kinds::refusals::BAD_DESK;
+use kinds::refusals::BAD_EDITION;
 use kinds::refusals::BAD_LIMIT;
 use kinds::refusals::BAD_NUMBER;
 use kinds::refusals::DONE;
@@ -19,13 +20,14 @@ use station_rules::Station;
 use station_rules::TurnReport;
 use station_rules::Turned;
 
-// Fresh, with a limit named: station own, as it begins.
+// Fresh, with a limit and an edition named: station own, as it begins.
 pub fn fresh_limited(setup: Setup, own: usize) -> Kept
     ensures { λ r. ⌜ r ≡ freshCall setup own ⌝ }
 {
     let alone = Setup {
         n: 1,
         limit: DEFAULT_LIMIT,
+        edition: 0,
     };
     if !numbers::valid_number(setup.n, own) {
         let station = fresh_station::fresh_station(alone, 0);
@@ -41,6 +43,13 @@ pub fn fresh_limited(setup: Setup, own: usize) -> Kept
             station: station,
         };
     }
+    if !numbers::is_edition(setup.edition) {
+        let station = fresh_station::fresh_station(alone, 0);
+        return Kept {
+            refusal: BAD_EDITION,
+            station: station,
+        };
+    }
     let station = fresh_station::fresh_station(setup, own);
     Kept {
         refusal: DONE,
@@ -48,7 +57,7 @@ pub fn fresh_limited(setup: Setup, own: usize) -> Kept
     }
 }
 
-// Fresh, with no limit named.
+// Fresh, with neither named.
 pub fn fresh(n: usize, own: usize) -> Kept
     ensures { λ r. ⌜ r ≡ freshCall (sized n) own ⌝ }
 {
@@ -75,6 +84,12 @@ pub fn post(s: Station, desk: usize, body: Body) -> Kept
     if !kind_limits::postable(body) {
         return Kept {
             refusal: NOT_AN_EDIT,
+            station: s,
+        };
+    }
+    if !kind_limits::on_channel(s.edition, body) {
+        return Kept {
+            refusal: BAD_EDITION,
             station: s,
         };
     }

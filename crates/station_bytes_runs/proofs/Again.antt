@@ -10,6 +10,7 @@ use borrow.Author.Tests.{eqb-true, eq-eqb}
 use Rattle.kinds.specs.declared.Body.{Body}
 use Rattle.kinds.specs.Refusals.{done, outsideLimits, refuse}
 use Rattle.frame_rules.specs.Frame.{validNumber, frameRefusal, recordsOf, recordsInside, shapeWrong, addressWrong}
+use Rattle.kind_limits.specs.Limits.{isEdition}
 use Rattle.lanes.specs.Waiting.{limitInside, hasRoom}
 use Rattle.station_rules.specs.declared.Setup.{Setup}
 use Rattle.station_rules.specs.declared.Station.{Station}
@@ -87,7 +88,7 @@ module _ (s : Station) (shape : Shaped s) (f : Fitting s) where
     hear-refusal : ℕ
     hear-refusal =
         refuse (not (stationInside s)) outsideLimits
-        (refuse (not (eqb (frameRefusal bytes (s .n) (s .own)) done)) (frameRefusal bytes (s .n) (s .own)) (heard .refusal))
+        (refuse (not (eqb (frameRefusal (s .edition) bytes (s .n) (s .own)) done)) (frameRefusal (s .edition) bytes (s .n) (s .own)) (heard .refusal))
 
     hear-is : (hear-refusal ≡ done) × ((hearCall s bytes) .station ≡ heard .station)
     unfolding hearCall hear-refusal heard
@@ -101,17 +102,17 @@ module _ (s : Station) (shape : Shaped s) (f : Fitting s) where
     unfolding hear-refusal
     hear-inside = inside-first (stationInside s) _ (hear-is .0)
 
-    frame-fine : frameRefusal bytes (s .n) (s .own) ≡ done
+    frame-fine : frameRefusal (s .edition) bytes (s .n) (s .own) ≡ done
     unfolding hear-refusal
-    frame-fine = go (eqb (frameRefusal bytes (s .n) (s .own)) done) refl
+    frame-fine = go (eqb (frameRefusal (s .edition) bytes (s .n) (s .own)) done) refl
       where
-        go : (t : Bool) → eqb (frameRefusal bytes (s .n) (s .own)) done ≡ t → frameRefusal bytes (s .n) (s .own) ≡ done
+        go : (t : Bool) → eqb (frameRefusal (s .edition) bytes (s .n) (s .own)) done ≡ t → frameRefusal (s .edition) bytes (s .n) (s .own) ≡ done
         go true e = eqb-true _ done e
         go false e = rw (hear-inside, e) at (hear-is .0)
 
-    records-fine : recordsInside bytes (s .n) ≡ true
+    records-fine : recordsInside (s .edition) bytes (s .n) ≡ true
     unfolding frameRefusal
-    records-fine = go (shapeWrong bytes) (addressWrong bytes (s .n) (s .own)) (recordsInside bytes (s .n)) frame-fine
+    records-fine = go (shapeWrong bytes) (addressWrong (s .edition) bytes (s .n) (s .own)) (recordsInside (s .edition) bytes (s .n)) frame-fine
       where
         go : (a b c : Bool) → refuse a 5 (refuse b 6 (refuse (not c) 7 0)) ≡ 0 → c ≡ true
         go false false true z = refl
@@ -123,7 +124,7 @@ module _ (s : Station) (shape : Shaped s) (f : Fitting s) where
     unfolding heard
     heard-keeps =
         let high = inside-open s hear-inside .high in
-        frame-keeps (silent s) (recordsOf bytes) (all-fit (s .n) high (recordsOf bytes) (frame-carried (s .n) bytes records-fine) (frame-words bytes small))
+        frame-keeps (silent s) (recordsOf bytes) (all-fit (s .edition) (s .n) high (recordsOf bytes) (frame-carried (s .edition) (s .n) bytes records-fine) (frame-words bytes small))
         (record { shape = shape; fitting = f; size = high })
 
     pub hear-again : Again ((hearCall s bytes) .station)
@@ -136,17 +137,20 @@ module _ (s : Station) (shape : Shaped s) (f : Fitting s) where
 -- fresh, also where it is refused: the answer is then the fresh station of N = 1
 pub after-fresh : (setup : Setup) (own : ℕ) → Again ((freshCall setup own) .station)
 unfolding freshCall
-after-fresh setup own = go (validNumber (setup .n) own) (limitInside (setup .limit)) refl refl
+after-fresh setup own = go (validNumber (setup .n) own) (limitInside (setup .limit)) (isEdition (setup .edition)) refl refl refl
   where
     alone-again : Again (freshStation aloneSetup 0)
-    alone-again = again (freshStation aloneSetup 0) (fresh-shaped aloneSetup 0) (fresh-fitting aloneSetup 0 (omega arith)) (fresh-inside aloneSetup 0 refl refl)
+    alone-again = again (freshStation aloneSetup 0) (fresh-shaped aloneSetup 0) (fresh-fitting aloneSetup 0 (omega arith)) (fresh-inside aloneSetup 0 refl refl refl)
 
-    go : (t u : Bool) → validNumber (setup .n) own ≡ t → limitInside (setup .limit) ≡ u → Again ((freshCall setup own) .station)
-    go true true e d =
+    go :
+        (t u v : Bool) → validNumber (setup .n) own ≡ t → limitInside (setup .limit) ≡ u → isEdition (setup .edition) ≡ v →
+        Again ((freshCall setup own) .station)
+    go true true true e d k =
         let v = valid-parts (setup .n) own e in
-        rw (e, d) (again (freshStation setup own) (fresh-shaped setup own) (fresh-fitting setup own (omega (arith, v .1, v .2))) (fresh-inside setup own e d))
-    go true false e d = rw (e, d) alone-again
-    go false u e d = rw e alone-again
+        rw (e, d, k) (again (freshStation setup own) (fresh-shaped setup own) (fresh-fitting setup own (omega (arith, v .1, v .2))) (fresh-inside setup own e d k))
+    go true true false e d k = rw (e, d, k) alone-again
+    go true false v e d k = rw (e, d) alone-again
+    go false u v e d k = rw e alone-again
 
 module _ (b : List ℕ) (small : AllBytes b) where
   abbrev now : Station

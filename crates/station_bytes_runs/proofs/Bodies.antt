@@ -1,4 +1,4 @@
--- Bodies whose numbers have 32 bits: in lanes, in waiting edits, and in what a body of three numbers is.
+-- Bodies whose numbers have 32 bits: in lanes, in waiting edits, and in what a body of four numbers is.
 use mathlib.Core.Path.{_≡_, refl, sym, ap, subst, _∙_}
 use mathlib.Core.Bool.{Bool, true, false}
 use mathlib.Core.List.{List, [], _∷_, _++_}
@@ -32,7 +32,7 @@ empty-fits = record { event-fits = omega arith; argument-fits = record { sfits =
 pub neutral-fits : BodyFits Neutral
 neutral-fits = record { event-fits = omega arith; argument-fits = record { sfits = omega arith } }
 
--- ---- three numbers
+-- ---- four numbers
 
 pub signed-fits : (w : ℕ) → w < 4_294_967_296 → SFits w32 (signed w)
 unfolding signed
@@ -42,13 +42,13 @@ signed-fits w h = go (ltb w 2_147_483_648) refl
     go true e = rw e (record { sfits = ltb-true w 2_147_483_648 e })
     go false e = rw e (record { sfits = omega (arith, ltb-false w 2_147_483_648 e) })
 
-pub numbers-fit : (k e : ℕ) (z : ℤ) → e < 4_294_967_296 → SFits w32 z → BodyFits (bodyOf k e z)
+pub numbers-fit : (k e : ℕ) (z : ℤ) (c : ℕ) → e < 4_294_967_296 → SFits w32 z → BodyFits (bodyOf k e z c)
 unfolding bodyOf
-numbers-fit k e z h f =
+numbers-fit k e z c h f =
     cond-keeps BodyFits (eqb k 1) Neutral _ neutral-fits
-    (cond-keeps BodyFits (eqb k 2) (Insert e z) _ (record { event-fits = h; argument-fits = f })
-    (cond-keeps BodyFits (eqb k 3) (Drop e) _ (record { event-fits = h; argument-fits = record { sfits = omega arith } })
-    (cond-keeps BodyFits (eqb k 4) (Shift e z) Empty (record { event-fits = h; argument-fits = f }) empty-fits)))
+    (cond-keeps BodyFits (eqb k 2) (Insert c e z) _ (record { event-fits = h; argument-fits = f })
+    (cond-keeps BodyFits (eqb k 3) (Drop c e) _ (record { event-fits = h; argument-fits = record { sfits = omega arith } })
+    (cond-keeps BodyFits (eqb k 4) (Shift c e z) Empty (record { event-fits = h; argument-fits = f }) empty-fits)))
 
 -- ---- lanes
 

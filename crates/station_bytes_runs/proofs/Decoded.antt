@@ -34,19 +34,19 @@ use Rattle.station_bytes_runs.proofs.Bodies.{signed-fits, numbers-fit, 
 use Rattle.station_bytes_runs.proofs.Typed.{Fitting, AllFit, none, more}
 
 module _ (b : List ℕ) (bytes : AllBytes b) where
-  words-fit : (kind event word : ℕ) → event < 4_294_967_296 → word < 4_294_967_296 → BodyFits (bodyOf kind event (signed word))
-  words-fit kind event word e w = numbers-fit kind event (signed word) e (signed-fits word w)
+  words-fit : (kind channel event word : ℕ) → event < 4_294_967_296 → word < 4_294_967_296 → BodyFits (bodyOf kind event (signed word) channel)
+  words-fit kind channel event word e w = numbers-fit kind event (signed word) channel e (signed-fits word w)
 
   body-typed : (at : ℕ) → BodyFits (decodeBody b at)
   unfolding decodeBody
-  body-typed at = words-fit (wordAt b at) (wordAt b (at + 4)) (wordAt b (at + 8)) (word-small b bytes (at + 4)) (word-small b bytes (at + 8))
+  body-typed at = words-fit (byteAt b at) (byteAt b (at + 1)) (wordAt b (at + 4)) (wordAt b (at + 8)) (word-small b bytes (at + 4)) (word-small b bytes (at + 8))
 
   record-typed : (at : ℕ) → RecordFits (decodeRecord b at)
   unfolding decodeRecord
   record-typed at =
       record {
         labels-fit = word-small b bytes (at + 12);
-        body-fits = words-fit (byteAt b (at + 2)) (wordAt b (at + 4)) (wordAt b (at + 8)) (word-small b bytes (at + 4)) (word-small b bytes (at + 8));
+        body-fits = words-fit (byteAt b (at + 2)) (byteAt b (at + 3)) (wordAt b (at + 4)) (wordAt b (at + 8)) (word-small b bytes (at + 4)) (word-small b bytes (at + 8));
       }
 
   cell-typed : (at : ℕ) → CellFits (decodeCell b at)
@@ -133,7 +133,7 @@ unfolding recordFrom
 record-from p h =
     record {
       labels-fit = word-small p h 12;
-      body-fits = numbers-fit (getD p 2 0) (wordAt p 4) (signed (wordAt p 8)) (word-small p h 4) (signed-fits (wordAt p 8) (word-small p h 8));
+      body-fits = numbers-fit (getD p 2 0) (wordAt p 4) (signed (wordAt p 8)) (getD p 3 0) (word-small p h 4) (signed-fits (wordAt p 8) (word-small p h 8));
     }
 
 -- the numbers of every record fit
@@ -158,6 +158,6 @@ frame-words bytes h = go (getD bytes 2 0)
     ]
 
 -- with their stations below n
-pub all-fit : (n : ℕ) → n ≤ 16 → (rs : List Record) → AllCarried n rs → AllWords rs → AllFit rs
-all-fit n high [] c no-words = none
-all-fit n high (r ∷ rs) c (more-words g all) = more {r = r} {rs = rs} (omega (arith, c .0 .station)) g (all-fit n high rs (c .1) all)
+pub all-fit : (edition n : ℕ) → n ≤ 16 → (rs : List Record) → AllCarried edition n rs → AllWords rs → AllFit rs
+all-fit edition n high [] c no-words = none
+all-fit edition n high (r ∷ rs) c (more-words g all) = more {r = r} {rs = rs} (omega (arith, c .0 .station)) g (all-fit edition n high rs (c .1) all)

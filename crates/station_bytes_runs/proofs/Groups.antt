@@ -47,6 +47,7 @@ use Rattle.station_bytes_runs.proofs.Decoded.{AllWords, no-words, words
 pub record OneByte (s : Station) : Type 0 where
   pub n : s .n < 256
   pub own : s .own < 256
+  pub edition : s .edition < 256
   pub count : (d : ℕ) → deskCount (s .waiting) d < 256
   pub limit : s .waiting .limit < 256
 
@@ -55,8 +56,9 @@ inside-bytes s i =
     record {
       n = omega (arith, i .high);
       own = omega (arith, i .own, i .high);
-      count = λ d. omega (arith, inside-most (s .waiting) (i .waiting) d);
-      limit = omega (arith, limit-most (s .waiting .limit) (inside-limit (s .waiting) (i .waiting)));
+      edition = omega (arith, i .known);
+      count = λ d. omega (arith, inside-most (s .edition) (s .waiting) (i .waiting) d);
+      limit = omega (arith, limit-most (s .waiting .limit) (inside-limit (s .edition) (s .waiting) (i .waiting)));
     }
 
 fits : (s : Station) → Shaped s → Fitting s → OneByte s → StationFits s
@@ -64,6 +66,7 @@ fits s shape f b =
     record {
       n-byte = b .n;
       own-byte = b .own;
+      edition-byte = b .edition;
       body-fits = f .body;
       acked-long = shape .acked;
       labels-long = shape .labels;
@@ -110,11 +113,11 @@ fresh-kept setup ok =
       fitting = each Fitting (λ k l. fresh-fitting setup k (omega (arith, ok .high))) (fresh-fitting aloneSetup 0 (omega arith));
       bytes =
           each OneByte (λ k l. subst OneByte (at-below k l) (inside-bytes (stationAt (freshGroup setup) k) (members .member k l .inside)))
-          (inside-bytes (freshStation aloneSetup 0) (inside-open (freshStation aloneSetup 0) (fresh-inside aloneSetup 0 refl refl)));
+          (inside-bytes (freshStation aloneSetup 0) (inside-open (freshStation aloneSetup 0) (fresh-inside aloneSetup 0 refl refl refl)));
     }
   where
     members : Members (setup .n) (freshGroup setup)
-    members = fresh-members setup (ok .high) (ok .low) (ok .limited)
+    members = fresh-members setup (ok .high) (ok .low) (ok .limited) (ok .known)
 
     at-below : (k : ℕ) → k < setup .n → stationAt (freshGroup setup) k ≡ freshStation setup k
     at-below k l =
@@ -208,7 +211,7 @@ module _ (n : ℕ) (g : List Station) (c : Kept n g) (masks : List ℕ) where
     sent-fits i j l b =
         let s = stationAt g j in
         let inside = m .member j b .inside in
-        all-fit (s .n) (size-of j b) (sentRecords s) (sent-carried s inside (run .counts j (omega (arith, m .size)))) (sent-words s (size-of j b) (c .fitting j (omega (arith, m .high))))
+        all-fit (s .edition) (s .n) (size-of j b) (sentRecords s) (sent-carried s inside (run .counts j (omega (arith, m .size)))) (sent-words s (size-of j b) (c .fitting j (omega (arith, m .high))))
 
     heard-keeps : (i j : ℕ) → i < n → j ≤ n → Keeps ((heardBelow g masks i j) .station)
     unfolding heardBelow

@@ -5,7 +5,7 @@ use Prim.Native.Nat.{ℕ, _+_, _*_, _<_}
 use native.Mathlib.Omega.{arith}
 use lib.ListN.{getD, length, length-append}
 use Rattle.kinds.specs.declared.Body.{Body}
-use Rattle.kinds.specs.Body.{kindOf, eventOf, argumentOf}
+use Rattle.kinds.specs.Body.{kindOf, eventOf, argumentOf, channelOf}
 use Rattle.frame_rules.specs.Words.{wordAt, wordBytes, unsigned}
 use Rattle.frame_rules.specs.declared.Record.{Record}
 use Rattle.lanes.specs.Queue.{noSlot}
@@ -21,7 +21,7 @@ use Rattle.station_bytes_spec.specs.Station.{stationWidth, encodeCell, e
 use Rattle.station_bytes_spec.specs.Group.{groupWidth}
 use Rattle.station_bytes_spec.specs.Reports.{turnWidth, encodeTurn, encodeTaking, reportWidth, encodeReport, reportsWidth}
 use Rattle.station_bytes_spec.proofs.Bytes.{Stands, stands-left, stands-right, stands-word, stands-joined, first-byte, byte-small, length-word}
-use Rattle.station_bytes_spec.proofs.Body.{BodyFits, length-body, body-words, RecordFits, labels-there, event-there, argument-there, four-there}
+use Rattle.station_bytes_spec.proofs.Body.{BodyFits, length-body, body-bytes, body-words, RecordFits, labels-there, event-there, argument-there, four-there}
 use Rattle.station_bytes_spec.proofs.Reports.{length-taking, length-takings}
 use Rattle.station_bytes_spec.proofs.Waiting.{count-there, limit-there, first-there, edits-there}
 use Rattle.station_bytes_spec.proofs.Station.{CellFits, StationFits, stands-four, stands-first, stands-second, stands-entry, stands-numbers, stands-body, stands-cell, stands-waiting}
@@ -32,20 +32,23 @@ widths = (refl, refl, refl, refl, refl)
 
 -- a body, and a record
 pub record BodyPlaces (l : List ℕ) (at : ℕ) (b : Body) : Type 0 where
-  pub kind : wordAt l at ≡ kindOf b
+  pub kind : byteAt l at ≡ kindOf b
+  pub channel : byteAt l (at + 1) ≡ channelOf b
+  pub zero-bytes : (byteAt l (at + 2) ≡ 0) × (byteAt l (at + 3) ≡ 0)
   pub event : wordAt l (at + 4) ≡ eventOf b
   pub argument : wordAt l (at + 8) ≡ unsigned (argumentOf b)
 
 pub body-places : (l : List ℕ) (at : ℕ) (b : Body) → BodyFits b → Stands l at (encodeBody b) → BodyPlaces l at b
 body-places l at b f h =
+    let four = body-bytes l at b f h in
     let w = body-words l at b f h in
-    record { kind = w .0; event = w .1; argument = w .2 }
+    record { kind = four .0; channel = four .1; zero-bytes = (four .2, four .3); event = w .0; argument = w .1 }
 
 pub record RecordPlaces (l : List ℕ) (at : ℕ) (r : Record) : Type 0 where
   pub station : byteAt l at ≡ r .station
   pub count : byteAt l (at + 1) ≡ r .count
   pub kind : byteAt l (at + 2) ≡ kindOf (r .body)
-  pub zero-byte : byteAt l (at + 3) ≡ 0
+  pub channel : byteAt l (at + 3) ≡ channelOf (r .body)
   pub event : wordAt l (at + 4) ≡ eventOf (r .body)
   pub argument : wordAt l (at + 8) ≡ unsigned (argumentOf (r .body))
   pub labels : wordAt l (at + 12) ≡ r .labels
@@ -57,7 +60,7 @@ record-places l at r f h =
       station = four .0;
       count = four .1;
       kind = four .2;
-      zero-byte = four .3;
+      channel = four .3;
       event = event-there l at r f h;
       argument = argument-there l at r f h;
       labels = labels-there l at r f h;
@@ -91,7 +94,7 @@ pub record StationPlaces (l : List ℕ) (at : ℕ) (s : Station) : Type 0 where
   pub n : byteAt l at ≡ asByte (s .n)
   pub own : byteAt l (at + 1) ≡ asByte (s .own)
   pub count : byteAt l (at + 2) ≡ s .count
-  pub zero-byte : byteAt l (at + 3) ≡ 0
+  pub edition : byteAt l (at + 3) ≡ asByte (s .edition)
   pub body : Stands l (at + 4) (encodeBody (s .body))
   pub cell : (k : ℕ) → k < 16 → CellPlaces l (at + 16 + 44 * k) (cellOf s k)
   pub count-zero : byteAt l (at + 720) ≡ deskCount (s .waiting) 0
@@ -111,7 +114,7 @@ station-places l at s f h =
       n = first-byte l at _ _ numbers;
       own = numbers .is 1 (omega arith);
       count = numbers .is 2 (omega arith);
-      zero-byte = numbers .is 3 (omega arith);
+      edition = numbers .is 3 (omega arith);
       body = stands-body s f l at h;
       cell = λ k m. cell-places l (at + 16 + 44 * k) (cellOf s k) (f .cell-fits k m) (stands-cell s f l at h k m);
       count-zero = counts .0;

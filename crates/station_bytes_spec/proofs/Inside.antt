@@ -1,4 +1,4 @@
--- A station inside its limits is decoded from its encoding, whatever stands from N up and past a length: its limits make N, its own number, the numbers of waiting edits and their limit bytes, and its types say the rest.
+-- A station inside its limits is decoded from its encoding, whatever stands from N up and past a length: its limits make N, its own number, its edition, the numbers of waiting edits and their limit bytes, and its types say the rest.
 use mathlib.Core.Path.{_≡_}
 use mathlib.Core.Bool.{true}
 use Prim.Native.Nat.{ℕ, _<_}
@@ -24,10 +24,10 @@ pub record Typed (s : Station) : Type 0 where
 
 module _ (s : Station) (t : Typed s) (h : stationInside s ≡ true) where
   few-wait : (d : ℕ) → deskCount (s .waiting) d < 256
-  few-wait d = omega (arith, inside-most (s .waiting) (inside-open s h .waiting) d)
+  few-wait d = omega (arith, inside-most (s .edition) (s .waiting) (inside-open s h .waiting) d)
 
   limit-small : s .waiting .limit < 256
-  limit-small = omega (arith, limit-most (s .waiting .limit) (inside-limit (s .waiting) (inside-open s h .waiting)))
+  limit-small = omega (arith, limit-most (s .waiting .limit) (inside-limit (s .edition) (s .waiting) (inside-open s h .waiting)))
 
   pub inside-fits : StationFits s
   inside-fits =
@@ -35,6 +35,7 @@ module _ (s : Station) (t : Typed s) (h : stationInside s ≡ true) where
       record {
         n-byte = omega (arith, i .high);
         own-byte = omega (arith, i .high, i .own);
+        edition-byte = omega (arith, i .known);
         body-fits = t .body-typed;
         acked-long = t .shape .acked;
         labels-long = t .shape .labels;

@@ -126,10 +126,12 @@ module _ (l : List ℕ) (bytes : AllBytes l) (at : ℕ) (room : at + cellWidth �
 
 -- ---- the station
 
--- what the types of a station say of it, and that N, its own number, the numbers of waiting edits and their limit are bytes
+-- what the types of a station say of it, and that N, its own number, its edition, the numbers of waiting edits and their
+-- limit are bytes
 pub record StationFits (s : Station) : Type 0 where
   pub n-byte : s .n < 256
   pub own-byte : s .own < 256
+  pub edition-byte : s .edition < 256
   pub body-fits : BodyFits (s .body)
   pub acked-long : length (s .acked) ≡ 16
   pub labels-long : length (s .labels) ≡ 16
@@ -177,7 +179,7 @@ module _ (s : Station) where
     stands-head = stands-left l at (encodeHead s) cells stands-rest
 
     abbrev numbers : List ℕ
-    numbers = asByte (s .n) ∷ asByte (s .own) ∷ s .count ∷ 0 ∷ []
+    numbers = asByte (s .n) ∷ asByte (s .own) ∷ s .count ∷ asByte (s .edition) ∷ []
 
     pub stands-numbers : Stands l at numbers
     unfolding encodeHead
@@ -196,6 +198,7 @@ module _ (s : Station) where
         λ i. record {
           n = (first-byte l at _ _ stands-numbers ∙ byte-same (s .n) (f .n-byte)) i;
           own = (stands-numbers .is 1 (omega arith) ∙ byte-same (s .own) (f .own-byte)) i;
+          edition = (stands-numbers .is 3 (omega arith) ∙ byte-same (s .edition) (f .edition-byte)) i;
           waiting = waiting-decoded (s .waiting) l (at + waitingPlace) (f .waiting-fits) stands-waiting i;
           acked = tabulate-is 16 (λ k. (cellIn l at k) .acked) (s .acked) false (f .acked-long) (λ k m. ap (λ (c : Cell). c .acked) (cell-there k m)) i;
           body = body-decoded l (at + 4) (s .body) (f .body-fits) stands-body i;
@@ -211,7 +214,7 @@ module _ (s : Station) where
     accepted-at =
         and-both
         (and-both
-        (and-both (eq-eqb _ _ (stands-numbers .is 3 (omega arith))) (body-accepted l (at + 4) (s .body) (f .body-fits) stands-body))
+        (body-accepted l (at + 4) (s .body) (f .body-fits) stands-body)
         (allBelow-make 16 (λ k. isCell l (at + 16 + cellWidth * k))
         (λ k m. cell-accepted (cellOf s k) l (at + 16 + cellWidth * k) (f .cell-fits k m) (stands-cell k m))))
         (waiting-accepted (s .waiting) l (at + waitingPlace) (f .waiting-fits) stands-waiting)
@@ -236,16 +239,15 @@ module _ (l : List ℕ) (bytes : AllBytes l) (at : ℕ) (room : at + stationWidt
         lane = tabulate-at 16 (λ j. (cellIn l at j) .lane) k noLane m i;
       }
 
-  head-encoded : eqb (byteAt l (at + 3)) 0 ≡ true → isBody l (at + 4) ≡ true → encodeHead (decodeStation l at) ≡ span at 16 l
+  head-encoded : isBody l (at + 4) ≡ true → encodeHead (decodeStation l at) ≡ span at 16 l
   unfolding encodeHead decodeStation
-  head-encoded mark right =
+  head-encoded right =
       let body = body-encoded l bytes (at + 4) (omega arith) right in
-      let zero-there : 0 ≡ byteAt l (at + 3) = sym (eqb-true _ _ mark) in
       (λ i.
       (byte-same (byteAt l at) (bytes .small at) i
       ∷ byte-same (byteAt l (at + 1)) (bytes .small (at + 1)) i
       ∷ byteAt l (at + 2)
-      ∷ zero-there i
+      ∷ byte-same (byteAt l (at + 3)) (bytes .small (at + 3)) i
       ∷ [])
       ++ body i)
       ∙ ap (λ (r : List ℕ). r ++ span (at + 4) 12 l) (four-span l at (omega arith))
@@ -259,20 +261,18 @@ module _ (l : List ℕ) (bytes : AllBytes l) (at : ℕ) (room : at + stationWidt
   pub encoded-at : isStationAt l at ≡ true → encodeStation (decodeStation l at) ≡ span at stationWidth l
   unfolding encodeStation isStationAt
   encoded-at h =
-      let t₁ = eqb (byteAt l (at + 3)) 0 in
-      let t₂ = isBody l (at + 4) in
-      let t₃ = allBelow 16 (λ k. isCell l (at + 16 + cellWidth * k)) in
-      let h₄ = both (t₁ && t₂ && t₃) (isWaiting l (at + waitingPlace)) h in
-      let h₃ = both (t₁ && t₂) t₃ (h₄ .0) in
+      let t₁ = isBody l (at + 4) in
+      let t₂ = allBelow 16 (λ k. isCell l (at + 16 + cellWidth * k)) in
+      let h₃ = both (t₁ && t₂) (isWaiting l (at + waitingPlace)) h in
       let h₂ = both t₁ t₂ (h₃ .0) in
-      let head = head-encoded (h₂ .0) (h₂ .1) in
+      let head = head-encoded (h₂ .0) in
       let cells =
       joined-ext 16 (λ k. encodeCell (cellOf (decodeStation l at) k)) (λ k. span (at + 16 + cellWidth * k) cellWidth l)
       (λ k m.
       ap encodeCell (cell-read k m)
-      ∙ cell-encoded l bytes (at + 16 + cellWidth * k) (omega arith) (allBelow-at 16 (λ j. isCell l (at + 16 + cellWidth * j)) (h₃ .1) k m))
+      ∙ cell-encoded l bytes (at + 16 + cellWidth * k) (omega arith) (allBelow-at 16 (λ j. isCell l (at + 16 + cellWidth * j)) (h₂ .1) k m))
       ∙ spans-joined l (at + 16) 16 cellWidth in
-      let waiting = ap encodeWaiting waiting-read ∙ waiting-encoded l bytes (at + waitingPlace) (omega arith) (h₄ .1) in
+      let waiting = ap encodeWaiting waiting-read ∙ waiting-encoded l bytes (at + waitingPlace) (omega arith) (h₃ .1) in
       (λ i. head i ++ cells i ++ waiting i)
       ∙ ap (λ (r : List ℕ). r ++ span (at + waitingPlace) waitingWidth l) (span-join l at 16 cellsWidth waitingPlace refl)
       ∙ span-join l at waitingPlace waitingWidth stationWidth refl

@@ -1,4 +1,4 @@
--- A station as bytes: a head (n, own number, count, a zero, present body), sixteen cells, and the waiting edits. Every field is kept whole, past a
+-- A station as bytes: a head (n, own number, count, edition, present body), sixteen cells, and the waiting edits. Every field is kept whole, past a
 -- length and from N up too, so that decoding is the inverse. include/relay.h gives the place of each field.
 use Prim.Native.Nat.{ℕ, _+_, _*_}
 use mathlib.Core.Bool.{Bool, _&&_}
@@ -57,7 +57,7 @@ abbrev pub stationWidth : ℕ
 stationWidth = waitingPlace + waitingWidth
 
 unfoldable pub encodeHead : Station → List ℕ
-encodeHead s = (asByte (s .n) ∷ asByte (s .own) ∷ s .count ∷ 0 ∷ []) ++ encodeBody (s .body)
+encodeHead s = (asByte (s .n) ∷ asByte (s .own) ∷ s .count ∷ asByte (s .edition) ∷ []) ++ encodeBody (s .body)
 
 unfoldable pub encodeStation : Station → List ℕ
 encodeStation s = encodeHead s ++ joinedBelow 16 (λ k. encodeCell (cellOf s k)) ++ encodeWaiting (s .waiting)
@@ -71,6 +71,7 @@ decodeStation b at =
     record {
       n = byteAt b at;
       own = byteAt b (at + 1);
+      edition = byteAt b (at + 3);
       waiting = decodeWaiting b (at + waitingPlace);
       acked = tabulate 16 (λ k. (cellIn b at k) .acked);
       body = decodeBody b (at + 4);
@@ -83,8 +84,7 @@ decodeStation b at =
 
 unfoldable pub isStationAt : List ℕ → ℕ → Bool
 isStationAt b at =
-    eqb (byteAt b (at + 3)) 0
-    && isBody b (at + 4)
+    isBody b (at + 4)
     && allBelow 16 (λ k. isCell b (at + 16 + cellWidth * k))
     && isWaiting b (at + waitingPlace)
 

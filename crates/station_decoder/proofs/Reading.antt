@@ -12,7 +12,7 @@ use mir.Val.{SFits, toZ, ofZ}
 use mir.ValLaws.{toZ-ofZ}
 use borrow.Author.Tests.{lt-leb, le-leb, eq-eqb, ne-eqb}
 use Rattle.kinds.specs.declared.Body.{Body}
-use Rattle.kinds.specs.Body.{kindOf, eventOf, argumentOf, bodyOf}
+use Rattle.kinds.specs.Body.{kindOf, eventOf, argumentOf, channelOf, bodyOf}
 use Rattle.places.specs.Places.{allBelow, fill, tabulate}
 use Rattle.places.proofs.Laws.{allBelow-fails}
 use Rattle.frame_rules.specs.Words.{wordAt, signed, unsigned}
@@ -35,44 +35,64 @@ use Rattle.station_bytes_spec.proofs.Bytes.{filled}
 -- ---- the numbers of a body
 
 pub body-made :
-    (k e w : ℕ) (z : ℤ) (r : Body) → SFits w32 z → r ≡ bodyOf k e (toZ w32 (ofZ w32 z)) → z ≡ signed w → r ≡ bodyOfWords k e w
-body-made k e w z r f h is = h ∙ ap (bodyOf k e) (toZ-ofZ w32 z f ∙ is)
+    (k c e w : ℕ) (z : ℤ) (r : Body) → SFits w32 z → r ≡ bodyOf k e (toZ w32 (ofZ w32 z)) c → z ≡ signed w → r ≡ bodyOfWords k c e w
+body-made k c e w z r f h is = h ∙ ap (λ (x : ℤ). bodyOf k e x c) (toZ-ofZ w32 z f ∙ is)
 
-module _ (k e w : ℕ) (b : Body) (is : b ≡ bodyOfWords k e w) (kind : ℕ) (kind-is : kind ≡ kindOf b) where
-  pub other-kind : (k ≡ kind → ⊥) → false ≡ wordsRight k e w
+module _ (k c e w : ℕ) (b : Body) (is : b ≡ bodyOfWords k c e w) (kind : ℕ) (kind-is : kind ≡ kindOf b) where
+  abbrev made : Body
+  made = bodyOfWords k c e w
+
+  pub other-kind : (k ≡ kind → ⊥) → false ≡ wordsRight k c e w
   unfolding wordsRight
   other-kind d =
-      let t : eqb k (kindOf (bodyOfWords k e w)) ≡ false = ne-eqb _ _ (λ h. d (h ∙ sym (kind-is ∙ ap kindOf is))) in
+      let t : eqb k (kindOf made) ≡ false = ne-eqb _ _ (λ h. d (h ∙ sym (kind-is ∙ ap kindOf is))) in
       rw t
 
-  module _ (same : k ≡ kind) (event : ℕ) (event-is : event ≡ eventOf b) where
-    kind-right : eqb k (kindOf (bodyOfWords k e w)) ≡ true
+  module _ (same : k ≡ kind) (channel : ℕ) (channel-is : channel ≡ channelOf b) where
+    kind-right : eqb k (kindOf made) ≡ true
     kind-right = eq-eqb _ _ (same ∙ kind-is ∙ ap kindOf is)
 
-    pub other-event : (e ≡ event → ⊥) → false ≡ wordsRight k e w
+    pub other-channel : (c ≡ channel → ⊥) → false ≡ wordsRight k c e w
     unfolding wordsRight
-    other-event d =
-        let t : eqb e (eventOf (bodyOfWords k e w)) ≡ false = ne-eqb _ _ (λ h. d (h ∙ sym (event-is ∙ ap eventOf is))) in
+    other-channel d =
+        let t : eqb c (channelOf made) ≡ false = ne-eqb _ _ (λ h. d (h ∙ sym (channel-is ∙ ap channelOf is))) in
         rw (kind-right, t)
 
-    pub by-argument :
-        e ≡ event → (z : ℤ) (u : ℕ) → SFits w32 z → z ≡ argumentOf b → u ≡ unsigned (toZ w32 (ofZ w32 z)) → eqb w u ≡ wordsRight k e w
-    unfolding wordsRight
-    by-argument h z u f argument number =
-        let t : eqb e (eventOf (bodyOfWords k e w)) ≡ true = eq-eqb _ _ (h ∙ event-is ∙ ap eventOf is) in
-        let u-is : u ≡ unsigned (argumentOf (bodyOfWords k e w)) = number ∙ ap unsigned (toZ-ofZ w32 z f ∙ argument ∙ ap argumentOf is) in
-        rw (kind-right, t) (ap (eqb w) u-is)
+    module _ (on : c ≡ channel) (event : ℕ) (event-is : event ≡ eventOf b) where
+      channel-right : eqb c (channelOf made) ≡ true
+      channel-right = eq-eqb _ _ (on ∙ channel-is ∙ ap channelOf is)
 
--- ---- a record
+      pub other-event : (e ≡ event → ⊥) → false ≡ wordsRight k c e w
+      unfolding wordsRight
+      other-event d =
+          let t : eqb e (eventOf made) ≡ false = ne-eqb _ _ (λ h. d (h ∙ sym (event-is ∙ ap eventOf is))) in
+          rw (kind-right, channel-right, t)
+
+      pub by-argument :
+          e ≡ event → (z : ℤ) (u : ℕ) → SFits w32 z → z ≡ argumentOf b → u ≡ unsigned (toZ w32 (ofZ w32 z)) →
+          eqb w u ≡ wordsRight k c e w
+      unfolding wordsRight
+      by-argument h z u f argument number =
+          let t : eqb e (eventOf made) ≡ true = eq-eqb _ _ (h ∙ event-is ∙ ap eventOf is) in
+          let u-is : u ≡ unsigned (argumentOf made) = number ∙ ap unsigned (toZ-ofZ w32 z f ∙ argument ∙ ap argumentOf is) in
+          rw (kind-right, channel-right, t) (ap (eqb w) u-is)
+
+-- ---- a body
 
 module _ (b : List ℕ) (at : ℕ) where
-  pub no-mark : (byteAt b (at + 3) ≡ 0 → ⊥) → false ≡ isRecord b at
-  unfolding isRecord
-  no-mark d = rw (ne-eqb _ _ d)
+  pub no-third : (byteAt b (at + 2) ≡ 0 → ⊥) → false ≡ isBody b at
+  unfolding isBody
+  no-third d = rw (ne-eqb _ _ d)
 
-  pub by-words : byteAt b (at + 3) ≡ 0 → wordsRight (byteAt b (at + 2)) (wordAt b (at + 4)) (wordAt b (at + 8)) ≡ isRecord b at
-  unfolding isRecord
-  by-words h = rw (eq-eqb _ _ h)
+  module _ (z : byteAt b (at + 2) ≡ 0) where
+    pub no-fourth : (byteAt b (at + 3) ≡ 0 → ⊥) → false ≡ isBody b at
+    unfolding isBody
+    no-fourth d = rw (eq-eqb _ _ z, ne-eqb _ _ d)
+
+    pub by-words :
+        byteAt b (at + 3) ≡ 0 → wordsRight (byteAt b at) (byteAt b (at + 1)) (wordAt b (at + 4)) (wordAt b (at + 8)) ≡ isBody b at
+    unfolding isBody
+    by-words h = rw (eq-eqb _ _ z, eq-eqb _ _ h)
 
   -- ---- a cell
 
@@ -124,24 +144,19 @@ module _ (b : List ℕ) (at : ℕ) where
 
   -- ---- a station
 
-  pub no-zero : (byteAt b (at + 3) ≡ 0 → ⊥) → false ≡ isStationAt b at
+  pub no-body : isBody b (at + 4) ≡ false → false ≡ isStationAt b at
   unfolding isStationAt
-  no-zero d = rw (ne-eqb _ _ d)
+  no-body h = rw h
 
-  module _ (h₁ : byteAt b (at + 3) ≡ 0) where
-    pub no-body : isBody b (at + 4) ≡ false → false ≡ isStationAt b at
+  module _ (h₁ : isBody b (at + 4) ≡ true) where
+    pub no-cells : allBelow 16 (λ k. isCell b (at + 16 + cellWidth * k)) ≡ false → false ≡ isStationAt b at
     unfolding isStationAt
-    no-body h = rw (eq-eqb _ _ h₁, h)
+    no-cells h = rw (h₁, h)
 
-    module _ (h₂ : isBody b (at + 4) ≡ true) where
-      pub no-cells : allBelow 16 (λ k. isCell b (at + 16 + cellWidth * k)) ≡ false → false ≡ isStationAt b at
-      unfolding isStationAt
-      no-cells h = rw (eq-eqb _ _ h₁, h₂, h)
-
-      pub by-waiting :
-          allBelow 16 (λ k. isCell b (at + 16 + cellWidth * k)) ≡ true → isWaiting b (at + waitingPlace) ≡ isStationAt b at
-      unfolding isStationAt
-      by-waiting h = rw (eq-eqb _ _ h₁, h₂, h)
+    pub by-waiting :
+        allBelow 16 (λ k. isCell b (at + 16 + cellWidth * k)) ≡ true → isWaiting b (at + waitingPlace) ≡ isStationAt b at
+    unfolding isStationAt
+    by-waiting h = rw (h₁, h)
 
 -- ---- tests of all places below n
 
@@ -252,11 +267,13 @@ module _ (b : List ℕ) (at k : ℕ) (acked held : List Bool) (labels : List ℕ
       }
 
   pub station-read :
-      k ≡ 16 → (n own : ℕ) (body : Body) (waiting : Waiting) → n ≡ byteAt b at → own ≡ byteAt b (at + 1) → body ≡ decodeBody b (at + 4) → waiting ≡ decodeWaiting b (at + waitingPlace) →
+      k ≡ 16 → (n own edition : ℕ) (body : Body) (waiting : Waiting) → n ≡ byteAt b at → own ≡ byteAt b (at + 1) → edition ≡ byteAt b (at + 3) →
+      body ≡ decodeBody b (at + 4) → waiting ≡ decodeWaiting b (at + waitingPlace) →
       _≡_ {A = Station}
       (record {
         n = n;
         own = own;
+        edition = edition;
         waiting = waiting;
         acked = acked;
         body = body;
@@ -268,10 +285,11 @@ module _ (b : List ℕ) (at k : ℕ) (acked held : List Bool) (labels : List ℕ
       })
       (decodeStation b at)
   unfolding decodeStation
-  station-read e n own body waiting en eo eb ew =
+  station-read e n own edition body waiting en eo ee eb ew =
       λ i. record {
         n = en i;
         own = eo i;
+        edition = ee i;
         waiting = ew i;
         acked = all-filled 16 k (λ j. (cellIn b at j) .acked) acked (replicate 16 false) false refl e (h .acked-read) i;
         body = eb i;

@@ -30,19 +30,22 @@ const STATION_WIDTH: usize = 1492;
 
 const GROUP_WIDTH: usize = 23872;
 
-// The body of three numbers, the third as a word.
-fn body_of_words(kind: u32, event: u32, word: u32) -> Body
-    ensures { λ r. ⌜ r ≡ bodyOfWords kind event word ⌝ }
+// The body of four numbers, the argument as a word.
+fn body_of_words(kind: u32, channel: u8, event: u32, word: u32) -> Body
+    ensures { λ r. ⌜ r ≡ bodyOfWords kind channel event word ⌝ }
 {
-    kinds::body_of(kind, event, record_reader::signed(word))
+    kinds::body_of(kind, event, record_reader::signed(word), channel)
 }
 
 // Are they just the numbers of that body?
-fn words_right(kind: u32, event: u32, word: u32) -> bool
-    ensures { λ r. ⌜ r ≡ wordsRight kind event word ⌝ }
+fn words_right(kind: u32, channel: u8, event: u32, word: u32) -> bool
+    ensures { λ r. ⌜ r ≡ wordsRight kind channel event word ⌝ }
 {
-    let body = body_of_words(kind, event, word);
+    let body = body_of_words(kind, channel, event, word);
     if kind != kinds::kind_of(body) {
+        return false;
+    }
+    if channel != kinds::channel_of(body) {
         return false;
     }
     if event != kinds::event_of(body) {
@@ -56,10 +59,9 @@ fn read_body(bytes: &[u8], at: usize) -> Body
     requires { ⌜ at + 12 ≤ length (now bytes) ⌝ }
     ensures { λ r. ⌜ r ≡ decodeBody (now (bytes .entry)) at ⌝ }
 {
-    let kind = word_at(bytes, at);
     let event = word_at(bytes, at + 4);
     let word = word_at(bytes, at + 8);
-    body_of_words(kind, event, word)
+    body_of_words(bytes[at] as u32, bytes[at + 1], event, word)
 }
 
 // Are the bytes at a place those of a body?
@@ -67,10 +69,15 @@ fn body_right(bytes: &[u8], at: usize) -> bool
     requires { ⌜ at + 12 ≤ length (now bytes) ⌝ }
     ensures { λ r. ⌜ r ≡ isBody (now (bytes .entry)) at ⌝ }
 {
-    let kind = word_at(bytes, at);
+    if bytes[at + 2] != 0 {
+        return false;
+    }
+    if bytes[at + 3] != 0 {
+        return false;
+    }
     let event = word_at(bytes, at + 4);
     let word = word_at(bytes, at + 8);
-    words_right(kind, event, word)
+    words_right(bytes[at] as u32, bytes[at + 1], event, word)
 }
 
 // The record at a place.
@@ -80,7 +87,7 @@ fn read_record(bytes: &[u8], at: usize) -> Record
 {
     let event = word_at(bytes, at + 4);
     let word = word_at(bytes, at + 8);
-    let body = body_of_words(bytes[at + 2] as u32, event, word);
+    let body = body_of_words(bytes[at + 2] as u32, bytes[at + 3], event, word);
     let labels = word_at(bytes, at + 12);
     let station = bytes[at];
     let count = bytes[at + 1];
@@ -97,12 +104,9 @@ fn record_right(bytes: &[u8], at: usize) -> bool
     requires { ⌜ at + recordWidth ≤ length (now bytes) ⌝ }
     ensures { λ r. ⌜ r ≡ isRecord (now (bytes .entry)) at ⌝ }
 {
-    if bytes[at + 3] != 0 {
-        return false;
-    }
     let event = word_at(bytes, at + 4);
     let word = word_at(bytes, at + 8);
-    words_right(bytes[at + 2] as u32, event, word)
+    words_right(bytes[at + 2] as u32, bytes[at + 3], event, word)
 }
 
 // The lane of the cell at a place.
@@ -262,9 +266,11 @@ fn station_at(bytes: &[u8], at: usize) -> Station
     let n = record_reader::wide(bytes[at]);
     let own = record_reader::wide(bytes[at + 1]);
     let count = bytes[at + 2];
+    let edition = record_reader::wide(bytes[at + 3]);
     Station {
         n: n,
         own: own,
+        edition: edition,
         waiting: waiting,
         acked: acked,
         body: body,
@@ -281,9 +287,6 @@ fn station_right(bytes: &[u8], at: usize) -> bool
     requires { ⌜ at + stationWidth ≤ length (now bytes) ⌝ }
     ensures { λ r. ⌜ r ≡ isStationAt (now (bytes .entry)) at ⌝ }
 {
-    if bytes[at + 3] != 0 {
-        return false;
-    }
     if !body_right(bytes, at + 4) {
         return false;
     }

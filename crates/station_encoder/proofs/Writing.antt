@@ -12,7 +12,7 @@ use mir.Syntax.{w32}
 use mir.Val.{SFits, toZ, ofZ}
 use mir.ValLaws.{toZ-ofZ}
 use Rattle.kinds.specs.declared.Body.{Body}
-use Rattle.kinds.specs.Body.{kindOf, eventOf, argumentOf}
+use Rattle.kinds.specs.Body.{kindOf, eventOf, argumentOf, channelOf}
 use Rattle.places.specs.Places.{tabulate}
 use Rattle.places.proofs.Laws.{length-tabulate}
 use Rattle.frame_rules.specs.Words.{wordBytes, unsigned}
@@ -76,16 +76,17 @@ all-written l l₁ at n k part e h = h ∙ ap (λ (j : ℕ). sets l at (joinedBe
 
 module _ (l : List ℕ) (at : ℕ) where
   pub body-written :
-      (b : Body) (k e : ℕ) (z : ℤ) (u : ℕ) (l₁ l₂ l₃ : List ℕ) → k ≡ kindOf b → e ≡ eventOf b → SFits w32 z → z ≡ argumentOf b →
-      u ≡ unsigned (toZ w32 (ofZ w32 z)) → l₁ ≡ sets l at (wordBytes k) → l₂ ≡ sets l₁ (at + 4) (wordBytes e) → l₃ ≡ sets l₂ (at + 8) (wordBytes u) →
+      (b : Body) (k c e : ℕ) (z : ℤ) (u : ℕ) (l₁ l₂ l₃ : List ℕ) → k ≡ kindOf b → c ≡ channelOf b → e ≡ eventOf b → SFits w32 z → z ≡ argumentOf b →
+      u ≡ unsigned (toZ w32 (ofZ w32 z)) → l₁ ≡ sets l at (k ∷ c ∷ 0 ∷ 0 ∷ []) → l₂ ≡ sets l₁ (at + 4) (wordBytes e) → l₃ ≡ sets l₂ (at + 8) (wordBytes u) →
       l₃ ≡ sets l at (encodeBody b)
   unfolding encodeBody
-  body-written b k e z u l₁ l₂ l₃ kind event f argument number s₁ s₂ s₃ =
+  body-written b k c e z u l₁ l₂ l₃ kind channel event f argument number s₁ s₂ s₃ =
+      let head = k ∷ c ∷ 0 ∷ 0 ∷ [] in
       let u-is : u ≡ unsigned (argumentOf b) = number ∙ ap unsigned (toZ-ofZ w32 z f ∙ argument) in
-      let two = written-more l l₁ l₂ at (wordBytes k) (wordBytes e) 4 s₁ (length-word k) s₂ in
-      let long : length (wordBytes k ++ wordBytes e) ≡ 8 = omega (arith, length-append (wordBytes k) (wordBytes e), length-word k, length-word e) in
-      written-more l l₂ l₃ at (wordBytes k ++ wordBytes e) (wordBytes u) 8 two long s₃
-      ∙ (λ i. sets l at (wordBytes (kind i) ++ wordBytes (event i) ++ wordBytes (u-is i)))
+      let two = written-more l l₁ l₂ at head (wordBytes e) 4 s₁ refl s₂ in
+      let long : length (head ++ wordBytes e) ≡ 8 = omega (arith, length-append head (wordBytes e), length-word e) in
+      written-more l l₂ l₃ at (head ++ wordBytes e) (wordBytes u) 8 two long s₃
+      ∙ (λ i. sets l at ((kind i ∷ channel i ∷ 0 ∷ 0 ∷ []) ++ wordBytes (event i) ++ wordBytes (u-is i)))
 
   -- one entry more
   pub entry-next :
@@ -103,15 +104,15 @@ module _ (l : List ℕ) (at : ℕ) where
   entries-written f l₁ n i e h = h ∙ ap (λ (j : ℕ). sets l at (tabulate j f)) e
 
   pub record-written :
-      (r : Record) (k e : ℕ) (z : ℤ) (u : ℕ) (l₁ l₂ l₃ l₄ : List ℕ) → k ≡ kindOf (r .body) → e ≡ eventOf (r .body) → SFits w32 z → z ≡ argumentOf (r .body) →
-      u ≡ unsigned (toZ w32 (ofZ w32 z)) → l₁ ≡ sets l at (r .station ∷ r .count ∷ k ∷ 0 ∷ []) → l₂ ≡ sets l₁ (at + 4) (wordBytes e) →
+      (r : Record) (k c e : ℕ) (z : ℤ) (u : ℕ) (l₁ l₂ l₃ l₄ : List ℕ) → k ≡ kindOf (r .body) → c ≡ channelOf (r .body) → e ≡ eventOf (r .body) → SFits w32 z → z ≡ argumentOf (r .body) →
+      u ≡ unsigned (toZ w32 (ofZ w32 z)) → l₁ ≡ sets l at (r .station ∷ r .count ∷ k ∷ c ∷ []) → l₂ ≡ sets l₁ (at + 4) (wordBytes e) →
       l₃ ≡ sets l₂ (at + 8) (wordBytes u) → l₄ ≡ sets l₃ (at + 12) (wordBytes (r .labels)) → l₄ ≡ sets l at (encodeRecord r)
   unfolding encodeRecord
-  record-written r k e z u l₁ l₂ l₃ l₄ kind event f argument number s₁ s₂ s₃ s₄ =
+  record-written r k c e z u l₁ l₂ l₃ l₄ kind channel event f argument number s₁ s₂ s₃ s₄ =
       let u-is : u ≡ unsigned (argumentOf (r .body)) = number ∙ ap unsigned (toZ-ofZ w32 z f ∙ argument) in
-      four-written l l₁ l₂ l₃ l₄ at (r .station ∷ r .count ∷ k ∷ 0 ∷ []) (wordBytes e) (wordBytes u) (wordBytes (r .labels)) 4 8 12 4 4 refl (length-word e) (length-word u)
+      four-written l l₁ l₂ l₃ l₄ at (r .station ∷ r .count ∷ k ∷ c ∷ []) (wordBytes e) (wordBytes u) (wordBytes (r .labels)) 4 8 12 4 4 refl (length-word e) (length-word u)
       refl refl s₁ s₂ s₃ s₄
-      ∙ (λ i. sets l at ((r .station ∷ r .count ∷ kind i ∷ 0 ∷ []) ++ wordBytes (event i) ++ wordBytes (u-is i) ++ wordBytes (r .labels)))
+      ∙ (λ i. sets l at ((r .station ∷ r .count ∷ kind i ∷ channel i ∷ []) ++ wordBytes (event i) ++ wordBytes (u-is i) ++ wordBytes (r .labels)))
 
   pub cell-written :
       (c : Cell) (a h : ℕ) (l₁ l₂ l₃ l₄ : List ℕ) → a ≡ flagByte (c .acked) → h ≡ flagByte (c .held) → l₁ ≡ sets l at (a ∷ h ∷ c .label ∷ c .lane .len ∷ []) →
@@ -124,15 +125,16 @@ module _ (l : List ℕ) (at : ℕ) where
       ∙ (λ i. sets l at ((acked i ∷ held i ∷ c .label ∷ c .lane .len ∷ []) ++ encodeBody (c .lane .first) ++ encodeBody (c .lane .second) ++ encodeRecord (c .entry)))
 
   pub station-written :
-      (s : Station) (n own : ℕ) (l₁ l₂ l₃ l₄ : List ℕ) → n ≡ asByte (s .n) → own ≡ asByte (s .own) → l₁ ≡ sets l at (n ∷ own ∷ s .count ∷ 0 ∷ []) →
+      (s : Station) (n own edition : ℕ) (l₁ l₂ l₃ l₄ : List ℕ) → n ≡ asByte (s .n) → own ≡ asByte (s .own) → edition ≡ asByte (s .edition) →
+      l₁ ≡ sets l at (n ∷ own ∷ s .count ∷ edition ∷ []) →
       l₂ ≡ sets l₁ (at + 4) (encodeBody (s .body)) → l₃ ≡ sets l₂ (at + 16) (joinedBelow 16 (λ k. encodeCell (cellOf s k))) →
       l₄ ≡ sets l₃ (at + waitingPlace) (encodeWaiting (s .waiting)) → l₄ ≡ sets l at (encodeStation s)
   unfolding encodeStation encodeHead
-  station-written s n own l₁ l₂ l₃ l₄ en eo s₁ s₂ s₃ s₄ =
+  station-written s n own edition l₁ l₂ l₃ l₄ en eo ee s₁ s₂ s₃ s₄ =
       let cells = joinedBelow 16 (λ k. encodeCell (cellOf s k)) in
-      four-written l l₁ l₂ l₃ l₄ at (n ∷ own ∷ s .count ∷ 0 ∷ []) (encodeBody (s .body)) cells (encodeWaiting (s .waiting)) 4 16 waitingPlace 12 cellsWidth refl
+      four-written l l₁ l₂ l₃ l₄ at (n ∷ own ∷ s .count ∷ edition ∷ []) (encodeBody (s .body)) cells (encodeWaiting (s .waiting)) 4 16 waitingPlace 12 cellsWidth refl
       (length-body (s .body)) (joined-long 16 cellWidth (λ k. encodeCell (cellOf s k)) (λ k m. length-cell (cellOf s k))) refl refl s₁ s₂ s₃ s₄
-      ∙ (λ i. sets l at ((en i ∷ eo i ∷ s .count ∷ 0 ∷ []) ++ encodeBody (s .body) ++ cells ++ encodeWaiting (s .waiting)))
+      ∙ (λ i. sets l at ((en i ∷ eo i ∷ s .count ∷ ee i ∷ []) ++ encodeBody (s .body) ++ cells ++ encodeWaiting (s .waiting)))
 
   -- the edits of a desk
   pub edits-written :

@@ -59,7 +59,14 @@ pub fn put_body(bytes: &mut [u8], at: usize, body: Body)
     requires { ⌜ at + 12 ≤ length (now bytes) ⌝ }
     ensures { λ _. ⌜ now (bytes .exit) ≡ sets (now (bytes .entry)) at (encodeBody body) ⌝ }
 {
-    put_word(bytes, at, kinds::kind_of(body));
+    put_four(
+        bytes,
+        at,
+        kinds::kind_of(body) as u8,
+        kinds::channel_of(body),
+        0,
+        0,
+    );
     put_word(bytes, at + 4, kinds::event_of(body));
     put_word(
         bytes,
@@ -74,7 +81,14 @@ fn put_record(bytes: &mut [u8], at: usize, r: Record)
     ensures { λ _. ⌜ now (bytes .exit) ≡ sets (now (bytes .entry)) at (encodeRecord r) ⌝ }
 {
     let body = r.body;
-    put_four(bytes, at, r.station, r.count, kinds::kind_of(body) as u8, 0);
+    put_four(
+        bytes,
+        at,
+        r.station,
+        r.count,
+        kinds::kind_of(body) as u8,
+        kinds::channel_of(body),
+    );
     put_word(bytes, at + 4, kinds::event_of(body));
     put_word(
         bytes,
@@ -176,7 +190,14 @@ pub fn put_station(bytes: &mut [u8], at: usize, s: Station)
 {
     let body = s.body;
     let waiting = s.waiting;
-    put_four(bytes, at, as_byte(s.n), as_byte(s.own), s.count, 0);
+    put_four(
+        bytes,
+        at,
+        as_byte(s.n),
+        as_byte(s.own),
+        s.count,
+        as_byte(s.edition),
+    );
     put_body(bytes, at + 4, body);
     put_cells(bytes, at + 16, s);
     put_waiting(bytes, at + WAITING_PLACE, waiting);

@@ -25,12 +25,12 @@ use Rattle.station_frames.specs.Beside.{roomed, beside}
 use Rattle.station_frames.proofs.OwnFrame.{own-shape, own-fits, own-first, own-read, own-stations, own-written, frame-records, frame-room}
 use Rattle.station_frames.proofs.Copied.{roomed-length}
 
-module _ (s : Station) (inside : stationInside s ≡ true) (bytes : List ℕ) (accepted : frameRefusal bytes (s .n) (s .own) ≡ 0) where
+module _ (s : Station) (inside : stationInside s ≡ true) (bytes : List ℕ) (accepted : frameRefusal (s .edition) bytes (s .n) (s .own) ≡ 0) where
   c : Inside s
   c = inside-open s inside
 
   form : Shape bytes
-  form = shape bytes (accepted-frame bytes (s .n) (s .own) accepted .shape-right)
+  form = shape bytes (accepted-frame (s .edition) bytes (s .n) (s .own) accepted .shape-right)
 
   pub heard-fits : length bytes ≤ 260
   heard-fits = omega (arith, form .long, form .few)
@@ -66,9 +66,9 @@ module _ (s : Station) (inside : stationInside s ≡ true) (bytes : List ℕ) (a
   heard-station : (r : ℕ) → r < getD bytes 2 0 → getD (part bytes r) 0 0 < s .n
   unfolding recordsInside
   heard-station r l =
-      let a = accepted-frame bytes (s .n) (s .own) accepted in
-      bytes-open (s .n) (part bytes r)
-      (and-left (bytesInside (s .n) (part bytes r)) _ (allBelow-at (getD bytes 2 0) _ (and-left _ _ (a .records-right)) r l))
+      let a = accepted-frame (s .edition) bytes (s .n) (s .own) accepted in
+      bytes-open (s .edition) (s .n) (part bytes r)
+      (and-left (bytesInside (s .edition) (s .n) (part bytes r)) _ (allBelow-at (getD bytes 2 0) _ (and-left _ _ (a .records-right)) r l))
       .station
 
   pub may-listen : MayListen s both 0
@@ -86,7 +86,7 @@ module _ (s : Station) (inside : stationInside s ≡ true) (bytes : List ℕ) (a
   heard-room small =
       frame-room bytes (replicate (260 - length bytes) 0) (form .long) both 260 heard-here (λ r l. omega (arith, heard-station r l, size))
       (λ r l.
-      subst (λ (n : ℕ). recordBytes n (recordFrom (part bytes r)) ≡ part bytes r) size (part-written bytes (s .n) (s .own) accepted small r l))
+      subst (λ (n : ℕ). recordBytes n (recordFrom (part bytes r)) ≡ part bytes r) size (part-written (s .edition) bytes (s .n) (s .own) accepted small r l))
 
   pub heard-is : frameHeard both 260 (silent s) ≡ hearFrame (silent s) (recordsOf bytes)
   heard-is = ap (hearFrame (silent s)) (frame-records bytes (replicate (260 - length bytes) 0) (form .long) both 260 heard-here)

@@ -71,14 +71,14 @@ tabulate-all l d =
 -- ---- a record is read back whatever its count is
 
 read-any :
-    (n : ℕ) (r : Record) → n ≤ 16 → r .station < n → bodyInside (r .body) ≡ true → ((j : ℕ) → j < n → isLabel (recordLabel r j) ≡ true) →
+    (edition n : ℕ) (r : Record) → n ≤ 16 → r .station < n → bodyInside edition (r .body) ≡ true → ((j : ℕ) → j < n → isLabel (recordLabel r j) ≡ true) →
     recordFrom (recordBytes n r) ≡ framed n r
 unfolding recordFrom recordBytes framed wordAt recordLabel
-read-any n r few below body labels =
+read-any edition n r few below body labels =
     let plain : Record = record { station = r .station; count = 0; body = r .body; labels = r .labels } in
     let e : recordFrom (recordBytes n plain) ≡ framed n plain =
-    record-read n plain few
-    (fits-make n plain (record { station = below; count = le-leb 0 (2 * (n - 1)) (omega arith); body = body; labels = labels })) in
+    record-read edition n plain few
+    (fits-make edition n plain (record { station = below; count = le-leb 0 (2 * (n - 1)) (omega arith); body = body; labels = labels })) in
     λ i. record { station = r .station; count = r .count; body = (e i) .body; labels = (e i) .labels }
 
 -- ---- a frame at the beginning of bytes
@@ -149,7 +149,7 @@ module _ (s : Station) (c : Inside s) where
 
   own-long : length (frameOf s) ≡ 4 + 16 * length (sentRecords s)
   unfolding frameOf
-  own-long = length-frame (s .n) (s .own) (sentRecords s)
+  own-long = length-frame (s .edition) (s .n) (s .own) (sentRecords s)
 
   own-count : getD (frameOf s) 2 0 ≡ length (sentRecords s)
   unfolding frameOf frameBytes
@@ -177,7 +177,7 @@ module _ (s : Station) (c : Inside s) where
       let station : (sent k) .station < s .n = omega (arith, p .station) in
       record {
         back =
-            read-any (s .n) (sent k) (c .high) station (p .body) (λ j b. ap isLabel (framed-label (s .n) (recordOf s k) j b) ∙ p .labels j b)
+            read-any (s .edition) (s .n) (sent k) (c .high) station (p .body) (λ j b. ap isLabel (framed-label (s .n) (recordOf s k) j b) ∙ p .labels j b)
             ∙ framed-twice (s .n) (recordOf s k);
         below = station;
       }
@@ -189,7 +189,7 @@ module _ (s : Station) (c : Inside s) where
 
   part-own : (i : ℕ) → i < length (sentRecords s) → part (frameOf s) i ≡ recordBytes (s .n) (getD (sentRecords s) i noRecord)
   unfolding frameOf
-  part-own i l = part-of-frame (s .n) (s .own) (sentRecords s) i l
+  part-own i l = part-of-frame (s .edition) (s .n) (s .own) (sentRecords s) i l
 
   pub own-read : recordsOf (frameOf s) ≡ sentRecords s
   unfolding recordsOf

@@ -41,7 +41,7 @@ pub fn write(s: Station, buffer: &mut [u8]) -> Written
     }
     let held = s.held;
     let table = s.table;
-    frame_writer::write_table(buffer, held, table, n, own)
+    frame_writer::write_table(buffer, held, table, s.edition, n, own)
 }
 
 // Puts a frame at the beginning of a buffer, whose bytes past it are kept.
@@ -65,7 +65,7 @@ fn beside(frame: &[u8], s: Station) -> [u8; BOTH_ROOM]
     let mut both = [0u8; BOTH_ROOM];
     let held = s.held;
     let table = s.table;
-    frame_writer::write_table(&mut both[0..FRAME_ROOM], held, table, s.n, s.own);
+    frame_writer::write_table(&mut both[0..FRAME_ROOM], held, table, s.edition, s.n, s.own);
     put_frame(&mut both[FRAME_ROOM..BOTH_ROOM], frame);
     both
 }
@@ -84,7 +84,7 @@ pub fn hear(s: Station, bytes: &[u8]) -> Heard
     }
     let n = s.n;
     let own = s.own;
-    let refusal = frames::frame_refusal(bytes, n, own);
+    let refusal = frames::frame_refusal(bytes, s.edition, n, own);
     if refusal != DONE {
         return Heard {
             refusal: refusal,

@@ -11,14 +11,14 @@ use kinds::Body;
 use lanes::Lane;
 use station_rules::Station;
 
-// May a lane hold this body?
-fn takeable(body: Body) -> bool
-    ensures { λ r. ⌜ r ≡ spec.takeable body ⌝ }
+// May a lane hold this body in an edition?
+fn takeable(edition: usize, body: Body) -> bool
+    ensures { λ r. ⌜ r ≡ spec.takeable edition body ⌝ }
 {
     if kinds::is_empty(body) {
         return false;
     }
-    kind_limits::body_inside(body)
+    kind_limits::body_inside(edition, body)
 }
 
 // How many bodies the lane of station k may hold.
@@ -31,8 +31,8 @@ fn lane_room(k: usize, own: usize) -> u8
     2
 }
 
-fn lane_inside(most: u8, lane: Lane) -> bool
-    ensures { λ r. ⌜ r ≡ spec.laneInside most lane ⌝ }
+fn lane_inside(edition: usize, most: u8, lane: Lane) -> bool
+    ensures { λ r. ⌜ r ≡ spec.laneInside edition most lane ⌝ }
 {
     let len = lane.len;
     if most < len {
@@ -42,14 +42,14 @@ fn lane_inside(most: u8, lane: Lane) -> bool
         return true;
     }
     let first = lane.first;
-    if !takeable(first) {
+    if !takeable(edition, first) {
         return false;
     }
     if len <= 1 {
         return true;
     }
     let second = lane.second;
-    takeable(second)
+    takeable(edition, second)
 }
 
 // May the record of station k have this count? The own record's may reach 255.
@@ -64,9 +64,9 @@ fn count_inside(n: usize, own: usize, k: usize, count: u8) -> bool
 }
 
 // Is this a record of station k, inside its limits, in the table of station own among n?
-fn record_inside(n: usize, own: usize, k: usize, record: Record) -> bool
+fn record_inside(edition: usize, n: usize, own: usize, k: usize, record: Record) -> bool
     requires { ⌜ (n ≤ 16) × (k < n) ⌝ }
-    ensures { λ r. ⌜ r ≡ spec.recordInside n own k «record» ⌝ }
+    ensures { λ r. ⌜ r ≡ spec.recordInside edition n own k «record» ⌝ }
 {
     if record.station as usize != k {
         return false;
@@ -75,25 +75,27 @@ fn record_inside(n: usize, own: usize, k: usize, record: Record) -> bool
         return false;
     }
     let body = record.body;
-    if !kind_limits::body_inside(body) {
+    if !kind_limits::body_inside(edition, body) {
         return false;
     }
     label_words::labels_inside(record.labels, n)
 }
 
 // Is the record of station k inside its limits, if one is held?
-fn held_inside(n: usize, own: usize, k: usize, held: bool, record: Record) -> bool
+fn held_inside(edition: usize, n: usize, own: usize, k: usize, held: bool, record: Record) -> bool
     requires { ⌜ (n ≤ 16) × (k < n) ⌝ }
-    ensures { λ r. ⌜ r ≡ (not held || spec.recordInside n own k «record») ⌝ }
+    ensures { λ r. ⌜ r ≡ (not held || spec.recordInside edition n own k «record») ⌝ }
 {
     if !held {
         return true;
     }
-    record_inside(n, own, k, record)
+    record_inside(edition, n, own, k, record)
 }
 
-// Is what a station of number own among n has of station k inside its limits: its label, its record where one is held, its lane?
+// Is what a station of number own among n has of station k inside its limits in an edition: its label, its record where one
+// is held, its lane?
 fn place_inside(
+    edition: usize,
     n: usize,
     own: usize,
     k: usize,
@@ -103,15 +105,15 @@ fn place_inside(
     lane: Lane,
 ) -> bool
     requires { ⌜ (n ≤ 16) × (k < n) ⌝ }
-    ensures { λ r. ⌜ r ≡ spec.entryInside n own k label held «record» lane ⌝ }
+    ensures { λ r. ⌜ r ≡ spec.entryInside edition n own k label held «record» lane ⌝ }
 {
     if 2 < label {
         return false;
     }
-    if !held_inside(n, own, k, held, record) {
+    if !held_inside(edition, n, own, k, held, record) {
         return false;
     }
-    lane_inside(lane_room(k, own), lane)
+    lane_inside(edition, lane_room(k, own), lane)
 }
 
 // Is the station inside its limits?
@@ -123,6 +125,10 @@ pub fn station_inside(s: Station) -> bool
     if !numbers::valid_number(n, own) {
         return false;
     }
+    let edition = s.edition;
+    if !numbers::is_edition(edition) {
+        return false;
+    }
     if !s.acked[own] {
         return false;
     }
@@ -130,16 +136,25 @@ pub fn station_inside(s: Station) -> bool
         return false;
     }
     let body = s.body;
-    if !kind_limits::body_inside(body) {
+    if !kind_limits::body_inside(edition, body) {
         return false;
     }
     let waiting = s.waiting;
-    if !lanes::waiting_inside(waiting) {
+    if !lanes::waiting_inside(edition, waiting) {
         return false;
     }
     let mut k: usize = 0;
     while k < n {
-        if !place_inside(n, own, k, s.labels[k], s.held[k], s.table[k], s.lanes[k]) {
+        if !place_inside(
+            edition,
+            n,
+            own,
+            k,
+            s.labels[k],
+            s.held[k],
+            s.table[k],
+            s.lanes[k],
+        ) {
             return false;
         }
         k += 1;

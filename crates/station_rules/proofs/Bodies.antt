@@ -1,4 +1,4 @@
--- All bodies that a station inside its limits holds are inside the limits of their kind, wherever they stand. So a
+-- All bodies that a station inside its limits holds are inside theirs in its edition, wherever they stand. So a
 -- station that holds one outside them is outside its own, and each of its calls is refused with 2. No limit of a kind is
 -- named here: the table decides.
 use Prim.Native.Nat.{ℕ}
@@ -9,8 +9,8 @@ use Rattle.kinds.specs.declared.Body.{Body}
 use Rattle.kinds.specs.Body.{isEmpty}
 use Rattle.kinds.specs.Refusals.{outsideLimits}
 use Rattle.kind_limits.specs.Limits.{bodyInside}
-use Rattle.kind_limits.proofs.Laws.{postable-inside}
-use Rattle.lanes.proofs.WaitingLaws.{waiting-postable}
+use Rattle.kind_limits.proofs.Laws.{waiting-inside}
+use Rattle.lanes.proofs.WaitingLaws.{waiting-fits}
 use Rattle.places.proofs.Laws.{and-right}
 use Rattle.station_rules.specs.declared.Station.{Station}
 use Rattle.station_rules.specs.Limits.{stationInside, takeable}
@@ -20,17 +20,18 @@ use Rattle.station_rules.specs.Calls.{postCall, writeRefusal, writeCall,
 use Rattle.station_rules.proofs.StationLimits.{Inside, inside-open}
 use Rattle.station_rules.proofs.LimitsLane.{lane-first as first-takeable, lane-second as second-takeable}
 
-taken-inside : (b : Body) → takeable b ≡ true → bodyInside b ≡ true
-taken-inside b h = and-right (not (isEmpty b)) (bodyInside b) h
+taken-inside : (edition : ℕ) (b : Body) → takeable edition b ≡ true → bodyInside edition b ≡ true
+taken-inside edition b h = and-right (not (isEmpty b)) (bodyInside edition b) h
 
-pub held-inside : (s : Station) (b : Body) → stationInside s ≡ true → Holds s b → bodyInside b ≡ true
+pub held-inside : (s : Station) (b : Body) → stationInside s ≡ true → Holds s b → bodyInside (s .edition) b ≡ true
 held-inside s b i present = (inside-open s i) .body
-held-inside s b i (waiting d j l) = postable-inside b (waiting-postable (s .waiting) ((inside-open s i) .waiting) d j l)
+held-inside s b i (waiting d j l) =
+    waiting-inside (s .edition) b (waiting-fits (s .edition) (s .waiting) ((inside-open s i) .waiting) d j l)
 held-inside s b i (recorded k l e) = (inside-open s i) .places k l .held e .body
-held-inside s b i (lane-first k l p) = taken-inside b (first-takeable _ _ ((inside-open s i) .places k l .lane) p)
-held-inside s b i (lane-second k l p) = taken-inside b (second-takeable _ _ ((inside-open s i) .places k l .lane) p)
+held-inside s b i (lane-first k l p) = taken-inside (s .edition) b (first-takeable _ _ _ ((inside-open s i) .places k l .lane) p)
+held-inside s b i (lane-second k l p) = taken-inside (s .edition) b (second-takeable _ _ _ ((inside-open s i) .places k l .lane) p)
 
-module _ (s : Station) (b : Body) (h : bodyInside b ≡ false) (holds : Holds s b) where
+module _ (s : Station) (b : Body) (h : bodyInside (s .edition) b ≡ false) (holds : Holds s b) where
   pub holds-outside : stationInside s ≡ false
   holds-outside = go (stationInside s) refl
     where

@@ -1,24 +1,31 @@
--- Which bodies may be put where: what may be posted may be put into a lane, Neutral too, and Empty is inside its limits though no lane holds it.
-use mathlib.Core.Bool.{true, not}
+-- Which bodies may be put where: what may wait may be put into a lane, Neutral too, and Empty is inside its limits though no lane holds it.
+use Prim.Native.Nat.{ℕ}
+use mathlib.Core.Bool.{Bool, true, false, cond, not, _&&_}
 use mathlib.Core.Path.{_≡_, refl, ap}
+use lib.Dec.{eqb}
 use Rattle.kinds.specs.declared.Body.{Body}
 use Rattle.kinds.specs.declared.Body.the-variants.{Empty, Neutral}
 use Rattle.kinds.specs.Body.{isEmpty}
-use Rattle.kind_limits.specs.Limits.{numbersInside, bodyInside, postable}
-use Rattle.kind_limits.proofs.Laws.{postable-inside, postable-not-empty}
+use Rattle.kind_limits.specs.Limits.{numbersInside, channelInside, insideKind, bodyInside, mayWait}
+use Rattle.kind_limits.proofs.Laws.{waiting-inside, waiting-not-empty}
 use Rattle.places.proofs.Laws.{and-both, and-right}
 use Rattle.station_rules.specs.Limits.{takeable}
 
-pub postable-takeable : (b : Body) → postable b ≡ true → takeable b ≡ true
-postable-takeable b h = and-both (ap not (postable-not-empty b h)) (postable-inside b h)
+pub waiting-takeable : (edition : ℕ) (b : Body) → mayWait edition b ≡ true → takeable edition b ≡ true
+waiting-takeable edition b h = and-both (ap not (waiting-not-empty edition b h)) (waiting-inside edition b h)
 
-pub takeable-inside : (b : Body) → takeable b ≡ true → bodyInside b ≡ true
-takeable-inside b h = and-right (not (isEmpty b)) (bodyInside b) h
+pub takeable-inside : (edition : ℕ) (b : Body) → takeable edition b ≡ true → bodyInside edition b ≡ true
+takeable-inside edition b h = and-right (not (isEmpty b)) (bodyInside edition b) h
 
-pub empty-inside : bodyInside Empty ≡ true
-unfolding bodyInside numbersInside
-empty-inside = refl
+-- neither has a channel, in either edition
+no-channel : (t : Bool) → cond (t && false) false true ≡ true
+no-channel true = refl
+no-channel false = refl
 
-pub neutral-takeable : takeable Neutral ≡ true
-unfolding bodyInside numbersInside
-neutral-takeable = refl
+pub empty-inside : (edition : ℕ) → bodyInside edition Empty ≡ true
+unfolding bodyInside insideKind numbersInside channelInside
+empty-inside edition = no-channel (eqb edition 1)
+
+pub neutral-takeable : (edition : ℕ) → takeable edition Neutral ≡ true
+unfolding bodyInside insideKind numbersInside channelInside
+neutral-takeable edition = no-channel (eqb edition 1)

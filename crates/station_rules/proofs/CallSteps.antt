@@ -7,7 +7,7 @@ use lib.ListN.{replicate}
 use lib.Dec.{leb, ltb, eqb}
 use borrow.Author.Tests.{leb-true, ltb-true, ne-eqb}
 use Rattle.kinds.specs.declared.Body.{Body}
-use Rattle.kind_limits.specs.Limits.{postable}
+use Rattle.kind_limits.specs.Limits.{isEdition, postable, onChannel}
 use Rattle.kinds.specs.Refusals.{done}
 use Rattle.frame_rules.specs.Frame.{validNumber, frameRefusal, recordsOf}
 use Rattle.places.proofs.Laws.{and-left, and-right}
@@ -24,12 +24,13 @@ valid-parts n own h =
     let p = and-left (leb 1 n && leb n 16) (ltb own n) h in
     (leb-true _ _ (and-left _ _ p), leb-true _ _ (and-right (leb 1 n) _ p), ltb-true _ _ (and-right (leb 1 n && leb n 16) _ h))
 
--- fresh: 1, 13
+-- fresh: 1, 13, 17
 pub fresh-done :
-    (setup : Setup) (own : ℕ) (s : Station) → validNumber (setup .n) own ≡ true → limitInside (setup .limit) ≡ true → s ≡ freshStation setup own →
+    (setup : Setup) (own : ℕ) (s : Station) → validNumber (setup .n) own ≡ true → limitInside (setup .limit) ≡ true → isEdition (setup .edition) ≡ true →
+    s ≡ freshStation setup own →
     record { refusal = 0; station = s } ≡ freshCall setup own
 unfolding freshCall
-fresh-done setup own s v l e = rw (v, l, e)
+fresh-done setup own s v l k e = rw (v, l, k, e)
 
 pub fresh-refused :
     (setup : Setup) (own : ℕ) (s : Station) → validNumber (setup .n) own ≡ false → s ≡ freshStation aloneSetup 0 →
@@ -43,7 +44,14 @@ pub fresh-unlimited :
 unfolding freshCall
 fresh-unlimited setup own s v l e = rw (v, l, e)
 
--- post: 2, 15, 4, 3
+pub fresh-no-edition :
+    (setup : Setup) (own : ℕ) (s : Station) → validNumber (setup .n) own ≡ true → limitInside (setup .limit) ≡ true → isEdition (setup .edition) ≡ false →
+    s ≡ freshStation aloneSetup 0 →
+    record { refusal = 17; station = s } ≡ freshCall setup own
+unfolding freshCall
+fresh-no-edition setup own s v l k e = rw (v, l, k, e)
+
+-- post: 2, 15, 4, 17, 3
 module _ (s : Station) (d : ℕ) (b : Body) where
   pub post-outside : stationInside s ≡ false → record { refusal = 2; station = s } ≡ postCall s d b
   unfolding postCall
@@ -57,16 +65,22 @@ module _ (s : Station) (d : ℕ) (b : Body) where
   unfolding postCall
   post-no-edit i k e = rw (i, k, e)
 
-  module _ (i : stationInside s ≡ true) (k : isDesk d ≡ true) (e : postable b ≡ true) where
+  pub post-off-channel :
+      stationInside s ≡ true → isDesk d ≡ true → postable b ≡ true → onChannel (s .edition) b ≡ false →
+      record { refusal = 17; station = s } ≡ postCall s d b
+  unfolding postCall
+  post-off-channel i k e c = rw (i, k, e, c)
+
+  module _ (i : stationInside s ≡ true) (k : isDesk d ≡ true) (e : postable b ≡ true) (c : onChannel (s .edition) b ≡ true) where
     pub post-full : hasRoom (s .waiting) d ≡ false → record { refusal = 3; station = s } ≡ postCall s d b
     unfolding postCall
-    post-full f = rw (i, k, e, f)
+    post-full f = rw (i, k, e, c, f)
 
     pub post-done : hasRoom (s .waiting) d ≡ true → record { refusal = 0; station = posted s d b } ≡ postCall s d b
     unfolding postCall
-    post-done f = rw (i, k, e, f)
+    post-done f = rw (i, k, e, c, f)
 
--- hear: 2, 5, 6, 7, 8
+-- hear: 2, 5, 6, 7, then 14 or 8
 module _ (s : Station) (bytes : List ℕ) where
   abbrev pub heardFrame : Hearing
   heardFrame = hearFrame (silent s) (recordsOf bytes)
@@ -76,14 +90,14 @@ module _ (s : Station) (bytes : List ℕ) where
   hear-outside i = rw i
 
   pub hear-refused :
-      (q : ℕ) → stationInside s ≡ true → q ≡ frameRefusal bytes (s .n) (s .own) → (q ≡ 0 → ⊥) →
+      (q : ℕ) → stationInside s ≡ true → q ≡ frameRefusal (s .edition) bytes (s .n) (s .own) → (q ≡ 0 → ⊥) →
       record { refusal = q; station = s; taken = replicate 16 false } ≡ hearCall s bytes
   unfolding hearCall
   hear-refused q i e ne =
-      let f : eqb (frameRefusal bytes (s .n) (s .own)) 0 ≡ false = ne-eqb _ 0 (λ z. ne (e ∙ z)) in
+      let f : eqb (frameRefusal (s .edition) bytes (s .n) (s .own)) 0 ≡ false = ne-eqb _ 0 (λ z. ne (e ∙ z)) in
       rw (i, f, f, e)
 
-  module _ (i : stationInside s ≡ true) (e : frameRefusal bytes (s .n) (s .own) ≡ 0) where
+  module _ (i : stationInside s ≡ true) (e : frameRefusal (s .edition) bytes (s .n) (s .own) ≡ 0) where
     pub hear-stopped :
         (q : ℕ) → q ≡ heardFrame .refusal → (q ≡ done → ⊥) → record { refusal = q; station = s; taken = replicate 16 false } ≡ hearCall s bytes
     unfolding hearCall

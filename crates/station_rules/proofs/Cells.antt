@@ -132,6 +132,10 @@ module _ (s : Station) (r : Record) where
   unfolding heardNewer
   heard-own = cell-self counted (r .station) _ .own
 
+  pub heard-edition : (heardNewer s r) .edition ≡ s .edition
+  unfolding heardNewer
+  heard-edition = cell-self counted (r .station) _ .edition
+
   pub heard-waiting : (heardNewer s r) .waiting ≡ s .waiting
   unfolding heardNewer
   heard-waiting = cell-self counted (r .station) _ .waiting

@@ -1,7 +1,7 @@
 -- All definitions that a computed run of a station goes through, and of a frame, named in one place: whoever says `unfolding stationRuns`, or `frameRuns`, has
 -- them open.
 use Rattle.kinds.specs.Body.{bodyOf}
-use Rattle.kind_limits.specs.Limits.{postable, bodyInside, numbersInside}
+use Rattle.kind_limits.specs.Limits.{postable, bodyInside, insideKind, numbersInside, channelInside, mayWait}
 use Rattle.labels.specs.Newer.{isNewer, ageOf}
 use Rattle.label_words.specs.Packing.{labelIn, packed, labelsOver, labelsInside, zeroFrom}
 use Rattle.places.specs.Places.{allBelow, anyBelow, fill, gather, tabulate}
@@ -18,7 +18,7 @@ use Rattle.station_rules.specs.Turn.{airs, rowOf, afterAiring, broadcast
 use Rattle.station_rules.specs.Calls.{posted, postCall, frameOf, hearCall, noTurn}
 
 unfoldable pub stationRuns : Unit {0}
-unfolding postable bodyInside numbersInside isNewer ageOf labelIn packed labelsOver labelsInside recordLabel allBelow anyBelow fill gather tabulate framed bodies laneOf emptyQueue queued oldest unqueued queueBodies queueInside noneWaiting queueOf waitingEdits deskCount waitingCount hasRoom withPosted firstDesk nextDesk nextEdit withoutNext waitingInside cellOf withCell withAcked withLanes sentRecords freshStation stationInside placeInside recordInside laneInside agree replaced heardNewer heardAs hearRecord hearRecords hearFrame airs rowOf afterAiring broadcastEnds startedBody begins takesOwn passed ownRecord rewritten afterTurn turnReport posted postCall noTurn
+unfolding postable bodyInside insideKind numbersInside channelInside mayWait isNewer ageOf labelIn packed labelsOver labelsInside recordLabel allBelow anyBelow fill gather tabulate framed bodies laneOf emptyQueue queued oldest unqueued queueBodies queueInside noneWaiting queueOf waitingEdits deskCount waitingCount hasRoom withPosted firstDesk nextDesk nextEdit withoutNext waitingInside cellOf withCell withAcked withLanes sentRecords freshStation stationInside placeInside recordInside laneInside agree replaced heardNewer heardAs hearRecord hearRecords hearFrame airs rowOf afterAiring broadcastEnds startedBody begins takesOwn passed ownRecord rewritten afterTurn turnReport posted postCall noTurn
 stationRuns = tt
 
 unfoldable pub frameRuns : Unit {0}

@@ -6,7 +6,7 @@ use mathlib.Core.Path.{_≡_, sym, ap, _∙_}
 use native.Mathlib.Omega.{arith}
 use lib.Dec.{eqb}
 use Rattle.kinds.specs.declared.Body.{Body}
-use Rattle.kind_limits.specs.Limits.{postable}
+use Rattle.kind_limits.specs.Limits.{postable, onChannel}
 use Rattle.labels.specs.Newer.{isNewer}
 use Rattle.labels.proofs.Examples as labels
 use Rattle.frame_rules.specs.declared.Record.{Record}
@@ -53,22 +53,22 @@ module _ (s : Station) (i : stationInside s ≡ true) (d : ℕ) (k : isDesk d �
   pub refused : (b : Body) → postable b ≡ false → (postCall s d b) .refusal ≡ 4
   refused b e = sym (ap (λ (x : Kept). x .refusal) (post-no-edit s d b i k e))
 
-  pub taken : (b : Body) → postable b ≡ true → deskCount (s .waiting) d < s .waiting .limit → (postCall s d b) .refusal ≡ 0
-  taken b e l = sym (ap (λ (x : Kept). x .refusal) (post-done s d b i k e (room-below (s .waiting) d l)))
+  pub taken : (b : Body) → postable b ≡ true → onChannel (s .edition) b ≡ true → deskCount (s .waiting) d < s .waiting .limit → (postCall s d b) .refusal ≡ 0
+  taken b e c l = sym (ap (λ (x : Kept). x .refusal) (post-done s d b i k e c (room-below (s .waiting) d l)))
 
   -- as long as fewer than 32 of the desk wait, an edit is accepted and waits
   pub m11-room :
-      (b : Body) → postable b ≡ true → s .waiting .limit ≡ 32 → deskCount (s .waiting) d < 32 →
+      (b : Body) → postable b ≡ true → onChannel (s .edition) b ≡ true → s .waiting .limit ≡ 32 → deskCount (s .waiting) d < 32 →
       ((postCall s d b) .refusal ≡ 0) × (waitingCount ((postCall s d b) .station .waiting) ≡ waitingCount (s .waiting) + 1)
-  m11-room b e limit wait =
+  m11-room b e c limit wait =
       let l : deskCount (s .waiting) d < s .waiting .limit = omega arith in (
-        taken b e l,
-        sym (ap (λ (x : Kept). waitingCount (x .station .waiting)) (post-done s d b i k e (room-below (s .waiting) d l))) ∙ one-more,
+        taken b e c l,
+        sym (ap (λ (x : Kept). waitingCount (x .station .waiting)) (post-done s d b i k e c (room-below (s .waiting) d l))) ∙ one-more,
       )
     where
       one-more : waitingCount ((posted s d b) .waiting) ≡ waitingCount (s .waiting) + 1
       one-more = unfold posted in posted-count (s .waiting) d b ∙ omega arith
 
   -- the 33rd waiting edit of a desk
-  pub m11 : (b : Body) → postable b ≡ true → s .waiting .limit ≡ 32 → deskCount (s .waiting) d ≡ 32 → (postCall s d b) .refusal ≡ 3
-  m11 b e limit l = sym (ap (λ (x : Kept). x .refusal) (post-full s d b i k e (room-full (s .waiting) d (omega arith))))
+  pub m11 : (b : Body) → postable b ≡ true → onChannel (s .edition) b ≡ true → s .waiting .limit ≡ 32 → deskCount (s .waiting) d ≡ 32 → (postCall s d b) .refusal ≡ 3
+  m11 b e c limit l = sym (ap (λ (x : Kept). x .refusal) (post-full s d b i k e c (room-full (s .waiting) d (omega arith))))

@@ -31,12 +31,12 @@ Owned s = shadow ((Struct.Declared.row Declared.the-type) .own s (Laws.val Decla
 pub lengths-at : (s : Station) (vs : List Val) → shadow ((Struct.Declared.row Declared.the-type) .own s vs) → Shaped s
 lengths-at s vs h =
     record {
-      acked = simp length-map at (h .1 .1 .1 .1 .1 .0 .1 .0 .1);
-      labels = simp length-map at (h .1 .1 .1 .1 .1 .1 .1 .1 .0 .1 .0 .1);
-      held = simp length-map at (h .1 .1 .1 .1 .1 .1 .1 .1 .1 .0 .1 .0 .1);
-      table = simp length-map at (h .1 .1 .1 .1 .1 .1 .1 .1 .1 .1 .0 .1 .0 .1);
-      lanes = simp length-map at (h .1 .1 .1 .1 .1 .1 .1 .1 .1 .1 .1 .0 .1 .0 .1);
-      waiting = owned-sized (s .waiting) _ (h .1 .1 .1 .1 .0);
+      acked = simp length-map at (h .1 .1 .1 .1 .1 .1 .0 .1 .0 .1);
+      labels = simp length-map at (h .1 .1 .1 .1 .1 .1 .1 .1 .1 .0 .1 .0 .1);
+      held = simp length-map at (h .1 .1 .1 .1 .1 .1 .1 .1 .1 .1 .0 .1 .0 .1);
+      table = simp length-map at (h .1 .1 .1 .1 .1 .1 .1 .1 .1 .1 .1 .0 .1 .0 .1);
+      lanes = simp length-map at (h .1 .1 .1 .1 .1 .1 .1 .1 .1 .1 .1 .1 .0 .1 .0 .1);
+      waiting = owned-sized (s .waiting) _ (h .1 .1 .1 .1 .1 .0);
     }
 
 pub lengths : (s : Station) → Owned s → Shaped s

@@ -8,7 +8,8 @@ use native.Mathlib.Omega.{arith}
 use lib.Dec.{ltb, eqb}
 use lib.ListN.{getD}
 use Rattle.kinds.specs.declared.Body.{Body}
-use Rattle.kind_limits.specs.Limits.{postable}
+use Rattle.kind_limits.specs.Limits.{isEdition, postable, onChannel}
+use Rattle.kind_limits.proofs.Laws.{waiting-make}
 use borrow.Author.Tests.{eqb-true}
 use Rattle.kinds.specs.Refusals.{done}
 use Rattle.frame_rules.specs.Record as frames
@@ -33,66 +34,69 @@ use Rattle.station_rules.proofs.LimitsSent.{carried-append}
 use Rattle.station_rules.proofs.LimitsTurn.{turn-inside}
 
 -- sixteen bytes inside the record limits
-pub bytes-carried : (n : ℕ) (bytes : List ℕ) → frames.bytesInside n bytes ≡ true → Carried n (frames.recordFrom bytes)
-bytes-carried n bytes h =
-    let l = fits-open n (frames.recordFrom bytes) (held-fits n bytes h) in
+pub bytes-carried :
+    (edition n : ℕ) (bytes : List ℕ) → frames.bytesInside edition n bytes ≡ true → Carried edition n (frames.recordFrom bytes)
+bytes-carried edition n bytes h =
+    let l = fits-open edition n (frames.recordFrom bytes) (held-fits edition n bytes h) in
     record { station = l .station; count = l .count; body = l .body; labels = l .labels }
 
 -- a frame that passes the check of its records
-pub frame-carried : (n : ℕ) (bytes : List ℕ) → recordsInside bytes n ≡ true → AllCarried n (recordsOf bytes)
+pub frame-carried : (edition n : ℕ) (bytes : List ℕ) → recordsInside edition bytes n ≡ true → AllCarried edition n (recordsOf bytes)
 unfolding recordsInside recordsOf
-frame-carried n bytes h = go (getD bytes 2 0) (omega arith)
+frame-carried edition n bytes h = go (getD bytes 2 0) (omega arith)
   where
     fine : ℕ → Bool
-    fine k = frames.bytesInside n (part bytes k) && (eqb k 0 || ltb (recordStation bytes (pred k)) (recordStation bytes k))
+    fine k = frames.bytesInside edition n (part bytes k) && (eqb k 0 || ltb (recordStation bytes (pred k)) (recordStation bytes k))
 
-    each : (k : ℕ) → k < getD bytes 2 0 → Carried n (frames.recordFrom (part bytes k))
+    each : (k : ℕ) → k < getD bytes 2 0 → Carried edition n (frames.recordFrom (part bytes k))
     each k l =
-        bytes-carried n (part bytes k)
-        (and-left (frames.bytesInside n (part bytes k)) (eqb k 0 || ltb (recordStation bytes (pred k)) (recordStation bytes k))
+        bytes-carried edition n (part bytes k)
+        (and-left (frames.bytesInside edition n (part bytes k)) (eqb k 0 || ltb (recordStation bytes (pred k)) (recordStation bytes k))
         (allBelow-at (getD bytes 2 0) fine
         (and-left (allBelow (getD bytes 2 0) fine) (anyBelow (getD bytes 2 0) (λ k. eqb (recordStation bytes k) (getD bytes 1 0))) h) k l))
 
-    go : (m : ℕ) → m ≤ getD bytes 2 0 → AllCarried n (tabulate m (λ k. frames.recordFrom (part bytes k)))
+    go : (m : ℕ) → m ≤ getD bytes 2 0 → AllCarried edition n (tabulate m (λ k. frames.recordFrom (part bytes k)))
     go m = elim m [
       | zero ↦ λ l. unfold tabulate in tt
       | suc (j → ih) ↦
           λ l. unfold tabulate in
-          (carried-append n (tabulate j (λ k. frames.recordFrom (part bytes k))) (frames.recordFrom (part bytes j) ∷ [])
+          (carried-append edition n (tabulate j (λ k. frames.recordFrom (part bytes k))) (frames.recordFrom (part bytes j) ∷ [])
           (ih (omega arith)) (each j l, tt))
     ]
 
 pub fresh-call-inside : (setup : Setup) (own : ℕ) → stationInside ((freshCall setup own) .station) ≡ true
 unfolding freshCall
-fresh-call-inside setup own = go (validNumber (setup .n) own) (limitInside (setup .limit)) refl refl
+fresh-call-inside setup own = go (validNumber (setup .n) own) (limitInside (setup .limit)) (isEdition (setup .edition)) refl refl refl
   where
     go :
-        (t u : Bool) → validNumber (setup .n) own ≡ t → limitInside (setup .limit) ≡ u →
+        (t u v : Bool) → validNumber (setup .n) own ≡ t → limitInside (setup .limit) ≡ u → isEdition (setup .edition) ≡ v →
         stationInside ((freshCall setup own) .station) ≡ true
-    go true true e l = rw (e, l) (fresh-inside setup own e l)
-    go true false e l = rw (e, l) (fresh-inside aloneSetup 0 refl refl)
-    go false u e l = rw e (fresh-inside aloneSetup 0 refl refl)
+    go true true true e l k = rw (e, l, k) (fresh-inside setup own e l k)
+    go true true false e l k = rw (e, l, k) (fresh-inside aloneSetup 0 refl refl refl)
+    go true false v e l k = rw (e, l) (fresh-inside aloneSetup 0 refl refl refl)
+    go false u v e l k = rw e (fresh-inside aloneSetup 0 refl refl refl)
 
 module _ (s : Station) (shape : Shaped s) (inside : stationInside s ≡ true) where
   pub post-call-inside : (d : ℕ) (b : Body) → stationInside ((postCall s d b) .station) ≡ true
   unfolding postCall
-  post-call-inside d b = rw inside (go (isDesk d) (postable b) (hasRoom (s .waiting) d) refl refl)
+  post-call-inside d b = rw inside (go (isDesk d) (postable b) (onChannel (s .edition) b) (hasRoom (s .waiting) d) refl refl refl)
     where
       go :
-          (k e f : Bool) → postable b ≡ e → hasRoom (s .waiting) d ≡ f →
-          stationInside (cond (eqb (cond (not k) 15 (cond (not e) 4 (cond (not f) 3 0))) 0) (posted s d b) s) ≡ true
-      go true true true p q = posted-inside s d b shape inside p q
-      go true true false p q = inside
-      go true false f p q = inside
-      go false e f p q = inside
+          (k e c f : Bool) → postable b ≡ e → onChannel (s .edition) b ≡ c → hasRoom (s .waiting) d ≡ f →
+          stationInside (cond (eqb (cond (not k) 15 (cond (not e) 4 (cond (not c) 17 (cond (not f) 3 0)))) 0) (posted s d b) s) ≡ true
+      go true true true true p o q = posted-inside s d b shape inside (waiting-make (s .edition) b p o) q
+      go true true true false p o q = inside
+      go true true false f p o q = inside
+      go true false c f p o q = inside
+      go false e c f p o q = inside
 
   pub turn-call-inside : stationInside ((turnCall s) .station) ≡ true
   unfolding turnCall
   turn-call-inside = rw inside (turn-inside s shape inside)
 
-  frame-fine : (bytes : List ℕ) → eqb (frameRefusal bytes (s .n) (s .own)) done ≡ true → recordsInside bytes (s .n) ≡ true
+  frame-fine : (bytes : List ℕ) → eqb (frameRefusal (s .edition) bytes (s .n) (s .own)) done ≡ true → recordsInside (s .edition) bytes (s .n) ≡ true
   unfolding frameRefusal
-  frame-fine bytes h = go (shapeWrong bytes) (addressWrong bytes (s .n) (s .own)) (recordsInside bytes (s .n)) h
+  frame-fine bytes h = go (shapeWrong bytes) (addressWrong (s .edition) bytes (s .n) (s .own)) (recordsInside (s .edition) bytes (s .n)) h
     where
       go : (a b c : Bool) → eqb (cond a 5 (cond b 6 (cond (not c) 7 0))) 0 ≡ true → c ≡ true
       go false false true z = refl
@@ -103,7 +107,7 @@ module _ (s : Station) (shape : Shaped s) (inside : stationInside s ≡ true) wh
   -- what hearing answers, where the station is inside its limits
   hear-answer : (bytes : List ℕ) → ℕ
   hear-answer bytes =
-      cond (not (eqb (frameRefusal bytes (s .n) (s .own)) done)) (frameRefusal bytes (s .n) (s .own))
+      cond (not (eqb (frameRefusal (s .edition) bytes (s .n) (s .own)) done)) (frameRefusal (s .edition) bytes (s .n) (s .own))
       ((hearFrame (silent s) (recordsOf bytes)) .refusal)
 
   hear-station :
@@ -122,16 +126,16 @@ module _ (s : Station) (shape : Shaped s) (inside : stationInside s ≡ true) wh
   pub hear-call-inside : (bytes : List ℕ) → stationInside ((hearCall s bytes) .station) ≡ true
   unfolding hear-answer
   hear-call-inside bytes =
-      rw (hear-station bytes) (go (eqb (frameRefusal bytes (s .n) (s .own)) done) (eqb (heard .refusal) done) refl refl)
+      rw (hear-station bytes) (go (eqb (frameRefusal (s .edition) bytes (s .n) (s .own)) done) (eqb (heard .refusal) done) refl refl)
     where
       heard : Hearing
       heard = hearFrame (silent s) (recordsOf bytes)
 
       go :
-          (a b : Bool) → eqb (frameRefusal bytes (s .n) (s .own)) done ≡ a → eqb (heard .refusal) done ≡ b →
-          stationInside (cond (eqb (cond (not a) (frameRefusal bytes (s .n) (s .own)) (heard .refusal)) done) (heard .station) s) ≡ true
+          (a b : Bool) → eqb (frameRefusal (s .edition) bytes (s .n) (s .own)) done ≡ a → eqb (heard .refusal) done ≡ b →
+          stationInside (cond (eqb (cond (not a) (frameRefusal (s .edition) bytes (s .n) (s .own)) (heard .refusal)) done) (heard .station) s) ≡ true
       go true true p q =
           rw q
-          (hearFrame-inside (silent s) (recordsOf bytes) shape inside (frame-carried (s .n) bytes (frame-fine bytes p)) (eqb-true _ done q))
+          (hearFrame-inside (silent s) (recordsOf bytes) shape inside (frame-carried (s .edition) (s .n) bytes (frame-fine bytes p)) (eqb-true _ done q))
       go true false p q = rw q inside
       go false b p q = rw p inside

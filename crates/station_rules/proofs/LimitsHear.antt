@@ -24,13 +24,13 @@ use Rattle.station_rules.proofs.HearRecord.{heeds}
 use Rattle.station_rules.proofs.Setters.{Shaped}
 use Rattle.station_rules.proofs.LimitsLane.{pushed-inside}
 use Rattle.station_rules.proofs.StationLimits.{RecordHolds, CellHolds, Inside, inside-as}
-use Rattle.station_rules.proofs.Cells.{replaced-label, replaced-station, replaced-count, replaced-body, heard-n, heard-own, heard-waiting, heard-body, heard-here, heard-other}
+use Rattle.station_rules.proofs.Cells.{replaced-label, replaced-station, replaced-count, replaced-body, heard-n, heard-own, heard-edition, heard-waiting, heard-body, heard-here, heard-other}
 
--- a record that a frame among n stations may carry
-pub record Carried (n : ℕ) (r : Record) : Type 0 where
+-- a record that a frame of an edition among n stations may carry
+pub record Carried (edition n : ℕ) (r : Record) : Type 0 where
   pub station : r .station < n
   pub count : countInside n (r .count) ≡ true
-  pub body : bodyInside (r .body) ≡ true
+  pub body : bodyInside edition (r .body) ≡ true
   pub labels : (j : ℕ) → j < n → isLabel (recordLabel r j) ≡ true
 
 pub successor-label : (x : ℕ) → isLabel (successor x) ≡ true
@@ -45,13 +45,14 @@ heeds-other s r h =
     (isNewer (heldOf s (r .station)) (recordLabel (recordOf s (r .station)) (r .station)) ((recordOf s (r .station)) .count)
     (ownLabel r) (r .count)) h))
 
-takes-takeable : (s : Station) (r : Record) → bodyInside (r .body) ≡ true → takes s r ≡ true → takeable (r .body) ≡ true
-takes-takeable s r b h =
+takes-takeable :
+    (edition : ℕ) (s : Station) (r : Record) → bodyInside edition (r .body) ≡ true → takes s r ≡ true → takeable edition (r .body) ≡ true
+takes-takeable edition s r b h =
     and-both (and-right (advances s r) (not (isEmpty (r .body))) h) b
 
-module _ (s : Station) (r : Record) (shape : Shaped s) (c : Inside s) (carry : Carried (s .n) r) where
+module _ (s : Station) (r : Record) (shape : Shaped s) (c : Inside s) (carry : Carried (s .edition) (s .n) r) where
   replaced-holds :
-      (own : ℕ) → RecordHolds (s .n) own (r .station) (replaced (s .n) (recordOf s (r .station)) r)
+      (own : ℕ) → RecordHolds (s .edition) (s .n) own (r .station) (replaced (s .n) (recordOf s (r .station)) r)
   replaced-holds own =
       let old = recordOf s (r .station) in
       record {
@@ -66,19 +67,19 @@ module _ (s : Station) (r : Record) (shape : Shaped s) (c : Inside s) (carry : C
       cond-or false b e = e
 
   heard-lane-inside :
-      (heeds s r ≡ true) → (takes s r && leb 2 ((laneAt s (r .station)) .len)) ≡ false → laneInside 2 (laneAt s (r .station)) ≡ true →
-      laneInside 2 (cond (takes s r) (pushed (laneAt s (r .station)) (r .body)) (laneAt s (r .station))) ≡ true
+      (heeds s r ≡ true) → (takes s r && leb 2 ((laneAt s (r .station)) .len)) ≡ false → laneInside (s .edition) 2 (laneAt s (r .station)) ≡ true →
+      laneInside (s .edition) 2 (cond (takes s r) (pushed (laneAt s (r .station)) (r .body)) (laneAt s (r .station))) ≡ true
   heard-lane-inside h full before = go (takes s r) refl
     where
-      go : (t : Bool) → takes s r ≡ t → laneInside 2 (cond t (pushed (laneAt s (r .station)) (r .body)) (laneAt s (r .station))) ≡ true
+      go : (t : Bool) → takes s r ≡ t → laneInside (s .edition) 2 (cond t (pushed (laneAt s (r .station)) (r .body)) (laneAt s (r .station))) ≡ true
       go true e =
           let room : (laneAt s (r .station)) .len < 2 = leb-false 2 ((laneAt s (r .station)) .len) (rw e at full) in
-          pushed-inside 2 (laneAt s (r .station)) (r .body) before room room (takes-takeable s r (carry .body) e)
+          pushed-inside (s .edition) 2 (laneAt s (r .station)) (r .body) before room room (takes-takeable (s .edition) s r (carry .body) e)
       go false e = before
 
   heard-cell :
       (heeds s r ≡ true) → (takes s r && leb 2 ((laneAt s (r .station)) .len)) ≡ false →
-      CellHolds (s .n) (s .own) (r .station) (cellOf (heardNewer s r) (r .station))
+      CellHolds (s .edition) (s .n) (s .own) (r .station) (cellOf (heardNewer s r) (r .station))
   heard-cell h full =
       let before = c .places (r .station) (carry .station) in
       let most : _≡_ {A = ℕ} (cond (eqb (r .station) (s .own)) 1 2) 2 = rw (ne-eqb (r .station) (s .own) (heeds-other s r h)) in
@@ -95,8 +96,9 @@ module _ (s : Station) (r : Record) (shape : Shaped s) (c : Inside s) (carry : C
       (heeds s r ≡ true) → (takes s r && leb 2 ((laneAt s (r .station)) .len)) ≡ false → Inside (heardNewer s r)
   heard-holds h full =
       let same = heard-other s r (s .own) (λ e. heeds-other s r h (sym e)) in
-      inside-as (s .n) (s .own) (heardNewer s r) (heard-n s r) (heard-own s r)
+      inside-as (s .edition) (s .n) (s .own) (heardNewer s r) (heard-edition s r) (heard-n s r) (heard-own s r)
       (record {
+        known = c .known;
         low = c .low;
         high = c .high;
         own = c .own;
@@ -106,7 +108,7 @@ module _ (s : Station) (r : Record) (shape : Shaped s) (c : Inside s) (carry : C
         waiting = rw (heard-waiting s r) (c .waiting);
         places =
             λ j l. elim (ℕ-discrete j (r .station)) [
-              | yes e ↦ subst (λ (i : ℕ). CellHolds (s .n) (s .own) i (cellOf (heardNewer s r) i)) (sym e) (heard-cell h full)
+              | yes e ↦ subst (λ (i : ℕ). CellHolds (s .edition) (s .n) (s .own) i (cellOf (heardNewer s r) i)) (sym e) (heard-cell h full)
               | no d ↦ rw (heard-other s r j d) (c .places j l)
             ];
       })

@@ -25,7 +25,7 @@ use Rattle.lanes.specs.Lane.{pushed}
 use Rattle.lanes.proofs.LaneLaws.{len-pushed}
 use Rattle.station_rules.proofs.LimitsLane.{lane-most}
 use Rattle.station_rules.proofs.StationLimits.{Inside, inside-open, inside-make}
-use Rattle.station_rules.proofs.Cells.{heard-n, heard-own, heard-waiting, heard-body, heard-here, heard-other}
+use Rattle.station_rules.proofs.Cells.{heard-n, heard-own, heard-edition, heard-waiting, heard-body, heard-here, heard-other}
 use Rattle.station_rules.proofs.LimitsHear.{Carried, heeds-other, heard-holds}
 
 -- how many bodies stand in the lane of another station, and in all of those
@@ -47,7 +47,7 @@ otherLens-most s c =
       where
         go : (t : Bool) → eqb k (s .own) ≡ t → cond t 0 ((laneAt s k) .len) ≤ 2
         go true e = omega arith
-        go false e = lane-most 2 (laneAt s k) (rw e at (c .places k l .lane))
+        go false e = lane-most (s .edition) 2 (laneAt s k) (rw e at (c .places k l .lane))
 
 module _ (s : Station) (r : Record) (other : r .station ≡ s .own → ⊥) (shape : Shaped s) (b : r .station < 16) where
   len-same : (j : ℕ) → (j ≡ r .station → ⊥) → otherLen (s .own) (heardNewer s r) j ≡ otherLen (s .own) s j
@@ -88,6 +88,7 @@ module _ (s : Station) (r : Record) (other : r .station ≡ s .own → ⊥) (sha
 pub record Hears (a h : Hearing) : Type 0 where
   pub n : h .station .n ≡ a .station .n
   pub own : h .station .own ≡ a .station .own
+  pub edition : h .station .edition ≡ a .station .edition
   pub waiting : h .station .waiting ≡ a .station .waiting
   pub body : h .station .body ≡ a .station .body
   pub lane : laneAt (h .station) (a .station .own) ≡ laneAt (a .station) (a .station .own)
@@ -95,10 +96,10 @@ pub record Hears (a h : Hearing) : Type 0 where
   pub inside : h .refusal ≡ done → Inside (h .station)
   pub takings : h .refusal ≡ done → length (h .takings) ≤ length (a .takings) + otherLens (h .station)
 
--- every record of a list may stand in a frame among n
-abbrev pub AllCarried : ℕ → List Record → Type 0
-AllCarried n [] = Unit {0}
-AllCarried n (r ∷ rs) = Carried n r × AllCarried n rs
+-- every record of a list may stand in a frame of an edition among n
+abbrev pub AllCarried : ℕ → ℕ → List Record → Type 0
+AllCarried edition n [] = Unit {0}
+AllCarried edition n (r ∷ rs) = Carried edition n r × AllCarried edition n rs
 
 module _ (a : Hearing) (c : Inside (a .station)) where
   pub hears-none : Shaped (a .station) → Hears a a
@@ -106,6 +107,7 @@ module _ (a : Hearing) (c : Inside (a .station)) where
       record {
         n = refl;
         own = refl;
+        edition = refl;
         waiting = refl;
         body = refl;
         lane = refl;
@@ -114,9 +116,11 @@ module _ (a : Hearing) (c : Inside (a .station)) where
         takings = λ f. omega arith;
       }
 
-  module _ (h : Hearing) (r : Record) (hs : Hears a h) (carry : Carried (a .station .n) r) where
-    here : Carried (h .station .n) r
-    here = subst (λ (m : ℕ). Carried m r) (sym (hs .n)) carry
+  module _ (h : Hearing) (r : Record) (hs : Hears a h) (carry : Carried (a .station .edition) (a .station .n) r) where
+    here : Carried (h .station .edition) (h .station .n) r
+    here =
+        subst (λ (e : ℕ). Carried e (h .station .n) r) (sym (hs .edition))
+        (subst (λ (m : ℕ). Carried (a .station .edition) m r) (sym (hs .n)) carry)
 
     below : r .station < 16
     below = omega (arith, c .high, carry .station)
@@ -152,6 +156,7 @@ module _ (a : Hearing) (c : Inside (a .station)) where
         record {
           n = heard-n (h .station) r ∙ hs .n;
           own = heard-own (h .station) r ∙ hs .own;
+          edition = heard-edition (h .station) r ∙ hs .edition;
           waiting = heard-waiting (h .station) r ∙ hs .waiting;
           body = heard-body (h .station) r ∙ hs .body;
           lane =
@@ -168,6 +173,7 @@ module _ (a : Hearing) (c : Inside (a .station)) where
         record {
           n = hs .n;
           own = hs .own;
+          edition = hs .edition;
           waiting = hs .waiting;
           body = hs .body;
           lane = hs .lane;
@@ -179,12 +185,12 @@ module _ (a : Hearing) (c : Inside (a .station)) where
     pub hears-record : Hears a (hearRecord h r)
     hears-record = hearRecord-cases (Hears a) h r hears-newer (λ e. hears-stopped) (λ e f. hs)
 
-  pub hears-records : (h : Hearing) (rs : List Record) → Hears a h → AllCarried (a .station .n) rs → Hears a (hearRecords h rs)
+  pub hears-records : (h : Hearing) (rs : List Record) → Hears a h → AllCarried (a .station .edition) (a .station .n) rs → Hears a (hearRecords h rs)
   unfolding hearRecords
   hears-records h [] hs all = hs
   hears-records h (r ∷ rs) hs all = hears-records (hearRecord h r) rs (hears-record h r hs (all .0)) (all .1)
 
-  pub hears-frame : (h : Hearing) (rs : List Record) → Hears a h → AllCarried (a .station .n) rs → Hears a (hearFrame h rs)
+  pub hears-frame : (h : Hearing) (rs : List Record) → Hears a h → AllCarried (a .station .edition) (a .station .n) rs → Hears a (hearFrame h rs)
   unfolding hearFrame
   hears-frame h rs hs all = cond-keeps (Hears a) (eqb (h .refusal) done) (hearRecords h rs) h (hears-records h rs hs all) hs
 
@@ -203,21 +209,21 @@ pub takings-bounded : (s : Station) (h : Hearing) → Hears (silent s) h → h .
 takings-bounded s h hs f = omega (arith, hs .takings f, otherLens-most (h .station) (hs .inside f))
 
 pub hearRecord-inside :
-    (h : Hearing) (r : Record) → Shaped (h .station) → stationInside (h .station) ≡ true → Carried (h .station .n) r →
+    (h : Hearing) (r : Record) → Shaped (h .station) → stationInside (h .station) ≡ true → Carried (h .station .edition) (h .station .n) r →
     (hearRecord h r) .refusal ≡ done → stationInside ((hearRecord h r) .station) ≡ true
 hearRecord-inside h r shape i carry f =
     let c = inside-open (h .station) i in
     inside-make ((hearRecord h r) .station) (hears-record h c h r (hears-none h c shape) carry .inside f)
 
 pub hearRecords-inside :
-    (h : Hearing) (rs : List Record) → Shaped (h .station) → stationInside (h .station) ≡ true → AllCarried (h .station .n) rs →
+    (h : Hearing) (rs : List Record) → Shaped (h .station) → stationInside (h .station) ≡ true → AllCarried (h .station .edition) (h .station .n) rs →
     (hearRecords h rs) .refusal ≡ done → stationInside ((hearRecords h rs) .station) ≡ true
 hearRecords-inside h rs shape i all f =
     let c = inside-open (h .station) i in
     inside-make ((hearRecords h rs) .station) (hears-records h c h rs (hears-none h c shape) all .inside f)
 
 pub hearFrame-inside :
-    (h : Hearing) (rs : List Record) → Shaped (h .station) → stationInside (h .station) ≡ true → AllCarried (h .station .n) rs →
+    (h : Hearing) (rs : List Record) → Shaped (h .station) → stationInside (h .station) ≡ true → AllCarried (h .station .edition) (h .station .n) rs →
     (hearFrame h rs) .refusal ≡ done → stationInside ((hearFrame h rs) .station) ≡ true
 hearFrame-inside h rs shape i all f =
     let c = inside-open (h .station) i in
@@ -225,7 +231,7 @@ hearFrame-inside h rs shape i all f =
 
 -- the takings of one frame
 pub frame-takings-bounded :
-    (s : Station) (rs : List Record) → Shaped s → stationInside s ≡ true → AllCarried (s .n) rs →
+    (s : Station) (rs : List Record) → Shaped s → stationInside s ≡ true → AllCarried (s .edition) (s .n) rs →
     (hearRecords (silent s) rs) .refusal ≡ done → length ((hearRecords (silent s) rs) .takings) ≤ 30
 frame-takings-bounded s rs shape i all f =
     let c = inside-open s i in

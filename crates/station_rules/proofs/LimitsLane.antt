@@ -20,61 +20,61 @@ or-second false b h e = h
 abbrev lane : ℕ → Body → Body → Lane
 lane k a b = record { len = k; first = a; second = b }
 
-pub lane-most : (most : ℕ) (l : Lane) → laneInside most l ≡ true → l .len ≤ most
+pub lane-most : (edition most : ℕ) (l : Lane) → laneInside edition most l ≡ true → l .len ≤ most
 unfolding laneInside
-lane-most most l h =
+lane-most edition most l h =
     leb-true (l .len) most
-    (and-left (leb (l .len) most) (eqb (l .len) 0 || takeable (l .first))
-    (and-left (leb (l .len) most && (eqb (l .len) 0 || takeable (l .first))) (leb (l .len) 1 || takeable (l .second)) h))
+    (and-left (leb (l .len) most) (eqb (l .len) 0 || takeable edition (l .first))
+    (and-left (leb (l .len) most && (eqb (l .len) 0 || takeable edition (l .first))) (leb (l .len) 1 || takeable edition (l .second)) h))
 
-pub lane-first : (most : ℕ) (l : Lane) → laneInside most l ≡ true → 0 < l .len → takeable (l .first) ≡ true
+pub lane-first : (edition most : ℕ) (l : Lane) → laneInside edition most l ≡ true → 0 < l .len → takeable edition (l .first) ≡ true
 unfolding laneInside
-lane-first most l h p =
-    or-second (eqb (l .len) 0) (takeable (l .first))
-    (and-right (leb (l .len) most) (eqb (l .len) 0 || takeable (l .first))
-    (and-left (leb (l .len) most && (eqb (l .len) 0 || takeable (l .first))) (leb (l .len) 1 || takeable (l .second)) h))
+lane-first edition most l h p =
+    or-second (eqb (l .len) 0) (takeable edition (l .first))
+    (and-right (leb (l .len) most) (eqb (l .len) 0 || takeable edition (l .first))
+    (and-left (leb (l .len) most && (eqb (l .len) 0 || takeable edition (l .first))) (leb (l .len) 1 || takeable edition (l .second)) h))
     (ne-eqb (l .len) 0 (λ e. absurd (omega arith)))
 
-pub lane-second : (most : ℕ) (l : Lane) → laneInside most l ≡ true → 1 < l .len → takeable (l .second) ≡ true
+pub lane-second : (edition most : ℕ) (l : Lane) → laneInside edition most l ≡ true → 1 < l .len → takeable edition (l .second) ≡ true
 unfolding laneInside
-lane-second most l h p =
-    or-second (leb (l .len) 1) (takeable (l .second))
-    (and-right (leb (l .len) most && (eqb (l .len) 0 || takeable (l .first))) (leb (l .len) 1 || takeable (l .second)) h)
+lane-second edition most l h p =
+    or-second (leb (l .len) 1) (takeable edition (l .second))
+    (and-right (leb (l .len) most && (eqb (l .len) 0 || takeable edition (l .first))) (leb (l .len) 1 || takeable edition (l .second)) h)
     (lt-leb (l .len) 1 p)
 
-pub lane-none : (most : ℕ) (a b : Body) → laneInside most (lane 0 a b) ≡ true
+pub lane-none : (edition most : ℕ) (a b : Body) → laneInside edition most (lane 0 a b) ≡ true
 unfolding laneInside
-lane-none most a b = and-both (and-both (leb·zero most) refl) refl
+lane-none edition most a b = and-both (and-both (leb·zero most) refl) refl
 
-lane-one : (most : ℕ) (a b : Body) → 1 ≤ most → takeable a ≡ true → laneInside most (lane 1 a b) ≡ true
+lane-one : (edition most : ℕ) (a b : Body) → 1 ≤ most → takeable edition a ≡ true → laneInside edition most (lane 1 a b) ≡ true
 unfolding laneInside
-lane-one most a b m p = and-both (and-both (le-leb 1 most m) p) refl
+lane-one edition most a b m p = and-both (and-both (le-leb 1 most m) p) refl
 
-lane-two : (most : ℕ) (a b : Body) → 2 ≤ most → takeable a ≡ true → takeable b ≡ true → laneInside most (lane 2 a b) ≡ true
+lane-two : (edition most : ℕ) (a b : Body) → 2 ≤ most → takeable edition a ≡ true → takeable edition b ≡ true → laneInside edition most (lane 2 a b) ≡ true
 unfolding laneInside
-lane-two most a b m p q = and-both (and-both (le-leb 2 most m) p) q
+lane-two edition most a b m p q = and-both (and-both (le-leb 2 most m) p) q
 
-pub popped-inside : (most : ℕ) (l : Lane) → laneInside most l ≡ true → laneInside most (popped l) ≡ true
+pub popped-inside : (edition most : ℕ) (l : Lane) → laneInside edition most l ≡ true → laneInside edition most (popped l) ≡ true
 unfolding bodies laneOf
-popped-inside most l h = go (l .len) (l .first) (l .second) h
+popped-inside edition most l h = go (l .len) (l .first) (l .second) h
   where
-    go : (k : ℕ) (a b : Body) → laneInside most (lane k a b) ≡ true → laneInside most (popped (lane k a b)) ≡ true
-    go zero a b h = lane-none most _ _
-    go (suc zero) a b h = lane-none most _ _
+    go : (k : ℕ) (a b : Body) → laneInside edition most (lane k a b) ≡ true → laneInside edition most (popped (lane k a b)) ≡ true
+    go zero a b h = lane-none edition most _ _
+    go (suc zero) a b h = lane-none edition most _ _
     go (suc (suc k)) a b h =
         rw (take-nil {A = Body} k)
-        (lane-one most b _ (omega (arith, lane-most most (lane (suc (suc k)) a b) h))
-        (lane-second most (lane (suc (suc k)) a b) h (omega arith)))
+        (lane-one edition most b _ (omega (arith, lane-most edition most (lane (suc (suc k)) a b) h))
+        (lane-second edition most (lane (suc (suc k)) a b) h (omega arith)))
 
 pub pushed-inside :
-    (most : ℕ) (l : Lane) (b : Body) → laneInside most l ≡ true → l .len < most → l .len < 2 → takeable b ≡ true →
-    laneInside most (pushed l b) ≡ true
+    (edition most : ℕ) (l : Lane) (b : Body) → laneInside edition most l ≡ true → l .len < most → l .len < 2 → takeable edition b ≡ true →
+    laneInside edition most (pushed l b) ≡ true
 unfolding bodies laneOf
-pushed-inside most l b h m t p = go (l .len) (l .first) (l .second) h m t
+pushed-inside edition most l b h m t p = go (l .len) (l .first) (l .second) h m t
   where
     go :
-        (k : ℕ) (x y : Body) → laneInside most (lane k x y) ≡ true → k < most → k < 2 →
-        laneInside most (pushed (lane k x y) b) ≡ true
-    go zero x y h m t = lane-one most b _ m p
-    go (suc zero) x y h m t = lane-two most x b m (lane-first most (lane 1 x y) h (omega arith)) p
+        (k : ℕ) (x y : Body) → laneInside edition most (lane k x y) ≡ true → k < most → k < 2 →
+        laneInside edition most (pushed (lane k x y) b) ≡ true
+    go zero x y h m t = lane-one edition most b _ m p
+    go (suc zero) x y h m t = lane-two edition most x b m (lane-first edition most (lane 1 x y) h (omega arith)) p
     go (suc (suc k)) x y h m t = absurd (omega arith)

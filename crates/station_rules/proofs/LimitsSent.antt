@@ -18,14 +18,14 @@ use Rattle.station_rules.proofs.StationLimits.{RecordHolds, Inside}
 use Rattle.station_rules.proofs.LimitsHear.{Carried}
 use Rattle.station_rules.proofs.LimitsHearing.{AllCarried}
 
-pub carried-append : (n : ℕ) (xs ys : List Record) → AllCarried n xs → AllCarried n ys → AllCarried n (xs ++ ys)
-carried-append n [] ys p q = q
-carried-append n (x ∷ xs) ys p q = (p .0, carried-append n xs ys (p .1) q)
+pub carried-append : (edition n : ℕ) (xs ys : List Record) → AllCarried edition n xs → AllCarried edition n ys → AllCarried edition n (xs ++ ys)
+carried-append edition n [] ys p q = q
+carried-append edition n (x ∷ xs) ys p q = (p .0, carried-append edition n xs ys (p .1) q)
 
 framed-carried :
-    (n own k : ℕ) (r : Record) → n ≤ 16 → k < n → RecordHolds n own k r → countInside n (r .count) ≡ true → Carried n (framed n r)
+    (edition n own k : ℕ) (r : Record) → n ≤ 16 → k < n → RecordHolds edition n own k r → countInside n (r .count) ≡ true → Carried edition n (framed n r)
 unfolding framed
-framed-carried n own k r high l c fits =
+framed-carried edition n own k r high l c fits =
     record {
       station = rw (c .station) l;
       count = fits;
@@ -44,21 +44,21 @@ module _ (s : Station) (c : Inside s) (fits : ownCountInside s ≡ true) where
       or-cases (eqb k (s .own)) (countInside (s .n) ((recordOf s k) .count)) (c .places k l .held e .count)
       (λ same. subst (λ (j : ℕ). countInside (s .n) ((recordOf s j) .count) ≡ true) (sym (eqb-true k (s .own) same)) fits)
 
-  each : (k : ℕ) → k < s .n → heldOf s k ≡ true → Carried (s .n) (framed (s .n) (recordOf s k))
-  each k l e = framed-carried (s .n) (s .own) k (recordOf s k) (c .high) l (c .places k l .held e) (sent-count k l e)
+  each : (k : ℕ) → k < s .n → heldOf s k ≡ true → Carried (s .edition) (s .n) (framed (s .n) (recordOf s k))
+  each k l e = framed-carried (s .edition) (s .n) (s .own) k (recordOf s k) (c .high) l (c .places k l .held e) (sent-count k l e)
 
-  gathered : (m : ℕ) → m ≤ s .n → AllCarried (s .n) (gather m (heldOf s) (λ k. framed (s .n) (recordOf s k)))
+  gathered : (m : ℕ) → m ≤ s .n → AllCarried (s .edition) (s .n) (gather m (heldOf s) (λ k. framed (s .n) (recordOf s k)))
   unfolding gather
   gathered zero l = tt
   gathered (suc m) l =
-      carried-append (s .n) (gather m (heldOf s) (λ k. framed (s .n) (recordOf s k)))
+      carried-append (s .edition) (s .n) (gather m (heldOf s) (λ k. framed (s .n) (recordOf s k)))
       (cond (heldOf s m) (framed (s .n) (recordOf s m) ∷ []) [])
       (gathered m (omega arith)) (last (heldOf s m) refl)
     where
-      last : (t : Bool) → heldOf s m ≡ t → AllCarried (s .n) (cond t (framed (s .n) (recordOf s m) ∷ []) [])
+      last : (t : Bool) → heldOf s m ≡ t → AllCarried (s .edition) (s .n) (cond t (framed (s .n) (recordOf s m) ∷ []) [])
       last true e = (each m l e, tt)
       last false e = tt
 
-  pub sent-carried : AllCarried (s .n) (sentRecords s)
+  pub sent-carried : AllCarried (s .edition) (s .n) (sentRecords s)
   unfolding sentRecords tableRecords
   sent-carried = gathered (s .n) (omega arith)

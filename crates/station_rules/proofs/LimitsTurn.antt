@@ -22,50 +22,50 @@ use Rattle.lanes.proofs.WaitingLaws as waiting
 use Rattle.station_rules.specs.State.{Cell, cellOf, labelOf, ackedOf, laneAt, withEntry, withCell}
 use Rattle.station_rules.specs.Limits.{laneInside, takeable, stationInside}
 use Rattle.station_rules.specs.Turn.{airs, broadcastEnds, startsEdit, startedBody, passed, ownRecord, rewritten, afterTurn}
-use Rattle.station_rules.proofs.BodyLaws.{postable-takeable, takeable-inside, empty-inside, neutral-takeable}
+use Rattle.station_rules.proofs.BodyLaws.{waiting-takeable, takeable-inside, empty-inside, neutral-takeable}
 use Rattle.station_rules.proofs.Setters.{Shaped, cell-self, cell-here, cell-other}
 use Rattle.station_rules.proofs.Shape.{passed-shaped}
 use Rattle.station_rules.proofs.LimitsLane.{popped-inside, pushed-inside}
 use Rattle.station_rules.proofs.StationLimits.{RecordHolds, CellHolds, InsideAs, Inside, inside-as, inside-open, inside-make}
 use Rattle.station_rules.proofs.LimitsHear.{successor-label}
-use Rattle.station_rules.proofs.TurnCells.{ownRecord-label, laneAfter, lane-after, passed-n, passed-own, passed-waiting, passed-body, passed-cell-own, passed-cell-other, turn-n, turn-own}
+use Rattle.station_rules.proofs.TurnCells.{ownRecord-label, laneAfter, lane-after, passed-n, passed-own, passed-edition, passed-waiting, passed-body, passed-cell-own, passed-cell-other, turn-n, turn-own, turn-edition}
 use Rattle.station_rules.proofs.TurnLaws.{Start, Start.anEdit, Start.aNeutral, Start.nothing, start}
 
 module _ (s : Station) (shape : Shaped s) (c : Inside s) where
   -- what starts is Empty, or is put into an empty own lane, which may hold it
   pub started-cases :
-      (P : Body → Type 0) → P Empty → ((b : Body) → takeable b ≡ true → (laneAfter s (s .own)) .len ≡ 0 → P b) → P (startedBody s)
+      (P : Body → Type 0) → P Empty → ((b : Body) → takeable (s .edition) b ≡ true → (laneAfter s (s .own)) .len ≡ 0 → P b) → P (startedBody s)
   started-cases P none some = go (start s)
     where
       go : Start s → P (startedBody s)
       go (anEdit e room w b) =
-          subst P (sym b) (some (nextEdit (s .waiting)) (postable-takeable (nextEdit (s .waiting)) (waiting.next-postable (s .waiting) (c .waiting) w)) room)
-      go (aNeutral e room b) = subst P (sym b) (some Neutral neutral-takeable room)
+          subst P (sym b) (some (nextEdit (s .waiting)) (waiting-takeable (s .edition) (nextEdit (s .waiting)) (waiting.next-fits (s .edition) (s .waiting) (c .waiting) w)) room)
+      go (aNeutral e room b) = subst P (sym b) (some Neutral (neutral-takeable (s .edition)) room)
       go (nothing e b) = subst P (sym b) none
 
-  started-inside : bodyInside (startedBody s) ≡ true
-  started-inside = started-cases (λ b. bodyInside b ≡ true) empty-inside (λ b h room. takeable-inside b h)
+  started-inside : bodyInside (s .edition) (startedBody s) ≡ true
+  started-inside = started-cases (λ b. bodyInside (s .edition) b ≡ true) (empty-inside (s .edition)) (λ b h room. takeable-inside (s .edition) b h)
 
-  after-inside : (k most : ℕ) → k < s .n → laneInside most (laneAt s k) ≡ true → laneInside most (laneAfter s k) ≡ true
+  after-inside : (k most : ℕ) → k < s .n → laneInside (s .edition) most (laneAt s k) ≡ true → laneInside (s .edition) most (laneAfter s k) ≡ true
   after-inside k most l h =
       rw (lane-after s shape (c .high) (c .own) k l)
-      (cond-keeps (λ (x : Lane). laneInside most x ≡ true) (airs s) (popped (laneAt s k)) (laneAt s k) (popped-inside most (laneAt s k) h) h)
+      (cond-keeps (λ (x : Lane). laneInside (s .edition) most x ≡ true) (airs s) (popped (laneAt s k)) (laneAt s k) (popped-inside (s .edition) most (laneAt s k) h) h)
 
   -- the own lane gets what starts
   own-inside :
-      laneInside 1 (cond (isEmpty (startedBody s)) (laneAfter s (s .own)) (pushed (laneAfter s (s .own)) (startedBody s))) ≡ true
+      laneInside (s .edition) 1 (cond (isEmpty (startedBody s)) (laneAfter s (s .own)) (pushed (laneAfter s (s .own)) (startedBody s))) ≡ true
   own-inside =
       let most : _≡_ {A = ℕ} (cond (eqb (s .own) (s .own)) 1 2) 1 = rw (eq-eqb (s .own) (s .own) refl) in
-      let after : laneInside 1 (laneAfter s (s .own)) ≡ true =
+      let after : laneInside (s .edition) 1 (laneAfter s (s .own)) ≡ true =
       after-inside (s .own) 1 (c .own) (rw most at (c .places (s .own) (c .own) .lane)) in
       started-cases
-      (λ b. laneInside 1 (cond (isEmpty b) (laneAfter s (s .own)) (pushed (laneAfter s (s .own)) b)) ≡ true)
+      (λ b. laneInside (s .edition) 1 (cond (isEmpty b) (laneAfter s (s .own)) (pushed (laneAfter s (s .own)) b)) ≡ true)
       after
-      (λ b h room. cond-keeps (λ (l : Lane). laneInside 1 l ≡ true) (isEmpty b) (laneAfter s (s .own)) (pushed (laneAfter s (s .own)) b)
+      (λ b h room. cond-keeps (λ (l : Lane). laneInside (s .edition) 1 l ≡ true) (isEmpty b) (laneAfter s (s .own)) (pushed (laneAfter s (s .own)) b)
       after
-      (pushed-inside 1 (laneAfter s (s .own)) b after (omega arith) (omega arith) h))
+      (pushed-inside (s .edition) 1 (laneAfter s (s .own)) b after (omega arith) (omega arith) h))
 
-  own-cell : CellHolds (s .n) (s .own) (s .own) (cellOf (passed s) (s .own))
+  own-cell : CellHolds (s .edition) (s .n) (s .own) (s .own) (cellOf (passed s) (s .own))
   own-cell =
       let before = c .places (s .own) (c .own) in
       rw (passed-cell-own s shape (c .high) (c .own))
@@ -77,16 +77,17 @@ module _ (s : Station) (shape : Shaped s) (c : Inside s) where
         lane = rw (eq-eqb (s .own) (s .own) refl) own-inside;
       })
 
-  other-cell : (k : ℕ) → k < s .n → (k ≡ s .own → ⊥) → CellHolds (s .n) (s .own) k (cellOf (passed s) k)
+  other-cell : (k : ℕ) → k < s .n → (k ≡ s .own → ⊥) → CellHolds (s .edition) (s .n) (s .own) k (cellOf (passed s) k)
   other-cell k l d =
       let before = c .places k l in
       rw (passed-cell-other s shape (c .high) (c .own) k l d)
       (record { label = before .label; held = before .held; lane = after-inside k (cond (eqb k (s .own)) 1 2) l (before .lane) })
 
-  pub passed-holds : InsideAs (s .n) (s .own) (passed s)
+  pub passed-holds : InsideAs (s .edition) (s .n) (s .own) (passed s)
   passed-holds =
       let own = passed-cell-own s shape (c .high) (c .own) in
       record {
+        known = c .known;
         low = c .low;
         high = c .high;
         own = c .own;
@@ -94,20 +95,20 @@ module _ (s : Station) (shape : Shaped s) (c : Inside s) where
         held = ap (λ (x : Cell). x .held) own ∙ c .held;
         body =
             rw (passed-body s)
-            (cond-keeps (λ (b : Body). bodyInside b ≡ true) (broadcastEnds s) (startedBody s) (s .body) started-inside (c .body));
+            (cond-keeps (λ (b : Body). bodyInside (s .edition) b ≡ true) (broadcastEnds s) (startedBody s) (s .body) started-inside (c .body));
         waiting =
             rw (passed-waiting s)
-            (cond-keeps (λ (w : Waiting). waitingInside w ≡ true) (startsEdit s) (withoutNext (s .waiting)) (s .waiting)
-            (waiting.started-inside (s .waiting) (shape .waiting) (c .waiting)) (c .waiting));
+            (cond-keeps (λ (w : Waiting). waitingInside (s .edition) w ≡ true) (startsEdit s) (withoutNext (s .waiting)) (s .waiting)
+            (waiting.started-inside (s .edition) (s .waiting) (shape .waiting) (c .waiting)) (c .waiting));
         places =
             λ k l. elim (ℕ-discrete k (s .own)) [
-              | yes same ↦ subst (λ (j : ℕ). CellHolds (s .n) (s .own) j (cellOf (passed s) j)) (sym same) own-cell
+              | yes same ↦ subst (λ (j : ℕ). CellHolds (s .edition) (s .n) (s .own) j (cellOf (passed s) j)) (sym same) own-cell
               | no d ↦ other-cell k l d
             ];
       }
 
 module _ (s : Station) (shape : Shaped s) (c : Inside s) where
-  own-holds : RecordHolds (s .n) (s .own) (s .own) (ownRecord s)
+  own-holds : RecordHolds (s .edition) (s .n) (s .own) (s .own) (ownRecord s)
   unfolding ownRecord
   own-holds =
       record {
@@ -117,7 +118,7 @@ module _ (s : Station) (shape : Shaped s) (c : Inside s) where
         labels = λ j l. rw (ownRecord-label s (λ k b. omega (arith, leb-true (labelOf s k) 2 (c .places k b .label))) j l) (c .places j l .label);
       }
 
-  pub rewritten-holds : InsideAs (s .n) (s .own) (rewritten s)
+  pub rewritten-holds : InsideAs (s .edition) (s .n) (s .own) (rewritten s)
   unfolding rewritten
   rewritten-holds =
       let cell = withEntry (cellOf s (s .own)) (ownRecord s) in
@@ -125,6 +126,7 @@ module _ (s : Station) (shape : Shaped s) (c : Inside s) where
       let self = cell-self s (s .own) cell in
       let before = c .places (s .own) (c .own) in
       record {
+        known = c .known;
         low = c .low;
         high = c .high;
         own = c .own;
@@ -135,7 +137,7 @@ module _ (s : Station) (shape : Shaped s) (c : Inside s) where
         places =
             λ k l. elim (ℕ-discrete k (s .own)) [
               | yes same ↦
-                  subst (λ (j : ℕ). CellHolds (s .n) (s .own) j (cellOf (rewritten s) j)) (sym same)
+                  subst (λ (j : ℕ). CellHolds (s .edition) (s .n) (s .own) j (cellOf (rewritten s) j)) (sym same)
                   (rw own (record { label = before .label; held = λ e. own-holds; lane = before .lane }))
               | no d ↦ rw (cell-other s (s .own) cell k d) (c .places k l)
             ];
@@ -145,8 +147,8 @@ pub turn-holds : (s : Station) → Shaped s → Inside s → Inside (afterTurn s
 unfolding afterTurn
 turn-holds s shape c =
     let low : s .own < 16 = omega (arith, c .high, c .own) in
-    let p : Inside (passed s) = inside-as (s .n) (s .own) (passed s) (passed-n s) (passed-own s) (passed-holds s shape c) in
-    inside-as ((passed s) .n) ((passed s) .own) (afterTurn s) (turn-n s ∙ sym (passed-n s)) (turn-own s ∙ sym (passed-own s))
+    let p : Inside (passed s) = inside-as (s .edition) (s .n) (s .own) (passed s) (passed-edition s) (passed-n s) (passed-own s) (passed-holds s shape c) in
+    inside-as ((passed s) .edition) ((passed s) .n) ((passed s) .own) (afterTurn s) (turn-edition s ∙ sym (passed-edition s)) (turn-n s ∙ sym (passed-n s)) (turn-own s ∙ sym (passed-own s))
     (rewritten-holds (passed s) (passed-shaped s shape) p)
 
 pub turn-inside : (s : Station) → Shaped s → stationInside s ≡ true → stationInside (afterTurn s) ≡ true

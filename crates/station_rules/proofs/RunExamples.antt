@@ -2,14 +2,14 @@
 -- queue M11; with two desks they take turns. Station 0 of two hears the frame of station 1, and records of it: a new one, one that is not newer, one that conflicts,
 -- one that acknowledges, and one that comes while its own lane is full.
 use mathlib.Core.Bool.{true, false}
-use mathlib.Core.List.{[], _∷_}
+use mathlib.Core.List.{List, [], _∷_}
 use mathlib.Core.Path.{_≡_, refl}
 use Prim.Native.Nat.{ℕ, zero, suc}
 use lib.IntN.{pos}
 use lib.ListN.{set, replicate}
 use Rattle.kinds.specs.declared.Body.{Body}
 use Rattle.kinds.specs.declared.Body.the-variants.{Empty, Neutral, Insert, Drop, Shift}
-use Rattle.kinds.specs.Refusals.{done, conflict, laneFull, queueFull, notAnEdit, badDesk}
+use Rattle.kinds.specs.Refusals.{done, conflict, laneFull, queueFull, notAnEdit, badDesk, badAddress, badEdition, outsideLimits}
 use Rattle.label_words.specs.Packing.{packed}
 use Rattle.frame_rules.specs.declared.Record.{Record}
 use Rattle.lanes.specs.Lane.{bodies}
@@ -24,10 +24,10 @@ use Rattle.station_rules.specs.Calls.{postCall, frameOf, hearCall}
 use Rattle.station_rules.proofs.Computing.{stationRuns, frameRuns}
 
 abbrev edit : Body
-edit = Insert 7 (pos 100)
+edit = Insert 0 7 (pos 100)
 
 abbrev other : Body
-other = Drop 8
+other = Drop 0 8
 
 -- a station with an edit posted, by a desk or by desk 0
 abbrev with-desk : Station → ℕ → Body → Station
@@ -52,7 +52,7 @@ pub record Alone : Type 0 where
 
 -- a station alone, with so many edits posted
 unfoldable pub posts : ℕ → Station
-posts zero = freshStation (record { n = 1; limit = queueCapacity }) 0
+posts zero = freshStation (record { n = 1; limit = queueCapacity; edition = 0 }) 0
 posts (suc k) = with-edit (posts k) edit
 
 pub record Posts : Type 0 where
@@ -69,7 +69,7 @@ abbrev start-in : Station → ℕ → Body
 start-in s k = turnReport (turns s k) .«started_body»
 
 abbrev third-edit : Body
-third-edit = Drop 9
+third-edit = Drop 0 9
 
 -- both desks wait on a fresh station, and desk 0 has two
 abbrev both-wait : Station
@@ -81,7 +81,7 @@ after-neutral = with-desk (with-desk (turns alone 2) 0 third-edit) 1 other
 
 -- one edit may wait at a desk, and desk 0 has it
 abbrev one-each : Station
-one-each = with-edit (freshStation (record { n = 1; limit = 1 }) 0) edit
+one-each = with-edit (freshStation (record { n = 1; limit = 1; edition = 0 }) 0) edit
 
 pub record Desks : Type 0 where
   -- a fresh station gives way to desk 0, and then the desks take turns
@@ -98,6 +98,34 @@ pub record Desks : Type 0 where
   -- 15 comes before 4, and 4 before 3; there is no desk 2
   pub desk-first : (postCall one-each 2 Neutral) .refusal ≡ badDesk
   pub edit-next : (postCall one-each 0 Neutral) .refusal ≡ notAnEdit
+
+-- one edit may wait at a station of an edition, and the frame of station 1 of two in it
+abbrev in-edition : ℕ → Station
+in-edition edition = freshStation (record { n = 1; limit = 1; edition = edition }) 0
+
+abbrev frame-in : ℕ → List ℕ
+frame-in edition = frameOf (freshStation (record { n = 2; limit = 8; edition = edition }) 1)
+
+abbrev hears-in : ℕ → ℕ → ℕ
+hears-in edition sent = (hearCall (freshStation (record { n = 2; limit = 8; edition = edition }) 0) (frame-in sent)) .refusal
+
+pub record Editions : Type 0 where
+  -- in edition 1 an edit has a channel of 1 to 200, in edition 0 it has none
+  pub least : (postCall (in-edition 1) 0 (Drop 1 8)) .refusal ≡ done
+  pub most : (postCall (in-edition 1) 0 (Drop 200 8)) .refusal ≡ done
+  pub none : (postCall (in-edition 1) 0 (Drop 0 8)) .refusal ≡ badEdition
+  pub too-high : (postCall (in-edition 1) 0 (Drop 201 8)) .refusal ≡ badEdition
+  pub zero-none : (postCall (in-edition 0) 0 (Drop 0 8)) .refusal ≡ done
+  pub zero-one : (postCall (in-edition 0) 0 (Drop 1 8)) .refusal ≡ badEdition
+  -- 4 comes before 17, and 17 before 3
+  pub edit-first : (postCall (in-edition 1) 0 (Drop 0 0)) .refusal ≡ notAnEdit
+  pub no-edit : (postCall (in-edition 1) 0 Neutral) .refusal ≡ notAnEdit
+  pub full-last : (postCall (with-edit (in-edition 1) (Drop 1 8)) 0 (Drop 0 8)) .refusal ≡ badEdition
+  -- a station hears its own edition and gives 6 for the other
+  pub own-edition : (hears-in 0 0 ≡ done) × (hears-in 1 1 ≡ done)
+  pub other-edition : (hears-in 0 1 ≡ badAddress) × (hears-in 1 0 ≡ badAddress)
+  -- there are no others: such a station is outside its limits
+  pub no-edition : (postCall (in-edition 2) 0 (Drop 1 8)) .refusal ≡ outsideLimits
 
 -- a frame that comes is heard
 pub record Frame : Type 0 where
@@ -165,7 +193,7 @@ pub record Pair : Type 0 where
 
 -- station 0 of three, once it has heard of station 1 a shift with label 1 and count 2
 abbrev one-held : Record
-one-held = record { station = 1; count = 2; body = Shift 9 (pos 5); labels = packed (2 ∷ 1 ∷ 0 ∷ []) }
+one-held = record { station = 1; count = 2; body = Shift 0 9 (pos 5); labels = packed (2 ∷ 1 ∷ 0 ∷ []) }
 
 abbrev holds-one : Hearing
 holds-one = hearRecord (silent (freshStation (sized 3) 0)) one-held
@@ -194,9 +222,10 @@ lane-full = hearRecord (hearRecord holds-one (of-two 0 edit 1)) (of-two 0 edit 2
 
 pub record Conflicts : Type 0 where
   -- each other field changed alone
-  pub kind : hearRecord holds-one (with-body (Insert 9 (pos 5))) ≡ refused holds-one
-  pub event : hearRecord holds-one (with-body (Shift 10 (pos 5))) ≡ refused holds-one
-  pub argument : hearRecord holds-one (with-body (Shift 9 (pos 6))) ≡ refused holds-one
+  pub kind : hearRecord holds-one (with-body (Insert 0 9 (pos 5))) ≡ refused holds-one
+  pub event : hearRecord holds-one (with-body (Shift 0 10 (pos 5))) ≡ refused holds-one
+  pub argument : hearRecord holds-one (with-body (Shift 0 9 (pos 6))) ≡ refused holds-one
+  pub channel : hearRecord holds-one (with-body (Shift 1 9 (pos 5))) ≡ refused holds-one
   pub label-of-zero : hearRecord holds-one (with-labels 1 1 0) ≡ refused holds-one
   pub label-of-two : hearRecord holds-one (with-labels 2 1 1) ≡ refused holds-one
   -- the same, an older and a newer one with another body
@@ -241,6 +270,24 @@ desks-run =
       edit-next = refl;
     }
 
+pub editions-run : Editions
+unfolding frameRuns
+editions-run =
+    record {
+      least = refl;
+      most = refl;
+      none = refl;
+      too-high = refl;
+      zero-none = refl;
+      zero-one = refl;
+      edit-first = refl;
+      no-edit = refl;
+      full-last = refl;
+      own-edition = (refl, refl);
+      other-edition = (refl, refl);
+      no-edition = refl;
+    }
+
 pub frame-runs : Frame
 unfolding frameRuns
 frame-runs = record { is-heard = refl; shows = refl }
@@ -270,6 +317,7 @@ conflicts-run =
       kind = refl;
       event = refl;
       argument = refl;
+      channel = refl;
       label-of-zero = refl;
       label-of-two = refl;
       same = refl;

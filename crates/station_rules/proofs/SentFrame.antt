@@ -20,20 +20,21 @@ module _ (s : Station) (c : Inside s) (fits : ownCountInside s ≡ true) where
   pub place : (k : ℕ) → k < s .n → heldOf s k ≡ true → (recordOf s k) .station ≡ k
   place k l e = c .places k l .held e .station
 
-  pub record-fits : (k : ℕ) → k < s .n → heldOf s k ≡ true → recordFits (s .n) (recordOf s k) ≡ true
+  pub record-fits : (k : ℕ) → k < s .n → heldOf s k ≡ true → recordFits (s .edition) (s .n) (recordOf s k) ≡ true
   unfolding cellOf
   record-fits k l e =
       let h = c .places k l .held e in
-      fits-make (s .n) (recordOf s k)
+      fits-make (s .edition) (s .n) (recordOf s k)
       (record { station = rw (h .station) l; count = sent-count s c fits k l e; body = h .body; labels = h .labels })
 
   pub sent-read : recordsOf (frameOf s) ≡ sentRecords s
   unfolding cellOf sentRecords tableRecords frameOf
-  sent-read = table-read (s .n) (s .own) (s .held) (s .table) (c .high) place record-fits (c .held) (c .own)
+  sent-read = table-read (s .edition) (s .n) (s .own) (s .held) (s .table) (c .high) place record-fits (c .held) (c .own)
 
-  pub sent-accepted : (own : ℕ) → (s .own ≡ own → ⊥) → frameRefusal (frameOf s) (s .n) own ≡ done
+  pub sent-accepted : (own : ℕ) → (s .own ≡ own → ⊥) → frameRefusal (s .edition) (frameOf s) (s .n) own ≡ done
   unfolding cellOf sentRecords tableRecords frameOf
-  sent-accepted = table-accepted (s .n) (s .own) (s .held) (s .table) (c .high) place record-fits (c .held) (c .own)
+  sent-accepted =
+      table-accepted (s .edition) (s .n) (s .own) (s .held) (s .table) (c .high) place record-fits (c .held) (c .own) (c .known)
 
   -- the hearer makes the same of the frame as of the table
   pub hear-sent : (h : Hearing) → hearFrame h (recordsOf (frameOf s)) ≡ hearFrame h (sentRecords s)

@@ -40,19 +40,20 @@ pub record Shaped (s : Station) : Type 0 where
   pub waiting : WaitingSized (s .waiting)
 
 -- what a station has besides its cells
-pub record Self (s : Station) (size number : ℕ) (edits : Waiting) (shown : Body) (counted : ℕ) : Type 0 where
+pub record Self (s : Station) (size number agreed : ℕ) (edits : Waiting) (shown : Body) (counted : ℕ) : Type 0 where
   pub n : s .n ≡ size
   pub own : s .own ≡ number
+  pub edition : s .edition ≡ agreed
   pub waiting : s .waiting ≡ edits
   pub body : s .body ≡ shown
   pub count : s .count ≡ counted
 
 -- another station has the same
 abbrev pub SameSelf : Station → Station → Type 0
-SameSelf s t = Self s (t .n) (t .own) (t .waiting) (t .body) (t .count)
+SameSelf s t = Self s (t .n) (t .own) (t .edition) (t .waiting) (t .body) (t .count)
 
 pub self-refl : (s : Station) → SameSelf s s
-self-refl s = record { n = refl; own = refl; waiting = refl; body = refl; count = refl }
+self-refl s = record { n = refl; own = refl; edition = refl; waiting = refl; body = refl; count = refl }
 
 -- a cell with another acknowledgement
 abbrev pub withAck : Cell → Bool → Cell
@@ -99,7 +100,7 @@ module _ (s : Station) where
   module _ (k : ℕ) (c : Cell) where
     pub cell-self : SameSelf (withCell s k c) s
     unfolding withCell
-    cell-self = record { n = refl; own = refl; waiting = refl; body = refl; count = refl }
+    cell-self = record { n = refl; own = refl; edition = refl; waiting = refl; body = refl; count = refl }
 
     pub cell-here : Shaped s → k < 16 → cellOf (withCell s k c) k ≡ c
     unfolding cellOf withCell
@@ -152,7 +153,7 @@ module _ (s : Station) where
   module _ (acked : ℕ → Bool) where
     pub acked-self : SameSelf (withAcked s acked) s
     unfolding withAcked
-    acked-self = record { n = refl; own = refl; waiting = refl; body = refl; count = refl }
+    acked-self = record { n = refl; own = refl; edition = refl; waiting = refl; body = refl; count = refl }
 
     pub acked-below : Shaped s → s .n ≤ 16 → (k : ℕ) → k < s .n → cellOf (withAcked s acked) k ≡ withAck (cellOf s k) (acked k)
     unfolding cellOf withAcked
@@ -178,7 +179,7 @@ module _ (s : Station) where
   module _ (lane : ℕ → Lane) where
     pub lanes-self : SameSelf (withLanes s lane) s
     unfolding withLanes
-    lanes-self = record { n = refl; own = refl; waiting = refl; body = refl; count = refl }
+    lanes-self = record { n = refl; own = refl; edition = refl; waiting = refl; body = refl; count = refl }
 
     pub lanes-below : Shaped s → s .n ≤ 16 → (k : ℕ) → k < s .n → cellOf (withLanes s lane) k ≡ withLane (cellOf s k) (lane k)
     unfolding cellOf withLanes
@@ -204,19 +205,21 @@ module _ (s : Station) where
 pub record SameButWaiting (s t : Station) : Type 0 where
   pub n : s .n ≡ t .n
   pub own : s .own ≡ t .own
+  pub edition : s .edition ≡ t .edition
   pub body : s .body ≡ t .body
   pub count : s .count ≡ t .count
   pub cells : (k : ℕ) → cellOf s k ≡ cellOf t k
   pub shape : Shaped s → Shaped t
 
 pub same-refl : (s : Station) → SameButWaiting s s
-same-refl s = record { n = refl; own = refl; body = refl; count = refl; cells = λ k. refl; shape = λ c. c }
+same-refl s = record { n = refl; own = refl; edition = refl; body = refl; count = refl; cells = λ k. refl; shape = λ c. c }
 
 pub same-trans : (s t r : Station) → SameButWaiting s t → SameButWaiting t r → SameButWaiting s r
 same-trans s t r a b =
     record {
       n = a .n ∙ b .n;
       own = a .own ∙ b .own;
+      edition = a .edition ∙ b .edition;
       body = a .body ∙ b .body;
       count = a .count ∙ b .count;
       cells = λ k. a .cells k ∙ b .cells k;
@@ -228,6 +231,7 @@ waiting-same s w e =
     record {
       n = refl;
       own = refl;
+      edition = refl;
       body = refl;
       count = refl;
       cells = λ k. sym (waiting-cell s w k);
@@ -254,9 +258,9 @@ module _ (own : ℕ) where
 
 -- the fresh station
 module _ (setup : Setup) (own : ℕ) where
-  pub fresh-self : Self (freshStation setup own) (setup .n) own (noneWaiting (setup .limit)) Empty 0
+  pub fresh-self : Self (freshStation setup own) (setup .n) own (setup .edition) (noneWaiting (setup .limit)) Empty 0
   unfolding freshStation
-  fresh-self = record { n = refl; own = refl; waiting = refl; body = refl; count = refl }
+  fresh-self = record { n = refl; own = refl; edition = refl; waiting = refl; body = refl; count = refl }
 
   pub fresh-own :
       own < 16 → cellOf (freshStation setup own) own ≡ record { label = 1; acked = true; held = true; entry = freshRecord own; lane = noLane }
@@ -351,13 +355,14 @@ module _ (s t : Station) (shape-s : Shaped s) (shape-t : Shaped t) (n : ℕ) whe
 
 pub station-made :
     (s t : Station) (held : List Bool) (table : List Record) (lanes : List Lane) →
-    Self t (s .n) (s .own) (s .waiting) (s .body) (t .count) → t .held ≡ held → t .table ≡ table → t .lanes ≡ lanes →
+    Self t (s .n) (s .own) (s .edition) (s .waiting) (s .body) (t .count) → t .held ≡ held → t .table ≡ table → t .lanes ≡ lanes →
     t ≡ withArrays (withBroadcast s (s .body) (t .count)) (t .acked) (t .labels) held table lanes
 station-made s t held table lanes self e₁ e₂ e₃ =
     λ i.
     record {
       n = self .n i;
       own = self .own i;
+      edition = self .edition i;
       waiting = self .waiting i;
       acked = t .acked;
       body = self .body i;

@@ -78,6 +78,7 @@ module _ (s : Station) where
   passed-self :
       ((passed s) .n ≡ s .n) × ((passed s) .own ≡ s .own) × ((passed s) .waiting ≡ cond (startsEdit s) (withoutNext (s .waiting)) (s .waiting))
       × ((passed s) .body ≡ cond (broadcastEnds s) (startedBody s) (s .body)) × ((passed s) .count ≡ cond (broadcastEnds s) 0 (s .count))
+      × ((passed s) .edition ≡ s .edition)
   unfolding passed begins withCell withAcked
   passed-self = go (broadcastEnds s) refl
     where
@@ -88,11 +89,12 @@ module _ (s : Station) where
           (t : Bool) → broadcastEnds s ≡ t →
           ((passed s) .n ≡ s .n) × ((passed s) .own ≡ s .own) × ((passed s) .waiting ≡ cond (startsEdit s) (withoutNext (s .waiting)) (s .waiting))
           × ((passed s) .body ≡ cond t (startedBody s) (s .body)) × ((passed s) .count ≡ cond t 0 (s .count))
+          × ((passed s) .edition ≡ s .edition)
       go true e =
           let c = takesOwn-self next (startedBody s) in
           let a = aired-self s in
-          rw e (c .n ∙ a .n, c .own ∙ a .own, refl, c .body, c .count)
-      go false e = let a = aired-self s in rw e (a .n, a .own, a .waiting, a .body, a .count)
+          rw e (c .n ∙ a .n, c .own ∙ a .own, refl, c .body, c .count, c .edition ∙ a .edition)
+      go false e = let a = aired-self s in rw e (a .n, a .own, a .waiting, a .body, a .count, a .edition)
 
   pub passed-n : (passed s) .n ≡ s .n
   passed-n = passed-self .0
@@ -109,6 +111,9 @@ module _ (s : Station) where
   pub passed-count : (passed s) .count ≡ cond (broadcastEnds s) 0 (s .count)
   passed-count = passed-self .4
 
+  pub passed-edition : (passed s) .edition ≡ s .edition
+  passed-edition = passed-self .5
+
   pub turn-n : (afterTurn s) .n ≡ s .n
   unfolding afterTurn rewritten withCell
   turn-n = passed-n
@@ -116,6 +121,10 @@ module _ (s : Station) where
   pub turn-own : (afterTurn s) .own ≡ s .own
   unfolding afterTurn rewritten withCell
   turn-own = passed-own
+
+  pub turn-edition : (afterTurn s) .edition ≡ s .edition
+  unfolding afterTurn rewritten withCell
+  turn-edition = passed-edition
 
   pub turn-waiting : (afterTurn s) .waiting ≡ cond (startsEdit s) (withoutNext (s .waiting)) (s .waiting)
   unfolding afterTurn rewritten withCell

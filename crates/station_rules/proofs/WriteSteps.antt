@@ -15,11 +15,11 @@ use Rattle.station_rules.specs.Calls.{ownCountInside, frameOf, writeRefu
 use Rattle.station_rules.proofs.StationLimits.{Inside}
 
 -- the numbers of a station inside its limits are bytes
-pub writable : (s : Station) → Inside s → (s .n ≤ 16) × (s .own < 256)
-writable s c = (c .high, omega (arith, c .own, c .high))
+pub writable : (s : Station) → Inside s → (s .n ≤ 16) × (s .own < 256) × (s .edition < 256)
+writable s c = (c .high, omega (arith, c .own, c .high), omega (arith, c .known))
 
 -- the records that are sent are those of the table
-pub frame-is : (s : Station) → frameBytes (s .n) (s .own) (tableRecords (s .n) (s .held) (s .table)) ≡ frameOf s
+pub frame-is : (s : Station) → frameBytes (s .edition) (s .n) (s .own) (tableRecords (s .n) (s .held) (s .table)) ≡ frameOf s
 unfolding cellOf tableRecords sentRecords frameOf
 frame-is s = refl
 

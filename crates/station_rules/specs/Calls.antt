@@ -6,8 +6,8 @@ use lib.ListN.{set, replicate, length, drop}
 use lib.Dec.{ltb, eqb}
 use Rattle.kinds.specs.declared.Body.{Body}
 use Rattle.kinds.specs.declared.Body.the-variants.{Empty}
-use Rattle.kind_limits.specs.Limits.{postable}
-use Rattle.kinds.specs.Refusals.{done, badNumber, badLimit, outsideLimits, queueFull, notAnEdit, badDesk, shortBuffer, countTooHigh, refuse}
+use Rattle.kind_limits.specs.Limits.{isEdition, postable, onChannel}
+use Rattle.kinds.specs.Refusals.{done, badNumber, badLimit, outsideLimits, queueFull, notAnEdit, badDesk, badEdition, shortBuffer, countTooHigh, refuse}
 use Rattle.frame_rules.specs.Record.{countInside}
 use Rattle.frame_rules.specs.Frame.{validNumber, frameRefusal, recordsOf, frameBytes}
 use Rattle.station_rules.specs.declared.Setup.{Setup}
@@ -25,11 +25,12 @@ use Rattle.station_rules.specs.Limits.{stationInside}
 use Rattle.station_rules.specs.Hearing.{silent, hearFrame}
 use Rattle.station_rules.specs.Turn.{afterTurn, turnReport}
 
--- "Fresh": 1, 13
+-- "Fresh": 1, 13, 17
 abbrev pub freshRefusal : Setup → ℕ → ℕ
 freshRefusal setup own =
     refuse (not (validNumber (setup .n) own)) badNumber
-    (refuse (not (limitInside (setup .limit))) badLimit done)
+    (refuse (not (limitInside (setup .limit))) badLimit
+    (refuse (not (isEdition (setup .edition))) badEdition done))
 
 -- a refused call returns the fresh station of N = 1
 unfoldable pub freshCall : Setup → ℕ → Kept
@@ -42,14 +43,15 @@ freshCall setup own =
 unfoldable pub posted : Station → ℕ → Body → Station
 posted s desk b = withWaiting s (withPosted (s .waiting) desk b)
 
--- 15, 4, 3: what a post judges of the desk, of the body and of the desk's waiting edits
+-- 15, 4, 17, 3: what a post judges of the desk, of the body, of its channel and of the desk's waiting edits
 abbrev pub postRefusal : Station → ℕ → Body → ℕ
 postRefusal s desk b =
     refuse (not (isDesk desk)) badDesk
     (refuse (not (postable b)) notAnEdit
-    (refuse (not (hasRoom (s .waiting) desk)) queueFull done))
+    (refuse (not (onChannel (s .edition) b)) badEdition
+    (refuse (not (hasRoom (s .waiting) desk)) queueFull done)))
 
--- "Post": 2, 15, 4, 3
+-- "Post": 2, 15, 4, 17, 3
 unfoldable pub postCall : Station → ℕ → Body → Kept
 postCall s desk b =
     let refusal = refuse (not (stationInside s)) outsideLimits (postRefusal s desk b) in
@@ -61,7 +63,7 @@ ownCountInside s = countInside (s .n) ((recordOf s (s .own)) .count)
 
 -- the station's frame
 unfoldable pub frameOf : Station → List ℕ
-frameOf s = frameBytes (s .n) (s .own) (sentRecords s)
+frameOf s = frameBytes (s .edition) (s .n) (s .own) (sentRecords s)
 
 -- "Write frame": 2, 10, 9
 unfoldable pub writeRefusal : Station → ℕ → ℕ
@@ -86,13 +88,14 @@ unfoldable pub sourcesOf : List Taking → List Bool
 sourcesOf [] = replicate 16 false
 sourcesOf (t ∷ ts) = set (sourcesOf ts) (t .source) true
 
--- "Hear": 2, 5, 6, 7, 8
+-- "Hear": 2, 5, 6, 7, then 14 or 8
 unfoldable pub hearCall : Station → List ℕ → Heard
 hearCall s bytes =
     let h = hearFrame (silent s) (recordsOf bytes) in
+    let judged = frameRefusal (s .edition) bytes (s .n) (s .own) in
     let refusal =
     refuse (not (stationInside s)) outsideLimits
-    (refuse (not (eqb (frameRefusal bytes (s .n) (s .own)) done)) (frameRefusal bytes (s .n) (s .own)) (h .refusal)) in
+    (refuse (not (eqb judged done)) judged (h .refusal)) in
     cond (eqb refusal done)
     (record { refusal = done; station = h .station; taken = sourcesOf (h .takings) })
     (record { refusal = refusal; station = s; taken = replicate 16 false })

@@ -75,6 +75,7 @@ withWaiting s w =
     record {
       n = s .n;
       own = s .own;
+      edition = s .edition;
       waiting = w;
       acked = s .acked;
       body = s .body;
@@ -91,6 +92,7 @@ withBroadcast s b count =
     record {
       n = s .n;
       own = s .own;
+      edition = s .edition;
       waiting = s .waiting;
       acked = s .acked;
       body = b;
@@ -107,6 +109,7 @@ withArrays s acked labels held table lanes =
     record {
       n = s .n;
       own = s .own;
+      edition = s .edition;
       waiting = s .waiting;
       acked = acked;
       body = s .body;
@@ -134,9 +137,9 @@ withLanes s lane = withArrays s (s .acked) (s .labels) (s .held) (s .table) (fil
 unfoldable pub sentRecords : Station → List Record
 sentRecords s = gather (s .n) (heldOf s) (λ k. framed (s .n) (recordOf s k))
 
--- what is given where no limit is named (document 02, A2)
+-- what is given where neither limit nor edition is named (document 02, A2 and A9)
 abbrev pub sized : ℕ → Setup
-sized n = record { n = n; limit = defaultLimit }
+sized n = record { n = n; limit = defaultLimit; edition = 0 }
 
 -- what a station alone is given: a refused fresh call answers with it, and it stands in a fresh group's places from N up
 abbrev pub aloneSetup : Setup
@@ -157,6 +160,7 @@ freshStation setup own =
     record {
       n = setup .n;
       own = own;
+      edition = setup .edition;
       waiting = noneWaiting (setup .limit);
       acked = set (replicate 16 false) own true;
       body = Empty;
@@ -173,6 +177,7 @@ noStation =
     record {
       n = 0;
       own = 0;
+      edition = 0;
       waiting = absentWaiting;
       acked = [];
       body = Empty;

@@ -6,16 +6,18 @@ use lanes::Lane;
 use lanes::Slot;
 use lanes::Waiting;
 
-// What a fresh station or group is given: N, and how many edits may wait at a station.
+// What a fresh station or group is given: N, how many edits of a desk may wait at a station, and the edition.
 pub struct Setup {
     pub n: usize,
     pub limit: usize,
+    pub edition: usize,
 }
 
 // A station, place by place: what it has of station k stands at place k of each array.
 pub struct Station {
     pub n: usize,
     pub own: usize,
+    pub edition: usize,
     pub waiting: Waiting,
     pub acked: [bool; 16],
     pub body: Body,

@@ -51,6 +51,7 @@ pub fn take_turn(s: Station) -> Turned
     let station = Station {
         n: n,
         own: own,
+        edition: s.edition,
         waiting: still_waiting,
         acked: acked,
         body: body,

@@ -10,7 +10,8 @@ ghost use Rattle.kinds.specs.declared.Body.the-variants.{Empty, Neutral};
 ghost use Rattle.labels.specs.Label.{successor};
 ghost use Rattle.places.specs.Places.{allBelow, fill};
 ghost use Rattle.lanes.specs.Lane.{noLane, pushed};
-ghost use Rattle.lanes.specs.Waiting.{waitingCount, withoutNext, waitingInside};
+ghost use Rattle.lanes.specs.Queue.{queueCapacity};
+ghost use Rattle.lanes.specs.Waiting.{waitingCount, deskCount, nextDesk, withoutNext};
 use kinds::Body;
 use lanes::Lane;
 use lanes::Waiting;
@@ -95,7 +96,8 @@ pub fn starts_edit(ended: bool, own_len: u8, waits: bool) -> bool
 
 // The edits that wait after the start.
 pub fn waiting_after(starts: bool, waiting: Waiting) -> Waiting
-    requires { ⌜ (starts ≡ true → 0 < waitingCount waiting) × (waitingInside waiting ≡ true) ⌝ }
+    requires { ⌜ (starts ≡ true → 0 < waitingCount waiting)
+        × (deskCount waiting (nextDesk waiting) ≤ queueCapacity) ⌝ }
     ensures { λ r. ⌜ r ≡ cond starts (withoutNext waiting) waiting ⌝ }
 {
     if !starts {

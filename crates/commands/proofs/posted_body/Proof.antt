@@ -1,6 +1,7 @@
 -- `commands::posted_body` is one test of the numbers.
 use mathlib.Core.Path.{_≡_, sym, ap, _∙_}
 use mathlib.Core.Bool.{true, false}
+use lib.IntN.{ℤ}
 use mir.Syntax.{w32}
 use mir.ValLaws.{toZ-ofZ}
 use Rattle.kinds.specs.Body.{bodyOf}
@@ -22,7 +23,7 @@ returns c = let a = c .before .before .before .args in
     let same = toZ-ofZ w32 (a .argument) (c .before .before .before .fits .argument) in
     let inside : numbersInside (a .kind) (a .event) (a .argument) ≡ true =
     sym (ap (numbersInside (a .kind) (a .event)) same) ∙ sym (c .before .before .numbers-inside .ensures) ∙ c .before .if1 .taken in
-    rw inside (c .body-of .ensures ∙ ap (bodyOf (a .kind) (a .event)) same)
+    rw inside (c .body-of .ensures ∙ ap (λ (z : ℤ). bodyOf (a .kind) (a .event) z 0) same)
 
 returns-2 : tie.Need-returns-2
 unfolding postedBody

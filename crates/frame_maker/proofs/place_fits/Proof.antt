@@ -13,7 +13,7 @@ cast-if1 c = search needs
 returns : tie.Need-returns
 returns c =
     let a = c .before .before .args in
-    other-station (a .n) (a .k) (a .r) (c .if1 .taken)
+    other-station (a .edition) (a .n) (a .k) (a .r) (c .if1 .taken)
 
 sub-if2 : tie.Need-sub-if2
 sub-if2 c = search needs
@@ -27,7 +27,7 @@ wide-requires c κs = search needs
 returns-2 : tie.Need-returns-2
 returns-2 c =
     let a = c .before .before .before .before .args in
-    high-count (a .n) (a .k) (a .r) (c .before .before .if1 .left) (omega arith) (omega arith)
+    high-count (a .edition) (a .n) (a .k) (a .r) (c .before .before .if1 .left) (omega arith) (omega arith)
 
 body-inside-requires : tie.Need-body-inside-requires
 body-inside-requires c κs = search needs
@@ -35,7 +35,7 @@ body-inside-requires c κs = search needs
 returns-3 : tie.Need-returns-3
 returns-3 c =
     let a = c .before .before .before .before .before .before .args in
-    other-body (a .n) (a .k) (a .r) (c .before .before .before .before .if1 .left) (omega arith) (omega arith) (sym (c .before .body-inside .ensures) ∙ not-true _ (c .if3 .taken))
+    other-body (a .edition) (a .n) (a .k) (a .r) (c .before .before .before .before .if1 .left) (omega arith) (omega arith) (sym (c .before .body-inside .ensures) ∙ not-true _ (c .if3 .taken))
 
 labels-inside-requires : tie.Need-labels-inside-requires
 labels-inside-requires c κs = search needs
@@ -44,7 +44,7 @@ returns-4 : tie.Need-returns-4
 returns-4 c =
     let a = c .before .before .before .before .before .before .before .args in
     c .labels-inside .ensures
-    ∙ by-labels (a .n) (a .k) (a .r) (c .before .before .before .before .before .if1 .left) (omega arith) (omega arith) (sym (c .before .before .body-inside .ensures) ∙ not-false _ (c .before .if3 .left))
+    ∙ by-labels (a .edition) (a .n) (a .k) (a .r) (c .before .before .before .before .before .if1 .left) (omega arith) (omega arith) (sym (c .before .before .body-inside .ensures) ∙ not-false _ (c .before .if3 .left))
 
 pub place-fits-spec : {M : Type 1} → statement M
 place-fits-spec =

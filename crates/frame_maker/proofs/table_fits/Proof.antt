@@ -11,15 +11,15 @@ use Rattle.frame_maker.proofs.table_fits.Statement.{statement}
 use Rattle.frame_maker.proofs.table_fits.Tie as tie
 
 abbrev Inv-loop : tie.InvT-loop
-Inv-loop n sender held table k₀ k = (k ≤ n) × (allBelow k (fitsAt n sender held table) ≡ true)
+Inv-loop edition n sender held table k₀ k = (k ≤ n) × (allBelow k (fitsAt edition n sender held table) ≡ true)
 
 abbrev μ-loop : tie.MeasureT-loop
-μ-loop n sender held table k₀ k = n - k
+μ-loop edition n sender held table k₀ k = n - k
 
 loop-holds : tie.Need-loop-holds Inv-loop μ-loop
 loop-holds c =
     let a = c .args in
-    (omega arith, allBelow-make 0 (fitsAt (a .n) (a .sender) (a .t1) (a .t2)) (λ k l. absurd (omega arith)))
+    (omega arith, allBelow-make 0 (fitsAt (a .edition) (a .n) (a .sender) (a .t1) (a .t2)) (λ k l. absurd (omega arith)))
 
 array-read-held-fits : tie.Need-array-read-held-fits Inv-loop μ-loop
 array-read-held-fits c = omega arith
@@ -36,7 +36,7 @@ held-fits-requires c κs = (omega arith, omega arith)
 returns : tie.Need-returns Inv-loop μ-loop
 returns c =
     let a = c .before .before .before .before .before .args in
-    one-fails (a .n) (a .sender) (a .t1) (a .t2) (c .before .before .before .before .loop .k) (omega arith) (sym (c .before .held-fits .ensures) ∙ not-true _ (c .if1 .taken))
+    one-fails (a .edition) (a .n) (a .sender) (a .t1) (a .t2) (c .before .before .before .before .loop .k) (omega arith) (sym (c .before .held-fits .ensures) ∙ not-true _ (c .if1 .taken))
 
 add-k : tie.Need-add-k Inv-loop μ-loop
 add-k c = omega arith
@@ -48,7 +48,7 @@ loop-again : tie.Need-loop-again Inv-loop μ-loop
 loop-again c =
     let a = c .before .before .before .before .before .args in
     let l = c .before .before .before .before .loop in
-    (omega arith, allBelow-more (l .k) (fitsAt (a .n) (a .sender) (a .t1) (a .t2)) (l .inv .1) (sym (c .before .held-fits .ensures) ∙ not-false _ (c .if1 .left)))
+    (omega arith, allBelow-more (l .k) (fitsAt (a .edition) (a .n) (a .sender) (a .t1) (a .t2)) (l .inv .1) (sym (c .before .held-fits .ensures) ∙ not-false _ (c .if1 .left)))
 
 array-read-result : tie.Need-array-read-result Inv-loop μ-loop
 array-read-result c = omega arith
@@ -57,7 +57,7 @@ returns-2 : tie.Need-returns-2 Inv-loop μ-loop
 returns-2 c =
     let a = c .before .before .args in
     let l = c .before .loop in
-    by-sender's (a .n) (a .sender) (a .t1) (a .t2) (l .k) (omega arith) (l .inv .1)
+    by-sender's (a .edition) (a .n) (a .sender) (a .t1) (a .t2) (l .k) (omega arith) (l .inv .1)
 
 pub table-fits-spec : {M : Type 1} → statement M
 table-fits-spec =

@@ -12,10 +12,10 @@ use Rattle.frame_reader.proofs.read_frame.Statement.{statement}
 use Rattle.frame_reader.proofs.read_frame.Tie as tie
 
 abbrev Inv-loop : tie.InvT-loop
-Inv-loop bytes n own records₀ refusal count k₀ records k = (k ≤ count) × Shape bytes × (records ≡ entriesBelow bytes k)
+Inv-loop bytes edition n own records₀ refusal count k₀ records k = (k ≤ count) × Shape bytes × (records ≡ entriesBelow bytes k)
 
 abbrev μ-loop : tie.MeasureT-loop
-μ-loop bytes n own records₀ refusal count k₀ records k = count - k
+μ-loop bytes edition n own records₀ refusal count k₀ records k = count - k
 
 check-frame-requires : tie.Need-check-frame-requires Inv-loop μ-loop
 check-frame-requires c κs = search needs
@@ -23,18 +23,20 @@ check-frame-requires c κs = search needs
 returns : tie.Need-returns Inv-loop μ-loop
 returns c =
     let s = c .before .before .before .args in
-    reading-refused (s .bytes .now) (s .n) (s .own) (c .before .check-frame .result) (c .before .check-frame .ensures) (c .if1 .taken)
+    reading-refused (s .bytes .now) (s .edition) (s .n) (s .own) (c .before .check-frame .result) (c .before .check-frame .ensures) (c .if1 .taken)
 
 shared-slice-read-wide : tie.Need-shared-slice-read-wide Inv-loop μ-loop
 shared-slice-read-wide c =
-    omega (arith, long-enough (c .before .before .before .before .args .bytes .now) (c .before .before .before .before .args .n) (c .before .before .before .before .args .own) (sym (c .before .before .check-frame .ensures) ∙ c .before .if1 .left))
+    let s = c .before .before .before .before .args in
+    omega (arith, long-enough (s .edition) (s .bytes .now) (s .n) (s .own) (sym (c .before .before .check-frame .ensures) ∙ c .before .if1 .left))
 
 wide-requires : tie.Need-wide-requires Inv-loop μ-loop
 wide-requires c κs = search needs
 
 loop-holds : tie.Need-loop-holds Inv-loop μ-loop
 loop-holds c =
-    (omega arith, frame-shape (c .before .before .before .before .before .args .bytes .now) (c .before .before .before .before .before .args .n) (c .before .before .before .before .before .args .own) (sym (c .before .before .before .check-frame .ensures) ∙ c .before .before .if1 .left), entries-none (c .before .before .before .before .before .args .bytes .now))
+    let s = c .before .before .before .before .before .args in
+    (omega arith, frame-shape (s .edition) (s .bytes .now) (s .n) (s .own) (sym (c .before .before .before .check-frame .ensures) ∙ c .before .before .if1 .left), entries-none (s .bytes .now))
 
 mul-at : tie.Need-mul-at Inv-loop μ-loop
 mul-at c = omega arith
@@ -79,7 +81,7 @@ returns-2 : tie.Need-returns-2 Inv-loop μ-loop
 returns-2 c =
     let l = c .before .loop in
     let s = c .before .before .before .before .before .before .before .args in
-    reading-done (s .bytes .now) (s .n) (s .own) (c .before .before .wide .result) (l .records) (sym (c .before .before .before .before .before .check-frame .ensures) ∙ c .before .before .before .before .if1 .left)
+    reading-done (s .bytes .now) (s .edition) (s .n) (s .own) (c .before .before .wide .result) (l .records) (sym (c .before .before .before .before .before .check-frame .ensures) ∙ c .before .before .before .before .if1 .left)
     (c .before .before .wide .ensures)
     (l .inv .2 ∙ ap (entriesBelow (s .bytes .now)) (omega arith))
 

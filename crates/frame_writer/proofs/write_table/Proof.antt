@@ -11,10 +11,10 @@ use Rattle.frame_writer.proofs.write_table.Statement.{statement}
 use Rattle.frame_writer.proofs.write_table.Tie as tie
 
 abbrev Inv-loop : tie.InvT-loop
-Inv-loop buffer₀ n sender held table count len at₀ k₀ buffer at k = (k ≤ n) × (at ≡ 4 + 16 * heldCount k held) × (length buffer ≡ length buffer₀) × Filled n sender count held table buffer₀ k buffer
+Inv-loop buffer₀ edition n sender held table count len at₀ k₀ buffer at k = (k ≤ n) × (at ≡ 4 + 16 * heldCount k held) × (length buffer ≡ length buffer₀) × Filled edition n sender count held table buffer₀ k buffer
 
 abbrev μ-loop : tie.MeasureT-loop
-μ-loop buffer₀ n sender held table count len at₀ k₀ buffer at k = n - k
+μ-loop buffer₀ edition n sender held table count len at₀ k₀ buffer at k = n - k
 
 held-count-requires : tie.Need-held-count-requires Inv-loop μ-loop
 held-count-requires c κs = omega arith
@@ -31,8 +31,8 @@ returns : tie.Need-returns Inv-loop μ-loop
 returns c =
     let s = c .before .before .before .args in
     let h = c .before .held-count in (
-      short-answer (s .n) (s .sender) (s .t2) (s .t3) (h .result) (h .ensures) (s .buffer .now) (omega arith),
-      short-buffer (s .n) (s .sender) (s .t2) (s .t3) (h .result) (h .ensures) (s .buffer .now) (omega arith),
+      short-answer (s .edition) (s .n) (s .sender) (s .t2) (s .t3) (h .result) (h .ensures) (s .buffer .now) (omega arith),
+      short-buffer (s .edition) (s .n) (s .sender) (s .t2) (s .t3) (h .result) (h .ensures) (s .buffer .now) (omega arith),
     )
 
 cast-buffer : tie.Need-cast-buffer Inv-loop μ-loop
@@ -54,13 +54,16 @@ cast-buffer-3 c =
 slice-write-buffer-3 : tie.Need-slice-write-buffer-3 Inv-loop μ-loop
 slice-write-buffer-3 c = simp length-set (omega arith)
 
+cast-buffer-4 : tie.Need-cast-buffer-4 Inv-loop μ-loop
+cast-buffer-4 c = omega arith
+
 slice-write-buffer-4 : tie.Need-slice-write-buffer-4 Inv-loop μ-loop
 slice-write-buffer-4 c = simp length-set (omega arith)
 
 loop-holds : tie.Need-loop-holds Inv-loop μ-loop
 loop-holds c =
     let s = c .before .before .before .args in
-    (omega arith, start (s .t2), refl, filled-none (s .n) (s .sender) (c .before .held-count .result) (s .t2) (s .t3) (s .buffer .now) (omega arith))
+    (omega arith, start (s .t2), refl, filled-none (s .edition) (s .n) (s .sender) (c .before .held-count .result) (s .t2) (s .t3) (s .buffer .now) (omega arith))
 
 array-read-if2 : tie.Need-array-read-if2 Inv-loop μ-loop
 array-read-if2 c = omega arith
@@ -76,11 +79,11 @@ loop-again c =
     let s = c .before .before .before .before .before .before .args in
     let l = c .before .before .loop in
     let out = not-true _ (c .if2 .taken) in
-    let same = at-same (s .n) (s .sender) (c .before .before .before .before .held-count .result) (s .t2) (s .t3) _ (l .buffer) (l .k) (l .inv .3) out in (
+    let same = at-same (s .edition) (s .n) (s .sender) (c .before .before .before .before .held-count .result) (s .t2) (s .t3) _ (l .buffer) (l .k) (l .inv .3) out in (
       omega arith,
       omega (arith, same),
       l .inv .2,
-      filled-same (s .n) (s .sender) (c .before .before .before .before .held-count .result) (s .t2) (s .t3) _ (l .buffer) (l .k) (l .inv .3) out,
+      filled-same (s .edition) (s .n) (s .sender) (c .before .before .before .before .held-count .result) (s .t2) (s .t3) _ (l .buffer) (l .k) (l .inv .3) out,
     )
 
 add-write-record : tie.Need-add-write-record Inv-loop μ-loop
@@ -147,9 +150,9 @@ loop-again-2 c =
     let on = not-false _ (c .before .before .before .before .before .if2 .left) in
     let w = c .before .before .write-record in (
       omega arith,
-      omega (arith, at-more (s .n) (s .sender) h (s .t2) (s .t3) _ (l .buffer) (l .k) (l .inv .3) on),
+      omega (arith, at-more (s .edition) (s .n) (s .sender) h (s .t2) (s .t3) _ (l .buffer) (l .k) (l .inv .3) on),
       same-len-mid (l .at) (l .at + 16 - l .at) (l .buffer) (w .last .0) (w .kept .0) ∙ l .inv .2,
-      filled-more (s .n) (s .sender) h (s .t2) (s .t3) _ (l .buffer) (l .k) (l .inv .3) (l .at) (w .last .0) (l .inv .1) on (w .ensures),
+      filled-more (s .edition) (s .n) (s .sender) h (s .t2) (s .t3) _ (l .buffer) (l .k) (l .inv .3) (l .at) (w .last .0) (l .inv .1) on (w .ensures),
     )
 
 same-length : tie.Need-same-length Inv-loop μ-loop
@@ -160,8 +163,8 @@ returns-2 c =
     let s = c .before .before .before .before .before .args in
     let h = c .before .before .before .held-count in
     let l = c .before .loop in (
-      done-answer (s .n) (s .sender) (s .t2) (s .t3) (h .result) (h .ensures) (s .buffer .now) (omega arith),
-      done-buffer (s .n) (s .sender) (s .t2) (s .t3) (h .result) (h .ensures) (s .buffer .now) (omega arith) (l .k) (l .buffer) (omega arith) (l .inv .3),
+      done-answer (s .edition) (s .n) (s .sender) (s .t2) (s .t3) (h .result) (h .ensures) (s .buffer .now) (omega arith),
+      done-buffer (s .edition) (s .n) (s .sender) (s .t2) (s .t3) (h .result) (h .ensures) (s .buffer .now) (omega arith) (l .k) (l .buffer) (omega arith) (l .inv .3),
     )
 
 pub write-table-spec : {M : Type 1} → statement M
@@ -180,6 +183,7 @@ write-table-spec =
     slice-write-buffer-2
     cast-buffer-3
     slice-write-buffer-3
+    cast-buffer-4
     slice-write-buffer-4
     loop-holds
     array-read-if2

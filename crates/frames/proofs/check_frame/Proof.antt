@@ -1,4 +1,4 @@
--- `frames::check_frame` meets its contract: N and the own number first, then what `frame_refusal` says.
+-- `frames::check_frame` meets its contract: N and the own number first, then the edition, then what `frame_refusal` says.
 use Prim.Native.Nat.{ℕ, _<_, _≤_}
 use mathlib.Core.Path.{_≡_, _∙_}
 use mathlib.Core.Bool.{true, false}
@@ -6,7 +6,7 @@ use native.Mathlib.Omega.{arith}
 use borrow.Author.Needs.{needs}
 use borrow.Author.Tests.{le-leb, lt-leb, le-ltb, lt-ltb}
 use Rattle.frame_rules.specs.Frame.{validNumber}
-use Rattle.frame_rules.proofs.Check.{refused-number, by-frame}
+use Rattle.frame_rules.proofs.Check.{refused-number, refused-edition, by-frame}
 use Rattle.frames.proofs.check_frame.Statement.{statement}
 use Rattle.frames.proofs.check_frame.Tie as tie
 
@@ -25,17 +25,17 @@ among n own a b c = simp (le-leb _ _ a, le-leb _ _ b, lt-ltb _ _ c)
 returns : tie.Need-returns
 returns c =
     let s = c .before .before .args in
-    refused-number (s .bytes .now) (s .n) (s .own) (no-station (s .n) (s .own) (omega arith))
+    refused-number (s .edition) (s .bytes .now) (s .n) (s .own) (no-station (s .n) (s .own) (omega arith))
 
 returns-2 : tie.Need-returns-2
 returns-2 c =
     let s = c .before .before .before .args in
-    refused-number (s .bytes .now) (s .n) (s .own) (too-many (s .n) (s .own) (omega arith) (omega arith))
+    refused-number (s .edition) (s .bytes .now) (s .n) (s .own) (too-many (s .n) (s .own) (omega arith) (omega arith))
 
 returns-3 : tie.Need-returns-3
 returns-3 c =
     let s = c .before .before .before .before .args in
-    refused-number (s .bytes .now) (s .n) (s .own) (not-among (s .n) (s .own) (omega arith) (omega arith) (omega arith))
+    refused-number (s .edition) (s .bytes .now) (s .n) (s .own) (not-among (s .n) (s .own) (omega arith) (omega arith) (omega arith))
 
 frame-refusal-requires : tie.Need-frame-refusal-requires
 frame-refusal-requires c κs = search needs
@@ -43,9 +43,16 @@ frame-refusal-requires c κs = search needs
 returns-4 : tie.Need-returns-4
 returns-4 c =
     let s = c .before .before .before .before .before .args in
+    refused-edition (s .edition) (s .bytes .now) (s .n) (s .own) (among (s .n) (s .own) (omega arith) (omega arith) (omega arith))
+    (le-ltb (s .edition) 2 (omega arith))
+
+returns-5 : tie.Need-returns-5
+returns-5 c =
+    let s = c .before .before .before .before .before .before .args in
     c .frame-refusal .ensures
-    ∙ by-frame (s .bytes .now) (s .n) (s .own) (among (s .n) (s .own) (omega arith) (omega arith) (omega arith))
+    ∙ by-frame (s .edition) (s .bytes .now) (s .n) (s .own) (among (s .n) (s .own) (omega arith) (omega arith) (omega arith))
+    (lt-ltb (s .edition) 2 (omega arith))
 
 pub check-frame-spec : {M : Type 1} → statement M
 check-frame-spec =
-    tie.close (tie.spec returns returns-2 returns-3 frame-refusal-requires returns-4)
+    tie.close (tie.spec returns returns-2 returns-3 returns-4 frame-refusal-requires returns-5)

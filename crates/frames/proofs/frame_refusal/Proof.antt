@@ -12,7 +12,7 @@ shape-wrong-requires c κs = search needs
 returns : tie.Need-returns
 returns c =
     let s = c .before .before .before .args in
-    refused-shape (s .bytes .now) (s .n) (s .own) (sym (c .before .shape-wrong .ensures) ∙ c .if1 .taken)
+    refused-shape (s .edition) (s .bytes .now) (s .n) (s .own) (sym (c .before .shape-wrong .ensures) ∙ c .if1 .taken)
 
 address-wrong-requires : tie.Need-address-wrong-requires
 address-wrong-requires c κs =
@@ -21,7 +21,7 @@ address-wrong-requires c κs =
 returns-2 : tie.Need-returns-2
 returns-2 c =
     let s = c .before .before .before .before .before .args in
-    refused-address (s .bytes .now) (s .n) (s .own) (sym (c .before .before .before .shape-wrong .ensures) ∙ c .before .before .if1 .left) (sym (c .before .address-wrong .ensures) ∙ c .if2 .taken)
+    refused-address (s .edition) (s .bytes .now) (s .n) (s .own) (sym (c .before .before .before .shape-wrong .ensures) ∙ c .before .before .if1 .left) (sym (c .before .address-wrong .ensures) ∙ c .if2 .taken)
 
 records-inside-requires : tie.Need-records-inside-requires
 records-inside-requires c κs =
@@ -30,7 +30,7 @@ records-inside-requires c κs =
 returns-3 : tie.Need-returns-3
 returns-3 c =
     let s = c .before .before .before .before .before .before .before .args in
-    accepted (s .bytes .now) (s .n) (s .own)
+    accepted (s .edition) (s .bytes .now) (s .n) (s .own)
     (sym (c .before .before .before .before .before .shape-wrong .ensures) ∙ c .before .before .before .before .if1 .left)
     (sym (c .before .before .before .address-wrong .ensures) ∙ c .before .before .if2 .left)
     (sym (c .before .records-inside .ensures) ∙ c .if3 .taken)
@@ -38,7 +38,7 @@ returns-3 c =
 returns-4 : tie.Need-returns-4
 returns-4 c =
     let s = c .before .before .before .before .before .before .before .args in
-    refused-records (s .bytes .now) (s .n) (s .own)
+    refused-records (s .edition) (s .bytes .now) (s .n) (s .own)
     (sym (c .before .before .before .before .before .shape-wrong .ensures) ∙ c .before .before .before .before .if1 .left)
     (sym (c .before .before .before .address-wrong .ensures) ∙ c .before .before .if2 .left)
     (sym (c .before .records-inside .ensures) ∙ c .if3 .left)

@@ -7,10 +7,10 @@ use borrow.Author.Needs.{needs}
 use borrow.Author.Tests.{not-true, not-false}
 use native.Mathlib.Omega.{arith}
 use lib.ListN.{getD}
-use Rattle.kind_limits.specs.Limits.{numbersInside}
+use Rattle.kind_limits.specs.Limits.{numbersInside, channelInside}
 use Rattle.label_words.specs.Packing.{wordInside}
 use Rattle.frame_rules.specs.Words.{wordAt, signed}
-use Rattle.frame_rules.proofs.Check.{judged, far, high, other-numbers, marked, by-labels}
+use Rattle.frame_rules.proofs.Check.{judged, far, high, other-numbers, other-channel, by-labels}
 use Rattle.frames.proofs.record_inside.Statement.{statement}
 use Rattle.frames.proofs.record_inside.Tie as tie
 
@@ -21,6 +21,9 @@ module _ (c : tie.After-numbers-inside) where
 
   abbrev n : ℕ
   n = c .before .before .before .before .before .before .before .before .before .before .before .before .args .n
+
+  abbrev edition : ℕ
+  edition = c .before .before .before .before .before .before .before .before .before .before .before .before .args .edition
 
   numbers-are : c .numbers-inside .result ≡ numbersInside (getD part 2 0) (wordAt part 4) (signed (wordAt part 8))
   numbers-are =
@@ -35,33 +38,39 @@ module _ (c : tie.After-numbers-inside) where
 returns : tie.Need-returns
 returns c =
     let s = c .before .before .before .before .args in
-    far (s .n) (s .part .now) (omega arith)
+    far (s .edition) (s .n) (s .part .now) (omega arith)
 
 returns-2 : tie.Need-returns-2
 returns-2 c =
     let s = c .before .before .before .before .before .before .before .args in
-    high (s .n) (s .part .now) (omega arith) (omega arith)
+    high (s .edition) (s .n) (s .part .now) (omega arith) (omega arith)
 
 returns-3 : tie.Need-returns-3
 returns-3 c =
     let j = c .before in
-    other-numbers (n j) (part j) (omega arith) (omega arith) (sym (numbers-are j) ∙ not-true _ (c .if3 .taken))
+    other-numbers (edition j) (n j) (part j) (omega arith) (omega arith) (sym (numbers-are j) ∙ not-true _ (c .if3 .taken))
 
 returns-4 : tie.Need-returns-4
 returns-4 c =
-    let j = c .before .before .before in
-    marked (n j) (part j) (omega arith) (omega arith) (sym (numbers-are j) ∙ not-false _ (c .before .before .if3 .left)) (c .if4 .taken)
+    let k = c .before in
+    let j = k .before .before .before .before in
+    other-channel (edition j) (n j) (part j) (omega arith) (omega arith) (sym (numbers-are j) ∙ not-false _ (k .before .before .before .if3 .left))
+    (sym (k .channel-inside .ensures) ∙ not-true _ (c .if4 .taken))
 
 returns-5 : tie.Need-returns-5
 returns-5 c =
-    let j = c .before .before .before .before .before in
+    let k = c .before .before .before in
+    let j = k .before .before .before .before in
     c .word-inside .ensures
     ∙ ap (wordInside (n j)) (c .before .word-at3 .ensures)
-    ∙ by-labels (n j) (part j) (omega arith) (omega arith) (sym (numbers-are j) ∙ not-false _ (c .before .before .before .before .if3 .left))
-    (c .before .before .if4 .left)
+    ∙ by-labels (edition j) (n j) (part j) (omega arith) (omega arith) (sym (numbers-are j) ∙ not-false _ (k .before .before .before .if3 .left))
+    (sym (k .channel-inside .ensures) ∙ not-false _ (c .before .before .if4 .left))
 
 cast-numbers-inside : tie.Need-cast-numbers-inside
 cast-numbers-inside c = omega (arith, c .shared-slice-known4 .given 2)
+
+cast-channel-inside : tie.Need-cast-channel-inside
+cast-channel-inside c = omega (arith, c .shared-slice-known5 .given 2)
 
 pub record-inside-spec : {M : Type 1} → statement M
 record-inside-spec =
@@ -83,6 +92,9 @@ record-inside-spec =
     (λ c κs. search needs)
     returns-3
     (λ c. search needs)
+    cast-channel-inside
+    (λ c. search needs)
+    (λ c κs. search needs)
     returns-4
     (λ c κs. search needs)
     (λ c κs. search needs)

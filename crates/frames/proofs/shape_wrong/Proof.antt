@@ -5,7 +5,7 @@ use Prim.Native.Nat.{ℕ, _+_, _*_}
 use native.Mathlib.Omega.{arith}
 use lib.Dec.{eqb}
 use lib.ListN.{length}
-use Rattle.frame_rules.proofs.Check.{short, none, many, frame-marked, by-length}
+use Rattle.frame_rules.proofs.Check.{short, none, many, no-edition, by-length}
 use borrow.Author.Needs.{needs}
 use Rattle.frames.proofs.shape_wrong.Statement.{statement}
 use Rattle.frames.proofs.shape_wrong.Tie as tie
@@ -31,7 +31,7 @@ shared-slice-read-if4 c = search needs
 
 returns-4 : tie.Need-returns-4
 returns-4 c =
-    frame-marked (c .before .before .before .before .before .before .before .before .args .bytes .now) (omega arith) (omega arith) (omega arith) (c .if4 .taken)
+    no-edition (c .before .before .before .before .before .before .before .before .args .bytes .now) (omega arith) (omega arith) (omega arith) (omega arith)
 
 mul-result : tie.Need-mul-result
 mul-result c = search needs
@@ -42,7 +42,7 @@ add-result c = search needs
 returns-5 : tie.Need-returns-5
 returns-5 c =
     let e = c .before .before .before .before .wide .ensures in
-    ap (λ (k : ℕ). not (eqb (length (c .before .before .before .before .before .before .before .before .args .bytes .now)) (4 + 16 * k))) e ∙ by-length (c .before .before .before .before .before .before .before .before .args .bytes .now) (omega arith) (omega arith) (omega arith) (c .if4 .left)
+    ap (λ (k : ℕ). not (eqb (length (c .before .before .before .before .before .before .before .before .args .bytes .now)) (4 + 16 * k))) e ∙ by-length (c .before .before .before .before .before .before .before .before .args .bytes .now) (omega arith) (omega arith) (omega arith) (omega arith)
 
 pub shape-wrong-spec : {M : Type 1} → statement M
 shape-wrong-spec =

@@ -11,7 +11,7 @@ use Rattle.group_frames.proofs.write_part.Statement.{statement}
 use Rattle.group_frames.proofs.write_part.Tie as tie
 
 -- the station is one of the group
-within : (c : tie.Else1) → let a = c .before .before .before .args in member (a .n) (a .k) (a .t2) ≡ true
+within : (c : tie.Else1) → let a = c .before .before .before .args in member (a .edition) (a .n) (a .k) (a .t2) ≡ true
 within c = sym (c .before .member-inside .ensures) ∙ not-false _ (c .if1 .left)
 
 member-inside-requires : tie.Need-member-inside-requires
@@ -20,42 +20,42 @@ member-inside-requires c κs = search needs
 returns : tie.Need-returns
 returns c =
     let a = c .before .before .before .args in
-    send-outside (a .n) (a .k) (a .t2) (a .bytes .now) (sym (c .before .member-inside .ensures) ∙ not-true _ (c .if1 .taken))
+    send-outside (a .edition) (a .n) (a .k) (a .t2) (a .bytes .now) (sym (c .before .member-inside .ensures) ∙ not-true _ (c .if1 .taken))
 
 mul-record : tie.Need-mul-record
 mul-record c =
     let a = c .before .before .before .args in
-    record { fits = omega (arith, below (a .n) (a .k) (a .t2) (within c)) }
+    record { fits = omega (arith, below (a .edition) (a .n) (a .k) (a .t2) (within c)) }
 
 element-copy-out-record : tie.Need-element-copy-out-record
 element-copy-out-record c =
     let a = c .before .before .before .args in
-    below (a .n) (a .k) (a .t2) (within c)
+    below (a .edition) (a .n) (a .k) (a .t2) (within c)
 
 count-fits-requires : tie.Need-count-fits-requires
 count-fits-requires c κs =
     let a = c .before .before .before .before .args in
     let w = within (c .before) in
-    (low (a .n) (a .k) (a .t2) w, high (a .n) (a .k) (a .t2) w)
+    (low (a .edition) (a .n) (a .k) (a .t2) w, high (a .edition) (a .n) (a .k) (a .t2) w)
 
 returns-2 : tie.Need-returns-2
 unfolding cellOf
 returns-2 c =
     let d = c .before .before .before in
     let a = d .before .before .before .args in
-    send-count (a .n) (a .k) (a .t2) (a .bytes .now) (within d) (sym (c .before .count-fits .ensures) ∙ not-true _ (c .if2 .taken))
+    send-count (a .edition) (a .n) (a .k) (a .t2) (a .bytes .now) (within d) (sym (c .before .count-fits .ensures) ∙ not-true _ (c .if2 .taken))
 
 mul-at : tie.Need-mul-at
 mul-at c =
     let d = c .before .before .before .before .before in
     let a = d .before .before .before .args in
-    omega (arith, below (a .n) (a .k) (a .t2) (within d))
+    omega (arith, below (a .edition) (a .n) (a .k) (a .t2) (within d))
 
 add-write-table : tie.Need-add-write-table
 add-write-table c =
     let d = c .before .before .before .before .before in
     let a = d .before .before .before .args in
-    omega (arith, below (a .n) (a .k) (a .t2) (within d))
+    omega (arith, below (a .edition) (a .n) (a .k) (a .t2) (within d))
 
 sub-write-table : tie.Need-sub-write-table
 sub-write-table c = search needs
@@ -67,13 +67,13 @@ part-write-table-end : tie.Need-part-write-table-end
 part-write-table-end c =
     let d = c .before .before .before .before .before in
     let a = d .before .before .before .args in
-    omega (arith, below (a .n) (a .k) (a .t2) (within d), d .before .before .before .pre)
+    omega (arith, below (a .edition) (a .n) (a .k) (a .t2) (within d), d .before .before .before .pre)
 
 write-table-requires : tie.Need-write-table-requires
 write-table-requires c κs =
     let d = c .before .before .before .before .before .before in
     let a = d .before .before .before .args in
-    may-write (a .n) (a .k) (a .t2) (within d)
+    may-write (a .edition) (a .n) (a .k) (a .t2) (within d)
 
 same-length : tie.Need-same-length
 same-length c = search needs
@@ -85,7 +85,7 @@ returns-3 c =
     let d = f .before .before .before in
     let a = d .before .before .before .args in
     let t = c .before .before .write-table in
-    send-frame (a .n) (a .k) (a .t2) (a .bytes .now) (within d) (sym (f .before .count-fits .ensures) ∙ not-false _ (f .if2 .left))
+    send-frame (a .edition) (a .n) (a .k) (a .t2) (a .bytes .now) (within d) (sym (f .before .count-fits .ensures) ∙ not-false _ (f .if2 .left))
     (260 * a .k + 260 - 260 * a .k) (omega arith) (t .last .0) (t .ensures .1)
 
 pub write-part-spec : {M : Type 1} → statement M

@@ -7,16 +7,16 @@ use borrow.Author.Needs.{needs}
 use borrow.Author.Tests.{not-true, not-false}
 use Rattle.places.specs.Places.{allBelow}
 use Rattle.places.proofs.Laws.{allBelow-more, allBelow-fails}
-use Rattle.group_rules.specs.State.{sizeOf, memberInside}
+use Rattle.group_rules.specs.State.{sizeOf, editionOf, memberInside}
 use Rattle.group_limits.proofs.GroupLimits.{none-outside, many-outside, group-judged}
 use Rattle.group_limits.proofs.group_inside.Statement.{statement}
 use Rattle.group_limits.proofs.group_inside.Tie as tie
 
 abbrev Inv-loop : tie.InvT-loop
-Inv-loop g n k₀ k = (n ≡ sizeOf g) × (1 ≤ n) × (k ≤ n) × (n ≤ 16) × (allBelow k (memberInside g) ≡ true)
+Inv-loop g n edition k₀ k = (edition ≡ editionOf g) × (n ≡ sizeOf g) × (1 ≤ n) × (k ≤ n) × (n ≤ 16) × (allBelow k (memberInside g) ≡ true)
 
 abbrev μ-loop : tie.MeasureT-loop
-μ-loop g n k₀ k = n - k
+μ-loop g n edition k₀ k = n - k
 
 array-copy-out-first : tie.Need-array-copy-out-first Inv-loop μ-loop
 array-copy-out-first c = search needs
@@ -29,7 +29,7 @@ returns-2 c = sym (many-outside (c .before .before .before .args .t1) (c .if2 .t
 
 loop-holds : tie.Need-loop-holds Inv-loop μ-loop
 unfolding allBelow
-loop-holds c = (refl, c .before .if1 .left, omega arith, c .if2 .left, refl)
+loop-holds c = (refl, refl, c .before .if1 .left, omega arith, c .if2 .left, refl)
 
 mul-member-inside : tie.Need-mul-member-inside Inv-loop μ-loop
 mul-member-inside c = search needs
@@ -45,7 +45,7 @@ returns-3 c =
     let g = c .before .before .before .before .before .before .before .before .args .t1 in
     let l = c .before .before .before .before .loop in
     sym
-    (group-judged g (l .inv .1)
+    (group-judged g (l .inv .2)
     ∙ allBelow-fails (sizeOf g) (memberInside g) (l .k) (omega arith) (sym (c .before .member-inside .ensures) ∙ not-true _ (c .if3 .taken)))
 
 add-k : tie.Need-add-k Inv-loop μ-loop
@@ -59,10 +59,11 @@ loop-again c =
     let g = c .before .before .before .before .before .before .before .before .args .t1 in
     let l = c .before .before .before .before .loop in (
       refl,
-      l .inv .1,
+      refl,
+      l .inv .2,
       omega arith,
-      l .inv .3,
-      allBelow-more (l .k) (memberInside g) (l .inv .4) (sym (c .before .member-inside .ensures) ∙ not-false _ (c .if3 .left)),
+      l .inv .4,
+      allBelow-more (l .k) (memberInside g) (l .inv .5) (sym (c .before .member-inside .ensures) ∙ not-false _ (c .if3 .left)),
     )
 
 returns-4 : tie.Need-returns-4 Inv-loop μ-loop
@@ -70,7 +71,7 @@ returns-4 c =
     let g = c .before .before .before .before .before .args .t1 in
     let l = c .before .loop in
     let e : l .k ≡ sizeOf g = omega arith in
-    sym (group-judged g (l .inv .1) ∙ ap (λ (m : ℕ). allBelow m (memberInside g)) (sym e) ∙ l .inv .4)
+    sym (group-judged g (l .inv .2) ∙ ap (λ (m : ℕ). allBelow m (memberInside g)) (sym e) ∙ l .inv .5)
 
 pub group-inside-spec : {M : Type 1} → statement M
 group-inside-spec =

@@ -23,18 +23,33 @@ returns c =
 returns-2 : tie.Need-returns-2
 returns-2 c =
     let d = c .before .before in
-    let s = d .before .before .args .s in
-    rw (eq-eqb (s .n) (d .before .before .args .n) (d .if1 .left), ne-eqb (s .own) (d .before .before .args .k) (c .if2 .taken)) (nowhere (stationInside s))
-
-station-inside-requires : tie.Need-station-inside-requires
-station-inside-requires c κs = search needs
+    let a = d .before .before .args in
+    rw (eq-eqb (a .s .n) (a .n) (d .if1 .left), ne-eqb (a .s .edition) (a .edition) (c .if2 .taken)) (nowhere (stationInside (a .s)))
 
 returns-3 : tie.Need-returns-3
 returns-3 c =
-    let d = c .before in
-    let e = d .before .before in
-    let s = e .before .before .args .s in
-    rw (eq-eqb (s .n) (e .before .before .args .n) (e .if1 .left), eq-eqb (s .own) (e .before .before .args .k) (d .if2 .left)) (c .station-inside .ensures ∙ everywhere (stationInside s))
+    let e = c .before .before in
+    let d = e .before .before in
+    let a = d .before .before .args in
+    rw (
+      eq-eqb (a .s .n) (a .n) (d .if1 .left),
+      eq-eqb (a .s .edition) (a .edition) (e .if2 .left),
+      ne-eqb (a .s .own) (a .k) (c .if3 .taken),
+    )
+    (nowhere (stationInside (a .s)))
+
+returns-4 : tie.Need-returns-4
+returns-4 c =
+    let f = c .before in
+    let e = f .before .before in
+    let d = e .before .before in
+    let a = d .before .before .args in
+    rw (
+      eq-eqb (a .s .n) (a .n) (d .if1 .left),
+      eq-eqb (a .s .edition) (a .edition) (e .if2 .left),
+      eq-eqb (a .s .own) (a .k) (f .if3 .left),
+    )
+    (c .station-inside .ensures ∙ everywhere (stationInside (a .s)))
 
 pub member-inside-spec : {M : Type 1} → statement M
-member-inside-spec = tie.close (tie.spec returns returns-2 station-inside-requires returns-3)
+member-inside-spec = tie.close (tie.spec returns returns-2 returns-3 (λ c κs. search needs) returns-4)

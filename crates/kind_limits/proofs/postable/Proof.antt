@@ -1,4 +1,4 @@
--- `kind_limits::postable` meets its contract: what is no edit is refused, and of an edit `body_inside` decides.
+-- `kind_limits::postable` meets its contract: what is no edit is refused, and of an edit `inside_kind` decides.
 use mathlib.Core.Path.{sym, _∙_}
 use borrow.Author.Needs.{needs}
 use borrow.Author.Tests.{not-true, not-false}
@@ -14,12 +14,12 @@ returns : tie.Need-returns
 unfolding postable
 returns c = rw (sym (c .before .is-edit .ensures) ∙ not-true _ (c .if1 .taken))
 
-body-inside-requires : tie.Need-body-inside-requires
-body-inside-requires c κs = search needs
+inside-kind-requires : tie.Need-inside-kind-requires
+inside-kind-requires c κs = search needs
 
 returns-2 : tie.Need-returns-2
 unfolding postable
-returns-2 c = rw (sym (c .before .before .is-edit .ensures) ∙ not-false _ (c .before .if1 .left)) (c .body-inside .ensures)
+returns-2 c = rw (sym (c .before .before .is-edit .ensures) ∙ not-false _ (c .before .if1 .left)) (c .inside-kind .ensures)
 
 pub postable-spec : {M : Type 1} → statement M
-postable-spec = tie.close (tie.spec is-edit-requires returns body-inside-requires returns-2)
+postable-spec = tie.close (tie.spec is-edit-requires returns inside-kind-requires returns-2)

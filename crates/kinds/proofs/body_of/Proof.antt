@@ -14,7 +14,7 @@ returns c = rw (c .match .keys1)
 
 returns-2 : tie.Need-returns-2
 unfolding bodyOf
-returns-2 c = rw (c .match .keys2) (ap (Insert (c .before .args .event)) (toZ-ofZ w32 _ (c .before .fits .argument)))
+returns-2 c = rw (c .match .keys2) (ap (Insert (c .before .args .channel) (c .before .args .event)) (toZ-ofZ w32 _ (c .before .fits .argument)))
 
 returns-3 : tie.Need-returns-3
 unfolding bodyOf
@@ -22,7 +22,7 @@ returns-3 c = rw (c .match .keys3)
 
 returns-4 : tie.Need-returns-4
 unfolding bodyOf
-returns-4 c = rw (c .match .keys4) (ap (Shift (c .before .args .event)) (toZ-ofZ w32 _ (c .before .fits .argument)))
+returns-4 c = rw (c .match .keys4) (ap (Shift (c .before .args .channel) (c .before .args .event)) (toZ-ofZ w32 _ (c .before .fits .argument)))
 
 returns-5 : tie.Need-returns-5
 unfolding bodyOf

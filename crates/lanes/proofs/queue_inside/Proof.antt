@@ -1,11 +1,11 @@
--- `lanes::queue_inside` meets its contract: what was passed may be posted.
+-- `lanes::queue_inside` meets its contract: what was passed may wait.
 use Prim.Native.Nat.{_≤_, _-_}
 use native.Mathlib.Omega.{arith}
 use mathlib.Core.Path.{_≡_, refl, sym, _∙_}
 use mathlib.Core.Bool.{true, false}
 use borrow.Author.Needs.{needs}
 use lib.ListN.{getD}
-use Rattle.kind_limits.specs.Limits.{postable}
+use Rattle.kind_limits.specs.Limits.{mayWait}
 use borrow.Author.Tests.{le-leb, lt-leb, not-true, not-false}
 use Rattle.places.specs.Places.{allBelow}
 use Rattle.places.proofs.Laws.{allBelow-more, allBelow-fails}
@@ -14,13 +14,13 @@ use Rattle.lanes.proofs.queue_inside.Statement.{statement}
 use Rattle.lanes.proofs.queue_inside.Tie as tie
 use Rattle.lanes.proofs.queue_inside.Reads as reads
 use Rattle.lanes.proofs.queue_inside.Lts as lts
-use Rattle.kind_limits.proofs.postable.Reads as postable-reads
+use Rattle.kind_limits.proofs.may_wait.Reads as may-wait-reads
 
 abbrev Inv-loop : tie.InvT-loop
-Inv-loop limit queue len i₀ i = (i ≤ len) × (len ≡ queue .len) × (len ≤ limit) × (allBelow i (λ k. postable ((getD (queue .slots) k noSlot) .body)) ≡ true)
+Inv-loop edition limit queue len i₀ i = (i ≤ len) × (len ≡ queue .len) × (len ≤ limit) × (allBelow i (λ k. mayWait edition ((getD (queue .slots) k noSlot) .body)) ≡ true)
 
 abbrev μ-loop : tie.MeasureT-loop
-μ-loop limit queue len i₀ i = len - i
+μ-loop edition limit queue len i₀ i = len - i
 
 returns : tie.Need-returns Inv-loop μ-loop
 unfolding queueInside
@@ -36,15 +36,16 @@ mul-slot c = search needs
 element-copy-out-slot : tie.Need-element-copy-out-slot Inv-loop μ-loop
 element-copy-out-slot c = search needs
 
-postable-requires : tie.Need-postable-requires Inv-loop μ-loop
-postable-requires c κs = search needs
+may-wait-requires : tie.Need-may-wait-requires Inv-loop μ-loop
+may-wait-requires c κs = search needs
 
 returns-2 : tie.Need-returns-2 Inv-loop μ-loop
 unfolding queueInside
 returns-2 c =
     let a = c .before .before .before in
     let q = a .before .before .before .args .t1 in
-    let e : postable ((getD (q .slots) (a .before .loop .i) noSlot) .body) ≡ false = sym (c .before .postable .ensures) ∙ not-true _ (c .if2 .taken) in
+    let edition = a .before .before .before .args .edition in
+    let e : mayWait edition ((getD (q .slots) (a .before .loop .i) noSlot) .body) ≡ false = sym (c .before .may-wait .ensures) ∙ not-true _ (c .if2 .taken) in
     rw (le-leb _ _ (a .before .loop .inv .2)) (sym (allBelow-fails (q .len) _ (a .before .loop .i) (omega arith) e))
 
 add-i : tie.Need-add-i Inv-loop μ-loop
@@ -57,7 +58,8 @@ loop-again : tie.Need-loop-again Inv-loop μ-loop
 loop-again c =
     let a = c .before .before .before in
     let q = a .before .before .before .args .t1 in
-    let e : postable ((getD (q .slots) (a .before .loop .i) noSlot) .body) ≡ true = sym (c .before .postable .ensures) ∙ not-false _ (c .if2 .left) in
+    let edition = a .before .before .before .args .edition in
+    let e : mayWait edition ((getD (q .slots) (a .before .loop .i) noSlot) .body) ≡ true = sym (c .before .may-wait .ensures) ∙ not-false _ (c .if2 .left) in
     (omega arith, refl, a .before .loop .inv .2, allBelow-more (a .before .loop .i) _ (a .before .loop .inv .3) e)
 
 returns-3 : tie.Need-returns-3 Inv-loop μ-loop
@@ -76,7 +78,7 @@ queue-inside-spec =
     loop-holds
     mul-slot
     element-copy-out-slot
-    postable-requires
+    may-wait-requires
     returns-2
     add-i
     loop-less

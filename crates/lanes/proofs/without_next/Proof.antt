@@ -7,7 +7,7 @@ use borrow.Author.Needs.{needs}
 use Rattle.lanes.specs.declared.Waiting.{Waiting}
 use Rattle.lanes.specs.Waiting.{deskCount, nextDesk}
 use Rattle.lanes.proofs.DeskSteps.{count-zero, count-one, next-is, started-zero, started-one}
-use Rattle.lanes.proofs.WaitingLaws.{next-waits, inside-most}
+use Rattle.lanes.proofs.WaitingLaws.{next-waits}
 use Rattle.lanes.proofs.without_next.Statement.{statement}
 use Rattle.lanes.proofs.without_next.Tie as tie
 
@@ -23,7 +23,7 @@ unqueued-requires c κs =
     let a = c .before .before .before .before in
     let w = a .args .waiting in
     let len = count-one w (nextDesk w) (λ z. omega (arith, one-next c)) in
-    (omega (arith, len, next-waits w (a .pre .0)), omega (arith, len, inside-most w (a .pre .1) (nextDesk w)))
+    (omega (arith, len, next-waits w (a .pre .0)), omega (arith, len, a .pre .1))
 
 returns : tie.Need-returns
 returns c = started-one (c .before .before .before .before .before .args .waiting) _ (one-next (c .before)) (c .unqueued .ensures)
@@ -33,7 +33,7 @@ unqueued-requires-2 c κs =
     let a = c .before .before .before .before in
     let w = a .args .waiting in
     let len = count-zero w (nextDesk w) (zero-next c) in
-    (omega (arith, len, next-waits w (a .pre .0)), omega (arith, len, inside-most w (a .pre .1) (nextDesk w)))
+    (omega (arith, len, next-waits w (a .pre .0)), omega (arith, len, a .pre .1))
 
 returns-2 : tie.Need-returns-2
 returns-2 c = started-zero (c .before .before .before .before .before .args .waiting) _ (zero-next (c .before)) (c .unqueued2 .ensures)

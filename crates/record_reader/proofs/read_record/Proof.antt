@@ -23,34 +23,31 @@ shared-slice-read-body-of c = search needs
 cast-body-of : tie.Need-cast-body-of
 cast-body-of c = omega (arith, c .shared-slice-known2 .given 2)
 
+shared-slice-read-body-of-2 : tie.Need-shared-slice-read-body-of-2
+shared-slice-read-body-of-2 c = search needs
+
 body-of-requires : tie.Need-body-of-requires
 body-of-requires c κs = search needs
 
 word-at-requires-3 : tie.Need-word-at-requires-3
 word-at-requires-3 c κs = search needs
 
-shared-slice-read-t8 : tie.Need-shared-slice-read-t8
-shared-slice-read-t8 c = search needs
-
-shared-slice-read-t11 : tie.Need-shared-slice-read-t11
-shared-slice-read-t11 c = search needs
-
 returns : tie.Need-returns
 returns c =
-    let p = c .before .before .before .before .before .before .before .before .before .args .part .now in
+    let p = c .before .before .before .before .before .before .before .before .before .before .args .part .now in
     let body =
     judged
-    (bodyOf (getD p 2 0))
+    (λ event argument. bodyOf (getD p 2 0) event argument (getD p 3 0))
     p
     (c .before .before .before .body-of .result)
-    (c .before .before .before .before .before .before .before .word-at .result)
-    (c .before .before .before .before .before .before .word-at2 .result)
-    (c .before .before .before .before .before .signed .result)
-    (record { sfits = c .before .before .before .before .before .signed .ok })
+    (c .before .before .before .before .before .before .before .before .word-at .result)
+    (c .before .before .before .before .before .before .before .word-at2 .result)
+    (c .before .before .before .before .before .before .signed .result)
+    (record { sfits = c .before .before .before .before .before .before .signed .ok })
     (c .before .before .before .body-of .ensures)
-    (c .before .before .before .before .before .before .before .word-at .ensures)
-    (c .before .before .before .before .before .before .word-at2 .ensures)
-    (c .before .before .before .before .before .signed .ensures) in
+    (c .before .before .before .before .before .before .before .before .word-at .ensures)
+    (c .before .before .before .before .before .before .before .word-at2 .ensures)
+    (c .before .before .before .before .before .before .signed .ensures) in
     record-is p body (c .before .before .word-at3 .ensures)
 
 pub read-record-spec : {M : Type 1} → statement M
@@ -62,8 +59,9 @@ read-record-spec =
     signed-requires
     shared-slice-read-body-of
     cast-body-of
+    shared-slice-read-body-of-2
     body-of-requires
     word-at-requires-3
-    shared-slice-read-t8
-    shared-slice-read-t11
+    (λ c. search needs)
+    (λ c. search needs)
     returns)

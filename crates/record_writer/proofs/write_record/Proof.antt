@@ -52,9 +52,10 @@ same-length c =
 
 returns : tie.Need-returns
 returns c =
-    let s = c .before .before .before .before .before .before .before .before .before .before .before .before .before .before .before .before .before .before .args in
+    let s = c .before .before .before .before .before .before .before .before .before .before .before .before .before .before .before .before .before .before .before .args in
     record-made (s .n) (s .r) (s .part .now) (omega arith)
-    (c .before .before .before .before .before .before .before .before .before .before .before .before .before .before .before .before .kind-of .result)
+    (c .before .before .before .before .before .before .before .before .before .before .before .before .before .before .before .before .before .kind-of .result)
+    (c .before .before .before .before .before .before .before .before .before .before .before .before .before .before .before .before .channel-of .result)
     (c .before .before .before .before .before .before .before .before .before .before .before .before .before .before .event-of .result)
     (c .before .before .before .before .before .before .before .before .before .argument-of .result)
     (c .before .before .before .before .before .before .before .before .unsigned .result)
@@ -62,7 +63,8 @@ returns c =
     (c .before .before .before .before .before .before .before .before .before .before .before .before .before .put-word .last .0)
     (c .before .before .before .before .before .before .before .put-word2 .last .0)
     (c .before .before .put-word3 .last .0)
-    (c .before .before .before .before .before .before .before .before .before .before .before .before .before .before .before .before .kind-of .ensures)
+    (c .before .before .before .before .before .before .before .before .before .before .before .before .before .before .before .before .before .kind-of .ensures)
+    (c .before .before .before .before .before .before .before .before .before .before .before .before .before .before .before .before .channel-of .ensures)
     (c .before .before .before .before .before .before .before .before .before .before .before .before .before .before .event-of .ensures)
     (record { sfits = c .before .before .before .before .before .before .before .before .before .argument-of .ok })
     (c .before .before .before .before .before .before .before .before .before .argument-of .ensures)
@@ -81,6 +83,7 @@ write-record-spec =
     kind-of-requires
     cast-part
     slice-write-part-3
+    (λ c κs. search needs)
     slice-write-part-4
     event-of-requires
     put-word-requires

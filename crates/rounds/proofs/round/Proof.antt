@@ -14,7 +14,7 @@ use Rattle.station_rules.proofs.CallSteps.{valid-parts}
 use Rattle.hearing_spec.specs.declared.Ear.{Ear}
 use Rattle.hearing_spec.specs.StandsFor.{actsOn}
 use Rattle.acting.specs.Listened.{heardNotes, Readable}
-use Rattle.group_rules.specs.State.{stationAt, sizeOf}
+use Rattle.group_rules.specs.State.{stationAt, sizeOf, editionOf}
 use Rattle.group_frames.proofs.WrittenFrames.{SentBelow, sent-none, sent-more, all-sent}
 use Rattle.group_rules.proofs.CallSteps.{round-outside}
 use Rattle.rounds.proofs.GroupLengths.{group-lengths}
@@ -26,25 +26,25 @@ use Rattle.rounds.proofs.round.Statement.{statement}
 use Rattle.rounds.proofs.round.Tie as tie
 
 abbrev Inv-loop : tie.InvT-loop
-Inv-loop masks group reports ears bytes₀ places taken n refusal₀ k₀ bytes refusal k =
-    (n ≡ sizeOf group) × (1 ≤ n) × (k ≤ n) × (n ≤ 16) × SentBelow group k refusal bytes
+Inv-loop masks group reports ears bytes₀ places taken n edition refusal₀ k₀ bytes refusal k =
+    (edition ≡ editionOf group) × (n ≡ sizeOf group) × (1 ≤ n) × (k ≤ n) × (n ≤ 16) × SentBelow group k refusal bytes
 
 abbrev μ-loop : tie.MeasureT-loop
-μ-loop masks group reports ears bytes₀ places taken n refusal₀ k₀ bytes refusal k = n - k
+μ-loop masks group reports ears bytes₀ places taken n edition refusal₀ k₀ bytes refusal k = n - k
 
 abbrev Inv-loop2 : tie.InvT-loop2
-Inv-loop2 masks group reports ears₀ bytes places₀ taken₀ n refusal k j₀ ears places taken j =
+Inv-loop2 masks group reports ears₀ bytes places₀ taken₀ n edition refusal k j₀ ears places taken j =
     (j ≤ n) × (n ≤ 16) × Listening group masks bytes ears places taken j
 
 abbrev μ-loop2 : tie.MeasureT-loop2
-μ-loop2 masks group reports ears₀ bytes places₀ taken₀ n refusal k j₀ ears places taken j = n - j
+μ-loop2 masks group reports ears₀ bytes places₀ taken₀ n edition refusal k j₀ ears places taken j = n - j
 
 abbrev Inv-loop3 : tie.InvT-loop3
-Inv-loop3 group₀ reports₀ ears bytes places taken n refusal k j i₀ group reports i =
+Inv-loop3 group₀ reports₀ ears bytes places taken n edition refusal k j i₀ group reports i =
     (i ≤ n) × MayTurn group₀ bytes ears places taken n × Turning group₀ bytes ears places taken reports₀ group reports i
 
 abbrev μ-loop3 : tie.MeasureT-loop3
-μ-loop3 group₀ reports₀ ears bytes places taken n refusal k j i₀ group reports i = n - i
+μ-loop3 group₀ reports₀ ears bytes places taken n edition refusal k j i₀ group reports i = n - i
 
 -- ---- the frames
 
@@ -58,7 +58,7 @@ loop-holds : tie.Need-loop-holds Inv-loop μ-loop Inv-loop2 μ-loop2 Inv-loop3 �
 loop-holds c =
     let g = c .before .before .before .before .args .g in
     let v = valid-parts (sizeOf g) 0 (sym (c .before .valid-number .ensures) ∙ not-false _ (c .if1 .left)) in
-    (refl, v .0, omega arith, v .1, sent-none g _ refl)
+    (refl, refl, v .0, omega arith, v .1, sent-none g _ refl)
 
 loop-again : tie.Need-loop-again Inv-loop μ-loop Inv-loop2 μ-loop2 Inv-loop3 μ-loop3
 loop-again c =
@@ -66,10 +66,11 @@ loop-again c =
     let sent = c .before .send in
     let below = c .before .before .before .before .loop-test .taken in (
       refl,
-      l .inv .1,
+      refl,
+      l .inv .2,
       omega (arith, below),
-      l .inv .3,
-      sent-more (c .before .before .before .before .before .before .before .before .before .before .args .g) (l .k) (omega (arith, below, l .inv .3)) (l .refusal) (l .bytes) (l .inv .4) _ (sent .ensures .1) (sent .result)
+      l .inv .4,
+      sent-more (c .before .before .before .before .before .before .before .before .before .before .args .g) (l .k) (omega (arith, below, l .inv .4)) (l .refusal) (l .bytes) (l .inv .5) _ (sent .ensures .1) (sent .result)
           (sent .ensures .0),
     )
 
@@ -78,7 +79,7 @@ returns-2 c =
     let a = c .before .before .before .before .before .before .before .args in
     let l = c .before .before .loop in
     ap (refusedRound (l .refusal) (a .g)) (c .before .before .before .before .before .before .no-report .ensures)
-    ∙ round-judged (a .g) (a .t2) (l .k) (l .refusal) (omega (arith, l .inv .2, c .before .loop-test .left)) (l .inv .1) (l .inv .4 .judged) (c .if2 .taken)
+    ∙ round-judged (a .g) (a .t2) (l .k) (l .refusal) (omega (arith, l .inv .3, c .before .loop-test .left)) (l .inv .2) (l .inv .5 .judged) (c .if2 .taken)
 
 -- all frames stand
 begun : (c : tie.Else2 Inv-loop μ-loop Inv-loop2 μ-loop2 Inv-loop3 μ-loop3) → Begun (c .before .before .before .before .before .before .before .args .g) (c .before .before .before .before .before .before .no-report .result) (c .before .before .loop .bytes)
@@ -87,7 +88,7 @@ begun c =
     let g = c .before .before .before .before .before .before .before .args .g in
     record {
       none-is = c .before .before .before .before .before .before .no-report .ensures;
-      sent = all-sent g (l .k) (l .refusal) (l .bytes) (l .inv .4) (omega (arith, l .inv .2, c .before .loop-test .left)) (l .inv .1) (c .if2 .left);
+      sent = all-sent g (l .k) (l .refusal) (l .bytes) (l .inv .5) (omega (arith, l .inv .3, c .before .loop-test .left)) (l .inv .2) (c .if2 .left);
       shape = group-lengths g _ (c .before .before .before .before .before .before .before .good .0);
     }
 
@@ -96,7 +97,7 @@ begun c =
 loop2-holds : tie.Need-loop2-holds Inv-loop μ-loop Inv-loop2 μ-loop2 Inv-loop3 μ-loop3
 loop2-holds c =
     let a = c .before .before .before .before .before .before .before .args in
-    (omega arith, c .before .before .loop .inv .3, listening-none (a .g) (a .t2) _ _ (begun c) _ refl)
+    (omega arith, c .before .before .loop .inv .4, listening-none (a .g) (a .t2) _ _ (begun c) _ refl)
 
 module _ (c : tie.In-loop2 Inv-loop μ-loop Inv-loop2 μ-loop2 Inv-loop3 μ-loop3) where
   abbrev g : List Station
@@ -299,11 +300,11 @@ round-spec =
     (λ c. search needs)
     (λ c. search needs)
     (λ c. search needs)
-    (λ c κs. c .before .before .before .loop .inv .4 .long)
+    (λ c κs. c .before .before .before .loop .inv .5 .long)
     (λ c. search needs)
     (λ c. search needs)
     loop-again
-    (λ c. record { fits = omega (arith, c .before .before .loop .inv .4 .judged, judged-small (c .before .before .before .before .before .before .before .args .g) (c .before .before .loop .k)) })
+    (λ c. record { fits = omega (arith, c .before .before .loop .inv .5 .judged, judged-small (c .before .before .before .before .before .before .before .args .g) (c .before .before .loop .k)) })
     returns-2
     loop2-holds
     (λ c. search needs)

@@ -2,7 +2,7 @@
 use mathlib.Core.Bool.{true}
 use mathlib.Core.Path.{_≡_, sym, ap, _∙_}
 use borrow.Author.Tests.{not-true, not-false}
-use Rattle.kind_limits.specs.Limits.{postable}
+use Rattle.kind_limits.specs.Limits.{postable, onChannel}
 use Rattle.lanes.specs.declared.Waiting.{Waiting}
 use Rattle.lanes.specs.Waiting.{isDesk}
 use Rattle.station_rules.specs.declared.Station.{Station}
@@ -10,7 +10,7 @@ use Rattle.station_rules.specs.declared.Kept.{Kept}
 use Rattle.station_rules.specs.State.{withWaiting}
 use Rattle.station_rules.specs.Limits.{stationInside}
 use Rattle.station_rules.specs.Calls.{posted}
-use Rattle.station_rules.proofs.CallSteps.{post-outside, post-no-desk, post-no-edit, post-full, post-done}
+use Rattle.station_rules.proofs.CallSteps.{post-outside, post-no-desk, post-no-edit, post-off-channel, post-full, post-done}
 use Rattle.lanes.proofs.WaitingLaws.{room-most}
 use Rattle.station_rules.proofs.StationLimits.{inside-open}
 use borrow.Author.Needs.{needs}
@@ -30,6 +30,9 @@ desk c = sym (c .before .is-desk .ensures) ∙ not-false _ (c .if2 .left)
 
 edit : (c : tie.Else3) → postable (c .before .before .before .before .before .before .args .body) ≡ true
 edit c = sym (c .before .postable .ensures) ∙ not-false _ (c .if3 .left)
+
+channel : (c : tie.Else4) → onChannel (c .before .before .before .before .before .before .before .before .args .s .edition) (c .before .before .before .before .before .before .before .before .args .body) ≡ true
+channel c = sym (c .before .on-channel .ensures) ∙ not-false _ (c .if4 .left)
 
 station-inside-requires : tie.Need-station-inside-requires
 station-inside-requires c κs = search needs
@@ -51,29 +54,34 @@ returns-3 c =
     let d = c .before .before in
     post-no-edit _ _ _ (inside (d .before .before)) (desk d) (sym (c .before .postable .ensures) ∙ not-true _ (c .if3 .taken))
 
-has-room-requires : tie.Need-has-room-requires
-has-room-requires c κs = search needs
-
 returns-4 : tie.Need-returns-4
 returns-4 c =
-    let e = c .before .before .before in
+    let e = c .before .before in
     let d = e .before .before in
-    post-full _ _ _ (inside (d .before .before)) (desk d) (edit e) (sym (c .before .has-room .ensures) ∙ not-true _ (c .if4 .taken))
+    post-off-channel _ _ _ (inside (d .before .before)) (desk d) (edit e) (sym (c .before .on-channel .ensures) ∙ not-true _ (c .if4 .taken))
+
+returns-5 : tie.Need-returns-5
+returns-5 c =
+    let f = c .before .before .before in
+    let e = f .before .before in
+    let d = e .before .before in
+    post-full _ _ _ (inside (d .before .before)) (desk d) (edit e) (channel f) (sym (c .before .has-room .ensures) ∙ not-true _ (c .if5 .taken))
 
 with-posted-requires : tie.Need-with-posted-requires
 with-posted-requires c κs =
-    let d = c .before .before .before .before .before in
-    room-most _ _ (inside-open _ (inside (d .before .before)) .waiting) (sym (c .before .has-room .ensures) ∙ not-false _ (c .if4 .left))
+    let d = c .before .before .before .before .before .before .before in
+    room-most _ _ _ (inside-open _ (inside (d .before .before)) .waiting) (sym (c .before .has-room .ensures) ∙ not-false _ (c .if5 .left))
 
-returns-5 : tie.Need-returns-5
+returns-6 : tie.Need-returns-6
 unfolding posted
-returns-5 c =
-    let e = c .before .before .before .before in
+returns-6 c =
+    let f = c .before .before .before .before in
+    let e = f .before .before in
     let d = e .before .before in
     let a = d .before .before .before .before .args in
     ap (answer (a .s)) (c .with-posted .ensures)
-    ∙ post-done (a .s) (a .desk) (a .body) (inside (d .before .before)) (desk d) (edit e)
-    (sym (c .before .before .has-room .ensures) ∙ not-false _ (c .before .if4 .left))
+    ∙ post-done (a .s) (a .desk) (a .body) (inside (d .before .before)) (desk d) (edit e) (channel f)
+    (sym (c .before .before .has-room .ensures) ∙ not-false _ (c .before .if5 .left))
 
 pub post-spec : {M : Type 1} → statement M
 post-spec =
@@ -85,7 +93,9 @@ post-spec =
     returns-2
     postable-requires
     returns-3
-    has-room-requires
+    (λ c κs. search needs)
     returns-4
+    (λ c κs. search needs)
+    returns-5
     with-posted-requires
-    returns-5)
+    returns-6)

@@ -11,7 +11,7 @@ body-of-requires : tie.Need-body-of-requires
 body-of-requires c κs = search needs
 
 returns : tie.Need-returns
-returns c = body-made _ _ _ (c .before .signed .result) _ (record { sfits = c .before .signed .ok }) (c .body-of .ensures) (c .before .signed .ensures)
+returns c = body-made _ _ _ _ (c .before .signed .result) _ (record { sfits = c .before .signed .ok }) (c .body-of .ensures) (c .before .signed .ensures)
 
 pub body-of-words-spec : {M : Type 1} → statement M
 body-of-words-spec = tie.close (tie.spec signed-requires body-of-requires returns)

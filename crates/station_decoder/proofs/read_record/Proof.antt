@@ -14,9 +14,11 @@ cast-body-of-words c = omega (arith, c .shared-slice-known2 .given (c .before .b
 returns : tie.Need-returns
 unfolding decodeRecord
 returns c =
-    let s = c .before .before .before .before .before .before .before .before .args in
+    let s = c .before .before .before .before .before .before .before .before .before .args in
     let z = c .before .before .before in
-    let body = z .body-of-words .ensures ∙ (λ j. bodyOfWords (byteAt (s .bytes .now) (s .at + 2)) (z .before .before .before .word-at .ensures j) (z .before .before .word-at2 .ensures j)) in
+    let body = z .body-of-words .ensures ∙ (λ j.
+    bodyOfWords (byteAt (s .bytes .now) (s .at + 2)) (byteAt (s .bytes .now) (s .at + 3)) (z .before .before .before .before .word-at .ensures j)
+    (z .before .before .before .word-at2 .ensures j)) in
     (λ i. record { station = byteAt (s .bytes .now) (s .at); count = byteAt (s .bytes .now) (s .at + 1); body = body i; labels = c .before .before .word-at3 .ensures i })
 
 pub read-record-spec : {M : Type 1} → statement M
@@ -30,6 +32,8 @@ read-record-spec =
     (λ c. search needs)
     (λ c. search needs)
     cast-body-of-words
+    (λ c. search needs)
+    (λ c. search needs)
     (λ c κs. search needs)
     (λ c. search needs)
     (λ c κs. search needs)

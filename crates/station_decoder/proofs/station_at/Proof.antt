@@ -23,10 +23,11 @@ loop-again c =
 
 returns : tie.Need-returns Inv-loop μ-loop
 returns c =
-    let w = c .before .before .before .before .before in
+    let w = c .before .before .before .before .before .before .before in
     let l = w .before .before .before .loop in
     let s = w .before .before .before .before .before .args in
-    station-read (s .bytes .now) (s .at) (l .k) (l .acked) (l .held) (l .labels) (l .table) (l .lanes) (l .inv .1) (omega arith) _ _ _ _ (c .before .before .before .wide .ensures) (c .before .wide2 .ensures)
+    station-read (s .bytes .now) (s .at) (l .k) (l .acked) (l .held) (l .labels) (l .table) (l .lanes) (l .inv .1) (omega arith) _ _ _ _ _ (c .before .before .before .before .before .wide .ensures) (c .before .before .before .wide2 .ensures)
+    (c .wide3 .ensures)
     (w .before .read-body .ensures) (w .read-waiting .ensures)
 
 pub station-at-spec : {M : Type 1} → statement M
@@ -68,4 +69,7 @@ station-at-spec =
     (λ c κs. search needs)
     (λ c. omega arith)
     (λ c. omega arith)
+    (λ c. omega arith)
+    (λ c. omega arith)
+    (λ c κs. search needs)
     returns)

@@ -10,14 +10,15 @@ returns c =
     let z₃ = z₄ .before .before .before .before in
     let z₂ = z₃ .before .before .before .before in
     let z₁ = z₂ .before .before .before .before in
-    let s = z₁ .before .before .before .before .before .before .args in
-    station-written (s .bytes .now) (s .at) (s .s) (z₁ .before .before .as-byte .result) (z₁ .before .as-byte2 .result)
-    _ _ _ _ (z₁ .before .before .as-byte .ensures) (z₁ .before .as-byte2 .ensures) (z₁ .put-four .ensures) (z₂ .put-body .ensures) (z₃ .put-cells .ensures) (z₄ .put-waiting .ensures)
+    let s = z₁ .before .before .before .before .before .before .before .args in
+    station-written (s .bytes .now) (s .at) (s .s) (z₁ .before .before .before .as-byte .result) (z₁ .before .before .as-byte2 .result) (z₁ .before .as-byte3 .result)
+    _ _ _ _ (z₁ .before .before .before .as-byte .ensures) (z₁ .before .before .as-byte2 .ensures) (z₁ .before .as-byte3 .ensures) (z₁ .put-four .ensures) (z₂ .put-body .ensures) (z₃ .put-cells .ensures) (z₄ .put-waiting .ensures)
 
 pub put-station-spec : {M : Type 1} → statement M
 put-station-spec =
     tie.close
     (tie.spec
+    (λ c κs. search needs)
     (λ c κs. search needs)
     (λ c κs. search needs)
     (λ c κs. search needs)

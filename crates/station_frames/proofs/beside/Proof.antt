@@ -19,7 +19,7 @@ write-table-requires : tie.Need-write-table-requires
 write-table-requires c κs =
     let z = c .before .before .before .before in
     let i = inside-open (z .args .s) (z .pre .0) in
-    (i .high, omega (arith, i .own, i .high))
+    (i .high, omega (arith, i .own, i .high), omega (arith, i .known))
 
 -- the own frame in its room
 module _ (c : tie.After-write-table) where

@@ -50,7 +50,7 @@ module _ (c : tie.Else2) where
   inside : stationInside s ≡ true
   inside = within (c .before .before)
 
-  accepted : frameRefusal bytes (s .n) (s .own) ≡ 0
+  accepted : frameRefusal (s .edition) bytes (s .n) (s .own) ≡ 0
   accepted = sym (c .before .frame-refusal .ensures) ∙ c .if2 .left
 
   both-listen : (both : List ℕ) → both ≡ beside s bytes → MayListen s both 0

@@ -17,7 +17,7 @@ held-inside-requires c κs = search needs
 returns-2 : tie.Need-returns-2
 returns-2 c =
     let a = c .before .before .before .args in
-    let e : (not (a .held) || recordInside (a .n) (a .own) (a .k) (a .«record»)) ≡ false = sym (c .before .held-inside .ensures) ∙ not-true _ (c .if2 .taken) in
+    let e : (not (a .held) || recordInside (a .edition) (a .n) (a .own) (a .k) (a .«record»)) ≡ false = sym (c .before .held-inside .ensures) ∙ not-true _ (c .if2 .taken) in
     rw (le-leb _ _ (c .before .before .if1 .left), e)
 
 lane-room-requires : tie.Need-lane-room-requires
@@ -29,8 +29,8 @@ lane-inside-requires c κs = search needs
 returns-3 : tie.Need-returns-3
 returns-3 c =
     let a = c .before .before .before .before .before .args in
-    let e : (not (a .held) || recordInside (a .n) (a .own) (a .k) (a .«record»)) ≡ true = sym (c .before .before .before .held-inside .ensures) ∙ not-false _ (c .before .before .if2 .left) in
-    rw (le-leb _ _ (c .before .before .before .before .if1 .left), e) (c .lane-inside .ensures ∙ ap (λ (m : ℕ). laneInside m (a .lane)) (c .before .lane-room .ensures))
+    let e : (not (a .held) || recordInside (a .edition) (a .n) (a .own) (a .k) (a .«record»)) ≡ true = sym (c .before .before .before .held-inside .ensures) ∙ not-false _ (c .before .before .if2 .left) in
+    rw (le-leb _ _ (c .before .before .before .before .if1 .left), e) (c .lane-inside .ensures ∙ ap (λ (m : ℕ). laneInside (a .edition) m (a .lane)) (c .before .lane-room .ensures))
 
 pub place-inside-spec : {M : Type 1} → statement M
 place-inside-spec =

@@ -5,7 +5,7 @@ use mathlib.Core.Path.{_≡_, refl, sym, _∙_}
 use mathlib.Core.Bool.{Bool, true, false, _&&_}
 use borrow.Author.Needs.{needs}
 use borrow.Author.Tests.{not-true, not-false}
-use Rattle.kind_limits.specs.Limits.{bodyInside}
+use Rattle.kind_limits.specs.Limits.{isEdition, bodyInside}
 use Rattle.frame_rules.specs.Frame.{validNumber}
 use Rattle.places.specs.Places.{allBelow}
 use Rattle.places.proofs.Laws.{allBelow-more, allBelow-fails}
@@ -19,14 +19,20 @@ use Rattle.station_limits.proofs.station_inside.Tie as tie
 
 -- all but the places
 abbrev whole : Station → Bool
-whole s = validNumber (s .n) (s .own) && ackedOf s (s .own) && heldOf s (s .own) && bodyInside (s .body) && waitingInside (s .waiting)
+whole s =
+    validNumber (s .n) (s .own)
+    && isEdition (s .edition)
+    && ackedOf s (s .own)
+    && heldOf s (s .own)
+    && bodyInside (s .edition) (s .body)
+    && waitingInside (s .edition) (s .waiting)
 
 abbrev Inv-loop : tie.InvT-loop
-Inv-loop s n own k₀ k =
-    (n ≡ s .n) × (own ≡ s .own) × (k ≤ n) × (1 ≤ n) × (n ≤ 16) × (whole s ≡ true) × (allBelow k (placeInside s) ≡ true)
+Inv-loop s n own edition k₀ k =
+    (n ≡ s .n) × (own ≡ s .own) × (edition ≡ s .edition) × (k ≤ n) × (1 ≤ n) × (n ≤ 16) × (whole s ≡ true) × (allBelow k (placeInside s) ≡ true)
 
 abbrev μ-loop : tie.MeasureT-loop
-μ-loop s n own k₀ k = n - k
+μ-loop s n own edition k₀ k = n - k
 
 -- what each passed test says
 valid : (c : tie.Else1 Inv-loop μ-loop) → validNumber (c .before .before .args .t1 .n) (c .before .before .args .t1 .own) ≡ true
@@ -35,16 +41,19 @@ valid c = sym (c .before .valid-number .ensures) ∙ not-false _ (c .if1 .left)
 sixteen : (c : tie.Else1 Inv-loop μ-loop) → (1 ≤ c .before .before .args .t1 .n) × (c .before .before .args .t1 .n ≤ 16) × (c .before .before .args .t1 .own < c .before .before .args .t1 .n)
 sixteen c = valid-parts _ _ (valid c)
 
-acked : (c : tie.Else2 Inv-loop μ-loop) → ackedOf (c .before .before .before .before .args .t1) (c .before .before .before .before .args .t1 .own) ≡ true
-unfolding cellOf
-acked c = not-false _ (c .if2 .left)
+known : (c : tie.Else2 Inv-loop μ-loop) → isEdition (c .before .before .before .before .args .t1 .edition) ≡ true
+known c = sym (c .before .is-edition .ensures) ∙ not-false _ (c .if2 .left)
 
-held : (c : tie.Else3 Inv-loop μ-loop) → heldOf (c .before .before .before .before .before .before .args .t1) (c .before .before .before .before .before .before .args .t1 .own) ≡ true
+acked : (c : tie.Else3 Inv-loop μ-loop) → ackedOf (c .before .before .before .before .before .before .args .t1) (c .before .before .before .before .before .before .args .t1 .own) ≡ true
 unfolding cellOf
-held c = not-false _ (c .if3 .left)
+acked c = not-false _ (c .if3 .left)
 
-body : (c : tie.Else4 Inv-loop μ-loop) → bodyInside (c .before .before .before .before .before .before .before .before .args .t1 .body) ≡ true
-body c = sym (c .before .body-inside .ensures) ∙ not-false _ (c .if4 .left)
+held : (c : tie.Else4 Inv-loop μ-loop) → heldOf (c .before .before .before .before .before .before .before .before .args .t1) (c .before .before .before .before .before .before .before .before .args .t1 .own) ≡ true
+unfolding cellOf
+held c = not-false _ (c .if4 .left)
+
+body : (c : tie.Else5 Inv-loop μ-loop) → bodyInside (c .before .before .before .before .before .before .before .before .before .before .args .t1 .edition) (c .before .before .before .before .before .before .before .before .before .before .args .t1 .body) ≡ true
+body c = sym (c .before .body-inside .ensures) ∙ not-false _ (c .if5 .left)
 
 valid-number-requires : tie.Need-valid-number-requires Inv-loop μ-loop
 valid-number-requires c κs = search needs
@@ -55,12 +64,12 @@ returns c =
     let e : validNumber (c .before .before .args .t1 .n) (c .before .before .args .t1 .own) ≡ false = sym (c .before .valid-number .ensures) ∙ not-true _ (c .if1 .taken) in
     rw e
 
-element-copy-out-if2 : tie.Need-element-copy-out-if2 Inv-loop μ-loop
-element-copy-out-if2 c = omega (arith, sixteen c)
-
 returns-2 : tie.Need-returns-2 Inv-loop μ-loop
-unfolding cellOf stationInside
-returns-2 c = rw (valid (c .before .before), not-true (ackedOf (c .before .before .before .before .args .t1) (c .before .before .before .before .args .t1 .own)) (c .if2 .taken))
+unfolding stationInside
+returns-2 c =
+    let s = c .before .before .before .before .args .t1 in
+    let e : isEdition (s .edition) ≡ false = sym (c .before .is-edition .ensures) ∙ not-true _ (c .if2 .taken) in
+    rw (valid (c .before .before), e)
 
 element-copy-out-if3 : tie.Need-element-copy-out-if3 Inv-loop μ-loop
 element-copy-out-if3 c = omega (arith, sixteen (c .before .before))
@@ -69,37 +78,54 @@ returns-3 : tie.Need-returns-3 Inv-loop μ-loop
 unfolding cellOf stationInside
 returns-3 c =
     let s = c .before .before .before .before .before .before .args .t1 in
-    rw (valid (c .before .before .before .before), acked (c .before .before), not-true (heldOf s (s .own)) (c .if3 .taken))
+    rw (valid (c .before .before .before .before), known (c .before .before), not-true (ackedOf s (s .own)) (c .if3 .taken))
+
+element-copy-out-if4 : tie.Need-element-copy-out-if4 Inv-loop μ-loop
+element-copy-out-if4 c = omega (arith, sixteen (c .before .before .before .before))
+
+returns-4 : tie.Need-returns-4 Inv-loop μ-loop
+unfolding cellOf stationInside
+returns-4 c =
+    let s = c .before .before .before .before .before .before .before .before .args .t1 in
+    rw (valid (c .before .before .before .before .before .before), known (c .before .before .before .before), acked (c .before .before), not-true (heldOf s (s .own)) (c .if4 .taken))
 
 body-inside-requires : tie.Need-body-inside-requires Inv-loop μ-loop
 body-inside-requires c κs = search needs
 
-returns-4 : tie.Need-returns-4 Inv-loop μ-loop
+returns-5 : tie.Need-returns-5 Inv-loop μ-loop
 unfolding stationInside
-returns-4 c =
-    let s = c .before .before .before .before .before .before .before .before .args .t1 in
-    let e : bodyInside (s .body) ≡ false = sym (c .before .body-inside .ensures) ∙ not-true _ (c .if4 .taken) in
-    rw (valid (c .before .before .before .before .before .before), acked (c .before .before .before .before), held (c .before .before), e)
+returns-5 c =
+    let s = c .before .before .before .before .before .before .before .before .before .before .args .t1 in
+    let e : bodyInside (s .edition) (s .body) ≡ false = sym (c .before .body-inside .ensures) ∙ not-true _ (c .if5 .taken) in
+    rw (valid (c .before .before .before .before .before .before .before .before), known (c .before .before .before .before .before .before), acked (c .before .before .before .before), held (c .before .before), e)
 
 waiting-inside-requires : tie.Need-waiting-inside-requires Inv-loop μ-loop
 waiting-inside-requires c κs = search needs
 
-returns-5 : tie.Need-returns-5 Inv-loop μ-loop
+returns-6 : tie.Need-returns-6 Inv-loop μ-loop
 unfolding stationInside
-returns-5 c =
+returns-6 c =
     let d = c .before .before .before in
-    let s = d .before .before .before .before .before .before .before .before .args .t1 in
-    let e : waitingInside (s .waiting) ≡ false = sym (c .before .waiting-inside .ensures) ∙ not-true _ (c .if5 .taken) in
-    rw (valid (d .before .before .before .before .before .before), acked (d .before .before .before .before), held (d .before .before), body d, e)
+    let s = d .before .before .before .before .before .before .before .before .before .before .args .t1 in
+    let e : waitingInside (s .edition) (s .waiting) ≡ false = sym (c .before .waiting-inside .ensures) ∙ not-true _ (c .if6 .taken) in
+    rw (valid (d .before .before .before .before .before .before .before .before), known (d .before .before .before .before .before .before), acked (d .before .before .before .before), held (d .before .before), body d, e)
 
 loop-holds : tie.Need-loop-holds Inv-loop μ-loop
 unfolding allBelow
 loop-holds c =
     let d = c .before .before .before in
-    let s = d .before .before .before .before .before .before .before .before .args .t1 in
-    let e : waitingInside (s .waiting) ≡ true = sym (c .before .waiting-inside .ensures) ∙ not-false _ (c .if5 .left) in
-    let w = sixteen (d .before .before .before .before .before .before) in
-    (refl, refl, omega arith, w .0, w .1, rw (valid (d .before .before .before .before .before .before), acked (d .before .before .before .before), held (d .before .before), body d, e), refl)
+    let s = d .before .before .before .before .before .before .before .before .before .before .args .t1 in
+    let e : waitingInside (s .edition) (s .waiting) ≡ true = sym (c .before .waiting-inside .ensures) ∙ not-false _ (c .if6 .left) in
+    let w = sixteen (d .before .before .before .before .before .before .before .before) in (
+      refl,
+      refl,
+      refl,
+      omega arith,
+      w .0,
+      w .1,
+      rw (valid (d .before .before .before .before .before .before .before .before), known (d .before .before .before .before .before .before), acked (d .before .before .before .before), held (d .before .before), body d, e),
+      refl,
+    )
 
 element-copy-out-place-inside : tie.Need-element-copy-out-place-inside Inv-loop μ-loop
 element-copy-out-place-inside c = search needs
@@ -122,13 +148,13 @@ element-copy-out-place-inside-4 c = search needs
 place-inside-requires : tie.Need-place-inside-requires Inv-loop μ-loop
 place-inside-requires c κs = search needs
 
-returns-6 : tie.Need-returns-6 Inv-loop μ-loop
+returns-7 : tie.Need-returns-7 Inv-loop μ-loop
 unfolding stationInside
-returns-6 c =
+returns-7 c =
     let h = c .before .before .before .before .before .before .before in
-    let s = h .before .before .before .before .before .before .before .before .before .before .before .before .args .t1 in
-    let e : placeInside s (h .loop .k) ≡ false = unfold cellOf placeInside in (sym (c .before .place-inside .ensures) ∙ not-true _ (c .if6 .taken)) in
-    rw (h .loop .inv .5) (sym (allBelow-fails (s .n) (placeInside s) (h .loop .k) (omega arith) e))
+    let s = h .before .before .before .before .before .before .before .before .before .before .before .before .before .before .args .t1 in
+    let e : placeInside s (h .loop .k) ≡ false = unfold cellOf placeInside in (sym (c .before .place-inside .ensures) ∙ not-true _ (c .if7 .taken)) in
+    rw (h .loop .inv .6) (sym (allBelow-fails (s .n) (placeInside s) (h .loop .k) (omega arith) e))
 
 add-k : tie.Need-add-k Inv-loop μ-loop
 add-k c = search needs
@@ -139,17 +165,17 @@ loop-less c = search needs
 loop-again : tie.Need-loop-again Inv-loop μ-loop
 loop-again c =
     let h = c .before .before .before .before .before .before .before in
-    let s = h .before .before .before .before .before .before .before .before .before .before .before .before .args .t1 in
-    let e : placeInside s (h .loop .k) ≡ true = unfold cellOf placeInside in (sym (c .before .place-inside .ensures) ∙ not-false _ (c .if6 .left)) in
+    let s = h .before .before .before .before .before .before .before .before .before .before .before .before .before .before .args .t1 in
+    let e : placeInside s (h .loop .k) ≡ true = unfold cellOf placeInside in (sym (c .before .place-inside .ensures) ∙ not-false _ (c .if7 .left)) in
     let w = h .loop .inv in
-    (refl, refl, omega arith, w .3, w .4, w .5, allBelow-more (h .loop .k) (placeInside s) (w .6) e)
+    (refl, refl, refl, omega arith, w .4, w .5, w .6, allBelow-more (h .loop .k) (placeInside s) (w .7) e)
 
-returns-7 : tie.Need-returns-7 Inv-loop μ-loop
+returns-8 : tie.Need-returns-8 Inv-loop μ-loop
 unfolding stationInside
-returns-7 c =
-    let s = c .before .before .before .before .before .before .before .before .before .before .before .before .before .args .t1 in
+returns-8 c =
+    let s = c .before .before .before .before .before .before .before .before .before .before .before .before .before .before .before .args .t1 in
     let e : c .before .loop .k ≡ s .n = omega arith in
-    rw (c .before .loop .inv .5) (sym (rw e at (c .before .loop .inv .6)))
+    rw (c .before .loop .inv .6) (sym (rw e at (c .before .loop .inv .7)))
 
 pub station-inside-spec : {M : Type 1} → statement M
 station-inside-spec =
@@ -159,14 +185,16 @@ station-inside-spec =
     μ-loop
     valid-number-requires
     returns
-    element-copy-out-if2
+    (λ c κs. search needs)
     returns-2
     element-copy-out-if3
     returns-3
-    body-inside-requires
+    element-copy-out-if4
     returns-4
-    waiting-inside-requires
+    body-inside-requires
     returns-5
+    waiting-inside-requires
+    returns-6
     loop-holds
     element-copy-out-place-inside
     element-copy-out-place-inside-2
@@ -175,8 +203,8 @@ station-inside-spec =
     mul-place-inside-2
     element-copy-out-place-inside-4
     place-inside-requires
-    returns-6
+    returns-7
     add-k
     loop-less
     loop-again
-    returns-7)
+    returns-8)

@@ -11,7 +11,8 @@ use Rattle.lanes.specs.Lane.{noLane}
 use Rattle.station_rules.specs.declared.Station.{Station}
 use Rattle.station_rules.specs.State.{cellOf}
 use Rattle.station_rules.specs.Turn.{broadcastEnds}
-use Rattle.lanes.specs.Waiting.{waitingCount}
+use Rattle.lanes.specs.Waiting.{waitingCount, nextDesk}
+use Rattle.lanes.proofs.WaitingLaws.{inside-most}
 use Rattle.station_rules.proofs.Lengths.{lengths}
 use Rattle.station_rules.proofs.Setters.{Shaped}
 use Rattle.station_rules.proofs.StationLimits.{Inside, inside-open}
@@ -72,7 +73,7 @@ waiting-after-requires c κs =
     let s = station e in
     let may = eqb ((getD (e .before .before .before .air .result .left) (s .own) noLane) .len) 0 in (
       waits (e .all-acked .result) may (m .any-waits .result) (c .starts-edit .result) (waitingCount (s .waiting)) (m .any-waits .ensures) (c .starts-edit .ensures),
-      inside e .waiting,
+      inside-most (s .edition) (s .waiting) (inside e .waiting) (nextDesk (s .waiting)),
     )
 
 count-if-requires : tie.Need-count-if-requires

@@ -3,6 +3,7 @@ use mathlib.Core.Path.{sym, _∙_}
 use native.Mathlib.Omega.{arith}
 use borrow.Author.Tests.{not-true, not-false}
 use mathlib.Core.Path.{ap}
+use lib.IntN.{ℤ}
 use mir.Syntax.{w32}
 use mir.ValLaws.{toZ-ofZ}
 use Rattle.kinds.specs.declared.Body.{Body}
@@ -24,7 +25,7 @@ returns-2 c =
     let z = c .before .before in
     let r = z .before .before in
     let a = r .before .before .before .before .before .before in
-    let body = z .before .named-body .ensures ∙ ap (namedBody (a .args .kind) (a .args .event)) (toZ-ofZ w32 (a .args .argument) (a .fits .argument)) in
+    let body = z .before .named-body .ensures ∙ ap (λ (y : ℤ). namedBody (a .args .kind) (a .args .event) y (a .args .channel)) (toZ-ofZ w32 (a .args .argument) (a .fits .argument)) in
     post-refused _ (sym (r .before .before .before .is-group .ensures) ∙ not-false _ (r .before .before .if1 .left)) _ (r .read-group .ensures) _ _
     (z .post .ensures ∙ ap (λ (x : Body). groupPostCall (r .read-group .result) (record { station = a .args .station; desk = a .args .desk; body = x })) body) (c .if2 .taken)
 
@@ -38,7 +39,7 @@ returns-3 c =
     let z = c .before .before .before .before .before .before .before in
     let r = z .before .before in
     let a = r .before .before .before .before .before .before in
-    let body = z .before .named-body .ensures ∙ ap (namedBody (a .args .kind) (a .args .event)) (toZ-ofZ w32 (a .args .argument) (a .fits .argument)) in
+    let body = z .before .named-body .ensures ∙ ap (λ (y : ℤ). namedBody (a .args .kind) (a .args .event) y (a .args .channel)) (toZ-ofZ w32 (a .args .argument) (a .fits .argument)) in
     post-done _ (sym (r .before .before .before .is-group .ensures) ∙ not-false _ (r .before .before .if1 .left)) _ (r .read-group .ensures) _ _
     (z .post .ensures ∙ ap (λ (x : Body). groupPostCall (r .read-group .result) (record { station = a .args .station; desk = a .args .desk; body = x })) body) (c .before .before .before .before .before .if2 .left) _ (c .before .before .put-group .ensures)
 

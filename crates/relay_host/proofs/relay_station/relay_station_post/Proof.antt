@@ -3,6 +3,7 @@ use mathlib.Core.Path.{sym, _∙_}
 use native.Mathlib.Omega.{arith}
 use borrow.Author.Tests.{not-true, not-false}
 use mathlib.Core.Path.{ap}
+use lib.IntN.{ℤ}
 use mir.Syntax.{w32}
 use mir.ValLaws.{toZ-ofZ}
 use Rattle.station_rules.specs.Calls.{postCall}
@@ -23,7 +24,7 @@ returns-2 c =
     let z = c .before .before in
     let r = z .before .before in
     let a = r .before .before .before .before .before .before in
-    let body = z .before .named-body .ensures ∙ ap (namedBody (a .args .kind) (a .args .event)) (toZ-ofZ w32 (a .args .argument) (a .fits .argument)) in
+    let body = z .before .named-body .ensures ∙ ap (λ (y : ℤ). namedBody (a .args .kind) (a .args .event) y (a .args .channel)) (toZ-ofZ w32 (a .args .argument) (a .fits .argument)) in
     post-refused _ (sym (r .before .before .before .is-station .ensures) ∙ not-false _ (r .before .before .if1 .left)) _ (r .read-station .ensures) _ _ _
     (z .post .ensures ∙ ap (postCall (r .read-station .result) (a .args .desk)) body) (c .if2 .taken)
 
@@ -37,7 +38,7 @@ returns-3 c =
     let z = c .before .before .before .before .before .before .before in
     let r = z .before .before in
     let a = r .before .before .before .before .before .before in
-    let body = z .before .named-body .ensures ∙ ap (namedBody (a .args .kind) (a .args .event)) (toZ-ofZ w32 (a .args .argument) (a .fits .argument)) in
+    let body = z .before .named-body .ensures ∙ ap (λ (y : ℤ). namedBody (a .args .kind) (a .args .event) y (a .args .channel)) (toZ-ofZ w32 (a .args .argument) (a .fits .argument)) in
     post-done _ (sym (r .before .before .before .is-station .ensures) ∙ not-false _ (r .before .before .if1 .left)) _ (r .read-station .ensures) _ _ _
     (z .post .ensures ∙ ap (postCall (r .read-station .result) (a .args .desk)) body) (c .before .before .before .before .before .if2 .left) _ (c .before .before .put-station .ensures)
 
