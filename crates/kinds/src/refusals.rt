@@ -32,4 +32,6 @@ pub const BAD_LISTING: u32 = 16;
 
 pub const BAD_QUESTION: u32 = 18;
 
+pub const ALREADY_ISSUED: u32 = 19;
+
 pub const BAD_CONTEST: u32 = 20;
