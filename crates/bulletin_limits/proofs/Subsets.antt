@@ -6,6 +6,7 @@ use mathlib.Core.Path.{_≡_, refl, sym, ap, _∙_}
 use Prim.Native.Nat.{ℕ, zero, suc, _+_, _*_, _/_, _%_, _^_, _<_, _≤_}
 use native.Mathlib.Decide.{ℕ-discrete, decLe}
 use native.Mathlib.Nat.{pow-suc}
+use native.Mathlib.Numerals.{add-one}
 use native.Mathlib.Omega.{arith}
 use borrow.Author.Tests.{eq-eqb, ne-eqb, eqb-true, lt-ltb, le-ltb}
 use lib.Bits.{bitAnd, bitOr, and-le-l}
@@ -66,6 +67,11 @@ within-bits x a h = go (allBelow 64 (λ s. not (bit x s) || bit a s)) refl
         (λ q. lost (bit x (r .0)) (bit a (r .0)) (r .2) (sym (bit-and x a (r .0)) ∙ ap (λ (z : ℕ). bit z (r .0)) q))
 
 -- the set of the places at which a bulletin stands
+pub standing-more : (held : List ℕ) (s : ℕ)
+    → standingBelow held (s + 1) ≡ cond (standsIn held s) (bitOr (standingBelow held s) (2 ^ s)) (standingBelow held s)
+unfolding standingBelow
+standing-more held s = rw (add-one s)
+
 pub standing-bit : (held : List ℕ) (m s : ℕ) → bit (standingBelow held m) s ≡ (ltb s m && standsIn held s)
 unfolding standingBelow
 standing-bit held zero s = bit-zero s ∙ sym (ap (λ (b : Bool). b && standsIn held s) (le-ltb s 0 (omega arith)))
@@ -124,3 +130,8 @@ held-within held n p =
           | yes l ↦ lt-ltb s (4 * n) l ∙ sym (lt-ltb (issuerOf s) n (omega arith))
           | no l ↦ le-ltb s (4 * n) (omega arith) ∙ sym (le-ltb (issuerOf s) n (omega arith))
         ]
+
+pub held-judged : (held : List ℕ) (n p all : ℕ) → all ≡ standingBelow held (4 * n)
+    → allBelow 64 (λ s. not (bit (getD held p 0) s) || bit all s) ≡ allBelow 64 (λ s. heldIn held n p s)
+held-judged held n p all e =
+    ap (λ (x : ℕ). allBelow 64 (λ s. not (bit (getD held p 0) s) || bit x s)) e ∙ held-within held n p

@@ -6,7 +6,7 @@ use mathlib.Core.Path.{_≡_, refl, sym, ap, _∙_, subst}
 use Prim.Native.Nat.{ℕ, zero, suc, _+_, _*_, _-_, _/_, _^_, _≤_, _<_}
 use native.Mathlib.Decide.{ℕ-discrete}
 use native.Mathlib.Omega.{arith}
-use borrow.Author.Tests.{eq-eqb, ne-eqb, lt-ltb, le-ltb, ltb-true, eqb-true, not-false}
+use borrow.Author.Tests.{eq-eqb, ne-eqb, lt-ltb, le-ltb, ltb-true, eqb-false}
 use lib.Bits.{bitOr}
 use lib.Dec.{eqb, ltb, leb}
 use lib.ListN.{length, getD, set, length-set}
@@ -69,8 +69,7 @@ accepted B i tag event e =
     go true false c d f q r s t z = absurd (omega (arith, z))
     go false b c d f q r s t z = absurd (omega (arith, z))
 
-eqb-false : (a b : ℕ) → eqb a b ≡ false → a ≡ b → ⊥
-eqb-false a b h e = false≢true (sym h ∙ eq-eqb a b e)
+
 
 module _ (n : ℕ) (high : n ≤ 16) (L : Links) (u : ℕ) (T : ℕ → ℕ) (B : Bulletins) (k : Kept n L u T B)
     (i tag event : ℕ) (a : Accepted B i tag event) where
