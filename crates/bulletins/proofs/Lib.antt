@@ -4,3 +4,4 @@ pub mod Free
 pub mod Issues
 pub mod Ordering
 pub mod Pushing
+pub mod Joining

@@ -4,7 +4,7 @@ ghost use mathlib.Core.Path.{_≡_};
 ghost use mathlib.Core.Bool.{cond, not, _&&_};
 ghost use mathlib.Core.List.{[]};
 ghost use Prim.Native.Nat.{ℕ, _*_, _≤_, _<_};
-ghost use lib.ListN.{getD, take};
+ghost use lib.ListN.{getD, length, take};
 ghost use Rattle.links.specs.Log.{bit};
 ghost use Rattle.places.specs.Places.{fill};
 ghost use Rattle.bulletins_spec.specs.Order.{picked};
@@ -79,7 +79,8 @@ fn shown_by(
     after: u64,
     n: usize,
 ) -> Shown
-    requires { ⌜ (n ≤ 16) × ((t : ℕ) → t < 4 * n → getD (now places) t 0 < 64) ⌝ }
+    requires { ⌜ (n ≤ 16) × ((t : ℕ) → t < 4 * n → getD (now places) t 0 < 64)
+        × (length (now places) ≡ 64) ⌝ }
     ensures { λ r. ⌜ r ≡ shownOf (picked (newIn before after)
         (noticeIn (now (tags .entry)) (now (events .entry))) (take (4 * n) (now (places .entry)))) ⌝ }
 {
@@ -117,7 +118,8 @@ pub fn all_shown(
     after: &[u64; 16],
     n: usize,
 ) -> [Shown; 16]
-    requires { ⌜ (n ≤ 16) × ((t : ℕ) → t < 4 * n → getD (now places) t 0 < 64) ⌝ }
+    requires { ⌜ (n ≤ 16) × ((t : ℕ) → t < 4 * n → getD (now places) t 0 < 64)
+        × (length (now places) ≡ 64) ⌝ }
     ensures { λ r. ⌜ r ≡ fill n (λ p. shownOf
         (picked (newIn (getD (now (before .entry)) p 0) (getD (now (after .entry)) p 0))
         (noticeIn (now (tags .entry)) (now (events .entry))) (take (4 * n) (now (places .entry))))) noneShown ⌝ }

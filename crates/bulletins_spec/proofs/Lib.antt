@@ -8,3 +8,4 @@ pub mod Told
 pub mod ToldIssue
 pub mod Whole
 pub mod Tried
+pub mod Lengths

@@ -1,6 +1,6 @@
 -- The loop keeps: the notices of the places passed stand in front, and the other entries are unused.
 use Prim.Native.Nat.{ℕ, _+_, _*_, _-_, _<_, _≤_}
-use mathlib.Core.Bool.{Bool, cond}
+use mathlib.Core.Bool.{Bool, true, false, cond}
 use mathlib.Core.List.{List, [], _∷_, _++_}
 use mathlib.Core.Path.{_≡_, refl, sym, ap, ap₂, _∙_}
 use native.Mathlib.Omega.{arith}
@@ -20,6 +20,10 @@ use Rattle.bulletins.proofs.showing.gained.Reads as gained-reads
 use Rattle.bulletins.proofs.showing.nothing.Reads as nothing-reads
 use Rattle.bulletins.proofs.showing.notice_if.Reads as notice-if-reads
 use Rattle.bulletins.proofs.showing.one_if.Reads as one-if-reads
+
+one-small : (b : Bool) → cond b 1 0 ≤ 1
+one-small true = omega arith
+one-small false = omega arith
 
 abbrev Inv-loop : tie.InvT-loop
 Inv-loop places tags events before after n shown₀ len₀ t₀ shown len t =
@@ -68,7 +72,8 @@ gained-requires c κs = search needs
 
 -- src/showing.rt:95:30
 notice-if-requires : tie.Need-notice-if-requires Inv-loop μ-loop
-notice-if-requires c κs = search needs
+notice-if-requires c κs =
+    c .before .before .before .before .before .before .pre .1 (c .before .before .before .loop .t) (c .before .before .loop-test .taken)
 
 -- src/showing.rt:95:9
 mul-t14 : tie.Need-mul-t14 Inv-loop μ-loop
@@ -84,7 +89,10 @@ one-if-requires c κs = search needs
 
 -- src/showing.rt:96:9
 add-len : tie.Need-add-len Inv-loop μ-loop
-add-len c = search needs
+add-len c =
+    let l = c .before .before .before .before .before .loop in
+    let z = c .before .before .before .before .before .before .before .before in
+    omega (arith, one-small (c .before .before .gained .result), c .one-if .ensures, l .inv .0, l .inv .1, z .pre .0)
 
 -- src/showing.rt:97:9
 add-t : tie.Need-add-t Inv-loop μ-loop
@@ -104,12 +112,30 @@ loop-again c =
     let show = noticeIn (a .tags .now) (a .events .now) in
     let s = getD (a .places .now) (l .t) 0 in
     let done = picked test show (take (l .t) (a .places .now)) in
-    let more : picked test show (take (l .t + 1) (a .places .now)) ≡ done ++ cond (test s) (show s ∷ []) [] = picked-more test show (a .places .now) (l .t) ? in
-    ?
+    let room : l .t < length (a .places .now) = omega (arith, z .pre .2, z .pre .0, c .before .before .before .before .loop-test .taken) in
+    let more : picked test show (take (l .t + 1) (a .places .now)) ≡ done ++ cond (test s) (show s ∷ []) [] = picked-more test show (a .places .now) (l .t) room in (
+      omega arith,
+      omega (arith, one-small (c .before .before .gained .result), c .one-if .ensures, l .inv .1),
+      length-set (l .shown .notices) (l .len) (c .before .notice-if .result) ∙ l .inv .2,
+      ap₂ (λ (x y : ℕ). x + y) (l .inv .3) (c .one-if .ensures ∙ ap (λ (b : Bool). cond b 1 0) (c .before .before .gained .ensures))
+          ∙ sym (pushed-length done (test s) (show s))
+          ∙ ap length (sym more),
+      ap₂ (λ (x : List Notice) (y : ℕ). set x y (c .before .notice-if .result)) (l .inv .4) (l .inv .3)
+          ∙ ap (λ (x : Notice). set (padded done) (length done) x)
+              (c .before .notice-if .ensures ∙ ap (λ (b : Bool). cond b (show s) noNotice) (c .before .before .gained .ensures))
+          ∙ pushed done (test s) (show s) (omega (arith, l .inv .3, l .inv .1, z .pre .0, c .before .before .before .before .loop-test .taken))
+          ∙ ap padded (sym more),
+    )
 
 -- src/showing.rt:74:1
 returns-2 : tie.Need-returns-2 Inv-loop μ-loop
-returns-2 c = ?
+unfolding shownOf
+returns-2 c =
+    let a = c .before .before .before .before .args in
+    let l = c .before .loop in
+    let e : l .t ≡ 4 * a .n = omega arith in
+    ap₂ (λ (x : ℕ) (y : List Notice). record { len = x; notices = y }) (l .inv .3) (l .inv .4)
+    ∙ ap (λ (m : ℕ). shownOf (picked (newIn (a .before) (a .after)) (noticeIn (a .tags .now) (a .events .now)) (take m (a .places .now)))) e
 
 pub shown-by-spec : {M : Type 1} → statement M
 shown-by-spec =
