@@ -15,7 +15,7 @@ use station_rules::Setup;
 
 const GROUP_WIDTH: usize = 17728;
 
-const REPORTS_WIDTH: usize = 11264;
+pub const REPORTS_WIDTH: usize = 11264;
 
 // Group fresh: n stations, as they begin.
 #[no_mangle]
@@ -78,7 +78,7 @@ fn mask_at(masks: &[u16], k: usize) -> u16
 }
 
 // Sixteen masks, as an array; those that are not there are 0.
-fn sixteen_masks(masks: &[u16]) -> [u16; 16]
+pub fn sixteen_masks(masks: &[u16]) -> [u16; 16]
     ensures { λ r. ⌜ r ≡ sixteenMasks (now (masks .entry)) ⌝ }
 {
     let mut sixteen = [0u16; 16];
