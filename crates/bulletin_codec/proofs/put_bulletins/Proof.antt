@@ -1,3 +1,5 @@
+-- Four writes, one behind the other.
+use Rattle.bulletin_codec.proofs.Writing.{bulletins-written}
 use borrow.Author.Needs.{needs}
 use Rattle.bulletin_codec.proofs.put_bulletins.Statement.{statement}
 use Rattle.bulletin_codec.proofs.put_bulletins.Tie as tie
@@ -38,7 +40,14 @@ same-length c = search needs
 
 -- src/lib.rt:135:1
 returns : tie.Need-returns
-returns c = ?
+returns c =
+    let four = c .before .before in
+    let three = four .before .before .before .before in
+    let two = three .before .before .before .before in
+    let one = two .before .before .before .before in
+    let s = one .before .before .before .before .before .before .before .args in
+    bulletins-written (s .bytes .now) _ _ _ _ (s .b) (one .before .as-byte .result) (one .before .as-byte .ensures)
+    (one .put-word .ensures) (two .put-words .ensures) (three .put-words2 .ensures) (four .put-sets .ensures)
 
 pub put-bulletins-spec : {M : Type 1} → statement M
 put-bulletins-spec =

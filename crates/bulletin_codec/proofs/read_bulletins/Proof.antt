@@ -1,3 +1,5 @@
+-- Each field is read from its place.
+use Rattle.bulletin_bytes_spec.specs.Bulletins.{decodeBulletins}
 use borrow.Author.Needs.{needs}
 use Rattle.bulletin_codec.proofs.read_bulletins.Statement.{statement}
 use Rattle.bulletin_codec.proofs.read_bulletins.Tie as tie
@@ -29,7 +31,15 @@ read-sets-requires c κs = search needs
 
 -- src/lib.rt:83:1
 returns : tie.Need-returns
-returns c = ?
+unfolding decodeBulletins
+returns c =
+    λ i.
+    record {
+      n = c .before .before .before .word-at .ensures i;
+      tags = c .before .before .read-words .ensures i;
+      events = c .before .read-words2 .ensures i;
+      held = c .read-sets .ensures i;
+    }
 
 pub read-bulletins-spec : {M : Type 1} → statement M
 read-bulletins-spec =
