@@ -16,4 +16,5 @@ BAD_LOG = 12             # not whole rounds, or too many
 CONFLICT = 14            # a heard record and the held one
 BAD_LISTING = 16         # a line's form, or no last line
 BAD_QUESTION = 18        # a station, a k, or one too many
+ALREADY_ISSUED = 19      # the tag, or four bulletins, by that issuer
 BAD_CONTEST = 20         # N, sets or rounds outside the limits of a contest
