@@ -1,0 +1,36 @@
+use borrow.Author.Needs.{needs}
+use Rattle.relay_host.proofs.relay_bulletins.relay_bulletins_fresh.Statement.{statement}
+use Rattle.relay_host.proofs.relay_bulletins.relay_bulletins_fresh.Tie as tie
+use Rattle.relay_host.proofs.relay_bulletins.relay_bulletins_fresh.Reads as reads
+use Rattle.relay_host.proofs.relay_bulletins.relay_bulletins_fresh.Lts as lts
+use Rattle.bulletin_codec.proofs.put_bulletins.Reads as put-bulletins-reads
+use Rattle.bulletins.proofs.fresh.Reads as fresh-reads
+
+-- src/relay_bulletins.rt:25:9
+fresh-requires : tie.Need-fresh-requires
+fresh-requires c κs = search needs
+
+-- src/relay_bulletins.rt:27:9
+returns : tie.Need-returns
+returns c = ?
+
+-- src/relay_bulletins.rt:30:9
+returns-2 : tie.Need-returns-2
+returns-2 c = ?
+
+-- src/relay_bulletins.rt:33:5
+put-bulletins-requires : tie.Need-put-bulletins-requires
+put-bulletins-requires c κs = search needs
+
+-- src/relay_bulletins.rt:20:1
+same-length : tie.Need-same-length
+same-length c = search needs
+
+-- src/relay_bulletins.rt:20:1
+returns-3 : tie.Need-returns-3
+returns-3 c = ?
+
+pub relay-bulletins-fresh-spec : {M : Type 1} → statement M
+relay-bulletins-fresh-spec =
+    tie.close
+    (tie.spec fresh-requires returns returns-2 put-bulletins-requires same-length returns-3)
