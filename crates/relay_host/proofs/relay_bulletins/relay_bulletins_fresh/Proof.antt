@@ -1,3 +1,5 @@
+-- Each return is a case of the definition: the call's refusal, no room, or the bulletins written to the front.
+use Rattle.relay_host.proofs.Bulletins.{fresh-refused, fresh-short, fresh-done}
 use borrow.Author.Needs.{needs}
 use Rattle.relay_host.proofs.relay_bulletins.relay_bulletins_fresh.Statement.{statement}
 use Rattle.relay_host.proofs.relay_bulletins.relay_bulletins_fresh.Tie as tie
@@ -12,11 +14,13 @@ fresh-requires c κs = search needs
 
 -- src/relay_bulletins.rt:27:9
 returns : tie.Need-returns
-returns c = ?
+returns c =
+    fresh-refused (c .before .before .before .before .args .n) _ _ (c .before .before .fresh .ensures) (c .if1 .taken)
 
 -- src/relay_bulletins.rt:30:9
 returns-2 : tie.Need-returns-2
-returns-2 c = ?
+returns-2 c =
+    fresh-short (c .before .before .before .before .before .args .n) _ _ (c .before .before .before .fresh .ensures) (c .before .if1 .left) (c .if2 .taken)
 
 -- src/relay_bulletins.rt:33:5
 put-bulletins-requires : tie.Need-put-bulletins-requires
@@ -28,7 +32,8 @@ same-length c = search needs
 
 -- src/relay_bulletins.rt:20:1
 returns-3 : tie.Need-returns-3
-returns-3 c = ?
+returns-3 c =
+    fresh-done (c .before .before .before .before .before .before .before .before .before .before .args .n) _ _ (c .before .before .before .before .before .before .before .before .fresh .ensures) (c .before .before .before .before .before .before .if1 .left) (c .before .before .before .before .before .if2 .left) _ (c .before .before .put-bulletins .ensures)
 
 pub relay-bulletins-fresh-spec : {M : Type 1} → statement M
 relay-bulletins-fresh-spec =
