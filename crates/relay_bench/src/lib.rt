@@ -252,7 +252,7 @@ pub extern "C" fn relay_bench_bulletins(schedule: &[u8], n: u32, rounds: u32) ->
     if n < 1 {
         return 0;
     }
-    if 16 < n {
+    if n > 16 {
         return 0;
     }
     if len < MASKS_SIZE {
