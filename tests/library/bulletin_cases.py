@@ -8,14 +8,14 @@ from model.bulletins import MOST_OWN
 from model.group import fresh_group_state
 from model.records import PLACES
 
-from . import formats
+from . import formats, group_cases
 from .bulletin_bytes import ALL, ROUND_SHOWN, SHOWN, WIDTH, Table, places_of, stands, table_bytes
 from .cases import NUMBERS, around, buffer, changed, of_other_length
 from .group_cases import BEYOND, POST, some_masks
 from .station_cases import first_of, lent
 
 FRESH, ISSUE, ROUND = (f"relay_bulletins_{name}" for name in ("fresh", "issue", "round"))
-ORDERS = {FRESH: (1, 9), ISSUE: (2, 1, 4, 19), ROUND: (2, 9)}
+ORDERS = {FRESH: (1, 9), ISSUE: (2, 1, 4, 19), ROUND: (2, 10, 14, 8, 9)}
 MOST = 2 ** 32 - 1
 TAGS = (0, 1, 2 ** 31 - 1, 2 ** 31, MOST - 1, MOST)
 EVENTS = (1, 2, 50_000_000, 99_999_998, 99_999_999)
@@ -199,9 +199,19 @@ def with_faults(rng, name, faults):
     return issue(rng, table_bytes(table), n if "1" in faults else issuer, tag, rng.choice(BAD_EVENTS) if "4" in faults else None)
 
 
+def refused_groups(rng, times):
+    """Rounds that the group refuses, by itself or with other refusals; its bulletins are as they should be, or of another n."""
+    for first, (_, group, masks, reports) in group_cases.at_once(rng, group_cases.ROUND, times):
+        given = formats.read_group(bytes(group))
+        n = given[0].n if given and 1 <= given[0].n <= PLACES else 3
+        yield first, (ROUND, group, lent(rng, table_bytes(random_table(rng, n))), masks, reports, buffer(rng, ROUND_SHOWN))
+        if first not in (0, 2):
+            yield 2, (ROUND, group, lent(rng, table_bytes(random_table(rng, n % PLACES + 1))), masks, reports, buffer(rng, ROUND_SHOWN))
+
+
 def at_once(rng, name, times):
-    """Every set of faults, each with the refusal that comes first."""
-    order = ORDERS[name]
+    """Every set of faults, each with the refusal that comes first; of a round those that are not the group's."""
+    order = [one for one in ORDERS[name] if one not in (10, 14, 8)]
     for count in range(len(order) + 1):
         for some in itertools.combinations(order, count):
             for _ in range(times):
