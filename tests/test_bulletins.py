@@ -31,7 +31,8 @@ class Run:
     def step(self, rng, with_issues):
         choice = rng.random()
         if choice < 0.35:
-            one = Bulletin(rng.randrange(self.n + 1), rng.choice((0, 1, 2, 3, 2 ** 32 - 1)), rng.choice((0, 1, 7, 99_999_999)))
+            tag, event = rng.choice((0, 1, 2, 3, 2 ** 32 - 1)), rng.choice((0, 1, 7, 99_999_999))
+            one = Bulletin(rng.randrange(self.n + 1), tag, event)
             if with_issues:
                 self.issue(one)
         elif choice < 0.6:

@@ -1,4 +1,4 @@
-"""Bulletins, and what is shown, as bytes at the places that include/relay.h gives; and the calls on them, by the model."""
+"""Bulletins and what is shown as bytes, at the places of include/relay.h; and the calls on them, by the model."""
 
 import struct
 from typing import NamedTuple
@@ -49,7 +49,8 @@ def bulletin_at(table, place):
 
 
 def state_of(table):
-    return bulletins.State(table.n, tuple(tuple(bulletin_at(table, s) for s in range(ALL) if held >> s & 1) for held in table.sets))
+    held = (tuple(bulletin_at(table, s) for s in range(ALL) if one >> s & 1) for one in table.sets)
+    return bulletins.State(table.n, tuple(held))
 
 
 def places_of(issuer):
@@ -67,7 +68,8 @@ def with_bulletin(table, one):
 def with_shown(table, shown):
     """The table in which each station also holds what it shows."""
     where = {bulletin_at(table, s): s for s in range(MOST_OWN * table.n) if stands(table, s)}
-    return table._replace(sets=tuple(held | sum(1 << where[one] for one in some) for held, some in zip(table.sets, shown)))
+    new = (sum(1 << where[one] for one in some) for some in shown)
+    return table._replace(sets=tuple(held | more for held, more in zip(table.sets, new)))
 
 
 def shown_bytes(some):

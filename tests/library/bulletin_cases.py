@@ -52,7 +52,8 @@ def group_bytes(n):
 
 
 def issue(rng, data, issuer, tag=None, event=None):
-    return ISSUE, lent(rng, data), issuer, some_tag(rng) if tag is None else tag, rng.choice(EVENTS) if event is None else event
+    tag = some_tag(rng) if tag is None else tag
+    return ISSUE, lent(rng, data), issuer, tag, rng.choice(EVENTS) if event is None else event
 
 
 def round_of(rng, group, data, masks=None, reports=formats.ROUND, shown=ROUND_SHOWN):
@@ -136,11 +137,13 @@ def broken(rng, table):
             yield table._replace(events=put(table.events, event))
         for twin in places_of(place // MOST_OWN):
             if twin != place and stands(table, twin):
-                yield table._replace(tags=put(table.tags, table.tags[twin]))
-                yield table._replace(tags=put(table.tags, table.tags[twin]), events=put(table.events, table.events[twin]))
+                alike = table._replace(tags=put(table.tags, table.tags[twin]))
+                yield alike
+                yield alike._replace(events=put(table.events, table.events[twin]))
         holders = [p for p in range(n) if table.sets[p] >> place & 1 and p != place // MOST_OWN]
         if holders:
-            yield table._replace(sets=tuple(held & ~((p == place // MOST_OWN) << place) for p, held in enumerate(table.sets)))
+            without = lambda p, held: held & ~((p == place // MOST_OWN) << place)
+            yield table._replace(sets=tuple(itertools.starmap(without, enumerate(table.sets))))
 
 
 def outside_limits(rng):
@@ -177,7 +180,8 @@ def buffers(rng):
     """Masks, reports and what is shown, of every kind of length."""
     for n in (1, 7, 16):
         data = table_bytes(random_table(rng, n))
-        for count, reports, shown in itertools.product((0, 1, 15, 16, 17), around(formats.ROUND)[2:5], (0, SHOWN, *around(ROUND_SHOWN)[2:5])):
+        rooms = (0, 1, 15, 16, 17), around(formats.ROUND)[2:5], (0, SHOWN, *around(ROUND_SHOWN)[2:5])
+        for count, reports, shown in itertools.product(*rooms):
             yield round_of(rng, group_bytes(n), data, (some_masks(rng) * 2)[:count], reports, shown)
 
 
@@ -192,21 +196,22 @@ def with_faults(rng, name, faults):
     used = [s for s in places_of(issuer) if stands(table, s)]
     table = in_set(table, 0, ALL - 1) if "2" in faults else table
     if name == ROUND:
-        return round_of(rng, group_bytes(n), table_bytes(table), shown=ROUND_SHOWN - 1 if "9" in faults else ROUND_SHOWN)
+        return round_of(rng, group_bytes(n), table_bytes(table), shown=ROUND_SHOWN - ("9" in faults))
     tag = table.tags[used[0]] if "19" in faults else rng.choice([t for t in range(9) if t not in table.tags])
     if "19" not in faults:      # a place is free
         table = table._replace(sets=tuple(held & ~(1 << used[-1]) for held in table.sets[:n]) + table.sets[n:])
-    return issue(rng, table_bytes(table), n if "1" in faults else issuer, tag, rng.choice(BAD_EVENTS) if "4" in faults else None)
+    event = rng.choice(BAD_EVENTS) if "4" in faults else None
+    return issue(rng, table_bytes(table), n if "1" in faults else issuer, tag, event)
 
 
 def refused_groups(rng, times):
-    """Rounds that the group refuses, by itself or with other refusals; its bulletins are as they should be, or of another n."""
+    """Rounds that the group refuses, by itself or with other refusals; its bulletins are right, or of another n."""
     for first, (_, group, masks, reports) in group_cases.at_once(rng, group_cases.ROUND, times):
         given = formats.read_group(bytes(group))
         n = given[0].n if given and 1 <= given[0].n <= PLACES else 3
-        yield first, (ROUND, group, lent(rng, table_bytes(random_table(rng, n))), masks, reports, buffer(rng, ROUND_SHOWN))
-        if first not in (0, 2):
-            yield 2, (ROUND, group, lent(rng, table_bytes(random_table(rng, n % PLACES + 1))), masks, reports, buffer(rng, ROUND_SHOWN))
+        for size in (n,) if first in (0, 2) else (n, n % PLACES + 1):
+            state = lent(rng, table_bytes(random_table(rng, size)))
+            yield first if size == n else 2, (ROUND, group, state, masks, reports, buffer(rng, ROUND_SHOWN))
 
 
 def at_once(rng, name, times):

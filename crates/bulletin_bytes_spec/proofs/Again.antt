@@ -1,18 +1,17 @@
 -- Calls on bytes one after the other: what a call leaves is accepted by the next, and decoded to just the state that the call gave. The numbers fit their fields
 -- from fresh on: a tag and an event have 32 bits by the types of an issue, and a union of sets of 64 places is such a set.
-use mathlib.Core.Bool.{Bool, true, false, cond, not, _||_, false≢true}
+use mathlib.Core.Bool.{Bool, true, false, cond, not, _||_}
 use mathlib.Core.List.{List, [], _∷_}
-use mathlib.Core.Path.{_≡_, refl, sym, ap, _∙_, subst}
+use mathlib.Core.Path.{_≡_, refl, sym, _∙_, subst}
 use Prim.Native.Nat.{ℕ, zero, suc, _+_, _*_, _^_, _<_, _≤_}
 use native.Mathlib.Decide.{ℕ-discrete, decLe}
 use native.Mathlib.Omega.{arith}
 use borrow.Author.Tests.{eqb-true, eqb-false, ltb-true, leb-true}
 use lib.Bits.{bitOr, or-lt}
 use lib.Dec.{eqb, ltb, leb}
-use lib.ListN.{getD, length, replicate, set, length-set, getD-replicate, List·getD-eq-default}
+use lib.ListN.{length-set, getD-replicate, List·getD-eq-default}
 use lib.Pow.{pow-lt}
 use Rattle.kinds.specs.Refusals.{done, badNumber, outsideLimits, notAnEdit, alreadyIssued, refuse}
-use Rattle.places.specs.Places.{fill}
 use Rattle.places.proofs.Keeps.{cond-keeps, set-keeps}
 use Rattle.places.proofs.Laws.{and-left, and-right, fill-below, fill-above, length-fill}
 use Rattle.links.specs.Log.{hearsIn}
@@ -20,7 +19,6 @@ use Rattle.broadcast_sets.specs.Sets.{united}
 use Rattle.station_rules.specs.declared.Setup.{Setup}
 use Rattle.station_rules.specs.declared.Station.{Station}
 use Rattle.group_rules.specs.Calls.{groupFreshRefusal}
-use Rattle.group_rules.specs.History as group
 use Rattle.group_rules.specs.History.{Call, Call.post, Call.round}
 use Rattle.group_rules.proofs.Setups.{accepts}
 use Rattle.bulletins_spec.specs.declared.Bulletins.{Bulletins}

@@ -1,7 +1,7 @@
 -- How long the encodings of what is shown are.
 use mathlib.Core.List.{List, _++_}
-use mathlib.Core.Path.{_≡_, refl, ap₂, _∙_}
-use Prim.Native.Nat.{ℕ, _+_}
+use mathlib.Core.Path.{_≡_, ap₂, _∙_}
+use Prim.Native.Nat.{_+_}
 use lib.ListN.{getD, length, length-append}
 use Rattle.frame_rules.specs.Words.{wordBytes}
 use Rattle.station_bytes_spec.specs.Bytes.{asByte, joinedBelow}

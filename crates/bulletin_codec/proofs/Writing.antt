@@ -1,6 +1,6 @@
 -- Parts written one behind the other make the encoding of the whole, and parts read from their places are what it decodes to.
 use mathlib.Core.List.{List, _++_}
-use mathlib.Core.Path.{_≡_, refl, sym, ap, ap₂, _∙_}
+use mathlib.Core.Path.{_≡_, refl, ap, ap₂, _∙_}
 use Prim.Native.Nat.{ℕ, _+_, _*_, _/_, _%_}
 use native.Mathlib.Omega.{arith}
 use lib.ListN.{getD, length, length-append}
@@ -16,7 +16,6 @@ use Rattle.bulletins_spec.specs.State.{setOf, tagAt, eventAt}
 use Rattle.bulletins_spec.specs.Calls.{noNotice}
 use Rattle.bulletin_bytes_spec.specs.Bulletins.{setBytes, setAt, encodeBulletins}
 use Rattle.bulletin_bytes_spec.specs.Shown.{encodeNotice, encodeShown}
-use Rattle.bulletin_bytes_spec.proofs.Shown.{length-notice}
 
 module _ (l l₁ l₂ : List ℕ) (at : ℕ) where
   pub set-written : (x : ℕ) → l₁ ≡ sets l at (wordBytes (x % 4_294_967_296)) → l₂ ≡ sets l₁ (at + 4) (wordBytes (x / 4_294_967_296)) → l₂ ≡ sets l at (setBytes x)

@@ -1,6 +1,6 @@
 -- Fresh, by its one refusal.
 use Prim.Native.Nat.{ℕ, _<_, _≤_}
-use mathlib.Core.Path.{_≡_, ap}
+use mathlib.Core.Path.{_≡_}
 use borrow.Author.Tests.{le-leb, lt-leb}
 use Rattle.kinds.specs.Refusals.{done, badNumber}
 use Rattle.bulletins_spec.specs.declared.Bulletins.{Bulletins}

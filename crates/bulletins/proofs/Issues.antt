@@ -1,6 +1,6 @@
 -- An issue, refusal by refusal, and what it leaves where it is done.
 use mathlib.Core.Bool.{Bool, true, false, _&&_}
-use mathlib.Core.Path.{_≡_, refl, sym, ap, _∙_}
+use mathlib.Core.Path.{_≡_, sym, ap, _∙_}
 use Prim.Native.Nat.{ℕ, _+_, _*_, _^_, _<_, _≤_}
 use borrow.Author.Tests.{lt-ltb, le-ltb, eq-eqb, ne-eqb, leb-true}
 use lib.Bits.{bitOr}
@@ -10,7 +10,6 @@ use Rattle.kinds.specs.Refusals.{done, badNumber, outsideLimits, notAnEdit, alr
 use Rattle.places.specs.Places.{anyBelow}
 use Rattle.places.proofs.Laws.{and-left, and-right}
 use Rattle.bulletins_spec.specs.declared.Bulletins.{Bulletins}
-use Rattle.bulletins_spec.specs.declared.Notice.{Notice}
 use Rattle.bulletins_spec.specs.declared.IssueDone.{IssueDone}
 use Rattle.bulletins_spec.specs.State.{eventInside, bulletinsInside}
 use Rattle.bulletin_limits.specs.Lent.{standsIn}

@@ -1,16 +1,16 @@
 -- A round of the group and its bulletins, return by return: the parts are those of the definition.
-use mathlib.Core.Bool.{Bool, true, false, cond, not, _&&_}
+use mathlib.Core.Bool.{Bool, true, false}
 use mathlib.Core.List.{List, _++_}
 use mathlib.Core.Path.{_≡_, refl, sym, ap, _∙_}
 use Prim.Native.Nat.{ℕ, _*_, _-_, _<_, _≤_}
 use native.Mathlib.Omega.{arith}
-use borrow.Author.Tests.{eq-eqb, ne-eqb, eqb-true}
+use borrow.Author.Tests.{eq-eqb, ne-eqb}
 use lib.Dec.{eqb}
 use lib.ListN.{getD, length, length-append, length-replicate, replicate, take}
 use Rattle.kinds.specs.Refusals.{done, outsideLimits}
-use Rattle.links.specs.Log.{bit, hearsIn}
+use Rattle.links.specs.Log.{hearsIn}
 use Rattle.places.specs.Places.{fill}
-use Rattle.places.proofs.Laws.{fill-below, fill-ext, and-left, and-right}
+use Rattle.places.proofs.Laws.{fill-below, fill-ext, and-left}
 use Rattle.broadcast_sets.specs.Sets.{united}
 use Rattle.station_rules.specs.declared.Station.{Station}
 use Rattle.group_rules.specs.declared.Report.{Report}
@@ -18,14 +18,12 @@ use Rattle.group_rules.specs.declared.RoundDone.{RoundDone}
 use Rattle.group_rules.specs.State.{sizeOf}
 use Rattle.group_rules.specs.Calls.{noReport, roundCall}
 use Rattle.bulletins_spec.specs.declared.Bulletins.{Bulletins}
-use Rattle.bulletins_spec.specs.declared.Notice.{Notice}
 use Rattle.bulletins_spec.specs.declared.Shown.{Shown}
 use Rattle.bulletins_spec.specs.declared.BulletinsRound.{BulletinsRound}
-use Rattle.bulletins_spec.specs.State.{setOf, tagAt, noticeAt, bulletinsInside}
+use Rattle.bulletins_spec.specs.State.{tagAt, noticeAt, bulletinsInside}
 use Rattle.bulletins_spec.specs.Order.{inOrder, picked}
 use Rattle.bulletins_spec.specs.Calls.{setAfter, bulletinsAfter, gains, shownBy, shownOf, noneShown, allShown, fits, roundPart, bulletinsRoundCall}
 use Rattle.bulletins.specs.Lent.{newIn, noticeIn}
-use Rattle.bulletins.proofs.Issues.{inside-high}
 use Rattle.bulletins.proofs.Ordering.{order-length, order-below, order-front}
 
 -- the bulletins of a round that is not refused, and what is shown in it

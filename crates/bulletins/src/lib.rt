@@ -161,8 +161,8 @@ pub fn round(g: [Station; 16], b: Bulletins, masks: [u16; 16]) -> BulletinsRound
     ensures { λ r. ⌜ r ≡ bulletinsRoundCall g b masks ⌝ }
 {
     let first = g[0];
-    let silent = showing::none_shown();
     if !fit(b, first.n) {
+        let silent = showing::none_shown();
         let none = rounds::no_report();
         let reports = [none; 16];
         return BulletinsRound {
@@ -177,6 +177,7 @@ pub fn round(g: [Station; 16], b: Bulletins, masks: [u16; 16]) -> BulletinsRound
     }
     let done = rounds::round(g, masks);
     if done.refusal != DONE as usize {
+        let silent = showing::none_shown();
         return BulletinsRound {
             round: done,
             bulletins: b,

@@ -2,22 +2,22 @@
 -- round of issue, T s. With it the state is inside its limits.
 use mathlib.Core.Bool.{Bool, true, false, not, _&&_, _||_, false≢true}
 use mathlib.Core.List.{List, _++_}
-use mathlib.Core.Path.{_≡_, refl, sym, ap, _∙_, subst}
-use Prim.Native.Nat.{ℕ, suc, _+_, _*_, _/_, _≤_, _<_}
+use mathlib.Core.Path.{_≡_, refl, sym, ap, _∙_}
+use Prim.Native.Nat.{ℕ, suc, _+_, _*_, _≤_, _<_}
 use native.Mathlib.Decide.{ℕ-discrete, decLe}
 use native.Mathlib.Omega.{arith}
-use borrow.Author.Tests.{le-leb, lt-ltb, eq-eqb, ne-eqb, eqb-true}
-use lib.Dec.{leb, ltb, eqb}
-use lib.ListN.{length, getD, replicate, getD-replicate}
+use borrow.Author.Tests.{le-leb, lt-ltb, eq-eqb, ne-eqb}
+use lib.Dec.{ltb, eqb}
+use lib.ListN.{length, getD-replicate}
 use Rattle.places.specs.Places.{allBelow}
-use Rattle.places.proofs.Laws.{allBelow-make, and-both, and-left, and-right}
+use Rattle.places.proofs.Laws.{allBelow-make, and-both, and-left}
 use Rattle.links.specs.Log.{bit}
 use Rattle.links.specs.Relay.{Links, ofLog}
 use Rattle.links.specs.Clock.{news}
 use Rattle.links.proofs.Log.{bit-zero}
 use Rattle.links.proofs.Facts.{P-news}
 use Rattle.bulletins_spec.specs.declared.Bulletins.{Bulletins}
-use Rattle.bulletins_spec.specs.State.{issuerOf, setOf, holds, stands, tagAt, eventAt, eventInside, heldInside, otherTag, ownInside, bulletinsInside, freshBulletins}
+use Rattle.bulletins_spec.specs.State.{issuerOf, holds, stands, tagAt, eventAt, eventInside, heldInside, otherTag, ownInside, bulletinsInside, freshBulletins}
 
 pub issuer-below : (n s : ℕ) → s < 4 * n → issuerOf s < n
 issuer-below n s l = omega arith

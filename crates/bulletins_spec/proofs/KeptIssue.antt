@@ -1,19 +1,17 @@
 -- An issue that is not refused puts a bulletin at a free place of its issuer. Nobody else holds anything there, and nobody's news of the issuer is from after
 -- the present round but the issuer's own.
 use mathlib.Core.Bool.{Bool, true, false, cond, not, _&&_, _||_, false≢true}
-use mathlib.Core.List.{List}
 use mathlib.Core.Path.{_≡_, refl, sym, ap, _∙_, subst}
-use Prim.Native.Nat.{ℕ, zero, suc, _+_, _*_, _-_, _/_, _^_, _≤_, _<_}
+use Prim.Native.Nat.{ℕ, zero, suc, _+_, _*_, _-_, _^_, _≤_, _<_}
 use native.Mathlib.Decide.{ℕ-discrete}
 use native.Mathlib.Omega.{arith}
 use borrow.Author.Tests.{eq-eqb, ne-eqb, lt-ltb, le-ltb, ltb-true, eqb-false}
 use lib.Bits.{bitOr}
-use lib.Dec.{eqb, ltb, leb}
-use lib.ListN.{length, getD, set, length-set}
+use lib.Dec.{eqb, ltb}
+use lib.ListN.{length, length-set}
 use lib.Seq.{getD-set-same, getD-set-other}
 use Rattle.kinds.specs.Refusals.{done, badNumber, outsideLimits, notAnEdit, alreadyIssued, refuse}
-use Rattle.places.specs.Places.{anyBelow}
-use Rattle.places.proofs.Laws.{anyBelow-at, or-left, or-right, and-both}
+use Rattle.places.proofs.Laws.{anyBelow-at, and-both}
 use Rattle.links.specs.Log.{bit}
 use Rattle.links.specs.Relay.{Links}
 use Rattle.links.specs.Clock.{news}
@@ -22,7 +20,7 @@ use Rattle.broadcast_sets.proofs.Bits.{bit-or, bit-pow}
 use Rattle.bulletins_spec.specs.declared.Bulletins.{Bulletins}
 use Rattle.bulletins_spec.specs.State.{issuerOf, setOf, holds, stands, tagAt, eventAt, eventInside, bulletinsInside}
 use Rattle.bulletins_spec.specs.Calls.{freeFrom, freePlace, hasTag, hasFour, issueRefusal, issued}
-use Rattle.bulletins_spec.proofs.Kept.{Kept, issuer-below}
+use Rattle.bulletins_spec.proofs.Kept.{Kept}
 
 -- the free place is among those looked at, or one past them; inside it is free
 pub free-range : (B : Bulletins) (m s : ℕ) → (s ≤ freeFrom B m s) × (freeFrom B m s ≤ s + m)
@@ -68,8 +66,6 @@ accepted B i tag event e =
     go true true false d f q r s t z = absurd (omega (arith, z))
     go true false c d f q r s t z = absurd (omega (arith, z))
     go false b c d f q r s t z = absurd (omega (arith, z))
-
-
 
 module _ (n : ℕ) (high : n ≤ 16) (L : Links) (u : ℕ) (T : ℕ → ℕ) (B : Bulletins) (k : Kept n L u T B)
     (i tag event : ℕ) (a : Accepted B i tag event) where

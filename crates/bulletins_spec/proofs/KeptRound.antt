@@ -3,13 +3,12 @@
 use mathlib.Core.Bool.{Bool, true, false, _&&_}
 use mathlib.Core.List.{List}
 use mathlib.Core.Path.{_≡_, refl, sym, ap, _∙_, subst}
-use Prim.Native.Nat.{ℕ, zero, suc, _*_, _/_, _≤_, _<_}
+use Prim.Native.Nat.{ℕ, suc, _*_, _≤_, _<_}
 use native.Mathlib.Decide.{ℕ-discrete}
 use native.Mathlib.Omega.{arith}
 use borrow.Author.Tests.{lt-ltb}
 use lib.Dec.{ltb}
-use lib.ListN.{length, getD}
-use Rattle.places.specs.Places.{fill}
+use lib.ListN.{length}
 use Rattle.places.proofs.Laws.{fill-below, length-fill}
 use Rattle.links.specs.Log.{bit, masksIn, hearsIn}
 use Rattle.links.specs.Relay.{Links, ofLog}

@@ -1,14 +1,12 @@
 -- The lengths that the arrays of a state have by their types, out of what owning it tells: each array says how many entries it has.
-use mathlib.Core.List.{List, [], _∷_}
+use mathlib.Core.List.{List}
 use mathlib.Core.Path.{_≡_}
 use lib.ListN.{length, length-map}
 use mir.Val.{Val}
 use denote.Shadow.{shadow}
 use denote.Struct as Struct
-use denote.Struct.Laws as Laws
 use Rattle.bulletins_spec.specs.declared.Bulletins.{Bulletins}
 use Rattle.bulletins_spec.proofs.Bulletins as Declared
-use Rattle.bulletins_spec.proofs.Bulletins.Laws as DeclaredLaws
 
 pub record Shaped (B : Bulletins) : Type 0 where
   pub tags : length (B .tags) ≡ 64

@@ -1,18 +1,17 @@
 -- What is known after a list of issues, posts and rounds: the state by the clocks, the accepted issues by their places, and what every round showed. Here one
 -- round more: it shows what its sets gain, and by the clocks that is what is due.
-use mathlib.Core.Bool.{Bool, true, false, cond, not, _&&_, false≢true}
+use mathlib.Core.Bool.{Bool, true, false, not, _&&_, false≢true}
 use mathlib.Core.List.{List, [], _∷_, _++_, map, List·Memᴰ, Memᴰ·cast}
-use mathlib.Core.Logic.{_⊎_, inl, inr, _↔_}
+use mathlib.Core.Logic.{inl, inr, _↔_}
 use mathlib.Core.Path.{_≡_, refl, sym, ap, _∙_, subst}
-use Prim.Native.Nat.{ℕ, zero, suc, _+_, _*_, _≤_, _<_}
+use Prim.Native.Nat.{ℕ, suc, _+_, _*_, _≤_, _<_}
 use native.Mathlib.Decide.{ℕ-discrete, decLe}
 use native.Mathlib.Omega.{arith}
-use borrow.Author.Tests.{eqb-true, eq-eqb, lt-ltb, ltb-true, not-true}
+use borrow.Author.Tests.{eq-eqb, lt-ltb, ltb-true, not-true}
 use lib.Dec.{eqb, ltb}
 use lib.ListN.{length, getD, length-append, List·getD-append}
 use lib.Seq.{getD-at}
-use Rattle.kinds.specs.Refusals.{done, outsideLimits}
-use Rattle.places.specs.Places.{fill}
+use Rattle.kinds.specs.Refusals.{done}
 use Rattle.places.proofs.Laws.{fill-below, and-both, and-left, and-right}
 use Rattle.links.specs.Log.{bit, masksIn}
 use Rattle.links.specs.Relay.{Links, ofLog}
@@ -26,14 +25,14 @@ use Rattle.bulletins_spec.specs.declared.Bulletins.{Bulletins}
 use Rattle.bulletins_spec.specs.declared.Notice.{Notice}
 use Rattle.bulletins_spec.specs.declared.Shown.{Shown}
 use Rattle.bulletins_spec.specs.declared.BulletinsRound.{BulletinsRound}
-use Rattle.bulletins_spec.specs.State.{issuerOf, holds, stands, tagAt, eventAt, noticeAt, bulletinsInside}
+use Rattle.bulletins_spec.specs.State.{issuerOf, holds, stands, tagAt, eventAt, noticeAt}
 use Rattle.bulletins_spec.specs.Order.{inOrder}
 use Rattle.bulletins_spec.specs.Calls.{setAfter, bulletinsAfter, gains, shownBy, shownOf, notices, noneShown, allShown, fits, roundPart, bulletinsRoundCall}
 use Rattle.bulletins_spec.specs.History.{Issued, Answer, shownIn, noBulletinsRound}
 use Rattle.bulletins_spec.specs.Claim.{Before, Ascends, Once}
-use Rattle.bulletins_spec.proofs.Order.{Pairwise, Ranked, order-from, order-has, order-ranked}
+use Rattle.bulletins_spec.proofs.Order.{Ranked, order-from, order-has, order-ranked}
 use Rattle.bulletins_spec.proofs.Picked.{picked-from, picked-has, picked-ascends, notices-shown}
-use Rattle.bulletins_spec.proofs.Kept.{Kept, kept-log, kept-inside, issuer-below}
+use Rattle.bulletins_spec.proofs.Kept.{Kept, kept-log, kept-inside}
 use Rattle.bulletins_spec.proofs.KeptRound.{set-clock, stands-after, after-tag, after-event, kept-round}
 
 -- due at another station in round u + 1, by the clocks

@@ -1,15 +1,15 @@
 -- An issue more, accepted or refused, and the beginning. An accepted bulletin has been shown by no round, for nobody's news of another is from after the
 -- present round.
 use mathlib.Core.Bool.{Bool, true, false, cond, false≢true}
-use mathlib.Core.List.{List, [], _∷_, _++_, map, map-append, append-nil, List·Memᴰ, List·Memᴰ·head, List·Memᴰ·tail, List·Memᴰ·append-cases, List·Memᴰ·eq-of-singleton, List·Memᴰ·not-nil, Memᴰ·cast, Memᴰ·append-left, Memᴰ·append-right}
-use mathlib.Core.Logic.{_⊎_, inl, inr, _↔_}
-use mathlib.Core.Path.{_≡_, refl, sym, ap, _∙_, subst}
-use Prim.Native.Nat.{ℕ, zero, suc, _*_, _≤_, _<_}
+use mathlib.Core.List.{List, [], _∷_, _++_, map-append, append-nil, List·Memᴰ, List·Memᴰ·head, List·Memᴰ·tail, List·Memᴰ·append-cases, List·Memᴰ·eq-of-singleton, List·Memᴰ·not-nil, Memᴰ·cast, Memᴰ·append-left, Memᴰ·append-right}
+use mathlib.Core.Logic.{inl, inr, _↔_}
+use mathlib.Core.Path.{_≡_, refl, sym, ap, _∙_}
+use Prim.Native.Nat.{ℕ, suc, _*_, _≤_, _<_}
 use native.Mathlib.Decide.{ℕ-discrete}
 use native.Mathlib.Omega.{arith}
 use borrow.Author.Tests.{eqb-true}
 use lib.Dec.{eqb}
-use lib.ListN.{length, getD}
+use lib.ListN.{length}
 use Rattle.kinds.specs.Refusals.{done}
 use Rattle.links.specs.Relay.{Links, ofLog}
 use Rattle.links.proofs.Clock.{news-other}
@@ -21,7 +21,7 @@ use Rattle.bulletins_spec.specs.State.{issuerOf, stands, tagAt, eventAt,
 use Rattle.bulletins_spec.specs.Calls.{freePlace, issueRefusal, issued, issueCall, noNotice}
 use Rattle.bulletins_spec.specs.History.{Issued, Answer, shownIn}
 use Rattle.bulletins_spec.specs.Claim.{Once, Once.no-issue, Once.also}
-use Rattle.bulletins_spec.proofs.Kept.{Kept, kept-fresh, fresh-empty}
+use Rattle.bulletins_spec.proofs.Kept.{kept-fresh, fresh-empty}
 use Rattle.bulletins_spec.proofs.KeptIssue as issuing
 use Rattle.bulletins_spec.proofs.KeptIssue.{Accepted, accepted}
 use Rattle.bulletins_spec.proofs.Told.{Fresh, standing, answerOf, Told}

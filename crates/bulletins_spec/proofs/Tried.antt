@@ -5,7 +5,6 @@ use mathlib.Core.List.{List, [], _∷_}
 use mathlib.Core.Path.{_≡_, refl}
 use Rattle.links.specs.Log.{bit, hearsIn}
 use Rattle.places.specs.Places.{allBelow, anyBelow, fill}
-use Rattle.station_rules.specs.declared.Setup.{Setup}
 use Rattle.broadcast_sets.specs.Sets.{united}
 use Rattle.bulletins_spec.specs.declared.Bulletins.{Bulletins}
 use Rattle.bulletins_spec.specs.declared.Notice.{Notice}

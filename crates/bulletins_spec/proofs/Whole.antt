@@ -1,14 +1,13 @@
 -- A12, whole: the induction over the list, the group's part through demand 3 alone, and the clocks read as relays.
-use mathlib.Core.Bool.{Bool, true, false, not, cond, _||_}
+use mathlib.Core.Bool.{Bool, true, false, not, _||_}
 use mathlib.Core.List.{List, [], _∷_, _++_, map, List·Memᴰ·cases-cons, List·Memᴰ, List·Memᴰ·not-nil, Memᴰ·map, Memᴰ·of-map, Memᴰ·cast}
-use mathlib.Core.Logic.{_⊎_, inl, inr, _↔_}
+use mathlib.Core.Logic.{_⊎_, inl, inr}
 use mathlib.Core.Path.{_≡_, refl, sym, ap, _∙_, subst}
-use Prim.Native.Nat.{ℕ, zero, suc, _+_, _*_, _≤_, _<_}
+use Prim.Native.Nat.{ℕ, zero, suc, _+_, _≤_, _<_}
 use native.Mathlib.Decide.{ℕ-discrete, decLe}
-use native.Mathlib.Nat.{le-refl}
 use native.Mathlib.Omega.{arith}
 use borrow.Author.Tests.{ne-eqb}
-use lib.Dec.{eqb, ltb}
+use lib.Dec.{ltb}
 use lib.ListN.{length, getD, length-append, List·getD-append}
 use lib.Seq.{getD-at}
 use Rattle.kinds.specs.Refusals.{done, outsideLimits, badNumber, notAnEdit, alreadyIssued, refuse}
@@ -23,13 +22,12 @@ use Rattle.group_rules.specs.State.{sizeOf}
 use Rattle.group_rules.specs.Calls.{groupFreshRefusal, roundCall}
 use Rattle.group_rules.specs.History as group
 use Rattle.group_rules.specs.History.{Call, Call.post, Call.round, begun, historyOf, noRound}
-use Rattle.group_rules.proofs.Setups.{Accepts, accepts}
+use Rattle.group_rules.proofs.Setups.{accepts}
 use Rattle.group_rules.proofs.HistoryInside.{history-members}
 use Rattle.group_rules.proofs.DemandThree.{demand-three}
-use Rattle.bulletins_spec.specs.declared.Bulletins.{Bulletins}
 use Rattle.bulletins_spec.specs.declared.Notice.{Notice}
 use Rattle.bulletins_spec.specs.declared.BulletinsRound.{BulletinsRound}
-use Rattle.bulletins_spec.specs.State.{eventInside, bulletinsInside, freshBulletins}
+use Rattle.bulletins_spec.specs.State.{eventInside, bulletinsInside}
 use Rattle.bulletins_spec.specs.Calls.{hasTag, hasFour, issueRefusal, issueCall, bulletinsRoundCall}
 use Rattle.bulletins_spec.specs.History.{Entry, Entry.call, Entry.issue, callsOf, Issued, Answer, History, next, begins, continued, runOf, noBulletinsRound, shownIn}
 use Rattle.bulletins_spec.specs.Claim.{FirstBy, Due, Once, Once.no-issue, Once.also, Shows, Shows.reported, Shows.answered, Claim, BulletinsShown}

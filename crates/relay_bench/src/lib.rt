@@ -208,9 +208,8 @@ fn run_bulletins(schedule: &[u8], n: usize, rounds: u32) -> u32
         }
         let before = bulletins_before(b, begun, number);
         let done = bulletins::round(g, before, masks_of(schedule, number));
-        let part = done.round;
-        let after = part.group;
-        let reports = part.reports;
+        let after = done.round.group;
+        let reports = done.round.reports;
         let shown = done.shown;
         let kept = done.bulletins;
         g = after;

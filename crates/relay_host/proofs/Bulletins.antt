@@ -1,23 +1,21 @@
 -- The calls on bulletins that lie as bytes, return by return: what is refused leaves every buffer, and what is done leaves the encoding of what the call's definition
 -- gives.
-use mathlib.Core.Path.{_≡_, refl, sym, ap, _∙_}
-use mathlib.Core.Bool.{Bool, true, false, cond, _&&_}
+use mathlib.Core.Path.{_≡_, sym, ap, _∙_}
+use mathlib.Core.Bool.{Bool, true, false, cond}
 use mathlib.Core.List.{List}
-use Prim.Native.Nat.{ℕ, _+_, _*_, _<_, _≤_}
+use Prim.Native.Nat.{ℕ, _<_, _≤_}
 use native.Mathlib.Omega.{arith}
 use borrow.Author.Tests.{eqb-true}
 use lib.Dec.{eqb, ltb}
 use lib.ListN.{length, replicate}
 use lib.Seq.{sets}
 use Rattle.kinds.specs.Refusals.{done, outsideLimits, shortBuffer}
-use Rattle.places.proofs.Keeps.{cond-keeps}
 use Rattle.places.proofs.Laws.{and-left}
 use Rattle.frame_rules.specs.Words.{wordAt}
 use Rattle.planning_spec.specs.Merge.{frontWritten}
 use Rattle.station_rules.specs.declared.Station.{Station}
-use Rattle.group_rules.specs.declared.RoundDone.{RoundDone}
 use Rattle.group_rules.specs.Calls.{noReport, roundCall}
-use Rattle.station_bytes_spec.specs.Group.{groupWidth, encodeGroup, decodeGroup, isGroup}
+use Rattle.station_bytes_spec.specs.Group.{encodeGroup, decodeGroup, isGroup}
 use Rattle.station_bytes_spec.specs.Reports.{reportsWidth, encodeReports}
 use Rattle.station_bytes_spec.proofs.Group.{length-group}
 use Rattle.station_bytes_spec.proofs.Reports.{length-reports}

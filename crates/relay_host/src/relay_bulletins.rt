@@ -7,7 +7,8 @@ ghost use Rattle.station_bytes_spec.specs.Reports.{encodeReports};
 ghost use Rattle.bulletins_spec.specs.Calls.{bulletinsFreshCall};
 ghost use Rattle.bulletin_bytes_spec.specs.Bulletins.{encodeBulletins};
 ghost use Rattle.bulletin_bytes_spec.specs.Shown.{encodeAllShown};
-ghost use Rattle.relay_host.specs.Bulletins.{bulletinsFreshReturned, issueAnswer, issueReturned, bothAnswer, bothReturned};
+ghost use Rattle.relay_host.specs.Bulletins.{bulletinsFreshReturned, issueAnswer, issueReturned};
+ghost use Rattle.relay_host.specs.Bulletins.{bothAnswer, bothReturned};
 use kinds::refusals::DONE;
 use kinds::refusals::OUTSIDE_LIMITS;
 use kinds::refusals::SHORT_BUFFER;
@@ -20,7 +21,8 @@ const SHOWN_WIDTH: usize = 12352;
 #[no_mangle]
 pub extern "C" fn relay_bulletins_fresh(state: &mut [u8], n: u32) -> u32
     ensures { λ r. ⌜ (r ≡ bulletinsFreshReturned n (now (state .entry)))
-        × (now (state .exit) ≡ frontWritten r (encodeBulletins (bulletinsFreshCall n .bulletins)) (now (state .entry))) ⌝ }
+        × (now (state .exit)
+        ≡ frontWritten r (encodeBulletins (bulletinsFreshCall n .bulletins)) (now (state .entry))) ⌝ }
 {
     let made = bulletins::fresh(n as usize);
     if made.refusal != DONE {

@@ -1,3 +1,4 @@
+-- The length and the first word decide.
 use Prim.Native.Nat.{ℕ}
 use mathlib.Core.Path.{ap, _∙_}
 use borrow.Author.Tests.{eq-eqb, ne-eqb}
@@ -7,20 +8,14 @@ use Rattle.bulletin_bytes_spec.specs.Bulletins.{bulletinsWidth, isBulletins}
 use borrow.Author.Needs.{needs}
 use Rattle.bulletin_codec.proofs.is_bulletins.Statement.{statement}
 use Rattle.bulletin_codec.proofs.is_bulletins.Tie as tie
-use Rattle.bulletin_codec.proofs.is_bulletins.Reads as reads
-use Rattle.bulletin_codec.proofs.is_bulletins.Lts as lts
-use Rattle.record_reader.proofs.word_at.Reads as word-at-reads
 
--- src/lib.rt:77:9
 returns : tie.Need-returns
 unfolding isBulletins
 returns c = rw (ne-eqb (length (c .before .before .args .bytes .now)) bulletinsWidth (c .if1 .taken))
 
--- src/lib.rt:79:5
 word-at-requires : tie.Need-word-at-requires
 word-at-requires c κs = search needs
 
--- src/lib.rt:73:1
 returns-2 : tie.Need-returns-2
 unfolding isBulletins
 returns-2 c =

@@ -11,9 +11,6 @@ use Rattle.bulletin_bytes_spec.specs.Shown.{shownWidth, encodeShown, absentShow
 use Rattle.bulletin_bytes_spec.proofs.Shown.{length-shown}
 use Rattle.bulletin_codec.proofs.put_all_shown.Statement.{statement}
 use Rattle.bulletin_codec.proofs.put_all_shown.Tie as tie
-use Rattle.bulletin_codec.proofs.put_all_shown.Reads as reads
-use Rattle.bulletin_codec.proofs.put_all_shown.Lts as lts
-use Rattle.bulletin_codec.proofs.put_shown.Reads as put-shown-reads
 
 abbrev Inv-loop : tie.InvT-loop
 Inv-loop bytes₀ shown p₀ bytes p =
@@ -22,35 +19,9 @@ Inv-loop bytes₀ shown p₀ bytes p =
 abbrev μ-loop : tie.MeasureT-loop
 μ-loop bytes₀ shown p₀ bytes p = 16 - p
 
--- src/lib.rt:178:5
 loop-holds : tie.Need-loop-holds Inv-loop μ-loop
 loop-holds c = (omega arith, refl, none-written _ 0 (λ k. encodeShown (getD (c .before .args .t2) k absentShown)))
 
--- src/lib.rt:179:26
-mul-put-shown : tie.Need-mul-put-shown Inv-loop μ-loop
-mul-put-shown c = search needs
-
--- src/lib.rt:179:43
-mul-put-shown-2 : tie.Need-mul-put-shown-2 Inv-loop μ-loop
-mul-put-shown-2 c = search needs
-
--- src/lib.rt:179:43
-array-copy-out-put-shown : tie.Need-array-copy-out-put-shown Inv-loop μ-loop
-array-copy-out-put-shown c = search needs
-
--- src/lib.rt:179:9
-put-shown-requires : tie.Need-put-shown-requires Inv-loop μ-loop
-put-shown-requires c κs = search needs
-
--- src/lib.rt:180:9
-add-p : tie.Need-add-p Inv-loop μ-loop
-add-p c = search needs
-
--- src/lib.rt:178:5
-loop-less : tie.Need-loop-less Inv-loop μ-loop
-loop-less c = search needs
-
--- src/lib.rt:178:5
 loop-again : tie.Need-loop-again Inv-loop μ-loop
 loop-again c =
     let z = c .before .before in
@@ -59,11 +30,9 @@ loop-again c =
     (omega arith, z .put-shown .kept .0 ∙ l .inv .1,
     part-at-front _ (l .bytes) _ shownWidth (l .p) (λ k. encodeShown (getD (s .t2) k absentShown)) (λ j. length-shown _) (l .inv .2) (z .put-shown .ensures))
 
--- src/lib.rt:173:1
 same-length : tie.Need-same-length Inv-loop μ-loop
 same-length c = c .before .loop .inv .1
 
--- src/lib.rt:173:1
 returns : tie.Need-returns Inv-loop μ-loop
 unfolding encodeAllShown
 returns c =
@@ -77,12 +46,12 @@ put-all-shown-spec =
     Inv-loop
     μ-loop
     loop-holds
-    mul-put-shown
-    mul-put-shown-2
-    array-copy-out-put-shown
-    put-shown-requires
-    add-p
-    loop-less
+    (λ c. search needs)
+    (λ c. search needs)
+    (λ c. search needs)
+    (λ c κs. search needs)
+    (λ c. search needs)
+    (λ c. search needs)
     loop-again
     same-length
     returns)

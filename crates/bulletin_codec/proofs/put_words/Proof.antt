@@ -1,8 +1,8 @@
 -- The words before s are written.
-use mathlib.Core.Path.{_≡_, refl, sym, ap, _∙_}
-use Prim.Native.Nat.{ℕ, _+_, _*_, _-_, _≤_, _<_}
+use mathlib.Core.Path.{_≡_, refl, _∙_}
+use Prim.Native.Nat.{_-_, _≤_}
 use native.Mathlib.Omega.{arith}
-use lib.ListN.{getD, length, replicate}
+use lib.ListN.{getD, length}
 use lib.Seq.{sets}
 use borrow.Author.Needs.{needs}
 use Rattle.frame_rules.specs.Words.{wordBytes}
@@ -11,9 +11,6 @@ use Rattle.station_bytes_spec.proofs.Bytes.{length-word}
 use Rattle.station_encoder.proofs.Writing.{none-written, part-written, all-written}
 use Rattle.bulletin_codec.proofs.put_words.Statement.{statement}
 use Rattle.bulletin_codec.proofs.put_words.Tie as tie
-use Rattle.bulletin_codec.proofs.put_words.Reads as reads
-use Rattle.bulletin_codec.proofs.put_words.Lts as lts
-use Rattle.record_writer.proofs.put_word.Reads as put-word-reads
 
 abbrev Inv-loop : tie.InvT-loop
 Inv-loop bytes₀ at words s₀ bytes s = (s ≤ 64) × (length bytes ≡ length bytes₀) × (bytes ≡ sets bytes₀ at (joinedBelow s (λ j. wordBytes (getD words j 0))))
@@ -21,39 +18,9 @@ Inv-loop bytes₀ at words s₀ bytes s = (s ≤ 64) × (length bytes ≡ length
 abbrev μ-loop : tie.MeasureT-loop
 μ-loop bytes₀ at words s₀ bytes s = 64 - s
 
--- src/lib.rt:106:5
 loop-holds : tie.Need-loop-holds Inv-loop μ-loop
 loop-holds c = (omega arith, refl, none-written _ _ _)
 
--- src/lib.rt:107:30
-mul-put-word : tie.Need-mul-put-word Inv-loop μ-loop
-mul-put-word c = search needs
-
--- src/lib.rt:107:25
-add-put-word : tie.Need-add-put-word Inv-loop μ-loop
-add-put-word c = search needs
-
--- src/lib.rt:107:37
-mul-put-word-2 : tie.Need-mul-put-word-2 Inv-loop μ-loop
-mul-put-word-2 c = search needs
-
--- src/lib.rt:107:37
-array-read-put-word : tie.Need-array-read-put-word Inv-loop μ-loop
-array-read-put-word c = search needs
-
--- src/lib.rt:107:9
-put-word-requires : tie.Need-put-word-requires Inv-loop μ-loop
-put-word-requires c κs = search needs
-
--- src/lib.rt:108:9
-add-s : tie.Need-add-s Inv-loop μ-loop
-add-s c = search needs
-
--- src/lib.rt:106:5
-loop-less : tie.Need-loop-less Inv-loop μ-loop
-loop-less c = search needs
-
--- src/lib.rt:106:5
 loop-again : tie.Need-loop-again Inv-loop μ-loop
 loop-again c =
     let z = c .before .before in
@@ -62,11 +29,9 @@ loop-again c =
     (omega arith, z .put-word .kept .0 ∙ l .inv .1,
     part-written _ (l .bytes) _ (s .at) 4 (l .s) (λ j. wordBytes (getD (s .t3) j 0)) (λ j. length-word _) (l .inv .2) (z .put-word .ensures))
 
--- src/lib.rt:100:1
 same-length : tie.Need-same-length Inv-loop μ-loop
 same-length c = c .before .loop .inv .1
 
--- src/lib.rt:100:1
 returns : tie.Need-returns Inv-loop μ-loop
 returns c =
     let s = c .before .before .before .args in
@@ -79,13 +44,13 @@ put-words-spec =
     Inv-loop
     μ-loop
     loop-holds
-    mul-put-word
-    add-put-word
-    mul-put-word-2
-    array-read-put-word
-    put-word-requires
-    add-s
-    loop-less
+    (λ c. search needs)
+    (λ c. search needs)
+    (λ c. search needs)
+    (λ c. search needs)
+    (λ c κs. search needs)
+    (λ c. search needs)
+    (λ c. search needs)
     loop-again
     same-length
     returns)

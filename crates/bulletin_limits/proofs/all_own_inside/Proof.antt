@@ -1,7 +1,8 @@
+-- The loop keeps: the bulletins at the places passed are inside their limits.
 use borrow.Author.Needs.{needs}
 -- The loop keeps: the bulletins at the places passed are inside their limits.
-use Prim.Native.Nat.{ℕ, _+_, _*_, _-_, _≤_, _<_}
-use mathlib.Core.Bool.{Bool, true, false}
+use Prim.Native.Nat.{ℕ, _*_, _-_, _≤_}
+use mathlib.Core.Bool.{true}
 use mathlib.Core.Path.{_≡_, refl, sym, ap, _∙_}
 use native.Mathlib.Omega.{arith}
 use borrow.Author.Tests.{not-true, not-false}
@@ -10,9 +11,6 @@ use Rattle.places.proofs.Laws.{allBelow-more, allBelow-fails}
 use Rattle.bulletin_limits.specs.Lent.{ownIn}
 use Rattle.bulletin_limits.proofs.all_own_inside.Statement.{statement}
 use Rattle.bulletin_limits.proofs.all_own_inside.Tie as tie
-use Rattle.bulletin_limits.proofs.all_own_inside.Reads as reads
-use Rattle.bulletin_limits.proofs.all_own_inside.Lts as lts
-use Rattle.bulletin_limits.proofs.own_inside.Reads as own-inside-reads
 
 abbrev Inv-loop : tie.InvT-loop
 Inv-loop held tags events n s₀ s = (s ≤ 4 * n) × (allBelow s (λ r. ownIn held tags events r) ≡ true)
@@ -20,20 +18,10 @@ Inv-loop held tags events n s₀ s = (s ≤ 4 * n) × (allBelow s (λ r. ownIn h
 abbrev μ-loop : tie.MeasureT-loop
 μ-loop held tags events n s₀ s = 4 * n - s
 
--- src/lib.rt:115:5
 loop-holds : tie.Need-loop-holds Inv-loop μ-loop
 unfolding allBelow
 loop-holds c = (omega arith, refl)
 
--- src/lib.rt:115:15
-mul-loop : tie.Need-mul-loop Inv-loop μ-loop
-mul-loop c = search needs
-
--- src/lib.rt:116:13
-own-inside-requires : tie.Need-own-inside-requires Inv-loop μ-loop
-own-inside-requires c κs = search needs
-
--- src/lib.rt:117:13
 returns : tie.Need-returns Inv-loop μ-loop
 returns c =
     let a = c .before .before .before .before .args in
@@ -42,15 +30,6 @@ returns c =
     (allBelow-fails (4 * a .n) (λ r. ownIn (a .held .now) (a .tags .now) (a .events .now) r) (l .s) (omega arith)
     (sym (c .before .own-inside .ensures) ∙ not-true (c .before .own-inside .result) (c .if1 .taken)))
 
--- src/lib.rt:119:9
-add-s : tie.Need-add-s Inv-loop μ-loop
-add-s c = search needs
-
--- src/lib.rt:115:5
-loop-less : tie.Need-loop-less Inv-loop μ-loop
-loop-less c = search needs
-
--- src/lib.rt:115:5
 loop-again : tie.Need-loop-again Inv-loop μ-loop
 loop-again c =
     let a = c .before .before .before .before .args in
@@ -60,7 +39,6 @@ loop-again c =
           (sym (c .before .own-inside .ensures) ∙ not-false (c .before .own-inside .result) (c .if1 .left)),
     )
 
--- src/lib.rt:109:1
 returns-2 : tie.Need-returns-2 Inv-loop μ-loop
 returns-2 c =
     let a = c .before .before .args in
@@ -75,10 +53,10 @@ all-own-inside-spec =
     Inv-loop
     μ-loop
     loop-holds
-    mul-loop
-    own-inside-requires
+    (λ c. search needs)
+    (λ c κs. search needs)
     returns
-    add-s
-    loop-less
+    (λ c. search needs)
+    (λ c. search needs)
     loop-again
     returns-2)

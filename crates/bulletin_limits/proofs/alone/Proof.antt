@@ -1,6 +1,7 @@
-use Prim.Native.Nat.{ℕ, _+_, _*_, _-_, _≤_, _<_}
-use mathlib.Core.Bool.{Bool, true, false}
-use mathlib.Core.Path.{_≡_, refl, sym, ap, _∙_}
+-- The loop keeps: none of the places passed has the tag.
+use Prim.Native.Nat.{_+_, _*_, _-_, _≤_}
+use mathlib.Core.Bool.{true}
+use mathlib.Core.Path.{_≡_, refl, sym, _∙_}
 use native.Mathlib.Omega.{arith}
 use borrow.Author.Needs.{needs}
 use borrow.Author.Tests.{not-true, not-false}
@@ -10,9 +11,6 @@ use Rattle.bulletins_spec.specs.State.{issuerOf}
 use Rattle.bulletin_limits.specs.Lent.{otherTagIn}
 use Rattle.bulletin_limits.proofs.alone.Statement.{statement}
 use Rattle.bulletin_limits.proofs.alone.Tie as tie
-use Rattle.bulletin_limits.proofs.alone.Reads as reads
-use Rattle.bulletin_limits.proofs.alone.Lts as lts
-use Rattle.bulletin_limits.proofs.other_tag.Reads as other-tag-reads
 
 abbrev Inv-loop : tie.InvT-loop
 Inv-loop held tags s first k₀ k = (k ≤ 4) × (allBelow k (λ j. otherTagIn held tags s (4 * issuerOf s + j)) ≡ true)
@@ -20,24 +18,10 @@ Inv-loop held tags s first k₀ k = (k ≤ 4) × (allBelow k (λ j. otherTagIn h
 abbrev μ-loop : tie.MeasureT-loop
 μ-loop held tags s first k₀ k = 4 - k
 
--- src/lib.rt:83:17
-mul-first : tie.Need-mul-first Inv-loop μ-loop
-mul-first c = search needs
-
--- src/lib.rt:85:5
 loop-holds : tie.Need-loop-holds Inv-loop μ-loop
 unfolding allBelow
 loop-holds c = (omega arith, refl)
 
--- src/lib.rt:86:38
-add-other-tag : tie.Need-add-other-tag Inv-loop μ-loop
-add-other-tag c = search needs
-
--- src/lib.rt:86:13
-other-tag-requires : tie.Need-other-tag-requires Inv-loop μ-loop
-other-tag-requires c κs = search needs
-
--- src/lib.rt:87:13
 returns : tie.Need-returns Inv-loop μ-loop
 returns c =
     let a = c .before .before .before .before .args in
@@ -46,15 +30,6 @@ returns c =
     (allBelow-fails 4 (λ j. otherTagIn (a .held .now) (a .tags .now) (a .s) (4 * issuerOf (a .s) + j)) (l .k) (omega arith)
     (sym (c .before .other-tag .ensures) ∙ not-true (c .before .other-tag .result) (c .if1 .taken)))
 
--- src/lib.rt:89:9
-add-k : tie.Need-add-k Inv-loop μ-loop
-add-k c = search needs
-
--- src/lib.rt:85:5
-loop-less : tie.Need-loop-less Inv-loop μ-loop
-loop-less c = search needs
-
--- src/lib.rt:85:5
 loop-again : tie.Need-loop-again Inv-loop μ-loop
 loop-again c =
     let a = c .before .before .before .before .args in
@@ -64,7 +39,6 @@ loop-again c =
           (sym (c .before .other-tag .ensures) ∙ not-false (c .before .other-tag .result) (c .if1 .left)),
     )
 
--- src/lib.rt:79:1
 returns-2 : tie.Need-returns-2 Inv-loop μ-loop
 returns-2 c =
     let l = c .before .loop in
@@ -77,12 +51,12 @@ alone-spec =
     (tie.spec
     Inv-loop
     μ-loop
-    mul-first
+    (λ c. search needs)
     loop-holds
-    add-other-tag
-    other-tag-requires
+    (λ c. search needs)
+    (λ c κs. search needs)
     returns
-    add-k
-    loop-less
+    (λ c. search needs)
+    (λ c. search needs)
     loop-again
     returns-2)

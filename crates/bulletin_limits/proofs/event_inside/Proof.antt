@@ -9,8 +9,6 @@ use Rattle.bulletins_spec.specs.State.{eventInside}
 use borrow.Author.Needs.{needs}
 use Rattle.bulletin_limits.proofs.event_inside.Statement.{statement}
 use Rattle.bulletin_limits.proofs.event_inside.Tie as tie
-use Rattle.bulletin_limits.proofs.event_inside.Reads as reads
-use Rattle.bulletin_limits.proofs.event_inside.Lts as lts
 
 early : (e : ℕ) → e < (limitsOf 2) .«least_event» → false ≡ eventInside e
 early e l = simp (lt-leb _ _ l)
@@ -21,11 +19,9 @@ late e l = simp (le-leb _ _ l)
 array-copy-out-row : tie.Need-array-copy-out-row
 array-copy-out-row c = search needs
 
--- src/lib.rt:59:9
 returns : tie.Need-returns
 returns c = early _ (c .if1 .taken)
 
--- src/lib.rt:54:1
 returns-2 : tie.Need-returns-2
 returns-2 c = late _ (c .before .if1 .left)
 

@@ -1,3 +1,4 @@
+-- The test picks one of two sets.
 use Prim.Native.Nat.{ℕ}
 use mathlib.Core.Bool.{Bool, true, false, cond, false≢true}
 use mathlib.Core.Path.{_≡_, refl, _∙_}
@@ -5,9 +6,6 @@ use borrow.Author.Tests.{not-true, not-false}
 use borrow.Author.Needs.{needs}
 use Rattle.bulletin_limits.proofs.place_if.Statement.{statement}
 use Rattle.bulletin_limits.proofs.place_if.Tie as tie
-use Rattle.bulletin_limits.proofs.place_if.Reads as reads
-use Rattle.bulletin_limits.proofs.place_if.Lts as lts
-use Rattle.bulletin_limits.proofs.with_place.Reads as with-place-reads
 
 chosen : (t : Bool) → t ≡ true → (x y : ℕ) → x ≡ cond t x y
 chosen true e x y = refl
@@ -16,11 +14,9 @@ chosen false e x y = absurd (false≢true e)
 returns : tie.Need-returns
 returns c = rw (not-true (c .before .args .test) (c .if1 .taken))
 
--- src/lib.rt:132:5
 with-place-requires : tie.Need-with-place-requires
 with-place-requires c κs = search needs
 
--- src/lib.rt:125:1
 returns-2 : tie.Need-returns-2
 returns-2 c = c .with-place .ensures ∙ chosen (c .before .before .args .test) (not-false (c .before .before .args .test) (c .before .if1 .left)) _ _
 

@@ -7,8 +7,6 @@ use lib.Pow.{pow-lt}
 use borrow.Author.Needs.{needs}
 use Rattle.bulletin_limits.proofs.with_place.Statement.{statement}
 use Rattle.bulletin_limits.proofs.with_place.Tie as tie
-use Rattle.bulletin_limits.proofs.with_place.Reads as reads
-use Rattle.bulletin_limits.proofs.with_place.Lts as lts
 
 shifted64 : (s : ℕ) → s < 64 → (1 * 2 ^ s) % 18446744073709551616 ≡ 2 ^ s
 shifted64 s h =
@@ -18,7 +16,6 @@ shifted64 s h =
 shl-result : tie.Need-shl-result
 shl-result c = search needs
 
--- src/lib.rt:38:1
 returns : tie.Need-returns
 returns c = ap (bitOr (c .args .set)) (shifted64 (c .args .s) (c .pre))
 

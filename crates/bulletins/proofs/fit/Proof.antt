@@ -1,3 +1,4 @@
+-- Each test of the code is one of the definition's.
 use mathlib.Core.Bool.{true, false}
 use mathlib.Core.Path.{_≡_, sym, _∙_}
 use borrow.Author.Tests.{not-true, not-false}
@@ -5,21 +6,15 @@ use Rattle.bulletins_spec.specs.State.{bulletinsInside}
 use borrow.Author.Needs.{needs}
 use Rattle.bulletins.proofs.fit.Statement.{statement}
 use Rattle.bulletins.proofs.fit.Tie as tie
-use Rattle.bulletins.proofs.fit.Reads as reads
-use Rattle.bulletins.proofs.fit.Lts as lts
-use Rattle.bulletin_limits.proofs.inside.Reads as inside-reads
 
--- src/lib.rt:153:9
 inside-requires : tie.Need-inside-requires
 inside-requires c κs = search needs
 
--- src/lib.rt:154:9
 returns : tie.Need-returns
 returns c =
     let e : bulletinsInside (c .before .before .args .b) ≡ false = sym (c .before .inside .ensures) ∙ not-true (c .before .inside .result) (c .if1 .taken) in
     rw e
 
--- src/lib.rt:150:1
 returns-2 : tie.Need-returns-2
 returns-2 c =
     let t = c .before .before in

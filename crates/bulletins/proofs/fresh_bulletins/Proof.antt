@@ -1,12 +1,9 @@
+-- All fields are those of the definition.
 use mathlib.Core.Path.{refl}
-use borrow.Author.Needs.{needs}
 use Rattle.bulletins_spec.specs.State.{freshBulletins}
 use Rattle.bulletins.proofs.fresh_bulletins.Statement.{statement}
 use Rattle.bulletins.proofs.fresh_bulletins.Tie as tie
-use Rattle.bulletins.proofs.fresh_bulletins.Reads as reads
-use Rattle.bulletins.proofs.fresh_bulletins.Lts as lts
 
--- src/lib.rt:38:1
 returns : tie.Need-returns
 unfolding freshBulletins
 returns c = refl

@@ -1,7 +1,7 @@
 -- The loop keeps: the sets below p are those after the round, and the others are as they were.
-use Prim.Native.Nat.{ℕ, _+_, _-_, _<_, _≤_}
+use Prim.Native.Nat.{ℕ, _-_, _≤_}
 use mathlib.Core.List.{List}
-use mathlib.Core.Path.{_≡_, refl, sym, ap, ap₂, _∙_}
+use mathlib.Core.Path.{_≡_, refl, ap₂, _∙_}
 use native.Mathlib.Omega.{arith}
 use lib.ListN.{getD, set}
 use borrow.Author.Needs.{needs}
@@ -11,9 +11,6 @@ use Rattle.places.proofs.Laws.{fill-more}
 use Rattle.broadcast_sets.specs.Sets.{united}
 use Rattle.bulletins.proofs.held_after.Statement.{statement}
 use Rattle.bulletins.proofs.held_after.Tie as tie
-use Rattle.bulletins.proofs.held_after.Reads as reads
-use Rattle.bulletins.proofs.held_after.Lts as lts
-use Rattle.bulletins.proofs.set_after.Reads as set-after-reads
 
 abbrev Inv-loop : tie.InvT-loop
 Inv-loop held masks n after₀ p₀ after p =
@@ -22,32 +19,10 @@ Inv-loop held masks n after₀ p₀ after p =
 abbrev μ-loop : tie.MeasureT-loop
 μ-loop held masks n after₀ p₀ after p = n - p
 
--- src/lib.rt:142:5
 loop-holds : tie.Need-loop-holds Inv-loop μ-loop
 unfolding fill
 loop-holds c = (omega arith, refl)
 
--- src/lib.rt:143:20
-set-after-requires : tie.Need-set-after-requires Inv-loop μ-loop
-set-after-requires c κs = search needs
-
--- src/lib.rt:143:9
-mul-after : tie.Need-mul-after Inv-loop μ-loop
-mul-after c = search needs
-
--- src/lib.rt:143:9
-array-write-after : tie.Need-array-write-after Inv-loop μ-loop
-array-write-after c = search needs
-
--- src/lib.rt:144:9
-add-p : tie.Need-add-p Inv-loop μ-loop
-add-p c = search needs
-
--- src/lib.rt:142:5
-loop-less : tie.Need-loop-less Inv-loop μ-loop
-loop-less c = search needs
-
--- src/lib.rt:142:5
 loop-again : tie.Need-loop-again Inv-loop μ-loop
 loop-again c =
     let a = c .before .before .before .before .args in
@@ -57,7 +32,6 @@ loop-again c =
       ap₂ (λ (x : List ℕ) (y : ℕ). set x (l .p) y) (l .inv .1) (c .set-after .ensures) ∙ fill-more (l .p) f (a .held .now),
     )
 
--- src/lib.rt:134:1
 returns : tie.Need-returns Inv-loop μ-loop
 returns c =
     let a = c .before .before .before .args in
@@ -72,10 +46,10 @@ held-after-spec =
     Inv-loop
     μ-loop
     loop-holds
-    set-after-requires
-    mul-after
-    array-write-after
-    add-p
-    loop-less
+    (λ c κs. search needs)
+    (λ c. search needs)
+    (λ c. search needs)
+    (λ c. search needs)
+    (λ c. search needs)
     loop-again
     returns)

@@ -1,7 +1,7 @@
 -- The loop keeps: the set is united with those of the stations below j that p hears, all as they stood before the round.
-use Prim.Native.Nat.{ℕ, _+_, _-_, _<_, _≤_}
+use Prim.Native.Nat.{ℕ, _-_, _≤_}
 use mathlib.Core.Bool.{Bool, cond}
-use mathlib.Core.Path.{_≡_, refl, sym, ap, ap₂, _∙_}
+use mathlib.Core.Path.{_≡_, sym, ap₂, _∙_}
 use native.Mathlib.Omega.{arith}
 use lib.Bits.{bitOr}
 use lib.ListN.{getD}
@@ -11,10 +11,6 @@ use Rattle.broadcast_sets.specs.Sets.{united}
 use Rattle.broadcast_sets.proofs.Rows.{united-zero, united-more}
 use Rattle.bulletins.proofs.set_after.Statement.{statement}
 use Rattle.bulletins.proofs.set_after.Tie as tie
-use Rattle.bulletins.proofs.set_after.Reads as reads
-use Rattle.bulletins.proofs.set_after.Lts as lts
-use Rattle.bulletins.proofs.joined.Reads as joined-reads
-use Rattle.links.proofs.hears.Reads as hears-reads
 
 abbrev Inv-loop : tie.InvT-loop
 Inv-loop held masks n p set₀ j₀ set j =
@@ -23,43 +19,9 @@ Inv-loop held masks n p set₀ j₀ set j =
 abbrev μ-loop : tie.MeasureT-loop
 μ-loop held masks n p set₀ j₀ set j = n - j
 
--- src/lib.rt:124:19
-mul-set : tie.Need-mul-set Inv-loop μ-loop
-mul-set c = search needs
-
--- src/lib.rt:124:19
-element-copy-out-set : tie.Need-element-copy-out-set Inv-loop μ-loop
-element-copy-out-set c = search needs
-
--- src/lib.rt:126:5
 loop-holds : tie.Need-loop-holds Inv-loop μ-loop
 loop-holds c = (omega arith, sym (united-zero _ _ _))
 
--- src/lib.rt:127:27
-mul-joined : tie.Need-mul-joined Inv-loop μ-loop
-mul-joined c = search needs
-
--- src/lib.rt:127:27
-element-copy-out-joined : tie.Need-element-copy-out-joined Inv-loop μ-loop
-element-copy-out-joined c = search needs
-
--- src/lib.rt:127:36
-hears-requires : tie.Need-hears-requires Inv-loop μ-loop
-hears-requires c κs = search needs
-
--- src/lib.rt:127:9
-joined-requires : tie.Need-joined-requires Inv-loop μ-loop
-joined-requires c κs = search needs
-
--- src/lib.rt:128:9
-add-j : tie.Need-add-j Inv-loop μ-loop
-add-j c = search needs
-
--- src/lib.rt:126:5
-loop-less : tie.Need-loop-less Inv-loop μ-loop
-loop-less c = search needs
-
--- src/lib.rt:126:5
 loop-again : tie.Need-loop-again Inv-loop μ-loop
 loop-again c =
     let a = c .before .before .before .before .before .before .args in
@@ -70,7 +32,6 @@ loop-again c =
           ∙ sym (united-more (λ i. hearsIn (a .n) (a .masks) (a .p) i) (λ i. getD (a .held .now) i 0) (getD (a .held .now) (a .p) 0) (l .j)),
     )
 
--- src/lib.rt:119:1
 returns : tie.Need-returns Inv-loop μ-loop
 returns c =
     let a = c .before .before .before .args in
@@ -84,14 +45,14 @@ set-after-spec =
     (tie.spec
     Inv-loop
     μ-loop
-    mul-set
-    element-copy-out-set
+    (λ c. search needs)
+    (λ c. search needs)
     loop-holds
-    mul-joined
-    element-copy-out-joined
-    hears-requires
-    joined-requires
-    add-j
-    loop-less
+    (λ c. search needs)
+    (λ c. search needs)
+    (λ c κs. search needs)
+    (λ c κs. search needs)
+    (λ c. search needs)
+    (λ c. search needs)
     loop-again
     returns)

@@ -1,7 +1,6 @@
 -- The loop keeps: the first free place is the first one from here on.
-use Prim.Native.Nat.{ℕ, _+_, _*_, _-_, _≤_, _<_}
-use mathlib.Core.Bool.{true, false}
-use mathlib.Core.Path.{_≡_, refl, sym, ap, _∙_}
+use Prim.Native.Nat.{ℕ, _+_, _*_, _-_, _≤_}
+use mathlib.Core.Path.{_≡_, sym, ap, _∙_}
 use native.Mathlib.Omega.{arith}
 use borrow.Author.Tests.{not-true, not-false}
 use borrow.Author.Needs.{needs}
@@ -9,9 +8,6 @@ use Rattle.bulletins.specs.Lent.{freeIn}
 use Rattle.bulletins.proofs.Free.{free-none, free-here, free-next}
 use Rattle.bulletins.proofs.issuing.free_place.Statement.{statement}
 use Rattle.bulletins.proofs.issuing.free_place.Tie as tie
-use Rattle.bulletins.proofs.issuing.free_place.Reads as reads
-use Rattle.bulletins.proofs.issuing.free_place.Lts as lts
-use Rattle.bulletin_limits.proofs.stands.Reads as stands-reads
 
 abbrev Inv-loop : tie.InvT-loop
 Inv-loop held issuer end s₀ s =
@@ -20,29 +16,11 @@ Inv-loop held issuer end s₀ s =
 abbrev μ-loop : tie.MeasureT-loop
 μ-loop held issuer end s₀ s = 4 * issuer + 4 - s
 
--- src/issuing.rt:66:15
-mul-end : tie.Need-mul-end Inv-loop μ-loop
-mul-end c = search needs
-
--- src/issuing.rt:66:15
-add-end : tie.Need-add-end Inv-loop μ-loop
-add-end c = search needs
-
--- src/issuing.rt:67:17
-mul-s : tie.Need-mul-s Inv-loop μ-loop
-mul-s c = search needs
-
--- src/issuing.rt:68:5
 loop-holds : tie.Need-loop-holds Inv-loop μ-loop
 loop-holds c =
     let i = c .args .issuer in
     (omega arith, omega arith, ap (λ (m : ℕ). freeIn (c .args .held .now) m (4 * i)) (let e : 4 ≡ 4 * i + 4 - 4 * i = omega arith in e))
 
--- src/issuing.rt:69:13
-stands-requires : tie.Need-stands-requires Inv-loop μ-loop
-stands-requires c κs = search needs
-
--- src/issuing.rt:70:13
 returns : tie.Need-returns Inv-loop μ-loop
 returns c =
     let a = c .before .before .before .before .args in
@@ -52,15 +30,6 @@ returns c =
       omega arith,
     )
 
--- src/issuing.rt:72:9
-add-s : tie.Need-add-s Inv-loop μ-loop
-add-s c = search needs
-
--- src/issuing.rt:68:5
-loop-less : tie.Need-loop-less Inv-loop μ-loop
-loop-less c = search needs
-
--- src/issuing.rt:68:5
 loop-again : tie.Need-loop-again Inv-loop μ-loop
 loop-again c =
     let a = c .before .before .before .before .args in
@@ -72,7 +41,6 @@ loop-again c =
               (sym (c .before .stands .ensures) ∙ not-false (c .before .stands .result) (c .if1 .left)),
     )
 
--- src/issuing.rt:62:1
 returns-2 : tie.Need-returns-2 Inv-loop μ-loop
 returns-2 c =
     let a = c .before .before .args in
@@ -85,13 +53,13 @@ free-place-spec =
     (tie.spec
     Inv-loop
     μ-loop
-    mul-end
-    add-end
-    mul-s
+    (λ c. search needs)
+    (λ c. search needs)
+    (λ c. search needs)
     loop-holds
-    stands-requires
+    (λ c κs. search needs)
     returns
-    add-s
-    loop-less
+    (λ c. search needs)
+    (λ c. search needs)
     loop-again
     returns-2)

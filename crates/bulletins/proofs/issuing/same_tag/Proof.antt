@@ -1,3 +1,4 @@
+-- Each test of the code is one of the definition's.
 use mathlib.Core.Bool.{true, false}
 use mathlib.Core.Path.{_≡_, sym, _∙_}
 use borrow.Author.Tests.{not-true, not-false}
@@ -5,30 +6,22 @@ use Rattle.bulletin_limits.specs.Lent.{standsIn}
 use borrow.Author.Needs.{needs}
 use Rattle.bulletins.proofs.issuing.same_tag.Statement.{statement}
 use Rattle.bulletins.proofs.issuing.same_tag.Tie as tie
-use Rattle.bulletins.proofs.issuing.same_tag.Reads as reads
-use Rattle.bulletins.proofs.issuing.same_tag.Lts as lts
-use Rattle.bulletin_limits.proofs.stands.Reads as stands-reads
 
--- src/issuing.rt:39:9
 stands-requires : tie.Need-stands-requires
 stands-requires c κs = search needs
 
--- src/issuing.rt:40:9
 returns : tie.Need-returns
 returns c =
     let a = c .before .before .args in
     let e : standsIn (a .held .now) (a .s) ≡ false = sym (c .before .stands .ensures) ∙ not-true (c .before .stands .result) (c .if1 .taken) in
     rw e
 
--- src/issuing.rt:42:5
 mul-result : tie.Need-mul-result
 mul-result c = search needs
 
--- src/issuing.rt:42:5
 element-copy-out-result : tie.Need-element-copy-out-result
 element-copy-out-result c = search needs
 
--- src/issuing.rt:35:1
 returns-2 : tie.Need-returns-2
 returns-2 c =
     let a = c .before .before .before .args in

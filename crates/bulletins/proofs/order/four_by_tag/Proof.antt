@@ -1,91 +1,11 @@
+-- The six comparisons are those of the definition, opened up for four places.
 use Prim.Native.Nat.{_+_, _*_}
 use lib.ListN.{getD}
 use Rattle.bulletins.proofs.Ordering.{four-sorted}
 use borrow.Author.Needs.{needs}
 use Rattle.bulletins.proofs.order.four_by_tag.Statement.{statement}
 use Rattle.bulletins.proofs.order.four_by_tag.Tie as tie
-use Rattle.bulletins.proofs.order.four_by_tag.Reads as reads
-use Rattle.bulletins.proofs.order.four_by_tag.Lts as lts
-use Rattle.bulletins.proofs.order.higher_of.Reads as higher-of-reads
-use Rattle.bulletins.proofs.order.lower_of.Reads as lower-of-reads
 
--- src/order.rt:38:13
-mul-a : tie.Need-mul-a
-mul-a c = search needs
-
--- src/order.rt:39:13
-mul-b : tie.Need-mul-b
-mul-b c = search needs
-
--- src/order.rt:39:13
-add-b : tie.Need-add-b
-add-b c = search needs
-
--- src/order.rt:40:13
-mul-c : tie.Need-mul-c
-mul-c c = search needs
-
--- src/order.rt:40:13
-add-c : tie.Need-add-c
-add-c c = search needs
-
--- src/order.rt:41:13
-mul-d : tie.Need-mul-d
-mul-d c = search needs
-
--- src/order.rt:41:13
-add-d : tie.Need-add-d
-add-d c = search needs
-
--- src/order.rt:42:9
-lower-of-requires : tie.Need-lower-of-requires
-lower-of-requires c κs = search needs
-
--- src/order.rt:43:9
-higher-of-requires : tie.Need-higher-of-requires
-higher-of-requires c κs = search needs
-
--- src/order.rt:44:9
-lower-of-requires-2 : tie.Need-lower-of-requires-2
-lower-of-requires-2 c κs = search needs
-
--- src/order.rt:45:9
-higher-of-requires-2 : tie.Need-higher-of-requires-2
-higher-of-requires-2 c κs = search needs
-
--- src/order.rt:46:9
-lower-of-requires-3 : tie.Need-lower-of-requires-3
-lower-of-requires-3 c κs = search needs
-
--- src/order.rt:47:9
-higher-of-requires-3 : tie.Need-higher-of-requires-3
-higher-of-requires-3 c κs = search needs
-
--- src/order.rt:48:9
-lower-of-requires-4 : tie.Need-lower-of-requires-4
-lower-of-requires-4 c κs = search needs
-
--- src/order.rt:49:9
-higher-of-requires-4 : tie.Need-higher-of-requires-4
-higher-of-requires-4 c κs = search needs
-
--- src/order.rt:50:9
-lower-of-requires-5 : tie.Need-lower-of-requires-5
-lower-of-requires-5 c κs = search needs
-
--- src/order.rt:51:9
-higher-of-requires-5 : tie.Need-higher-of-requires-5
-higher-of-requires-5 c κs = search needs
-
--- src/order.rt:52:9
-lower-of-requires-6 : tie.Need-lower-of-requires-6
-lower-of-requires-6 c κs = search needs
-
--- src/order.rt:53:9
-higher-of-requires-6 : tie.Need-higher-of-requires-6
-higher-of-requires-6 c κs = search needs
-
--- src/order.rt:34:1
 returns : tie.Need-returns
 returns c =
     let t6 = c in
@@ -114,23 +34,23 @@ pub four-by-tag-spec : {M : Type 1} → statement M
 four-by-tag-spec =
     tie.close
     (tie.spec
-    mul-a
-    mul-b
-    add-b
-    mul-c
-    add-c
-    mul-d
-    add-d
-    lower-of-requires
-    higher-of-requires
-    lower-of-requires-2
-    higher-of-requires-2
-    lower-of-requires-3
-    higher-of-requires-3
-    lower-of-requires-4
-    higher-of-requires-4
-    lower-of-requires-5
-    higher-of-requires-5
-    lower-of-requires-6
-    higher-of-requires-6
+    (λ c. search needs)
+    (λ c. search needs)
+    (λ c. search needs)
+    (λ c. search needs)
+    (λ c. search needs)
+    (λ c. search needs)
+    (λ c. search needs)
+    (λ c κs. search needs)
+    (λ c κs. search needs)
+    (λ c κs. search needs)
+    (λ c κs. search needs)
+    (λ c κs. search needs)
+    (λ c κs. search needs)
+    (λ c κs. search needs)
+    (λ c κs. search needs)
+    (λ c κs. search needs)
+    (λ c κs. search needs)
+    (λ c κs. search needs)
+    (λ c κs. search needs)
     returns)

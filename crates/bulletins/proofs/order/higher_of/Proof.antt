@@ -1,35 +1,28 @@
+-- The test of the code is that of the definition.
 use native.Mathlib.Omega.{arith}
 use lib.ListN.{getD}
 use Rattle.bulletins.proofs.Ordering.{higher-first, higher-second}
 use borrow.Author.Needs.{needs}
 use Rattle.bulletins.proofs.order.higher_of.Statement.{statement}
 use Rattle.bulletins.proofs.order.higher_of.Tie as tie
-use Rattle.bulletins.proofs.order.higher_of.Reads as reads
-use Rattle.bulletins.proofs.order.higher_of.Lts as lts
 
--- src/order.rt:27:8
 mul-if1 : tie.Need-mul-if1
 mul-if1 c = search needs
 
--- src/order.rt:27:8
 element-copy-out-if1 : tie.Need-element-copy-out-if1
 element-copy-out-if1 c = search needs
 
--- src/order.rt:27:18
 mul-if1-2 : tie.Need-mul-if1-2
 mul-if1-2 c = search needs
 
--- src/order.rt:27:18
 element-copy-out-if1-2 : tie.Need-element-copy-out-if1-2
 element-copy-out-if1-2 c = search needs
 
--- src/order.rt:28:9
 returns : tie.Need-returns
 returns c =
     let a = c .before .before .before .args in
     (higher-first (λ k. getD (a .tags .now) k 0) (a .s) (a .r) (c .if1 .taken), omega arith)
 
--- src/order.rt:23:1
 returns-2 : tie.Need-returns-2
 returns-2 c =
     let a = c .before .before .before .args in

@@ -1,7 +1,7 @@
 -- The loop keeps: what the stations passed show is told, and nothing of the others.
-use Prim.Native.Nat.{ℕ, _+_, _*_, _-_, _<_, _≤_}
+use Prim.Native.Nat.{_*_, _-_, _≤_}
 use mathlib.Core.List.{List}
-use mathlib.Core.Path.{_≡_, refl, sym, ap, ap₂, _∙_}
+use mathlib.Core.Path.{_≡_, ap₂, _∙_}
 use native.Mathlib.Omega.{arith}
 use lib.ListN.{getD, set, take}
 use borrow.Author.Needs.{needs}
@@ -13,10 +13,6 @@ use Rattle.bulletins_spec.specs.Calls.{shownOf, noneShown}
 use Rattle.bulletins.specs.Lent.{newIn, noticeIn}
 use Rattle.bulletins.proofs.showing.all_shown.Statement.{statement}
 use Rattle.bulletins.proofs.showing.all_shown.Tie as tie
-use Rattle.bulletins.proofs.showing.all_shown.Reads as reads
-use Rattle.bulletins.proofs.showing.all_shown.Lts as lts
-use Rattle.bulletins.proofs.showing.none_shown.Reads as none-shown-reads
-use Rattle.bulletins.proofs.showing.shown_by.Reads as shown-by-reads
 
 abbrev Inv-loop : tie.InvT-loop
 Inv-loop places tags events before after n shown₀ p₀ shown p =
@@ -27,52 +23,13 @@ Inv-loop places tags events before after n shown₀ p₀ shown p =
 abbrev μ-loop : tie.MeasureT-loop
 μ-loop places tags events before after n shown₀ p₀ shown p = n - p
 
--- src/showing.rt:125:21
-none-shown-requires : tie.Need-none-shown-requires Inv-loop μ-loop
-none-shown-requires c κs = search needs
-
--- src/showing.rt:127:5
 loop-holds : tie.Need-loop-holds Inv-loop μ-loop
 unfolding fill
 loop-holds c = (omega arith, c .none-shown .ensures)
 
--- src/showing.rt:128:51
-mul-shown-by : tie.Need-mul-shown-by Inv-loop μ-loop
-mul-shown-by c = search needs
-
--- src/showing.rt:128:51
-element-copy-out-shown-by : tie.Need-element-copy-out-shown-by Inv-loop μ-loop
-element-copy-out-shown-by c = search needs
-
--- src/showing.rt:128:62
-mul-shown-by-2 : tie.Need-mul-shown-by-2 Inv-loop μ-loop
-mul-shown-by-2 c = search needs
-
--- src/showing.rt:128:62
-element-copy-out-shown-by-2 : tie.Need-element-copy-out-shown-by-2 Inv-loop μ-loop
-element-copy-out-shown-by-2 c = search needs
-
--- src/showing.rt:128:20
 shown-by-requires : tie.Need-shown-by-requires Inv-loop μ-loop
 shown-by-requires c κs = c .before .before .before .before .before .pre
 
--- src/showing.rt:128:9
-mul-shown : tie.Need-mul-shown Inv-loop μ-loop
-mul-shown c = search needs
-
--- src/showing.rt:128:9
-array-set-from-shown : tie.Need-array-set-from-shown Inv-loop μ-loop
-array-set-from-shown c = search needs
-
--- src/showing.rt:129:9
-add-p : tie.Need-add-p Inv-loop μ-loop
-add-p c = search needs
-
--- src/showing.rt:127:5
-loop-less : tie.Need-loop-less Inv-loop μ-loop
-loop-less c = search needs
-
--- src/showing.rt:127:5
 loop-again : tie.Need-loop-again Inv-loop μ-loop
 loop-again c =
     let a = c .before .before .before .before .before .before .args in
@@ -84,7 +41,6 @@ loop-again c =
               noneShown,
     )
 
--- src/showing.rt:112:1
 returns : tie.Need-returns Inv-loop μ-loop
 returns c =
     let a = c .before .before .before .args in
@@ -98,16 +54,16 @@ all-shown-spec =
     (tie.spec
     Inv-loop
     μ-loop
-    none-shown-requires
+    (λ c κs. search needs)
     loop-holds
-    mul-shown-by
-    element-copy-out-shown-by
-    mul-shown-by-2
-    element-copy-out-shown-by-2
+    (λ c. search needs)
+    (λ c. search needs)
+    (λ c. search needs)
+    (λ c. search needs)
     shown-by-requires
-    mul-shown
-    array-set-from-shown
-    add-p
-    loop-less
+    (λ c. search needs)
+    (λ c. search needs)
+    (λ c. search needs)
+    (λ c. search needs)
     loop-again
     returns)

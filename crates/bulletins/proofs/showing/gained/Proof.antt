@@ -1,3 +1,4 @@
+-- Both bits are those of the definition.
 use mathlib.Core.Bool.{true, false, and-false, and-true}
 use mathlib.Core.Path.{_≡_, sym, _∙_}
 use Rattle.links.specs.Log.{bit}
@@ -5,15 +6,10 @@ use Rattle.bulletins.specs.Lent.{newIn}
 use borrow.Author.Needs.{needs}
 use Rattle.bulletins.proofs.showing.gained.Statement.{statement}
 use Rattle.bulletins.proofs.showing.gained.Tie as tie
-use Rattle.bulletins.proofs.showing.gained.Reads as reads
-use Rattle.bulletins.proofs.showing.gained.Lts as lts
-use Rattle.bulletin_limits.proofs.in_set.Reads as in-set-reads
 
--- src/showing.rt:21:8
 in-set-requires : tie.Need-in-set-requires
 in-set-requires c κs = search needs
 
--- src/showing.rt:22:9
 returns : tie.Need-returns
 unfolding newIn
 returns c =
@@ -21,11 +17,9 @@ returns c =
     let e : bit (a .before) (a .s) ≡ true = sym (c .before .in-set .ensures) ∙ c .if1 .taken in
     rw (e, and-false (bit (a .after) (a .s)))
 
--- src/showing.rt:24:5
 in-set-requires-2 : tie.Need-in-set-requires-2
 in-set-requires-2 c κs = search needs
 
--- src/showing.rt:18:1
 returns-2 : tie.Need-returns-2
 unfolding newIn
 returns-2 c =

@@ -1,3 +1,4 @@
+-- Sixteen times nothing.
 use mathlib.Core.Path.{ap}
 use lib.ListN.{replicate}
 use Rattle.bulletins_spec.specs.declared.Shown.{Shown}
@@ -5,15 +6,10 @@ use Rattle.bulletins_spec.specs.Calls.{noneShown}
 use borrow.Author.Needs.{needs}
 use Rattle.bulletins.proofs.showing.none_shown.Statement.{statement}
 use Rattle.bulletins.proofs.showing.none_shown.Tie as tie
-use Rattle.bulletins.proofs.showing.none_shown.Reads as reads
-use Rattle.bulletins.proofs.showing.none_shown.Lts as lts
-use Rattle.bulletins.proofs.showing.nothing.Reads as nothing-reads
 
--- src/showing.rt:107:9
 nothing-requires : tie.Need-nothing-requires
 nothing-requires c κs = search needs
 
--- src/showing.rt:104:1
 returns : tie.Need-returns
 unfolding noneShown
 returns c = ap (λ (x : Shown). replicate 16 x) (c .nothing .ensures)

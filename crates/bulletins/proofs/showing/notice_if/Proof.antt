@@ -1,36 +1,28 @@
+-- The test picks the bulletin or nothing.
 use borrow.Author.Tests.{not-true, not-false}
 use Rattle.bulletins.proofs.Choice.{chosen, not-chosen}
 use borrow.Author.Needs.{needs}
 use Rattle.bulletins.proofs.showing.notice_if.Statement.{statement}
 use Rattle.bulletins.proofs.showing.notice_if.Tie as tie
-use Rattle.bulletins.proofs.showing.notice_if.Reads as reads
-use Rattle.bulletins.proofs.showing.notice_if.Lts as lts
 
--- src/showing.rt:33:9
 returns : tie.Need-returns
 returns c = not-chosen (c .before .args .test) (not-true (c .before .args .test) (c .if1 .taken)) _ _
 
--- src/showing.rt:40:17
 cast-t7 : tie.Need-cast-t7
 cast-t7 c = search needs
 
--- src/showing.rt:41:14
 mul-t8 : tie.Need-mul-t8
 mul-t8 c = search needs
 
--- src/showing.rt:41:14
 element-copy-out-t11 : tie.Need-element-copy-out-t11
 element-copy-out-t11 c = search needs
 
--- src/showing.rt:42:16
 mul-t12 : tie.Need-mul-t12
 mul-t12 c = search needs
 
--- src/showing.rt:42:16
 element-copy-out-t15 : tie.Need-element-copy-out-t15
 element-copy-out-t15 c = search needs
 
--- src/showing.rt:28:1
 returns-2 : tie.Need-returns-2
 returns-2 c =
     let a = c .before .before .before .args in

@@ -11,15 +11,9 @@ use Rattle.bulletins_spec.specs.declared.Shown.{Shown}
 use Rattle.bulletins_spec.specs.Order.{picked}
 use Rattle.bulletins_spec.specs.Calls.{shownOf, noNotice}
 use Rattle.bulletins.specs.Lent.{newIn, noticeIn}
-use Rattle.bulletins.proofs.Pushing.{padded, pushed, pushed-length, picked-start, picked-more, picked-none, none-new}
+use Rattle.bulletins.proofs.Pushing.{padded, pushed, pushed-length, picked-more, picked-none, none-new}
 use Rattle.bulletins.proofs.showing.shown_by.Statement.{statement}
 use Rattle.bulletins.proofs.showing.shown_by.Tie as tie
-use Rattle.bulletins.proofs.showing.shown_by.Reads as reads
-use Rattle.bulletins.proofs.showing.shown_by.Lts as lts
-use Rattle.bulletins.proofs.showing.gained.Reads as gained-reads
-use Rattle.bulletins.proofs.showing.nothing.Reads as nothing-reads
-use Rattle.bulletins.proofs.showing.notice_if.Reads as notice-if-reads
-use Rattle.bulletins.proofs.showing.one_if.Reads as one-if-reads
 
 one-small : (b : Bool) → cond b 1 0 ≤ 1
 one-small true = omega arith
@@ -34,11 +28,6 @@ Inv-loop places tags events before after n shown₀ len₀ t₀ shown len t =
 abbrev μ-loop : tie.MeasureT-loop
 μ-loop places tags events before after n shown₀ len₀ t₀ shown len t = 4 * n - t
 
--- src/showing.rt:86:21
-nothing-requires : tie.Need-nothing-requires Inv-loop μ-loop
-nothing-requires c κs = search needs
-
--- src/showing.rt:88:9
 returns : tie.Need-returns Inv-loop μ-loop
 returns c =
     let a = c .before .before .args in
@@ -47,62 +36,22 @@ returns c =
     (picked-none (newIn (a .before) (a .after)) (noticeIn (a .tags .now) (a .events .now)) (take (4 * a .n) (a .places .now))
     (λ s. ap (λ (x : ℕ). newIn (a .before) x s) (sym (c .if1 .taken)) ∙ none-new (a .before) s))
 
--- src/showing.rt:92:5
 loop-holds : tie.Need-loop-holds Inv-loop μ-loop
 unfolding shownOf picked
 loop-holds c =
     let e = ap (λ (x : Shown). x .notices) (c .before .nothing .ensures) in
     (omega arith, omega arith, ap length e, refl, e)
 
--- src/showing.rt:92:15
-mul-loop : tie.Need-mul-loop Inv-loop μ-loop
-mul-loop c = search needs
-
--- src/showing.rt:93:17
-mul-s : tie.Need-mul-s Inv-loop μ-loop
-mul-s c = search needs
-
--- src/showing.rt:93:17
-element-copy-out-s : tie.Need-element-copy-out-s Inv-loop μ-loop
-element-copy-out-s c = search needs
-
--- src/showing.rt:94:13
-gained-requires : tie.Need-gained-requires Inv-loop μ-loop
-gained-requires c κs = search needs
-
--- src/showing.rt:95:30
 notice-if-requires : tie.Need-notice-if-requires Inv-loop μ-loop
 notice-if-requires c κs =
     c .before .before .before .before .before .before .pre .1 (c .before .before .before .loop .t) (c .before .before .loop-test .taken)
 
--- src/showing.rt:95:9
-mul-t14 : tie.Need-mul-t14 Inv-loop μ-loop
-mul-t14 c = search needs
-
--- src/showing.rt:95:9
-element-set-from-shown : tie.Need-element-set-from-shown Inv-loop μ-loop
-element-set-from-shown c = search needs
-
--- src/showing.rt:96:16
-one-if-requires : tie.Need-one-if-requires Inv-loop μ-loop
-one-if-requires c κs = search needs
-
--- src/showing.rt:96:9
 add-len : tie.Need-add-len Inv-loop μ-loop
 add-len c =
     let l = c .before .before .before .before .before .loop in
     let z = c .before .before .before .before .before .before .before .before in
     omega (arith, one-small (c .before .before .gained .result), c .one-if .ensures, l .inv .0, l .inv .1, z .pre .0)
 
--- src/showing.rt:97:9
-add-t : tie.Need-add-t Inv-loop μ-loop
-add-t c = search needs
-
--- src/showing.rt:92:5
-loop-less : tie.Need-loop-less Inv-loop μ-loop
-loop-less c = search needs
-
--- src/showing.rt:92:5
 loop-again : tie.Need-loop-again Inv-loop μ-loop
 loop-again c =
     let z = c .before .before .before .before .before .before .before .before in
@@ -127,7 +76,6 @@ loop-again c =
           ∙ ap padded (sym more),
     )
 
--- src/showing.rt:74:1
 returns-2 : tie.Need-returns-2 Inv-loop μ-loop
 unfolding shownOf
 returns-2 c =
@@ -143,19 +91,19 @@ shown-by-spec =
     (tie.spec
     Inv-loop
     μ-loop
-    nothing-requires
+    (λ c κs. search needs)
     returns
     loop-holds
-    mul-loop
-    mul-s
-    element-copy-out-s
-    gained-requires
+    (λ c. search needs)
+    (λ c. search needs)
+    (λ c. search needs)
+    (λ c κs. search needs)
     notice-if-requires
-    mul-t14
-    element-set-from-shown
-    one-if-requires
+    (λ c. search needs)
+    (λ c. search needs)
+    (λ c κs. search needs)
     add-len
-    add-t
-    loop-less
+    (λ c. search needs)
+    (λ c. search needs)
     loop-again
     returns-2)

@@ -3,34 +3,24 @@ use Rattle.relay_host.proofs.Bulletins.{fresh-refused, fresh-short, fre
 use borrow.Author.Needs.{needs}
 use Rattle.relay_host.proofs.relay_bulletins.relay_bulletins_fresh.Statement.{statement}
 use Rattle.relay_host.proofs.relay_bulletins.relay_bulletins_fresh.Tie as tie
-use Rattle.relay_host.proofs.relay_bulletins.relay_bulletins_fresh.Reads as reads
-use Rattle.relay_host.proofs.relay_bulletins.relay_bulletins_fresh.Lts as lts
-use Rattle.bulletin_codec.proofs.put_bulletins.Reads as put-bulletins-reads
-use Rattle.bulletins.proofs.fresh.Reads as fresh-reads
 
--- src/relay_bulletins.rt:25:9
 fresh-requires : tie.Need-fresh-requires
 fresh-requires c κs = search needs
 
--- src/relay_bulletins.rt:27:9
 returns : tie.Need-returns
 returns c =
     fresh-refused (c .before .before .before .before .args .n) _ _ (c .before .before .fresh .ensures) (c .if1 .taken)
 
--- src/relay_bulletins.rt:30:9
 returns-2 : tie.Need-returns-2
 returns-2 c =
     fresh-short (c .before .before .before .before .before .args .n) _ _ (c .before .before .before .fresh .ensures) (c .before .if1 .left) (c .if2 .taken)
 
--- src/relay_bulletins.rt:33:5
 put-bulletins-requires : tie.Need-put-bulletins-requires
 put-bulletins-requires c κs = search needs
 
--- src/relay_bulletins.rt:20:1
 same-length : tie.Need-same-length
 same-length c = search needs
 
--- src/relay_bulletins.rt:20:1
 returns-3 : tie.Need-returns-3
 returns-3 c =
     fresh-done (c .before .before .before .before .before .before .before .before .before .before .args .n) _ _ (c .before .before .before .before .before .before .before .before .fresh .ensures) (c .before .before .before .before .before .before .if1 .left) (c .before .before .before .before .before .if2 .left) _ (c .before .before .put-bulletins .ensures)
