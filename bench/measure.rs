@@ -69,6 +69,12 @@ const PROJECT_ROUNDS: Option<Function> = Some(relay_bench_rounds);
 #[cfg(not(relay_bench))]
 const PROJECT_ROUNDS: Option<Function> = None;
 
+/// The rounds with bulletins of crate relay_bench.
+#[cfg(relay_bench)]
+const PROJECT_BULLETINS: Option<Function> = Some(relay_bench_bulletins);
+#[cfg(not(relay_bench))]
+const PROJECT_BULLETINS: Option<Function> = None;
+
 /// A station's rounds through the calls of crate relay_host.
 #[cfg(relay_host)]
 const PROJECT_STATION: Option<StationRounds> = Some(station_project);
@@ -144,6 +150,8 @@ unsafe extern "C" {
     fn relay_bench_codec(state: *mut u8, state_len: usize, times: u32, judged: u32) -> u32;
     #[cfg(relay_bench)]
     fn relay_bench_rounds(schedule: *const u8, len: usize, n: u32, rounds: u32) -> u32;
+    #[cfg(relay_bench)]
+    fn relay_bench_bulletins(schedule: *const u8, len: usize, n: u32, rounds: u32) -> u32;
     #[cfg(gcc)]
     fn frame_check_peer_gcc(bytes: *const u8, len: usize, n: u32, own: u32, edition: u32) -> u32;
     #[cfg(clang)]
@@ -159,6 +167,11 @@ extern "C" fn frame_check_rust(bytes: *const u8, len: usize, n: u32, own: u32, e
 extern "C" fn rounds_rust(schedule: *const u8, len: usize, n: u32, rounds: u32) -> u32 {
     // SAFETY: as above.
     measured::rounds(unsafe { std::slice::from_raw_parts(schedule, len) }, n, rounds)
+}
+
+extern "C" fn bulletins_rust(schedule: *const u8, len: usize, n: u32, rounds: u32) -> u32 {
+    // SAFETY: as above.
+    measured::bulletins(unsafe { std::slice::from_raw_parts(schedule, len) }, n, rounds)
 }
 
 extern "C" fn rounds_by_value(schedule: *const u8, len: usize, n: u32, rounds: u32) -> u32 {
@@ -551,6 +564,15 @@ fn main() -> ExitCode {
                 let name = format!("{links} round, N = {n}{peer}");
                 agree &= Measure { name, units: rounds, work: &work }.print(PROJECT_ROUNDS, function, span);
             }
+        }
+    }
+    for (links, schedule) in [("full-mesh", full_mesh as fn(usize) -> Vec<u8>), ("sparse", sparse)] {
+        for n in [2, 16] {
+            let schedule = schedule(n as usize);
+            let rounds = STATION_ROUNDS / n;
+            let work = |function| call(function, &schedule, n, rounds);
+            let name = format!("{links} round with full bulletins, N = {n}");
+            agree &= Measure { name, units: rounds, work: &work }.print(PROJECT_BULLETINS, bulletins_rust as Function, span);
         }
     }
     for (links, rounds, n) in [

@@ -1,7 +1,7 @@
-/* The edit relay for C: a station and a group that the host holds as bytes, with all their calls; the
-   frame check; for planners the forecast, the merge of link logs, a page of questions and the link
-   contest; the load generator; and the comparison of two air logs. Link with the archive that
-   `rt staticlib relay_host` makes, target/staticlib/librelay_host.a; it needs no other library.
+/* The edit relay for C: a station and a group that the host holds as bytes, with all their calls; a
+   group's bulletins; the frame check; for planners the forecast, the merge of link logs, a page of
+   questions and the link contest; the load generator; and the comparison of two air logs. Link with the
+   archive that `rt staticlib relay_host` makes, target/staticlib/librelay_host.a; it needs no other library.
 
    The library has no state of its own and allocates nothing. A call reads and writes the memory that it
    is lent, and no other; it keeps no pointer. So any number of threads may call at once, as long as no
@@ -48,6 +48,7 @@ enum relay_refusal {
     RELAY_BAD_LISTING = 16,   /* a listing has a line of another form, or does not end with its last line */
     RELAY_BAD_EDITION = 17,   /* an edition is neither 0 nor 1, or an edit's channel is none of its edition */
     RELAY_BAD_QUESTION = 18,  /* a question is bad, is not whole, or is past the 64th */
+    RELAY_ALREADY_ISSUED = 19, /* the issuer has issued that tag, or four bulletins */
     RELAY_BAD_CONTEST = 20    /* a contest has too many stations, sets or rounds, or no whole sets of masks */
 };
 
@@ -447,6 +448,99 @@ uint32_t relay_group_post(uint8_t *state, size_t state_len, uint32_t station, ui
        printf("%d %d\n", reports[484 + 1], reports[704 + 484 + 1]);   prints 1 1 */
 uint32_t relay_group_round(uint8_t *state, size_t state_len, const uint16_t *masks, size_t masks_len,
                            uint8_t *reports, size_t reports_len);
+
+/* Bulletins: urgent notices beside a group's edits. A bulletin is its issuer, a tag of 32 bits and an
+   event, and an issuer has at most four for good. Whoever holds a bulletin passes it on in every round to
+   all that hear it, and every station shows it once: the issuer when it is issued, any other in the
+   first round by which a relay from the issuer has come after that. Frames do not change.
+
+   The bulletins of a group are RELAY_BULLETINS_BYTES bytes. An issuer has four places, issuer i those
+   from 4 * i on.
+
+       0 to 3      n
+       4 to 259    the tags of the 64 places, four bytes each
+       260 to 515  their events, four bytes each
+       516 to 643  the sets of the 16 stations, eight bytes each, the lowest byte first: bit s of a
+                   station's set is 1 where it holds the bulletin at place s
+
+   At a place whose issuer does not hold it there is no bulletin, and its tag and event say nothing; nor
+   do the sets from n up. Bulletins are inside their limits if n is 1 to 16; each one that a station
+   below n holds has an issuer below n that holds it too; the tags of an issuer's bulletins differ; and
+   their events are 1 to 99,999,999.
+
+   Bytes that are no bulletins: another length, or an n above 255. */
+#define RELAY_BULLETINS_BYTES 644
+
+/* What one station shows in a round is RELAY_SHOWN_BYTES bytes, and what all sixteen show
+   RELAY_ROUND_SHOWN_BYTES, one behind the other.
+
+       0 to 3            how many bulletins it shows
+       4 + 12 i, 12 each the i-th of them, from 0: issuer, tag and event, four bytes each; 64 entries, the
+                         unused ones zero. They come by issuer, and then by tag as an unsigned number. */
+#define RELAY_SHOWN_BYTES 772
+#define RELAY_ROUND_SHOWN_BYTES 12352
+
+/* Makes the bulletins of a fresh group of n stations: there are none.
+
+   state, state_len  where they go: room for at least RELAY_BULLETINS_BYTES
+
+   Returns 0, or, and then nothing changes, in this order:
+       1    n is not 1 to 16
+       9    state_len is less than RELAY_BULLETINS_BYTES */
+uint32_t relay_bulletins_fresh(uint8_t *state, size_t state_len, uint32_t n);
+
+/* Issues a bulletin. Where it is done the issuer shows it now. It goes to the first of its issuer's
+   places at which there is none.
+
+   state, state_len  the bulletins, RELAY_BULLETINS_BYTES bytes; they become those after the issue
+
+   Returns 0, or, and then nothing changes, in this order:
+       2    the bytes are no bulletins, or they are outside their limits
+       1    issuer is not below n
+       4    event is not 1 to 99,999,999
+       19   the issuer has issued that tag, or four bulletins
+
+   Example: a tag may be any number of 32 bits, and is issued once.
+
+       static uint8_t bulletins[RELAY_BULLETINS_BYTES];
+       relay_bulletins_fresh(bulletins, sizeof bulletins, 2);
+       uint32_t first = relay_bulletins_issue(bulletins, sizeof bulletins, 1, 4294967295u, 7);
+       uint32_t again = relay_bulletins_issue(bulletins, sizeof bulletins, 1, 4294967295u, 8);
+       printf("%u %u\n", (unsigned)first, (unsigned)again);   prints 0 19 */
+uint32_t relay_bulletins_issue(uint8_t *state, size_t state_len, uint32_t issuer, uint32_t tag, uint32_t event);
+
+/* Runs one round of a group and of its bulletins, on the same masks. What it does to the group and
+   reports of it is what relay_group_round does; with that call alone the bulletins would stand still.
+
+   group, group_len      the group, RELAY_GROUP_BYTES bytes; it becomes the group after the round
+   state, state_len      its bulletins, RELAY_BULLETINS_BYTES bytes; they become those after the round
+   masks, masks_len      at least 16 masks, as for relay_group_round
+   reports, reports_len  where the reports go: room for at least RELAY_ROUND_BYTES
+   shown, shown_len      where what is shown goes: room for at least RELAY_ROUND_SHOWN_BYTES
+
+   Returns 0, or, and then nothing changes, in this order:
+       2    the bytes are no group or no bulletins, one of them is outside its limits, or they differ in n
+       10, and then 14 or 8, as for relay_group_round
+       9    masks_len is less than 16, reports_len is less than RELAY_ROUND_BYTES, or shown_len is less
+            than RELAY_ROUND_SHOWN_BYTES
+
+   From a fresh group and its fresh bulletins a round is not refused with 2, 10, 14 or 8.
+
+   Example: station 1 hears station 0, and shows what 0 has issued.
+
+       static uint8_t group[RELAY_GROUP_BYTES], bulletins[RELAY_BULLETINS_BYTES];
+       static uint8_t reports[RELAY_ROUND_BYTES], shown[RELAY_ROUND_SHOWN_BYTES];
+       const uint16_t masks[16] = {0, 1};
+       relay_group_fresh(group, sizeof group, 2);
+       relay_bulletins_fresh(bulletins, sizeof bulletins, 2);
+       relay_bulletins_issue(bulletins, sizeof bulletins, 0, 5, 77);
+       relay_bulletins_round(group, sizeof group, bulletins, sizeof bulletins, masks, 16, reports,
+                             sizeof reports, shown, sizeof shown);
+       const uint8_t *one = shown + RELAY_SHOWN_BYTES;
+       printf("%d: %d %d %d\n", one[0], one[4], one[8], one[12]);   prints 1: 0 5 77 */
+uint32_t relay_bulletins_round(uint8_t *group, size_t group_len, uint8_t *state, size_t state_len,
+                               const uint16_t *masks, size_t masks_len, uint8_t *reports, size_t reports_len,
+                               uint8_t *shown, size_t shown_len);
 
 /* The forecast of a link log: for each station how many of its broadcasts end, and the round of the
    last end, for links that are known ahead. Rounds are numbered from 1.

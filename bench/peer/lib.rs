@@ -5,6 +5,7 @@
 
 pub mod air_logs;
 pub mod bodies;
+pub mod bulletins;
 pub mod by_value;
 pub mod forecast;
 pub mod frames;

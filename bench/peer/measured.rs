@@ -1,6 +1,7 @@
-//! The work of one measurement of rounds: `relay_bench_rounds` of bench/README.md.
+//! The work of one measurement of rounds: `relay_bench_rounds` and `relay_bench_bulletins` of bench/README.md.
 
 use crate::bodies::Body;
+use crate::bulletins::{ALL, Bulletins, Shown};
 use crate::by_value;
 use crate::group::{Group, MOST_TAKINGS, Report};
 use crate::labels::PLACES;
@@ -35,7 +36,42 @@ pub fn rounds(schedule: &[u8], n: u32, rounds: u32) -> u32 {
     (sum % LOW) as u32
 }
 
-/// The same work with calls by value.
+/// The bulletins begin anew in every so many rounds, the first among them.
+const ANEW_EVERY: u32 = 16;
+
+/// The same with bulletins, of which each station has issued four.
+pub fn bulletins(schedule: &[u8], n: u32, rounds: u32) -> u32 {
+    let (schedule, rest) = schedule.as_chunks::<MASKS_SIZE>();
+    let Ok(mut group) = Group::fresh(n as usize, CAPACITY) else { return 0 };
+    if schedule.is_empty() || !rest.is_empty() {
+        return 0;
+    }
+    let mut begun = Bulletins::fresh(n as usize);
+    for place in 0..4 * n {
+        begun.issue(place as usize / 4, (u64::from(place) * FACTOR % LOW) as u32, place + 1);
+    }
+    let mut some = begun.clone();
+    let (mut reports, mut shown) = ([Report::NONE; PLACES], [Shown::NONE; PLACES]);
+    let mut sum = 0;
+    for number in 0..rounds {
+        if let Some((place, desk, body)) = post_before(number, n) {
+            let _ = group.post(place, desk, body);
+        }
+        if number % ANEW_EVERY == 0 {
+            some.clone_from(&begun);
+        }
+        let masks = masks_of(&schedule[number as usize % schedule.len()]);
+        let _ = some.round(&mut group, &masks, &mut reports, &mut shown);
+        for (report, shown) in reports.iter().zip(&shown).take(n as usize) {
+            let notice = shown.entries()[number as usize % ALL];
+            sum = mix_report(sum, report, number as usize);
+            sum = mix(mix(mix(sum, shown.len() as u32), notice.issuer), notice.tag);
+        }
+    }
+    (sum % LOW) as u32
+}
+
+/// The work of `rounds` with calls by value.
 pub fn rounds_by_value(schedule: &[u8], n: u32, rounds: u32) -> u32 {
     let (schedule, rest) = schedule.as_chunks::<MASKS_SIZE>();
     let Ok(group) = Group::fresh(n as usize, CAPACITY) else { return 0 };

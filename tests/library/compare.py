@@ -23,7 +23,7 @@ class Comparison:
         self.passed = self.failed = self.differences = self.cases = 0
         self.refusals = collections.Counter()
         self.refusal, self.after = 0, []  # what the model gave for the last case
-        self.rooms = [Room() for _ in range(4)]
+        self.rooms = [Room() for _ in range(5)]
 
     def all(self, name, cases):
         """One test: many cases."""

@@ -23,6 +23,7 @@ Of the later requests, document 02:
     questions.py  A11: by which round a broadcast is received
     contest.py    A13: the link contest
     load.py       A5: a script drawn from a seed
+    bulletins.py  A12: bulletins beside a group
     replies.py    A14: which edit an entry of an aired list is, and what it stands behind
 
 Beyond the requests:

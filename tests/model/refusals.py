@@ -19,4 +19,5 @@ BAD_DESK = 15            # neither 0 nor 1, at post
 BAD_LISTING = 16         # a line's form, or no last line
 BAD_EDITION = 17         # neither 0 nor 1; or a posted edit's channel
 BAD_QUESTION = 18        # a station, a k, or one too many
+ALREADY_ISSUED = 19      # the tag, or four bulletins, by that issuer
 BAD_CONTEST = 20         # N, sets or rounds outside the limits of a contest

@@ -14,11 +14,11 @@ use lib.Pow.{shr-shr}
 use Rattle.links.specs.Log.{bit}
 
 -- Bit 0 of a number, and the bits of its half.
-bit-first : (m : ℕ) → bit m 0 ≡ eqb (m % 2) 1
+pub bit-first : (m : ℕ) → bit m 0 ≡ eqb (m % 2) 1
 unfolding bit
 bit-first m = ap (λ (x : ℕ). eqb (x % 2) 1) (div-one m)
 
-bit-half : (m i : ℕ) → bit m (suc i) ≡ bit (m / 2) i
+pub bit-half : (m i : ℕ) → bit m (suc i) ≡ bit (m / 2) i
 unfolding bit
 bit-half m i =
     let e : suc i ≡ 1 + i = omega arith in

@@ -77,6 +77,10 @@ badEdition = 17
 abbrev pub badQuestion : ℕ
 badQuestion = 18
 
+-- the issuer has issued that tag, or four bulletins (document 02, A12)
+abbrev pub alreadyIssued : ℕ
+alreadyIssued = 19
+
 -- a link contest has too many stations, sets or rounds, no set, or masks that are not whole sets (document 02, A13)
 abbrev pub badContest : ℕ
 badContest = 20

@@ -38,4 +38,6 @@ pub const BAD_EDITION: u32 = 17;
 
 pub const BAD_QUESTION: u32 = 18;
 
+pub const ALREADY_ISSUED: u32 = 19;
+
 pub const BAD_CONTEST: u32 = 20;

@@ -1,7 +1,9 @@
-// The work of measurements: `relay_bench_rounds` and `relay_bench_codec` of bench/README.md.
+// The work of measurements: `relay_bench_rounds`, `relay_bench_bulletins` and `relay_bench_codec` of bench/README.md.
 
 ghost use Prim.Native.Nat.{_+_, _≤_, _<_};
 ghost use lib.ListN.{length};
+use bulletins_spec::Bulletins;
+use bulletins_spec::Shown;
 use group_rules::KeptGroup;
 use group_rules::Post;
 use group_rules::Report;
@@ -158,6 +160,84 @@ fn run(schedule: &[u8], n: usize, rounds: u32) -> u32
     low(sum)
 }
 
+// The bulletins begin anew in every so many rounds, the first among them.
+const ANEW_EVERY: u32 = 16;
+
+// A tag for a place; those of an issuer are in no order.
+fn tag_of(place: u32) -> u32 {
+    ((place as u64) * 2_654_435_769 % LOW) as u32
+}
+
+// Bulletins of n stations, each of which has issued four.
+fn all_issued(n: usize) -> Bulletins
+    requires { ⌜ n ≤ 16 ⌝ }
+{
+    let fresh = bulletins::fresh(n);
+    let mut b = fresh.bulletins;
+    let mut place: u32 = 0;
+    while (place as usize) < 4 * n {
+        let issued = bulletins::issue(b, (place / 4) as usize, tag_of(place), place + 1);
+        b = issued.bulletins;
+        place += 1;
+    }
+    b
+}
+
+// The bulletins that a round begins with.
+fn bulletins_before(b: Bulletins, begun: Bulletins, number: u32) -> Bulletins {
+    if number % ANEW_EVERY == 0 {
+        return begun;
+    }
+    b
+}
+
+// What a station shows. One notice, another in each round, stands for all.
+fn mix_shown(sum: u64, shown: Shown, number: u32) -> u64 {
+    let notice = shown.notices[(number % 64) as usize];
+    let mut mixed = mix(sum, small(shown.len));
+    mixed = mix(mixed, notice.issuer);
+    mix(mixed, notice.tag)
+}
+
+// From fresh, so many rounds with bulletins; gives a checksum of what they report and show.
+fn run_bulletins(schedule: &[u8], n: usize, rounds: u32) -> u32
+    requires { ⌜ (1 ≤ n) × (n ≤ 16) × (32 ≤ length (now schedule)) ⌝ }
+{
+    let setup = Setup {
+        n,
+        limit: QUEUE_CAPACITY,
+        edition: 0,
+    };
+    let fresh = group::fresh_limited(setup);
+    let begun = all_issued(n);
+    let mut g = fresh.group;
+    let mut b = begun;
+    let mut sum: u64 = 0;
+    let mut number: u32 = 0;
+    while number < rounds {
+        if number % POST_EVERY == 0 {
+            let kept = posted(g, n, number / POST_EVERY);
+            g = kept.group;
+        }
+        let before = bulletins_before(b, begun, number);
+        let done = bulletins::round(g, before, masks_of(schedule, number));
+        let after = done.round.group;
+        let reports = done.round.reports;
+        let shown = done.shown;
+        let kept = done.bulletins;
+        g = after;
+        b = kept;
+        let mut k: usize = 0;
+        while k < n {
+            sum = mix_report(sum, reports[k], number);
+            sum = mix_shown(sum, shown[k], number);
+            k += 1;
+        }
+        number += 1;
+    }
+    low(sum)
+}
+
 // From fresh, rounds with the masks of a schedule, again and again; gives a checksum of what they report, and 0 if a number is refused.
 #[no_mangle]
 pub extern "C" fn relay_bench_rounds(schedule: &[u8], n: u32, rounds: u32) -> u32 {
@@ -175,6 +255,25 @@ pub extern "C" fn relay_bench_rounds(schedule: &[u8], n: u32, rounds: u32) -> u3
         return 0;
     }
     run(schedule, n as usize, rounds)
+}
+
+// The same with bulletins, of which each station has issued four.
+#[no_mangle]
+pub extern "C" fn relay_bench_bulletins(schedule: &[u8], n: u32, rounds: u32) -> u32 {
+    let len = schedule.len();
+    if n < 1 {
+        return 0;
+    }
+    if n > 16 {
+        return 0;
+    }
+    if len < MASKS_SIZE {
+        return 0;
+    }
+    if len % MASKS_SIZE != 0 {
+        return 0;
+    }
+    run_bulletins(schedule, n as usize, rounds)
 }
 
 // A station's bytes, read and written again so many times, and judged each time before where a number that is not 0 says so. Gives how often that

@@ -4,3 +4,4 @@ pub mod Station
 pub mod Write
 pub mod Group
 pub mod RoundRefusals
+pub mod Bulletins

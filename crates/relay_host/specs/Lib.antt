@@ -3,3 +3,4 @@ pub mod Contest
 pub mod Compare
 pub mod Station
 pub mod Group
+pub mod Bulletins

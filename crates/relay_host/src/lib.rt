@@ -3,6 +3,7 @@
 ghost use mathlib.Core.Path.{_≡_};
 ghost use Rattle.frame_rules.specs.Frame.{checkRefusal};
 
+mod relay_bulletins;
 mod relay_compare;
 mod relay_contest;
 mod relay_forecast;

@@ -18,7 +18,7 @@ use station_rules::Setup;
 
 const GROUP_WIDTH: usize = 23872;
 
-const REPORTS_WIDTH: usize = 11264;
+pub const REPORTS_WIDTH: usize = 11264;
 
 // What a fresh call answered, put into a lent buffer.
 fn put_fresh(state: &mut [u8], made: KeptGroup) -> u32
@@ -132,7 +132,7 @@ fn mask_at(masks: &[u16], k: usize) -> u16
 }
 
 // Sixteen masks, as an array; those that are not there are 0.
-fn sixteen_masks(masks: &[u16]) -> [u16; 16]
+pub fn sixteen_masks(masks: &[u16]) -> [u16; 16]
     ensures { λ r. ⌜ r ≡ sixteenMasks (now (masks .entry)) ⌝ }
 {
     let mut sixteen = [0u16; 16];

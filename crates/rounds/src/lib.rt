@@ -12,7 +12,7 @@ use station_rules::Station;
 use station_rules::Taking;
 
 // What a round reports of a station that is not in it.
-fn no_report() -> Report
+pub fn no_report() -> Report
     ensures { λ r. ⌜ r ≡ noReport ⌝ }
 {
     let taking = Taking {

@@ -1,0 +1,3 @@
+pub mod Bulletins
+pub mod Shown
+pub mod Again

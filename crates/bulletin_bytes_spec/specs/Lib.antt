@@ -1,0 +1,2 @@
+pub mod Bulletins
+pub mod Shown

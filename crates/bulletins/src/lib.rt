@@ -1,0 +1,204 @@
+// The calls on the bulletins of a group (document 02, A12).
+
+mod issuing;
+mod order;
+mod showing;
+
+ghost use mathlib.Core.Path.{_≡_};
+ghost use mathlib.Core.Bool.{cond, _&&_};
+ghost use Prim.Native.Nat.{_≤_, _<_};
+ghost use lib.Bits.{bitOr};
+ghost use lib.Dec.{eqb};
+ghost use lib.ListN.{getD};
+ghost use Rattle.links.specs.Log.{hearsIn};
+ghost use Rattle.places.specs.Places.{fill};
+ghost use Rattle.broadcast_sets.specs.Sets.{united};
+ghost use Rattle.bulletins_spec.specs.State.{freshBulletins, bulletinsInside};
+ghost use Rattle.bulletins_spec.specs.Calls.{bulletinsFreshCall, issueCall, bulletinsRoundCall};
+use bulletins_spec::Bulletins;
+use bulletins_spec::BulletinsRound;
+use bulletins_spec::IssueDone;
+use bulletins_spec::KeptBulletins;
+use bulletins_spec::Notice;
+use group_rules::RoundDone;
+use kinds::refusals::ALREADY_ISSUED;
+use kinds::refusals::BAD_NUMBER;
+use kinds::refusals::DONE;
+use kinds::refusals::NOT_AN_EDIT;
+use kinds::refusals::OUTSIDE_LIMITS;
+use station_rules::Station;
+
+// No group has more stations.
+const STATIONS: usize = 16;
+
+// An issuer has so many places.
+const OWN: usize = 4;
+
+// Nobody holds anything.
+fn fresh_bulletins(n: usize) -> Bulletins
+    ensures { λ r. ⌜ r ≡ freshBulletins n ⌝ }
+{
+    Bulletins {
+        n: n,
+        tags: [0u32; 64],
+        events: [0u32; 64],
+        held: [0u64; 16],
+    }
+}
+
+// Fresh: the bulletins of a group of n, as they begin.
+pub fn fresh(n: usize) -> KeptBulletins
+    ensures { λ r. ⌜ r ≡ bulletinsFreshCall n ⌝ }
+{
+    if n < 1 {
+        let alone = fresh_bulletins(1);
+        return KeptBulletins {
+            refusal: BAD_NUMBER,
+            bulletins: alone,
+        };
+    }
+    if n > STATIONS {
+        let alone = fresh_bulletins(1);
+        return KeptBulletins {
+            refusal: BAD_NUMBER,
+            bulletins: alone,
+        };
+    }
+    let made = fresh_bulletins(n);
+    KeptBulletins {
+        refusal: DONE,
+        bulletins: made,
+    }
+}
+
+// Issue: one more bulletin of an issuer, which shows it at once.
+pub fn issue(b: Bulletins, issuer: usize, tag: u32, event: u32) -> IssueDone
+    ensures { λ r. ⌜ r ≡ issueCall b issuer tag event ⌝ }
+{
+    if !bulletin_limits::inside(b) {
+        return issuing::refused(b, OUTSIDE_LIMITS);
+    }
+    if b.n <= issuer {
+        return issuing::refused(b, BAD_NUMBER);
+    }
+    if !bulletin_limits::event_inside(event) {
+        return issuing::refused(b, NOT_AN_EDIT);
+    }
+    let held = b.held;
+    let tags = b.tags;
+    if issuing::has_tag(&held, &tags, issuer, tag) {
+        return issuing::refused(b, ALREADY_ISSUED);
+    }
+    let s = issuing::free_place(&held, issuer);
+    if s == OWN * issuer + OWN {
+        return issuing::refused(b, ALREADY_ISSUED);
+    }
+    let after = issuing::with_bulletin(b, issuer, s, tag, event);
+    IssueDone {
+        refusal: DONE,
+        bulletins: after,
+        shown: Notice {
+            issuer: issuer as u32,
+            tag: tag,
+            event: event,
+        },
+    }
+}
+
+// A set, with another one where its station is heard.
+fn joined(set: u64, other: u64, heard: bool) -> u64
+    ensures { λ r. ⌜ r ≡ cond heard (bitOr set other) set ⌝ }
+{
+    if !heard {
+        return set;
+    }
+    set | other
+}
+
+// What station p holds after a round: its own, and what those that it hears held before the round.
+fn set_after(held: &[u64; 16], masks: [u16; 16], n: usize, p: usize) -> u64
+    requires { ⌜ (n ≤ 16) × (p < 16) ⌝ }
+    ensures { λ r. ⌜ r
+        ≡ united n (λ j. hearsIn n masks p j) (λ j. getD (now (held .entry)) j 0) (getD (now (held .entry)) p 0) ⌝ }
+{
+    let mut set = held[p];
+    let mut j: usize = 0;
+    while j < n {
+        set = joined(set, held[j], links::hears(masks, n, p, j));
+        j += 1;
+    }
+    set
+}
+
+// What all stations below n hold after a round.
+fn held_after(held: &[u64; 16], masks: [u16; 16], n: usize) -> [u64; 16]
+    requires { ⌜ n ≤ 16 ⌝ }
+    ensures { λ r. ⌜ r ≡ fill n
+        (λ p. united n (λ j. hearsIn n masks p j) (λ j. getD (now (held .entry)) j 0) (getD (now (held .entry)) p 0))
+        (now (held .entry)) ⌝ }
+{
+    let mut after = *held;
+    let mut p: usize = 0;
+    while p < n {
+        after[p] = set_after(held, masks, n, p);
+        p += 1;
+    }
+    after
+}
+
+// Are the bulletins inside their limits, and those of a group of n?
+fn fit(b: Bulletins, n: usize) -> bool
+    ensures { λ r. ⌜ r ≡ (bulletinsInside b && eqb n (b .n)) ⌝ }
+{
+    if !bulletin_limits::inside(b) {
+        return false;
+    }
+    n == b.n
+}
+
+// Round: the group's round, and on the same masks everyone takes over what those that it hears held before the round.
+pub fn round(g: [Station; 16], b: Bulletins, masks: [u16; 16]) -> BulletinsRound
+    ensures { λ r. ⌜ r ≡ bulletinsRoundCall g b masks ⌝ }
+{
+    let first = g[0];
+    if !fit(b, first.n) {
+        let silent = showing::none_shown();
+        let none = rounds::no_report();
+        let reports = [none; 16];
+        return BulletinsRound {
+            round: RoundDone {
+                refusal: OUTSIDE_LIMITS as usize,
+                group: g,
+                reports: reports,
+            },
+            bulletins: b,
+            shown: silent,
+        };
+    }
+    let done = rounds::round(g, masks);
+    if done.refusal != DONE as usize {
+        let silent = showing::none_shown();
+        return BulletinsRound {
+            round: done,
+            bulletins: b,
+            shown: silent,
+        };
+    }
+    let n = b.n;
+    let before = b.held;
+    let tags = b.tags;
+    let events = b.events;
+    let after = held_after(&before, masks, n);
+    let places = order::order_of(&tags, n);
+    let shown = showing::all_shown(&places, &tags, &events, &before, &after, n);
+    BulletinsRound {
+        round: done,
+        bulletins: Bulletins {
+            n: n,
+            tags: tags,
+            events: events,
+            held: after,
+        },
+        shown: shown,
+    }
+}

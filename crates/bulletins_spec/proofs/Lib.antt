@@ -1,0 +1,11 @@
+pub mod Order
+pub mod Picked
+pub mod Hearing
+pub mod Kept
+pub mod KeptRound
+pub mod KeptIssue
+pub mod Told
+pub mod ToldIssue
+pub mod Whole
+pub mod Tried
+pub mod Lengths

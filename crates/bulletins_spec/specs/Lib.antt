@@ -1,0 +1,5 @@
+pub mod State
+pub mod Order
+pub mod Calls
+pub mod History
+pub mod Claim
