@@ -1,0 +1,22 @@
+"""Builds the host and what its tests load."""
+
+import os
+import pathlib
+import subprocess
+
+ROOT = pathlib.Path(__file__).resolve().parent.parent.parent
+SANITIZERS = ("-O1", "-g", "-fsanitize=address,undefined", "-fno-sanitize-recover=all")
+
+
+def host(folder, *options, name="host"):
+    """The host, built with these options of the compiler."""
+    program = pathlib.Path(folder, name)
+    subprocess.run([ROOT / "examples" / "host" / "build", program, *options], check=True)
+    return program
+
+
+def shim(folder):
+    made = pathlib.Path(folder, "shim.so")
+    subprocess.run([os.environ.get("CC", "gcc"), "-std=c11", "-O1", "-Wall", "-Wextra", "-Werror", "-shared", "-fPIC",
+                    ROOT / "tests" / "network" / "shim.c", "-o", made, "-ldl"], check=True)
+    return made

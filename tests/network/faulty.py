@@ -1,0 +1,1 @@
+"""Hosts that are wrong on purpose."""
