@@ -103,8 +103,9 @@ def hostile(draw, key, run, number, receiver, n):
     """A datagram that is well sealed, and wrong in one way or more; or not sealed at all."""
     other = draw.choice([k for k in range(n) if k != receiver] or [None])
     sender = 0 if other is None else other
-    way = draw.randrange(10)
-    frame = a_frame(draw, n, sender)
+    third = draw.choice([k for k in range(n) if k not in (receiver, other)] or [receiver])
+    way = draw.randrange(11)
+    frame = a_frame(n, sender)
     if way == 0:
         return None, datagrams.seal(key, run, number, sender, frame)                         # from a stranger's address
     if way == 1:
@@ -114,20 +115,22 @@ def hostile(draw, key, run, number, receiver, n):
     if way == 3:
         return other, datagrams.seal(key, run + 1, number, sender, frame)                     # of another run
     if way == 4:
-        return other, datagrams.seal(key, run, number, receiver, a_frame(draw, n, receiver))  # in the hearer's name
+        return other, datagrams.seal(key, run, number, receiver, a_frame(n, receiver))  # in the hearer's name
     if way == 5:
-        return other, datagrams.seal(key, run, number, sender, a_frame(draw, n % 16 + 1, sender))  # of another n
+        return other, datagrams.seal(key, run, number, sender, a_frame(n % 16 + 1, sender))  # of another n
     if way == 6:
         late_or_early = draw.choice((0, number - 1, number + 4, number + 1000, 2**32 - 1))
         return other, datagrams.seal(key, run, late_or_early, sender, frame)
     if way == 7:
-        return other, datagrams.seal(key, run, number, sender, a_frame(draw, n, (sender + 1) % 16))
+        return other, datagrams.seal(key, run, number, sender, a_frame(n, (sender + 1) % 16))
+    if way == 10:
+        return other, datagrams.seal(key, run, number, third, a_frame(n, third))        # in the name of a third
     if way == 8:
         return other, datagrams.seal(key, run, number, sender, draw.randbytes(draw.randrange(1, 261)))
     return other, datagrams.seal(key, run, number, sender, wrong_record(draw, frame))
 
 
-def a_frame(draw, n, sender):
+def a_frame(n, sender):
     """A frame with the sender's record alone."""
     return bytes([n, sender, 1, 0, sender, 0, 0, 0]) + bytes(8) + (1 << 2 * min(sender, 15)).to_bytes(4, "little")
 
