@@ -1,9 +1,14 @@
 #include "engine.h"
 
+#include <string.h>
+
 #include "bytes.h"
 
 /* Places in a frame: a head, and then records. */
-enum { FRAME_N = 0, FRAME_SENDER = 1, FRAME_RECORDS = 2, FRAME_HEAD = 4, RECORD_KIND = 2, RECORD_NUMBERS = 4 };
+enum { FRAME_SENDER = 1, FRAME_RECORDS = 2, FRAME_HEAD = 4, RECORD_KIND = 2, RECORD_NUMBERS = 4 };
+
+/* Places in a station's state. */
+enum { STATE_N = 0, STATE_OWN = 1 };
 
 /* Places in the report of a turn. */
 enum { TURN_ENDED = 1, TURN_ENDED_BODY = 4, TURN_STARTED_BODY = 16, TURN_ROW = 28 };
@@ -76,9 +81,10 @@ uint32_t engine_sender(const uint8_t *frame)
     return frame[FRAME_SENDER];
 }
 
+/* A body that is no edit is refused with 4 by a station inside its limits, and with 2 by any other bytes. */
 int engine_accepts(const uint8_t state[STATE_BYTES], uint32_t n, uint32_t own)
 {
-    uint8_t frame[FRAME_MOST];
-    size_t len;
-    return engine_write(state, frame, &len) == RELAY_DONE && frame[FRAME_N] == n && frame[FRAME_SENDER] == own;
+    uint8_t copy[STATE_BYTES];
+    memcpy(copy, state, STATE_BYTES);
+    return engine_post(copy, (struct body){0, 0, 0}) == RELAY_NOT_AN_EDIT && state[STATE_N] == n && state[STATE_OWN] == own;
 }

@@ -77,21 +77,24 @@ static void save_and_tell(struct host *host)
     station->text.len = 0;
 }
 
+/* Only false frames under the group's key can bring a station to where it has no frame to send (10). It then stays
+   silent, and goes on. */
 static void send_frame(struct host *host, uint32_t round)
 {
     struct stamp stamp = {host->options.epoch_ms, round, host->station.own};
     uint8_t frame[FRAME_MOST], datagram[DATAGRAM_MOST];
     size_t len;
     uint32_t refusal = engine_write(host->station.state, frame, &len);
-    if (refusal != RELAY_DONE)
-        stop_with(STATUS_SYSTEM, "round %lu: the frame is refused with %lu", (unsigned long)round, (unsigned long)refusal);
-    len = datagram_seal(datagram, host->options.key, stamp, frame, len);
+    host->sent = round;
+    if (refusal == RELAY_DONE)
+        len = datagram_seal(datagram, host->options.key, stamp, frame, len);
+    else
+        warn("round %lu: there is no frame to send: %lu", (unsigned long)round, (unsigned long)refusal);
     for (int k = 0; k < host->peers.count; k++) {
         const struct sockaddr_in *to = &host->peers.peers[k].address;
-        if (sendto(host->socket, datagram, len, 0, (const struct sockaddr *)to, sizeof *to) < 0)
+        if (refusal != RELAY_DONE || sendto(host->socket, datagram, len, 0, (const struct sockaddr *)to, sizeof *to) < 0)
             host->unsent++;
     }
-    host->sent = round;
     clock_tell_sent(&host->clock, round);
 }
 

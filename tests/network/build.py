@@ -25,3 +25,33 @@ def shim(folder):
     subprocess.run([os.environ.get("CC", "gcc"), "-std=c11", "-O1", "-Wall", "-Wextra", "-Werror", "-shared", "-fPIC",
                     ROOT / "tests" / "network" / "shim.c", "-o", made, "-ldl"], check=True)
     return made
+
+
+def fuzz_sources():
+    """What the fuzz target is made of: the host without its sockets, clock, options and words."""
+    parts = ("siphash", "engine", "datagram", "inbox", "lines", "station", "saved", "posts")
+    return [ROOT / "tests" / "network" / "fuzz.c", *(ROOT / "examples" / "host" / f"{part}.c" for part in parts)]
+
+
+def compile_fuzz(compiler, folder, name, *more):
+    made = pathlib.Path(folder, name)
+    words = [compiler, "-std=c11", "-D_GNU_SOURCE", "-Wall", "-Wextra", "-Werror", *more, f"-I{ROOT / 'include'}", f"-I{ROOT / 'examples' / 'host'}",
+             *fuzz_sources(), archive(), "-o", made]
+    return made, words
+
+
+def fuzz(folder):
+    """The fuzz target with a driver of its own."""
+    made, words = compile_fuzz(os.environ.get("CC", "gcc"), folder, "fuzz", *SANITIZERS, ROOT / "tests" / "network" / "fuzz_alone.c")
+    subprocess.run(words, check=True)
+    return made
+
+
+def libfuzzer(folder):
+    """The fuzz target with libFuzzer, or None where clang does not have it."""
+    made, words = compile_fuzz("clang", folder, "libfuzzer", "-O1", "-g", "-fsanitize=fuzzer,address,undefined", "-fno-sanitize-recover=all")
+    try:
+        done = subprocess.run(words, capture_output=True, check=False)
+    except FileNotFoundError:
+        return None
+    return made if done.returncode == 0 else None

@@ -18,7 +18,7 @@ class Kill(NamedTuple):
     station: int
     round: int         # about when
     call: int          # at which watched call of that round
-    after: bool        # behind the call, not before it
+    way: int           # 0: before the call, 1: behind it, or in the middle of a write, 2: the call fails
     down: int          # for how many rounds it stays away; 0: it comes back in the round in which it died
 
 
@@ -45,7 +45,7 @@ class Plan:
             station = draw.choice([k for k in free if free[k] <= at] or [None])
             if station is None:
                 continue
-            kill = Kill(station, at, draw.randrange(sizes.n + 6), draw.random() < 0.5, draw.choice((0, 1, 1, 2, 3, 7)))
+            kill = Kill(station, at, draw.randrange(sizes.n + 6), draw.randrange(3), draw.choice((0, 1, 1, 2, 3, 7)))
             free[station] = at + kill.down + 3
             yield kill
 

@@ -38,7 +38,7 @@ class Rounds:
         if self.kills[k]:
             kill = self.kills[k][0]
             calls = max(0, kill.round - number) * (CALLS_A_ROUND + self.sizes.n) + CALLS_AT_START + kill.call + 1
-            environment = {"RELAY_KILL_CALL": str(calls), "RELAY_KILL_AFTER": str(int(kill.after))}
+            environment = {"RELAY_KILL_CALL": str(calls), "RELAY_KILL_AFTER": str(kill.way)}
         host.start(**environment)
         self.inboxes[k] = datagrams.Inbox(KEY, RUN, self.sizes.n, k)
         self.inboxes[k].open = number
@@ -48,12 +48,16 @@ class Rounds:
     def died(self, k, number):
         """After it was told that round `number` is open. It may have closed the round before, or not."""
         host = self.hosts[k]
-        status = host.gone()
-        if status != -9 or not self.kills[k]:
-            raise Fault(f"station {k} ended in round {number} with status {status}: {host.said()}")
+        self.check_death(k, host.gone(), number)
         self.masks[k].setdefault(number - 1, set()).add(0)
         self.died_in.append((number - 1, k))
         self.back[k] = number + self.kills[k].pop(0).down
+
+    def check_death(self, k, status, number):
+        """A host that was killed, or whose disk or neighbour failed: then it says so and ends with 1."""
+        may = {0: -9, 1: -9, 2: 1}[self.kills[k][0].way] if self.kills[k] else 0
+        if status != may:
+            raise Fault(f"station {k} ended in round {number} with status {status}: {self.hosts[k].said()}")
 
     # A step of the run: some hosts are told the round, and what they send is carried.
 
@@ -153,8 +157,7 @@ class Rounds:
             else:
                 self.begin(k, number)
             while (status := host.gone()) != 0:
-                if status != -9 or not self.kills[k]:
-                    raise Fault(f"station {k} ended with status {status}: {host.said()}")
+                self.check_death(k, status, number)
                 self.masks[k].setdefault(number - 1, set()).add(0)
                 self.died_in.append((number - 1, k))
                 self.kills[k].pop(0)

@@ -1,7 +1,7 @@
 /* Loaded before a host (LD_PRELOAD): it watches the calls by which the host saves, tells and sends.
 
-   RELAY_KILL_CALL=K kills the process at its K-th watched call: before it, or with RELAY_KILL_AFTER=1 behind it. A write
-   is then cut in the middle.
+   RELAY_KILL_CALL=K kills the process at its K-th watched call: before it, or with RELAY_KILL_AFTER=1 behind it, where a
+   write is cut in the middle. With RELAY_KILL_AFTER=2 the call fails instead, as on a broken disk.
 
    Whatever else, it ends the process with a message where it
    - puts a file in place of the state that is not on the disk, or while lines of the report are not;
@@ -10,6 +10,7 @@
    - writes lines to the report that are not saved. */
 #define _GNU_SOURCE
 #include <dlfcn.h>
+#include <errno.h>
 #include <fcntl.h>
 #include <signal.h>
 #include <stdarg.h>
@@ -44,10 +45,19 @@ static int due(void)
     return at != NULL && ++calls == atol(at);
 }
 
-static int after(void)
+/* What happens there: before the call, behind it, or a failure. */
+enum way { BEFORE, BEHIND, FAILS };
+
+static enum way way(void)
 {
     const char *set = getenv("RELAY_KILL_AFTER");
-    return set != NULL && *set == '1';
+    return set != NULL && *set >= '0' && *set <= '2' ? (enum way)(*set - '0') : BEFORE;
+}
+
+static int failed(void)
+{
+    errno = EIO;
+    return -1;
 }
 
 static void die(void)
@@ -120,10 +130,11 @@ ssize_t write(int file, const void *bytes, size_t len)
     watch_write(kind_of(file), bytes, len);
     if (!dies)
         return real(file, bytes, len);
-    if (after() && real(file, bytes, len / 2) < 0)
+    if (way() != BEFORE && real(file, bytes, len / 2) < 0)
         wrong("cannot write");
-    die();
-    return -1;
+    if (way() != FAILS)
+        die();
+    return failed();
 }
 
 static void watch_sync(enum kind kind)
@@ -140,8 +151,10 @@ static int sync_by(const char *name, int file)
 {
     REAL(int, name, int);
     int dies = due();
-    if (dies && !after())
+    if (dies && way() == BEFORE)
         die();
+    if (dies && way() == FAILS)
+        return failed();
     watch_sync(kind_of(file));
     int result = real(file);
     if (dies)
@@ -165,8 +178,10 @@ int rename(const char *from, const char *to)
     int dies = due();
     if (state_dirty || report_dirty)
         wrong(state_dirty ? "renames a state that is not on the disk" : "replaces a state whose lines are not on the disk");
-    if (dies && !after())
+    if (dies && way() == BEFORE)
         die();
+    if (dies && way() == FAILS)
+        return failed();
     int result = real(from, to);
     memcpy(saved, written, written_len);
     saved_len = written_len;
@@ -189,8 +204,10 @@ ssize_t sendto(int to, const void *bytes, size_t len, int flags, const struct so
         wrong("sends before the state is saved");
     if (len <= STAMP || saved_len == 0 || number_at((const uint8_t *)bytes + STAMP_ROUND) != number_at(saved + SAVED_DONE) + 1)
         wrong("sends a frame of a round that does not follow the saved one");
-    if (dies && !after())
+    if (dies && way() == BEFORE)
         die();
+    if (dies && way() == FAILS)
+        return failed();
     ssize_t result = real(to, bytes, len, flags, address, size);
     if (dies)
         die();
