@@ -9,10 +9,14 @@ PORT = 7100
 ROOM = 1 << 20
 
 
+def network():
+    """The first three numbers of addresses on loopback that no other process uses."""
+    return f"127.{1 + os.getpid() // 250 % 250}.{os.getpid() % 250}"
+
+
 class Links:
     def __init__(self, n):
-        self.n = n
-        net = f"127.{1 + os.getpid() // 250 % 250}.{os.getpid() % 250}"
+        self.n, net = n, network()
         self.hosts = [(f"{net}.{1 + k}", PORT) for k in range(n)]
         self.numbers = {address: k for k, address in enumerate(self.hosts)}
         self.faces = [self.bound((f"{net}.{101 + k}", PORT)) for k in range(n)]
