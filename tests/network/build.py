@@ -5,6 +5,7 @@ import pathlib
 import subprocess
 
 ROOT = pathlib.Path(__file__).resolve().parent.parent.parent
+COMPILER = os.environ.get("CC", "gcc")
 SANITIZERS = ("-O1", "-g", "-fsanitize=address,undefined", "-fno-sanitize-recover=all")
 
 
@@ -22,7 +23,7 @@ def host(folder, *options, name="host"):
 
 def shim(folder):
     made = pathlib.Path(folder, "shim.so")
-    subprocess.run([os.environ.get("CC", "gcc"), "-std=c11", "-O1", "-Wall", "-Wextra", "-Werror", "-shared", "-fPIC",
+    subprocess.run([COMPILER, "-std=c11", "-O1", "-Wall", "-Wextra", "-Werror", "-shared", "-fPIC",
                     ROOT / "tests" / "network" / "shim.c", "-o", made, "-ldl"], check=True)
     return made
 
@@ -42,7 +43,7 @@ def compile_fuzz(compiler, folder, name, *more):
 
 def fuzz(folder):
     """The fuzz target with a driver of its own."""
-    made, words = compile_fuzz(os.environ.get("CC", "gcc"), folder, "fuzz", *SANITIZERS, ROOT / "tests" / "network" / "fuzz_alone.c")
+    made, words = compile_fuzz(COMPILER, folder, "fuzz", *SANITIZERS, ROOT / "tests" / "network" / "fuzz_alone.c")
     subprocess.run(words, check=True)
     return made
 
