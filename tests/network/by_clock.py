@@ -24,7 +24,8 @@ class ByClock:
         options = ["--n", str(self.sizes.n), "--epoch-ms", str(self.run), "--round-ms", str(round_ms),
                    "--rounds", str(self.sizes.rounds), "--key", folder / "key"]
         self.hosts = [Host(program, folder, k, options) for k in range(self.sizes.n)]
-        self.events, self.number, self.died_in = [], 0, []  # events: (time, number, what, of what); died_in: (round, station)
+        self.events, self.number = [], 0  # events: (time, number, what, of what)
+        self.away = []                   # of each death: station, first and last round in which it was away
 
     def at(self, when, what, *of):
         self.number += 1
@@ -54,11 +55,16 @@ class ByClock:
         if host.alive:
             host.kill()
             host.gone()
-            self.died_in.append((int((time.time() - self.begin) * 1000 / self.round_ms), host.station))
+            self.away.append((host.station, self.now() + 1, self.now()))
 
     def restart(self, host):
         if host.process is None:
+            self.away = [(k, first, self.now() - 1 if k == host.station and last == first - 1 else last) for k, first, last in self.away]
             host.start(beat=False)
+
+    def now(self):
+        """The round that is open."""
+        return min(self.sizes.rounds, int((time.time() - self.begin) * 1000 / self.round_ms) + 1)
 
     def carry(self):
         for sender, receiver, data in self.links.arrived():

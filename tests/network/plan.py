@@ -9,9 +9,10 @@ from . import datagrams
 class Sizes(NamedTuple):
     n: int
     rounds: int
-    loss: int          # of a hundred datagrams, how many are lost
+    loss: int           # of a hundred datagrams, how many are lost
     kills: int = 0
-    hostile: int = 0   # datagrams of others, a round and station
+    hostile: int = 0    # datagrams of others, a round and station
+    calm: bool = False  # few posts, all of them edits with small numbers: for a picture
 
 
 class Kill(NamedTuple):
@@ -41,7 +42,7 @@ class Plan:
         last = max(2, sizes.rounds - 10)
         free = dict.fromkeys(range(sizes.n), 1)
         for number in range(sizes.kills):
-            at = 2 + (last - 2) * number // max(1, sizes.kills)
+            at = 2 + (last - 2) * (2 * number + 1) // (2 * sizes.kills)
             station = draw.choice([k for k in free if free[k] <= at] or [None])
             if station is None:
                 continue
@@ -52,6 +53,8 @@ class Plan:
     def posts(self, number, station):
         """What is posted at a station in a round, as (kind, event, argument)."""
         draw = self.draws("posts", number, station)
+        if self.sizes.calm:
+            return [(draw.choice((2, 3, 4)), 10 * number + station, 0)] if draw.random() < 0.15 else []
         if draw.random() < 0.02:  # more than can wait
             return [(2, 1 + k, 100 * number + k) for k in range(36)]
         return [self.post(draw) for _ in range(draw.choice((0, 0, 0, 0, 0, 1, 1, 2)))]

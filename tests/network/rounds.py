@@ -28,7 +28,8 @@ class Rounds:
         self.back = dict.fromkeys(range(self.sizes.n), 1)  # station -> the round in which it begins (again)
         self.masks = [{} for _ in range(self.sizes.n)]     # of each station: round -> the masks that it may report
         self.posted = [[] for _ in range(self.sizes.n)]
-        self.frames, self.held, self.died_in = {}, [], []  # died_in: (round, station) each
+        self.frames, self.held = {}, []
+        self.away = []  # of each death: station, first and last round in which it was away
 
     # One host.
 
@@ -50,8 +51,8 @@ class Rounds:
         host = self.hosts[k]
         self.check_death(k, host.gone(), number)
         self.masks[k].setdefault(number - 1, set()).add(0)
-        self.died_in.append((number - 1, k))
         self.back[k] = number + self.kills[k].pop(0).down
+        self.away.append((k, number, self.back[k] - 1))
 
     def check_death(self, k, status, number):
         """A host that was killed, or whose disk or neighbour failed: then it says so and ends with 1."""
@@ -159,7 +160,7 @@ class Rounds:
             while (status := host.gone()) != 0:
                 self.check_death(k, status, number)
                 self.masks[k].setdefault(number - 1, set()).add(0)
-                self.died_in.append((number - 1, k))
+                self.away.append((k, number, number - 1))
                 self.kills[k].pop(0)
                 self.begin(k, number)
 
