@@ -15,7 +15,7 @@ void name_station(uint32_t station)
 
 static void say(const char *form, va_list rest, int error)
 {
-    char text[1000];
+    char text[2000];
     vsnprintf(text, sizeof text, form, rest);
     if (error != 0)
         fprintf(stderr, "%s: %s: %s\n", name, text, strerror(error));

@@ -50,7 +50,7 @@ static int open_socket(const struct sockaddr_in *own)
 static void tell_status(const struct host *host)
 {
     const struct station *station = &host->station;
-    char line[1000];
+    char line[2000];
     int len = snprintf(line, sizeof line, "done=%lu heard=%llu missed=%llu unsent=%llu", (unsigned long)station->done,
                        (unsigned long long)station->heard, (unsigned long long)station->missed,
                        (unsigned long long)host->unsent);
@@ -61,6 +61,10 @@ static void tell_status(const struct host *host)
         if (station->inbox.refused[refusal] != 0)
             len += snprintf(line + len, sizeof line - (size_t)len, " refused-%d=%llu", refusal,
                             (unsigned long long)station->inbox.refused[refusal]);
+    for (uint32_t k = 0; k < station->n; k++)
+        if (k != station->own)
+            len += snprintf(line + len, sizeof line - (size_t)len, " last-%lu=%lu", (unsigned long)k,
+                            (unsigned long)station->last_heard[k]);
     warn("%s", line);
 }
 

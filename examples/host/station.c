@@ -56,6 +56,7 @@ void station_close(struct station *station)
         if (kept != NULL && hear(station, sender, kept, &takings)) {
             mask |= 1u << sender;
             station->heard++;
+            station->last_heard[sender] = station->done + 1;
         } else if (sender != station->own) {
             station->missed++;
         }

@@ -104,8 +104,8 @@ class ByClock:
         if status != 0:
             raise Fault(f"station {host.station} ended with status {status}: {host.said()}")
 
-    def check(self, root):
+    def check(self):
         found = record.reports(self.hosts, self.sizes.rounds)
         for host in self.hosts:
             record.check_output(host)
-        return record.compare(found, self.sizes.rounds, root)
+        return record.compare(found)

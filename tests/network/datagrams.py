@@ -42,6 +42,7 @@ class Inbox:
     def __init__(self, key, run, n, own):
         self.key, self.run, self.n, self.own = key, run, n, own
         self.open, self.kept, self.counts = 1, {}, dict.fromkeys(FATES, 0)
+        self.last_heard = {}  # station -> round
 
     def take(self, peer, data):
         """The fate of a datagram from the address of station `peer`, or of nobody (None)."""
@@ -84,5 +85,6 @@ class Inbox:
         return sum(1 << sender for number, sender in self.kept if number == self.open)
 
     def close(self):
+        self.last_heard |= {sender: number for number, sender in self.kept if number == self.open}
         self.kept = {place: frame for place, frame in self.kept.items() if place[0] > self.open}
         self.open += 1

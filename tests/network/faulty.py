@@ -97,7 +97,7 @@ def noticed(program, plan, folder, shim):
     run = rounds.Rounds(program, plan, folder, shim)
     try:
         run.go()
-        run.check(build.ROOT)
+        run.check()
     except hosts.Fault as fault:
         return str(fault)
     return None

@@ -40,10 +40,10 @@ class Flood(ByClock):
             os.kill(self.child, signal.SIGKILL)
             os.waitpid(self.child, 0)
 
-    def check(self, root):
+    def check(self):
         for host in self.hosts:
             told = host.status()
             dropped = sum(told[name] for name in ("stranger", "malformed", "unsealed", "other-run", "wrong-name", "early"))
             if dropped < LEAST:
                 raise Fault(f"station {host.station} dropped only {dropped} datagrams in a flood: {told}")
-        return super().check(root)
+        return super().check()

@@ -181,6 +181,7 @@ int LLVMFuzzerTestOneInput(const uint8_t *input, size_t size)
     memset(&station, 0, offsetof(struct station, text)); /* the text is long, and its length is all that counts */
     station.text.len = 0;
     station.heard = station.missed = 0;
+    memset(station.last_heard, 0, sizeof station.last_heard);
     station.n = input[0] < 2 || input[0] > MOST_STATIONS ? 3 : input[0];
     station.own = 1;
     station.inbox.n = station.n;

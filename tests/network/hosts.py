@@ -83,7 +83,7 @@ class Host:
 
     def said(self):
         """The last words on standard error."""
-        return self.file("err").read_text(encoding="utf-8", errors="replace")[-600:]
+        return self.file("err").read_text(encoding="utf-8", errors="replace")[-2000:]
 
     def status(self):
         """What its last status line tells: name -> number."""

@@ -1,80 +1,36 @@
-"""The reports of all stations as one script and one listing, and the listing program on that script."""
+"""What is compared of the reports of all stations; tools/host_reports.py makes one script and one listing of them."""
 
-import os
-import shlex
-import subprocess
-from itertools import zip_longest
+import sys
 
+from .build import ROOT
 from .hosts import Fault
 
+sys.path.insert(0, str(ROOT / "tools"))
 
-class Report:
-    """What one station told: for each number of rounds done its posts and their refusals, for each round its mask and its
-    lines."""
-
-    def __init__(self, text, station):
-        self.posts, self.refusals, self.masks, self.lines = [[]], [[]], [], []
-        if text and not text.endswith("\n"):
-            raise Fault(f"station {station}: the report ends within a line")
-        for line in text.splitlines():
-            self.add(line, station)
-
-    def add(self, line, station):
-        if line[0] == "P":
-            self.posts[-1].append(line)
-        elif line[0] == "R":
-            self.masks.append(int(line[1:]))
-            self.lines.append([])
-            self.posts.append([])
-            self.refusals.append([])
-        elif line[7:8] == "X":
-            self.refusals[-1].append(line)
-        elif self.lines:
-            self.lines[-1].append(line)
-        else:
-            raise Fault(f"station {station}: a line before its first round: {line}")
+import host_reports  # noqa: E402
 
 
 def reports(hosts, rounds):
-    found = [Report(host.file("report").read_text(encoding="ascii"), host.station) for host in hosts]
+    """The reports, each of all the rounds."""
+    try:
+        found = host_reports.read(host.file("report") for host in hosts)
+    except host_reports.Wrong as wrong:
+        raise Fault(str(wrong)) from None
     for host, report in zip(hosts, found):
         if len(report.masks) != rounds:
             raise Fault(f"station {host.station} reports {len(report.masks)} rounds, not {rounds}")
+        if report.posts[rounds] or report.refusals[rounds]:
+            raise Fault(f"station {host.station} reports a post after its last round")
     return found
 
 
-def script_of(found, rounds):
-    lines = [f"N{len(found):9d}"]
-    for done in range(rounds + 1):
-        lines += [line for report in found for line in report.posts[done]]
-        if done < rounds:
-            lines.append("R" + "".join(f"{report.masks[done]:9d}" for report in found))
-    return "\n".join(lines) + "\n"
-
-
-def listing_of(found, rounds):
-    lines = []
-    for done in range(rounds + 1):
-        lines += [line for report in found for line in report.refusals[done]]
-        if done < rounds:
-            lines += [line for report in found for line in report.lines[done]]
-    return "\n".join([*lines, "END"]) + "\n"
-
-
-def listing_command():
-    return shlex.split(os.environ.get("RELAY_LISTING", "./listing -"))
-
-
-def compare(found, rounds, root):
+def compare(found):
     """Compares what the stations told with the listing of the recorded script; gives both."""
-    script, told = script_of(found, rounds), listing_of(found, rounds)
-    done = subprocess.run(listing_command(), input=script, capture_output=True, text=True, cwd=root, check=False)
-    if done.returncode or done.stderr:
-        raise Fault(f"the listing of the recorded script: status {done.returncode}, {done.stderr[-300:]}")
-    for number, (line, other) in enumerate(zip_longest(done.stdout.splitlines(), told.splitlines()), 1):
-        if line != other:
-            raise Fault(f"line {number}: the listing has {line!r}, the stations told {other!r}")
-    return script, told
+    try:
+        host_reports.compare(found)
+    except host_reports.Wrong as wrong:
+        raise Fault(str(wrong)) from None
+    return host_reports.script_of(found), host_reports.listing_of(found)
 
 
 def check_output(host):

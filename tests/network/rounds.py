@@ -154,6 +154,7 @@ class Rounds:
         for k, host in enumerate(self.hosts):
             if self.back[k] is None:
                 self.masks[k][number - 1] = {self.inboxes[k].mask()}
+                self.inboxes[k].close()
                 host.beat(number)
             else:
                 self.begin(k, number)
@@ -193,6 +194,9 @@ class Rounds:
             for name, count in inbox.counts.items():
                 if told.get(name, 0) != count:
                     raise Fault(f"station {host.station} counts {told.get(name, 0)} {name}, but there were {count}")
+            last = {k: told[f"last-{k}"] for k in range(self.sizes.n) if k != host.station}
+            if last != inbox.last_heard | {k: 0 for k in last if k not in inbox.last_heard}:
+                raise Fault(f"station {host.station} heard the others last in rounds {last}, not {inbox.last_heard}")
 
     def check_posts(self, found):
         """A host that lived through posts every one of them, once and in order; one that died may have lost some, but in
@@ -205,7 +209,7 @@ class Rounds:
             if self.hosts[k].begun == 1 and len(posts) != len(self.posted[k]):
                 raise Fault(f"station {k} reports {len(posts)} of {len(self.posted[k])} posts")
 
-    def check(self, root):
+    def check(self):
         """Everything that must hold of the run; gives its script and its listing."""
         found = record.reports(self.hosts, self.sizes.rounds)
         self.check_masks(found)
@@ -213,4 +217,4 @@ class Rounds:
         self.check_counts()
         for host in self.hosts:
             record.check_output(host)
-        return record.compare(found, self.sizes.rounds, root)
+        return record.compare(found)
