@@ -6,6 +6,11 @@ hosts                the processes
 links                the sockets between them
 rounds               a run whose rounds the test tells, so that it is the same on any machine
 by_clock             a run by the system's clock
-record               the reports of all stations as one script and one listing
+flood                the same while others send all that they can
+record               what is compared of the reports of all stations
+named                one host with wrong options, files and states, and posts of every form
+document             the commands of docs/HOST.md
 faulty               hosts that are wrong on purpose
+build                the host, the shim that kills it at a chosen call (shim.c), and the fuzz target (fuzz.c)
+seeds                what the fuzz target begins with; the folder corpus has that and what was found since
 """
