@@ -14,8 +14,8 @@ class Wrong(Exception):
 
 
 class Report:
-    """What one station told: for each number of rounds done its posts and their refusals, for each round its mask and its
-    lines."""
+    """What one station told: for each number of rounds done its posts and their refusals, for each round its mask and
+    its lines."""
 
     def __init__(self, text, name):
         self.posts, self.refusals, self.masks, self.lines = [[]], [[]], [], []

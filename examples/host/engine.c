@@ -86,5 +86,6 @@ int engine_accepts(const uint8_t state[STATE_BYTES], uint32_t n, uint32_t own)
 {
     uint8_t copy[STATE_BYTES];
     memcpy(copy, state, STATE_BYTES);
-    return engine_post(copy, (struct body){0, 0, 0}) == RELAY_NOT_AN_EDIT && state[STATE_N] == n && state[STATE_OWN] == own;
+    return engine_post(copy, (struct body){0, 0, 0}) == RELAY_NOT_AN_EDIT && state[STATE_N] == n
+        && state[STATE_OWN] == own;
 }

@@ -11,7 +11,7 @@ void name_station(uint32_t station);
 
 __attribute__((format(printf, 1, 2))) void warn(const char *form, ...);
 
-/* Ends the host: the system refuses something that it cannot go on without. Tells what errno says, if it says something. */
+/* Ends the host: the system refuses something that it cannot go on without. Tells what errno says, if anything. */
 __attribute__((format(printf, 1, 2), noreturn)) void stop(const char *form, ...);
 
 /* Ends the host with this status. */

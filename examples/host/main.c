@@ -1,9 +1,9 @@
 /* A host for the edit relay: one station, with the others behind UDP sockets, and rounds by the clock (docs/HOST.md).
 
-   In every round the host sends the station's frame to all that it has a link with, keeps what comes for this round until
-   it closes, has the station hear it by ascending sender and take its turn, saves the state, and only then tells what
-   was taken, aired and ended, and sends the next frame. A host that was stopped or killed goes on from the saved state:
-   it closes the rounds that it missed, in which it heard nobody.
+   In every round the host sends the station's frame to all that it has a link with, keeps what comes for this round
+   until it closes, has the station hear it by ascending sender and take its turn, saves the state, and only then tells
+   what was taken, aired and ended, and sends the next frame. A host that was stopped or killed goes on from the saved
+   state: it closes the rounds that it missed, in which it heard nobody.
 
    examples/host/build makes it: target/host. */
 #include <errno.h>
@@ -96,7 +96,8 @@ static void send_frame(struct host *host, uint32_t round)
         warn("round %lu: there is no frame to send: %lu", (unsigned long)round, (unsigned long)refusal);
     for (int k = 0; k < host->peers.count; k++) {
         const struct sockaddr_in *to = &host->peers.peers[k].address;
-        if (refusal != RELAY_DONE || sendto(host->socket, datagram, len, 0, (const struct sockaddr *)to, sizeof *to) < 0)
+        if (refusal != RELAY_DONE
+            || sendto(host->socket, datagram, len, 0, (const struct sockaddr *)to, sizeof *to) < 0)
             host->unsent++;
     }
     clock_tell_sent(&host->clock, round);
@@ -121,7 +122,8 @@ static void receive(struct host *host)
 static void close_rounds(struct host *host, uint32_t now)
 {
     struct station *station = &host->station;
-    while (station->done + 1 < now && station->done < host->options.rounds && text_has_room(&station->text, TURN_LINES)) {
+    while (station->done + 1 < now && station->done < host->options.rounds
+           && text_has_room(&station->text, TURN_LINES)) {
         station_close(station);
         if (host->options.status != 0 && station->done % host->options.status == 0)
             tell_status(host);
@@ -198,7 +200,8 @@ int main(int argc, char **argv)
     host.options = options_read(argc, argv);
     name_station(host.options.station);
     signal(SIGPIPE, SIG_IGN);
-    host.clock = (struct clock){.begin = host.options.epoch_ms, .length = host.options.round_ms, .beat = host.options.beat};
+    host.clock = (struct clock){.begin = host.options.epoch_ms, .length = host.options.round_ms,
+                                .beat = host.options.beat};
     peers_read(&host.peers, host.options.peers, host.options.n, host.options.station);
     saved_lock(host.options.state);
     host.socket = open_socket(&host.peers.own);

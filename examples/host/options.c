@@ -28,7 +28,7 @@ static const char help[] =
     "\n"
     "Posts come on standard input, a line each: 'insert EVENT START', 'drop EVENT' or 'shift EVENT FRAMES'.\n";
 
-enum { ROUNDS_MOST = 999999 };
+enum { ROUNDS_MOST = 999999, NEEDED = 0x3f }; /* the first six of the names are needed */
 
 static uint64_t number(const char *name, const char *text, uint64_t least, uint64_t most)
 {
@@ -60,9 +60,10 @@ static void read_key(uint8_t key[KEY_BYTES], const char *file)
 struct options options_read(int argc, char **argv)
 {
     static const struct option names[] = {
-        {"station", 1, 0, 'k'}, {"n", 1, 0, 'n'}, {"peers", 1, 0, 'p'}, {"epoch-ms", 1, 0, 'e'}, {"round-ms", 1, 0, 't'},
-        {"state", 1, 0, 's'}, {"fresh", 0, 0, 'f'}, {"report", 1, 0, 'r'}, {"key", 1, 0, 'y'}, {"rounds", 1, 0, 'l'},
-        {"status", 1, 0, 'c'}, {"beat", 1, 0, 'b'}, {"help", 0, 0, 'h'}, {0, 0, 0, 0}};
+        {"station", 1, 0, 'k'}, {"n", 1, 0, 'n'}, {"peers", 1, 0, 'p'}, {"epoch-ms", 1, 0, 'e'},
+        {"round-ms", 1, 0, 't'}, {"state", 1, 0, 's'}, {"fresh", 0, 0, 'f'}, {"report", 1, 0, 'r'},
+        {"key", 1, 0, 'y'}, {"rounds", 1, 0, 'l'}, {"status", 1, 0, 'c'}, {"beat", 1, 0, 'b'},
+        {"help", 0, 0, 'h'}, {0, 0, 0, 0}};
     struct options options = {.rounds = ROUNDS_MOST, .beat = -1};
     int letter, at = 0, given = 0;
     while ((letter = getopt_long(argc, argv, "", names, &at)) != -1) {
@@ -84,8 +85,9 @@ struct options options_read(int argc, char **argv)
         }
         given |= 1 << at;
     }
-    if (optind != argc || (given & 0x3f) != 0x3f)
-        stop_with(STATUS_USAGE, "--station, --n, --peers, --epoch-ms, --round-ms and --state are needed, and no other words");
+    if (optind != argc || (given & NEEDED) != NEEDED)
+        stop_with(STATUS_USAGE,
+                  "--station, --n, --peers, --epoch-ms, --round-ms and --state are needed, and no other words");
     if (options.station >= options.n)
         stop_with(STATUS_USAGE, "--station %lu is not below --n %lu", (unsigned long)options.station,
                   (unsigned long)options.n);

@@ -35,7 +35,8 @@ static void take_turn(struct station *station)
     struct turn turn;
     uint32_t refusal = engine_turn(station->state, &turn), round = station->done + 1, own = station->own;
     if (refusal != RELAY_DONE)
-        stop_with(STATUS_SYSTEM, "round %lu: the turn is refused with %lu", (unsigned long)round, (unsigned long)refusal);
+        stop_with(STATUS_SYSTEM, "round %lu: the turn is refused with %lu", (unsigned long)round,
+                  (unsigned long)refusal);
     for (uint32_t k = 0; k < station->n; k++)
         if (is_edit(turn.row[k]))
             put_listing_line(&station->text, round, 'A', own, k, turn.row[k]);

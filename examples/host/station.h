@@ -11,7 +11,7 @@ struct station {
     uint8_t state[STATE_BYTES];
     struct inbox inbox;    /* its open round is done + 1 */
     struct text text;
-    uint64_t heard, missed; /* frames heard, and frames of other stations not heard, in the rounds closed by this process */
+    uint64_t heard, missed; /* frames of other stations, heard and not heard, in the rounds closed by this process */
     uint32_t last_heard[MOST_STATIONS]; /* of each station the round in which it was heard last, or 0 */
 };
 

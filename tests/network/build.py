@@ -36,21 +36,23 @@ def fuzz_sources():
 
 def compile_fuzz(compiler, folder, name, *more):
     made = pathlib.Path(folder, name)
-    words = [compiler, "-std=c11", "-D_GNU_SOURCE", "-Wall", "-Wextra", "-Werror", *more, f"-I{ROOT / 'include'}", f"-I{ROOT / 'examples' / 'host'}",
-             *fuzz_sources(), archive(), "-o", made]
+    words = [compiler, "-std=c11", "-D_GNU_SOURCE", "-Wall", "-Wextra", "-Werror", *more,
+             f"-I{ROOT / 'include'}", f"-I{ROOT / 'examples' / 'host'}", *fuzz_sources(), archive(), "-o", made]
     return made, words
 
 
 def fuzz(folder):
     """The fuzz target with a driver of its own."""
-    made, words = compile_fuzz(COMPILER, folder, "fuzz", *SANITIZERS, ROOT / "tests" / "network" / "fuzz_alone.c")
+    driver = ROOT / "tests" / "network" / "fuzz_alone.c"
+    made, words = compile_fuzz(COMPILER, folder, "fuzz", *SANITIZERS, driver)
     subprocess.run(words, check=True)
     return made
 
 
 def libfuzzer(folder):
     """The fuzz target with libFuzzer, or None where clang does not have it."""
-    made, words = compile_fuzz("clang", folder, "libfuzzer", "-O1", "-g", "-fsanitize=fuzzer,address,undefined", "-fno-sanitize-recover=all")
+    options = "-O1", "-g", "-fsanitize=fuzzer,address,undefined", "-fno-sanitize-recover=all"
+    made, words = compile_fuzz("clang", folder, "libfuzzer", *options)
     try:
         done = subprocess.run(words, capture_output=True, check=False)
     except FileNotFoundError:

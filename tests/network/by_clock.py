@@ -1,5 +1,5 @@
-"""A run by the system's clock: datagrams are lost, damaged and delayed as they come, and hosts are killed at any time. What
-each host hears depends on the machine, so only what it told is compared: the reports of all are one listing."""
+"""A run by the system's clock: datagrams are lost, damaged and delayed as they come, and hosts are killed at any time.
+What each host hears depends on the machine, so only what it told is compared: the reports of all are one listing."""
 
 import heapq
 import select
@@ -59,7 +59,8 @@ class ByClock:
 
     def restart(self, host):
         if host.process is None:
-            self.away = [(k, first, self.now() - 1 if k == host.station and last == first - 1 else last) for k, first, last in self.away]
+            self.away = [(k, first, self.now() - 1 if k == host.station and last < first else last)
+                         for k, first, last in self.away]
             host.start(beat=False)
 
     def now(self):

@@ -15,9 +15,11 @@ SECONDS = 90
 
 def blocks(folder):
     """The document's three blocks of commands."""
-    found = re.findall(r"(?s)^```sh\n(.*?)^```", (ROOT / "docs" / "HOST.md").read_text(encoding="utf-8"), re.MULTILINE)
-    for old, new in {**SHORTER, "target/group": str(folder), "127.0.0.1": f"{network()}.1", "examples/host/build": f"examples/host/build {folder}/host",
-                     "target/host": f"{folder}/host"}.items():
+    text = (ROOT / "docs" / "HOST.md").read_text(encoding="utf-8")
+    found = re.findall(r"(?s)^```sh\n(.*?)^```", text, re.MULTILINE)
+    places = {"target/group": str(folder), "127.0.0.1": f"{network()}.1", "target/host": f"{folder}/host",
+              "examples/host/build": f"examples/host/build {folder}/host"}
+    for old, new in {**SHORTER, **places}.items():
         if not any(old in block for block in found):
             raise Fault(f"docs/HOST.md has no {old!r}")
         found = [block.replace(old, new) for block in found]
@@ -26,21 +28,22 @@ def blocks(folder):
     return found
 
 
-def shell(block, **more):
-    done = subprocess.run(["bash", "-euc", block], cwd=ROOT, capture_output=True, text=True, timeout=SECONDS, check=False, **more)
+def shell(block):
+    done = subprocess.run(["bash", "-euc", block], cwd=ROOT, capture_output=True, text=True, timeout=SECONDS,
+                          check=False)
     if done.returncode:
         raise Fault(f"docs/HOST.md: the commands end with {done.returncode}: {done.stderr[-500:]}")
     return done.stdout
 
 
 def start(block, station, folder):
-    out = open(folder / f"{station}.out", "ab")
-    with out, open(folder / f"{station}.err", "ab") as err:
-        return subprocess.Popen(["bash", "-euc", f"k={station}; exec {block}"], cwd=ROOT, stdin=subprocess.PIPE, stdout=out, stderr=err, text=True)
+    with open(folder / f"{station}.out", "ab") as out, open(folder / f"{station}.err", "ab") as err:
+        return subprocess.Popen(["bash", "-euc", f"k={station}; exec {block}"], cwd=ROOT, stdin=subprocess.PIPE,
+                                stdout=out, stderr=err, text=True)
 
 
 def follow(folder):
-    """Four stations; posts at two of them; one is killed and begins again; all end, and their reports are one listing."""
+    """Four stations; posts at two of them; one is killed and begins again; all end, and they told one listing."""
     first, host, last = blocks(folder)
     shell(first)
     running = [start(host, k, folder) for k in range(4)]
@@ -55,7 +58,8 @@ def follow(folder):
         running[3] = start(host.replace(" --fresh", ""), 3, folder)
         for k, process in enumerate(running):
             if process.wait(SECONDS) != 0:
-                raise Fault(f"docs/HOST.md: station {k} ends with {process.returncode}: {(folder / f'{k}.err').read_text()[-500:]}")
+                said = (folder / f"{k}.err").read_text(encoding="utf-8")[-500:]
+                raise Fault(f"docs/HOST.md: station {k} ends with {process.returncode}: {said}")
     finally:
         for process in running:
             process.kill()

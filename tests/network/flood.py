@@ -23,10 +23,12 @@ class Flood(ByClock):
                 os._exit(0)
 
     def flood(self):
-        """In a process of its own: from a stranger's address and from those of the stations. Under the group's key it sends
-        frames of no round of this run: one that is of a round, and right, would be a false frame, which nobody can tell."""
+        """In a process of its own: from a stranger's address and from those of the stations. Under the group's key it
+        sends frames of no round of this run: one of a round that is right would be a false frame, which nobody can
+        tell from a true one."""
         draw, number = random.Random("flood"), self.sizes.rounds + 10
-        made = [(k, *hostile(draw, KEY, self.run, number, k, self.sizes.n)) for k in range(self.sizes.n) for _ in range(60)]
+        made = [(k, *hostile(draw, KEY, self.run, number, k, self.sizes.n))
+                for k in range(self.sizes.n) for _ in range(60)]
         noise = [draw.randbytes(draw.choice((0, 1, 24, 25, 100, 284, 285, 1400))) for _ in range(60)]
         while True:
             for receiver, sender, data in made:
@@ -43,7 +45,8 @@ class Flood(ByClock):
     def check(self):
         for host in self.hosts:
             told = host.status()
-            dropped = sum(told[name] for name in ("stranger", "malformed", "unsealed", "other-run", "wrong-name", "early"))
+            dropped = sum(told[name] for name in ("stranger", "malformed", "unsealed", "other-run", "wrong-name",
+                                                  "early"))
             if dropped < LEAST:
                 raise Fault(f"station {host.station} dropped only {dropped} datagrams in a flood: {told}")
         return super().check()

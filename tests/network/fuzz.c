@@ -1,7 +1,7 @@
 /* A fuzz target over all that reads what others made: the receive path, posts, and saved states.
 
-   The input is a list of steps for station 1 of 3, or of the n that the first byte names. A step is a byte that tells which, a byte p,
-   a length of two bytes, the lowest first, and so many bytes:
+   The input is a list of steps for station 1 of 3, or of the n that the first byte names. A step is a byte that tells
+   which, a byte p, a length of two bytes, the lowest first, and so many bytes:
 
        0   a datagram of these bytes from the address of station p; a p of 255 is a stranger
        1   a frame of these bytes under a right stamp of station p, for the open round
@@ -12,8 +12,8 @@
        6   a saved state, as it is
        7   a saved state of these bytes as the station's, under a right checksum
 
-   Whatever comes, the station stays inside its limits, hears no frame that the check refuses, closes its rounds, and every datagram
-   meets one fate. A host that would end because of any of it ends the test. */
+   Whatever comes, the station stays inside its limits, hears no frame that the check refuses, closes its rounds, and
+   every datagram meets one fate. A host that would end because of any of it ends the test. */
 #include <stdarg.h>
 #include <stdio.h>
 #include <stdlib.h>

@@ -2,8 +2,9 @@
 
    fuzz INPUTS SEED FILE..
 
-   What it makes is a file with bytes changed, cut out, doubled or taken from another file. The last input is in the file `fuzz-input`
-   while it runs where the environment has FUZZ_KEEP set, so that it is there when the target ends the program. */
+   What it makes is a file with bytes changed, cut out, doubled or taken from another file. Where the environment has
+   FUZZ_KEEP set, each input is in the file `fuzz-input` while it runs, so that it is there when the target ends the
+   program. */
 #include <stdint.h>
 #include <stdio.h>
 #include <stdlib.h>

@@ -1,6 +1,6 @@
-"""The sockets between the hosts. Each station has two addresses: one where its host listens, and a face, which the others
-take for it. What is sent to the face of i from the host of j is a datagram from j to i; it goes on, if at all, from the
-face of j, so that i sees it come from the address that its peers file has for j."""
+"""The sockets between the hosts. Each station has two addresses: one where its host listens, and a face, which the
+others take for it. What is sent to the face of i from the host of j is a datagram from j to i; it goes on, if at all,
+from the face of j, so that i sees it come from the address that its peers file has for j."""
 
 import os
 import socket

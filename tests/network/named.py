@@ -38,8 +38,9 @@ class Alone:
 
     def words(self, **changed):
         """The command line; an option of None is left out, and one of True has no value."""
-        options = {"station": 1, "n": 2, "peers": self.folder / "peers", "epoch-ms": RUN, "round-ms": 1, "state": self.state,
-                   "report": self.report, "rounds": 5} | {name.replace("_", "-"): value for name, value in changed.items()}
+        options = {"station": 1, "n": 2, "peers": self.folder / "peers", "epoch-ms": RUN, "round-ms": 1,
+                   "state": self.state, "report": self.report, "rounds": 5}
+        options |= {name.replace("_", "-"): value for name, value in changed.items()}
         for name, value in options.items():
             if value is not None:
                 yield from [f"--{name}"] if value is True else [f"--{name}", str(value)]
@@ -64,7 +65,7 @@ class Alone:
 def hashes_as_published(alone):
     """The example of SipHash's authors: the tag of 00 to 0e with the key 00 to 0f."""
     del alone
-    must(siphash.siphash(bytes(range(16)), bytes(range(15))) == 0xA129CA6149BE45E5, "another tag than the published one")
+    must(siphash.siphash(bytes(range(16)), bytes(range(15))) == 0xA129CA6149BE45E5, "not the published tag")
 
 
 @test
@@ -96,7 +97,8 @@ def refuses_the_state_of_another(alone):
 def refuses_a_damaged_state(alone):
     alone.lived()
     whole = alone.state.read_bytes()
-    cases = [whole[:at] + bytes([whole[at] ^ 1]) + whole[at + 1:] for at in (0, 8, 16, 20, 21, 22, 24, 32, 36, 40, 41, 500, len(whole) - 1)]
+    places = 0, 8, 16, 20, 21, 22, 24, 32, 36, 40, 41, 500, len(whole) - 1
+    cases = [whole[:at] + bytes([whole[at] ^ 1]) + whole[at + 1:] for at in places]
     for case in [*cases, whole[:-1], whole + b"\0", whole[:30], b""]:
         alone.state.write_bytes(case)
         alone.ends(3, "1.state is", rounds=9)
@@ -127,7 +129,8 @@ def goes_on_after_its_report_was_cut(alone):
 
 @test
 def is_alone_on_its_state(alone):
-    with subprocess.Popen([alone.program, *alone.words(fresh=True, epoch_ms=2 * RUN)], stdin=subprocess.PIPE, stderr=subprocess.PIPE) as first:
+    words = alone.words(fresh=True, epoch_ms=2 * RUN)
+    with subprocess.Popen([alone.program, *words], stdin=subprocess.PIPE, stderr=subprocess.PIPE) as first:
         late = time.monotonic() + SECONDS
         while not alone.state.exists() and time.monotonic() < late:
             time.sleep(0.01)
@@ -135,12 +138,18 @@ def is_alone_on_its_state(alone):
         first.kill()
 
 
+OWN_LINE, OTHER_LINE = "1 127.77.0.2 7100\n", "0 127.77.0.1 7100\n"
+WRONG_PEERS = (("1 127.77.0.2\n", "line 1"), (OTHER_LINE, "0 lines of station 1"),
+               (OWN_LINE * 2, "2 lines of station 1"),
+               ("# none\n\n2 127.77.0.1 7100\n", "line 3"), ("1 127.77.0.2 7100 more\n", "line 1"),
+               ("1 127.77.0.2 port\n", "line 1"), ("x 127.77.0.2 7100\n", "line 1"),
+               (OWN_LINE + OTHER_LINE * 65, "line 66: more than 64"),
+               (OWN_LINE[:-1] + " " * 1100 + "\n", "line 1: longer"))
+
+
 @test
 def says_what_is_wrong_with_peers(alone):
-    for text, words in (("1 127.77.0.2\n", "line 1"), ("0 127.77.0.1 7100\n", "0 lines of station 1"), ("1 127.77.0.2 7100\n" * 2, "2 lines of station 1"),
-                        ("# none\n\n2 127.77.0.1 7100\n", "line 3"), ("1 127.77.0.2 7100 more\n", "line 1"), ("1 127.77.0.2 port\n", "line 1"),
-                        ("x 127.77.0.2 7100\n", "line 1"), ("1 127.77.0.2 7100\n" + "0 127.77.0.1 7100\n" * 65, "line 66: more than 64"),
-                        ("1 127.77.0.2 7100" + " " * 1100 + "\n", "line 1: longer")):
+    for text, words in WRONG_PEERS:
         alone.write("peers", text)
         alone.ends(2, words, fresh=True)
     alone.ends(1, "cannot read", peers=alone.folder / "nothing", fresh=True)
@@ -150,8 +159,9 @@ def says_what_is_wrong_with_peers(alone):
 
 @test
 def says_what_is_wrong_with_options(alone):
-    for name, value in (("station", "2"), ("station", "-1"), ("station", "x"), ("n", "0"), ("n", "17"), ("round_ms", "0"), ("rounds", "1000000"),
-                        ("epoch_ms", "0"), ("epoch_ms", "99999999999999999999"), ("state", None), ("n", None), ("no_such", True)):
+    for name, value in (("station", "2"), ("station", "-1"), ("station", "x"), ("n", "0"), ("n", "17"),
+                        ("round_ms", "0"), ("rounds", "1000000"), ("epoch_ms", "0"),
+                        ("epoch_ms", "99999999999999999999"), ("state", None), ("n", None), ("no_such", True)):
         done = alone.run(fresh=True, **{name: value})
         must(done.returncode == 2 and done.stderr, f"--{name} {value}: it ends with {done.returncode}")
     alone.write("key", "00112233445566778899aabbccddee\n")
@@ -162,10 +172,13 @@ def says_what_is_wrong_with_options(alone):
 
 
 POSTS = (("insert 7 100", "P        1        2        7      100"), ("drop 7", "P        1        3        7        0"),
-         (" shift  12\t-1500 ", "P        1        4       12    -1500"), ("2 999999999 999999999", "P        1        2999999999999999999"),
+         (" shift  12\t-1500 ", "P        1        4       12    -1500"),
+         ("2 999999999 999999999", "P        1        2999999999999999999"),
          ("0 0", "P        1        0        0        0"), ("4 1 -99999999", "P        1        4        1-99999999"),
-         ("insert", None), ("insert 7 100 1", None), ("2 1000000000 0", None), ("2 7 -100000000", None), ("-1 7 7", None), ("drop x", None),
-         ("2 7 1e3", None), ("\0insert 7 100", None), ("", None), ("2 7 9999999999999999999999", None), ("x" * 3000, None), ("insert 8 1", "P        1        2        8        1"))
+         ("insert", None), ("insert 7 100 1", None), ("2 1000000000 0", None), ("2 7 -100000000", None),
+         ("-1 7 7", None), ("drop x", None), ("2 7 1e3", None), ("\0insert 7 100", None), ("", None),
+         ("2 7 9999999999999999999999", None), ("x" * 3000, None),
+         ("insert 8 1", "P        1        2        8        1"))
 
 
 @test
@@ -184,7 +197,8 @@ def takes_posts_of_every_form(alone):
 def stays_silent_where_it_has_no_frame(alone):
     """False frames under the right key raise its count above what a frame may carry; it goes on, and ends in time."""
     face = Links.bound((alone.other, PORT))
-    host = Host(alone.program, alone.folder, 1, ["--n", "2", "--epoch-ms", str(RUN), "--round-ms", "1", "--rounds", "9"])
+    options = ["--n", "2", "--epoch-ms", str(RUN), "--round-ms", "1", "--rounds", "9"]
+    host = Host(alone.program, alone.folder, 1, options)
     (alone.folder / "peers").rename(host.file("peers"))
     host.start()
     sent = []

@@ -37,7 +37,7 @@ class Plan:
         return random.Random(f"{self.seed} {what}")
 
     def draw_kills(self, draw):
-        """Spread over the run, but for its last rounds, in which everyone comes back; a station dies again only later."""
+        """Spread over the run, but for its last rounds, in which everyone comes back. Nobody dies again at once."""
         sizes = self.sizes
         last = max(2, sizes.rounds - 10)
         free = dict.fromkeys(range(sizes.n), 1)
@@ -140,6 +140,6 @@ def a_frame(n, sender):
 
 def wrong_record(draw, frame):
     """One limit of the record or of the head is broken."""
-    at, value = draw.choice(((1, 16), (2, 0), (2, 2), (3, 1), (4, 200), (5, 255), (6, 5), (7, 1), (8, 1), (12, 1), (16, 255),
-                             (19, 255)))
+    at, value = draw.choice(((1, 16), (2, 0), (2, 2), (3, 1), (4, 200), (5, 255), (6, 5), (7, 1), (8, 1), (12, 1),
+                             (16, 255), (19, 255)))
     return frame[:at] + bytes([value]) + frame[at + 1:]

@@ -1,5 +1,5 @@
-"""A run whose rounds the test tells. A datagram on loopback is with its receiver once it is sent, so what each host hears,
-counts and tells is known beforehand, however slow the machine is; only where a host died it is one of two things."""
+"""A run whose rounds the test tells. A datagram on loopback is with its receiver once it is sent, so what each host
+hears, counts and tells is known beforehand, however slow the machine is; only where a host died it is one of two."""
 
 import select
 
@@ -19,8 +19,8 @@ class Rounds:
         self.plan, self.sizes, self.folder = plan, plan.sizes, folder
         self.links = Links(self.sizes.n)
         (folder / "key").write_text(KEY.hex() + "\n", encoding="ascii")
-        options = ["--n", str(self.sizes.n), "--epoch-ms", str(RUN), "--round-ms", "1", "--rounds", str(self.sizes.rounds),
-                   "--key", folder / "key"]
+        options = ["--n", str(self.sizes.n), "--epoch-ms", str(RUN), "--round-ms", "1", "--key", folder / "key",
+                   "--rounds", str(self.sizes.rounds)]
         environment = {"LD_PRELOAD": str(shim)} if shim else {}
         self.hosts = [Host(program, folder, k, options, environment) for k in range(self.sizes.n)]
         self.inboxes = [None] * self.sizes.n
@@ -115,7 +115,7 @@ class Rounds:
         """A host sends one frame a round, the same to all and also when it has died meanwhile."""
         stamp = datagrams.opened(KEY, data)
         if isinstance(stamp, str) or stamp[:3] != (RUN, number, sender):
-            raise Fault(f"station {sender} sent in round {number} what is {stamp if isinstance(stamp, str) else stamp[:3]}")
+            raise Fault(f"station {sender} sent in round {number}: {stamp if isinstance(stamp, str) else stamp[:3]}")
         if self.frames.setdefault((number, sender), stamp.frame) != stamp.frame:
             raise Fault(f"station {sender} sent two frames of round {number}")
 
@@ -199,8 +199,8 @@ class Rounds:
                 raise Fault(f"station {host.station} heard the others last in rounds {last}, not {inbox.last_heard}")
 
     def check_posts(self, found):
-        """A host that lived through posts every one of them, once and in order; one that died may have lost some, but in
-        its report there is no other."""
+        """A host that lived through has every post once and in order; one that died may have lost some, but in its
+        report there is no other."""
         for k, report in enumerate(found):
             posts = [tuple(int(line[at:at + 9]) for at in (10, 19, 28)) for done in report.posts for line in done]
             rest = iter(self.posted[k])

@@ -1,4 +1,5 @@
-"""Inputs for the fuzz target to begin with: steps (fuzz.c) made of a run of three hosts. `tests/fuzz-host --seeds` writes them."""
+"""Inputs for the fuzz target to begin with: steps (fuzz.c) made of a run of three hosts. `tests/fuzz-host --seeds`
+writes them."""
 
 from . import datagrams, plan
 
@@ -23,7 +24,8 @@ def inputs(frames, state, n):
     """Name -> input. `frames` are those of a run, (round, sender) -> bytes; `state` is a saved state."""
     begin = bytes([n])
     draw = plan.Plan("seeds", plan.Sizes(n, 1, 0)).draws("seeds")
-    posts = [b"insert 7 100", b"drop 7", b"shift 12 -1500", b"2 99999999 2699999", b"9 0 0", b"insert", b"insert 7 100 1", b"2 1000000000 0"]
+    posts = [b"insert 7 100", b"drop 7", b"shift 12 -1500", b"2 99999999 2699999", b"9 0 0", b"insert",
+             b"insert 7 100 1", b"2 1000000000 0"]
     yield "run", begin + b"".join(heard(frames, 1, 12))
     yield "posts", begin + b"".join(step(5, 0, post) + step(4, 0) for post in posts) + b"".join(heard(frames, 9, 10))
     yield "saved", begin + step(6, 0, state) + step(7, 0, state[40:40 + 64])

@@ -1,7 +1,7 @@
 /* Loaded before a host (LD_PRELOAD): it watches the calls by which the host saves, tells and sends.
 
-   RELAY_KILL_CALL=K kills the process at its K-th watched call: before it, or with RELAY_KILL_AFTER=1 behind it, where a
-   write is cut in the middle. With RELAY_KILL_AFTER=2 the call fails instead, as on a broken disk.
+   RELAY_KILL_CALL=K kills the process at its K-th watched call: before it, or with RELAY_KILL_AFTER=1 behind it, where
+   a write is cut in the middle. With RELAY_KILL_AFTER=2 the call fails instead, as on a broken disk.
 
    Whatever else, it ends the process with a message where it
    - puts a file in place of the state that is not on the disk, or while lines of the report are not;
@@ -98,7 +98,9 @@ int open(const char *name, int flags, ...)
     va_end(rest);
     int file = real(name, flags, mode);
     if (file >= 0 && file < FILES) {
-        kinds[file] = flags & O_DIRECTORY ? FOLDER : ends_with(name, ".new") ? STATE : ends_with(name, ".report") ? REPORT : OTHER;
+        kinds[file] = flags & O_DIRECTORY ? FOLDER
+                      : ends_with(name, ".new") ? STATE
+                      : ends_with(name, ".report") ? REPORT : OTHER;
         if (kinds[file] == STATE)
             written_len = 0;
         if (kinds[file] == REPORT)
@@ -176,8 +178,10 @@ int rename(const char *from, const char *to)
 {
     REAL(int, "rename", const char *, const char *);
     int dies = due();
-    if (state_dirty || report_dirty)
-        wrong(state_dirty ? "renames a state that is not on the disk" : "replaces a state whose lines are not on the disk");
+    if (state_dirty)
+        wrong("renames a state that is not on the disk");
+    if (report_dirty)
+        wrong("replaces a state whose lines are not on the disk");
     if (dies && way() == BEFORE)
         die();
     if (dies && way() == FAILS)
@@ -202,7 +206,8 @@ ssize_t sendto(int to, const void *bytes, size_t len, int flags, const struct so
     int dies = due();
     if (folder_dirty)
         wrong("sends before the state is saved");
-    if (len <= STAMP || saved_len == 0 || number_at((const uint8_t *)bytes + STAMP_ROUND) != number_at(saved + SAVED_DONE) + 1)
+    if (len <= STAMP || saved_len == 0
+        || number_at((const uint8_t *)bytes + STAMP_ROUND) != number_at(saved + SAVED_DONE) + 1)
         wrong("sends a frame of a round that does not follow the saved one");
     if (dies && way() == BEFORE)
         die();
