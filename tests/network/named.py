@@ -1,5 +1,6 @@
 """What a host does with wrong options, files and states, and with posts of every form; one host at a time."""
 
+import os
 import pathlib
 import subprocess
 import tempfile
@@ -27,8 +28,8 @@ def must(holds, what):
 class Alone:
     """A folder for station 1 of two, whose other station is the test. Rounds are told."""
 
-    def __init__(self, program, folder):
-        self.program, self.folder = program, pathlib.Path(folder)
+    def __init__(self, program, shim, folder):
+        self.program, self.shim, self.folder = program, shim, pathlib.Path(folder)
         self.state, self.report = self.folder / "1.state", self.folder / "1.report"
         self.other, self.own = f"{network()}.1", f"{network()}.2"
         self.write("peers", f"0 {self.other} {PORT}\n1 {self.own} {PORT}\n")
@@ -218,12 +219,69 @@ def stays_silent_where_it_has_no_frame(alone):
     must("no frame to send: 10" in host.said(), f"it says {host.said()!r}")
 
 
+def rounds_closed(alone):
+    return alone.report.read_text(encoding="ascii").count("R") if alone.report.exists() else 0
+
+
+def waits_for(alone, rounds):
+    """Whether so many rounds are closed in time."""
+    late = time.monotonic() + SECONDS
+    while rounds_closed(alone) < rounds and time.monotonic() < late:
+        time.sleep(0.02)
+    return rounds_closed(alone) >= rounds
+
+
+@test
+def follows_a_clock_that_is_set(alone):
+    """Set forward by 100 rounds it closes them; set back by 50 it waits; then it goes on where it was."""
+    alone.write("clock", "0")
+    words = alone.words(fresh=True, epoch_ms=int(time.time() * 1000), round_ms=100, rounds=999)
+    watched = os.environ | {"LD_PRELOAD": str(alone.shim), "RELAY_CLOCK": str(alone.folder / "clock")}
+    with subprocess.Popen([alone.program, *words], stdin=subprocess.PIPE, stderr=subprocess.PIPE, env=watched) as host:
+        try:
+            must(waits_for(alone, 1), "it closes no round")
+            alone.write("clock", "10000")
+            must(waits_for(alone, 101), "it does not close the rounds that the clock has passed")
+            alone.write("clock", "5000")
+            time.sleep(0.3)
+            before = rounds_closed(alone)
+            time.sleep(0.5)
+            must(rounds_closed(alone) == before, "it closes rounds that the clock has not come to again")
+            must(host.poll() is None, "it has ended")
+            alone.write("clock", "20000")
+            must(waits_for(alone, 201), "it does not go on")
+        finally:
+            host.kill()
+
+
+@test
+def hears_one_of_two_carriers(alone):
+    """Two lines for the other station: frames go to both, and what comes from both counts once."""
+    faces = [Links.bound((alone.other, PORT)), Links.bound((f"{network()}.3", PORT))]
+    alone.write("1.peers", f"0 {alone.other} {PORT}\n0 {network()}.3 {PORT}\n1 {alone.own} {PORT}\n")
+    options = ["--n", "2", "--epoch-ms", str(RUN), "--round-ms", "1", "--rounds", "1"]
+    host = Host(alone.program, alone.folder, 1, options)
+    host.start()
+    host.beat(1)
+    must(host.told() == [1], "it sends no frame")
+    sent = [received(face) for face in faces]
+    must(sent[0] is not None and sent[1] is not None and sent[0][0] == sent[1][0], "it does not send to both carriers")
+    frame = bytes([2, 0, 1, 0, 0, 0, 0, 0]) + bytes(8) + bytes([1, 0, 0, 0])
+    for face in faces:
+        face.sendto(datagrams.seal(bytes(16), RUN, 1, 0, frame), (alone.own, PORT))
+        face.close()
+    host.beat(2)
+    must(host.gone() == 0, f"it does not end well: {host.said()}")
+    told = host.status()
+    must((told["kept"], told["repeated"], told["heard"]) == (1, 1, 1), f"it tells {told}")
+
+
 def try_all(tests):
     for each in TESTS:
         name = each.__name__.replace("_", " ")
         with tempfile.TemporaryDirectory() as folder:
             try:
-                each(Alone(tests.program, folder))
+                each(Alone(tests.program, tests.shim, folder))
             except (Fault, subprocess.TimeoutExpired) as fault:
                 print(f"try-host: a host {name}: {fault}", flush=True)
                 tests.count(False)

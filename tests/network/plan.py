@@ -13,6 +13,7 @@ class Sizes(NamedTuple):
     kills: int = 0
     hostile: int = 0    # datagrams of others, a round and station
     calm: bool = False  # few posts, all of them edits with small numbers: for a picture
+    ring: bool = False  # each station is linked with the one before it and the one after it only
 
 
 class Kill(NamedTuple):
@@ -49,6 +50,10 @@ class Plan:
             kill = Kill(station, at, draw.randrange(sizes.n + 6), draw.randrange(3), draw.choice((0, 1, 1, 2, 3, 7)))
             free[station] = at + kill.down + 3
             yield kill
+
+    def linked(self, one, other):
+        """Whether the peers files of two stations have each other."""
+        return not self.sizes.ring or (one - other) % self.sizes.n in (1, self.sizes.n - 1)
 
     def posts(self, number, station):
         """What is posted at a station in a round, as (kind, event, argument)."""

@@ -35,7 +35,8 @@ class Rounds:
 
     def begin(self, k, number):
         host, environment = self.hosts[k], {}
-        host.file("peers").write_text(self.links.peers(k), encoding="ascii")
+        missing = [other for other in range(self.sizes.n) if not self.plan.linked(k, other)]
+        host.file("peers").write_text(self.links.peers(k, missing), encoding="ascii")
         if self.kills[k]:
             kill = self.kills[k][0]
             calls = max(0, kill.round - number) * (CALLS_A_ROUND + self.sizes.n) + CALLS_AT_START + kill.call + 1
@@ -107,9 +108,14 @@ class Rounds:
             going += [(sender, k, data) for sender, data in self.plan.hostile(KEY, RUN, number, k)]
         self.plan.draws("order", number).shuffle(going)
         for sender, receiver, data in going:
-            if self.back[receiver] is None:
-                self.links.deliver(sender, receiver, data)
-                self.inboxes[receiver].take(sender, data)
+            self.deliver(sender, receiver, data)
+
+    def deliver(self, sender, receiver, data):
+        """To a host that lives. A station without a link is a stranger there."""
+        if self.back[receiver] is None:
+            self.links.deliver(sender, receiver, data)
+            peer = sender if sender is not None and self.plan.linked(sender, receiver) else None
+            self.inboxes[receiver].take(peer, data)
 
     def check_sent(self, sender, number, data):
         """A host sends one frame a round, the same to all and also when it has died meanwhile."""
@@ -144,9 +150,8 @@ class Rounds:
             for later, made in self.plan.deliveries(number, sender, receiver, data):
                 if later:
                     self.held.append((number + later, sender, receiver, made))
-                elif self.back[receiver] is None:
-                    self.links.deliver(sender, receiver, made)
-                    self.inboxes[receiver].take(sender, made)
+                else:
+                    self.deliver(sender, receiver, made)
 
     def finish(self):
         """All come back, close the last round and end."""

@@ -3,6 +3,8 @@
    RELAY_KILL_CALL=K kills the process at its K-th watched call: before it, or with RELAY_KILL_AFTER=1 behind it, where
    a write is cut in the middle. With RELAY_KILL_AFTER=2 the call fails instead, as on a broken disk.
 
+   RELAY_CLOCK=FILE adds the milliseconds that the file holds to the system's clock, as if somebody set it.
+
    Whatever else, it ends the process with a message where it
    - puts a file in place of the state that is not on the disk, or while lines of the report are not;
    - writes the report or sends before the state's folder is on the disk;
@@ -19,6 +21,7 @@
 #include <stdlib.h>
 #include <string.h>
 #include <sys/socket.h>
+#include <time.h>
 #include <unistd.h>
 
 enum { FILES = 64, SAVED_MOST = 1 << 18, SAVED_DONE = 16, STAMP_ROUND = 16, STAMP = 24 };
@@ -192,6 +195,21 @@ int rename(const char *from, const char *to)
     folder_dirty = 1;
     if (dies)
         die();
+    return result;
+}
+
+int clock_gettime(clockid_t which, struct timespec *now)
+{
+    REAL(int, "clock_gettime", clockid_t, struct timespec *);
+    const char *name = getenv("RELAY_CLOCK");
+    long added = 0;
+    int result = real(which, now);
+    FILE *file = name != NULL && which == CLOCK_REALTIME ? fopen(name, "r") : NULL;
+    if (file != NULL) {
+        if (fscanf(file, "%ld", &added) == 1)
+            now->tv_sec += added / 1000;
+        fclose(file);
+    }
     return result;
 }
 
