@@ -122,13 +122,13 @@ static void receive(struct host *host)
 static void close_rounds(struct host *host, uint32_t now)
 {
     struct station *station = &host->station;
+    uint32_t before = station->done, every = host->options.status;
     while (station->done + 1 < now && station->done < host->options.rounds
-           && text_has_room(&station->text, TURN_LINES)) {
+           && text_has_room(&station->text, TURN_LINES))
         station_close(station);
-        if (host->options.status != 0 && station->done % host->options.status == 0)
-            tell_status(host);
-    }
     save_and_tell(host);
+    if (every != 0 && station->done / every != before / every)
+        tell_status(host);
 }
 
 /* Waits for datagrams, posts, or the round's end. */
