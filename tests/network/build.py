@@ -5,6 +5,7 @@ import pathlib
 import subprocess
 
 ROOT = pathlib.Path(__file__).resolve().parent.parent.parent
+HOST = ROOT / "examples" / "host"
 COMPILER = os.environ.get("CC", "gcc")
 SANITIZERS = ("-O1", "-g", "-fsanitize=address,undefined", "-fno-sanitize-recover=all")
 
@@ -17,8 +18,18 @@ def archive():
 def host(folder, *options, name="host"):
     """The host, built with these options of the compiler."""
     program = pathlib.Path(folder, name)
-    subprocess.run([ROOT / "examples" / "host" / "build", program, *options], check=True)
+    subprocess.run([HOST / "build", program, *options], check=True)
     return program
+
+
+def edited(folder, file, old, new):
+    """A copy of the host's files in a folder, with one edit."""
+    text = (HOST / file).read_text(encoding="ascii")
+    if text.count(old) != 1:
+        raise ValueError(f"{file} has {text.count(old)} places for an edit, not one: {old!r}")
+    for source in HOST.glob("*.[ch]"):
+        pathlib.Path(folder, source.name).write_bytes(source.read_bytes())
+    pathlib.Path(folder, file).write_text(text.replace(old, new), encoding="ascii")
 
 
 def shim(folder):
@@ -28,23 +39,23 @@ def shim(folder):
     return made
 
 
-def fuzz_sources():
+def fuzz_sources(folder):
     """What the fuzz target is made of: the host without its sockets, clock, options and words."""
     parts = ("siphash", "engine", "datagram", "inbox", "lines", "station", "saved", "posts")
-    return [ROOT / "tests" / "network" / "fuzz.c", *(ROOT / "examples" / "host" / f"{part}.c" for part in parts)]
+    return [ROOT / "tests" / "network" / "fuzz.c", *(pathlib.Path(folder, f"{part}.c") for part in parts)]
 
 
-def compile_fuzz(compiler, folder, name, *more):
+def compile_fuzz(compiler, folder, name, *more, sources=HOST):
     made = pathlib.Path(folder, name)
     words = [compiler, "-std=c11", "-D_GNU_SOURCE", "-Wall", "-Wextra", "-Werror", *more,
-             f"-I{ROOT / 'include'}", f"-I{ROOT / 'examples' / 'host'}", *fuzz_sources(), archive(), "-o", made]
+             f"-I{ROOT / 'include'}", f"-I{sources}", *fuzz_sources(sources), archive(), "-o", made]
     return made, words
 
 
-def fuzz(folder):
-    """The fuzz target with a driver of its own."""
+def fuzz(folder, sources=HOST):
+    """The fuzz target with a driver of its own, over the host's files in this folder."""
     driver = ROOT / "tests" / "network" / "fuzz_alone.c"
-    made, words = compile_fuzz(COMPILER, folder, "fuzz", *SANITIZERS, driver)
+    made, words = compile_fuzz(COMPILER, folder, "fuzz", *SANITIZERS, driver, sources=sources)
     subprocess.run(words, check=True)
     return made
 

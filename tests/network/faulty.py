@@ -7,7 +7,6 @@ import tempfile
 from . import build, hosts, rounds
 from .plan import Plan, Sizes
 
-SOURCES = build.ROOT / "examples" / "host"
 RUN = Plan("faulty", Sizes(4, 30, 30, 6, 3))
 LIVING = Plan("faulty", Sizes(4, 20, 30, 0, 8))
 TO_RUN = {"lives": LIVING}
@@ -78,18 +77,13 @@ class Objects:
 
     def __init__(self, folder):
         self.folder = pathlib.Path(folder)
-        self.made = {source.name: compiled(source, self.folder) for source in sorted(SOURCES.glob("*.c"))}
+        self.made = {source.name: compiled(source, self.folder) for source in sorted(build.HOST.glob("*.c"))}
 
     def faulty(self, file, old, new):
         """The host with this edit."""
-        text = (SOURCES / file).read_text(encoding="ascii")
-        if text.count(old) != 1:
-            raise hosts.Fault(f"{file} has {text.count(old)} places for an edit, not one: {old!r}")
         with tempfile.TemporaryDirectory(dir=self.folder) as folder:
             made = dict(self.made)
-            for source in SOURCES.glob("*.[ch]"):
-                pathlib.Path(folder, source.name).write_bytes(source.read_bytes())
-            pathlib.Path(folder, file).write_text(text.replace(old, new), encoding="ascii")
+            build.edited(folder, file, old, new)
             changed = sorted(pathlib.Path(folder).glob("*.c")) if file.endswith(".h") else [pathlib.Path(folder, file)]
             for source in changed:
                 made[source.name] = compiled(source, folder)

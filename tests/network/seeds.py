@@ -38,6 +38,12 @@ def inputs(frames, state, n):
         sender, data = plan.hostile(draw, KEY, RUN, 1, STATION, n)
         yield f"hostile-{number}", begin + step(0, 255 if sender is None else sender, data) + step(4, 0)
     sealed = datagrams.seal(KEY, RUN, 1, 0, frames[1, 0])
+    lengths = 0, 7, 8, 9, 16, 23, 24, 25, 43, 44, 45, 284, 285, 400, 4000
+    yield "lengths", begin + b"".join(step(8, 0, (sealed + bytes(4000))[:length]) for length in lengths)
+    lengths = 8, 40, 48, 1148, 1155, 1156, 1157, len(state)
+    yield "cut-states", begin + b"".join(step(9, 0, state[:length]) for length in lengths)
+    rising = [step(3, 0, bytes([n, 0, 1, 0, 0, 0, 0, 0]) + bytes(8) + bytes([k % 3, 0, 0, 0])) for k in range(1, 9)]
+    yield "no-frame", begin + step(4, 0).join(rising)
     for number in range(4):
         yield f"damaged-{number}", begin + step(0, 0, plan.damaged(draw, sealed)) + step(0, 0, sealed) + step(4, 0)
 
