@@ -78,7 +78,7 @@ class ByClock:
         last = self.begin + self.sizes.rounds * self.round_ms / 1000 + PATIENCE
         try:
             self.prepare()
-            while any(host.alive for host in self.hosts) or self.events and self.events[0][2] == self.restart:
+            while any(host.alive for host in self.hosts) or any(event[2] == self.restart for event in self.events):
                 if time.time() > last:
                     raise Fault("the hosts do not end")
                 self.step()
