@@ -52,7 +52,7 @@ class ByClock:
             host.post(posts)
 
     def kill(self, host):
-        if host.alive:
+        if host.alive and host.file("state").exists():
             host.kill()
             host.gone()
             self.away.append((host.station, self.now() + 1, self.now()))

@@ -52,6 +52,8 @@ def follow(folder):
             running[k].stdin.write(post)
             running[k].stdin.flush()
         time.sleep(2.5)
+        while not (folder / "3.state").exists() and running[3].poll() is None:
+            time.sleep(0.1)
         running[3].kill()
         running[3].wait()
         running[3].stdin.close()

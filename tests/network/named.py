@@ -51,6 +51,12 @@ class Alone:
         return subprocess.run([self.program, *self.words(**changed)], input=posts, capture_output=True, text=True,
                               timeout=SECONDS, check=False)
 
+    def told(self):
+        """A host whose rounds are told."""
+        (self.folder / "1.peers").write_bytes((self.folder / "peers").read_bytes())
+        options = ["--n", "2", "--epoch-ms", str(RUN), "--round-ms", "1", "--rounds", "9"]
+        return Host(self.program, self.folder, 1, options)
+
     def ends(self, status, words, **changed):
         done = self.run(**changed)
         must(done.returncode == status, f"it ends with {done.returncode}, not {status}: {done.stderr}")
@@ -184,13 +190,19 @@ POSTS = (("insert 7 100", "P        1        2        7      100"), ("drop 7", "
 
 @test
 def takes_posts_of_every_form(alone):
-    """Posts come while round 1 is not yet open, and then the rounds go by."""
-    begin = int(time.time() * 1000) + 1500
-    done = alone.run("\n".join(line for line, _ in POSTS) + "\ninsert 9 1", fresh=True, epoch_ms=begin, rounds=2)
-    must(done.returncode == 0, f"it ends with {done.returncode}: {done.stderr}")
+    """Posts come before round 1 opens. The last has no line end, so it is none."""
+    host = alone.told()
+    host.start()
+    host.process.stdin.write(("\n".join(line for line, _ in POSTS) + "\ninsert 9 1").encode())
+    late = time.monotonic() + SECONDS
+    while not (alone.report.exists() and POSTS[-1][1] in alone.report.read_text(encoding="ascii")):
+        must(time.monotonic() < late and host.alive, f"it does not take all posts: {host.said()}")
+        time.sleep(0.02)
+    host.beat(10)
+    must(host.gone() == 0, f"it does not end well: {host.said()}")
     told = [line for line in alone.report.read_text(encoding="ascii").splitlines() if line[0] == "P"]
     must(told == [line for _, line in POSTS if line], f"it took the posts {told}")
-    refused = [line for line in done.stdout.splitlines() if line[7:8] == "X"]
+    refused = [line for line in host.file("out").read_text(encoding="ascii").splitlines() if line[7:8] == "X"]
     must(refused == ["     0 X  1  4 0        0        0"] * 3, f"it refused {refused}")
 
 
@@ -198,11 +210,8 @@ def takes_posts_of_every_form(alone):
 def stays_silent_where_it_has_no_frame(alone):
     """False frames under the right key raise its count above what a frame may carry; it goes on, and ends in time."""
     face = Links.bound((alone.other, PORT))
-    options = ["--n", "2", "--epoch-ms", str(RUN), "--round-ms", "1", "--rounds", "9"]
-    host = Host(alone.program, alone.folder, 1, options)
-    (alone.folder / "peers").rename(host.file("peers"))
+    host, sent = alone.told(), []
     host.start()
-    sent = []
     for number in range(1, 10):
         host.beat(number)
         while number not in host.told():
@@ -231,6 +240,16 @@ def waits_for(alone, rounds):
     return rounds_closed(alone) >= rounds
 
 
+def stands_still(alone):
+    """Whether no round is closed for five rounds' time; soon, for the one that was open may still be closed."""
+    for _ in range(4):
+        before = rounds_closed(alone)
+        time.sleep(0.5)
+        if rounds_closed(alone) == before:
+            return True
+    return False
+
+
 @test
 def follows_a_clock_that_is_set(alone):
     """Set forward by 100 rounds it closes them; set back by 50 it waits; then it goes on where it was."""
@@ -243,10 +262,7 @@ def follows_a_clock_that_is_set(alone):
             alone.write("clock", "10000")
             must(waits_for(alone, 101), "it does not close the rounds that the clock has passed")
             alone.write("clock", "5000")
-            time.sleep(0.3)
-            before = rounds_closed(alone)
-            time.sleep(0.5)
-            must(rounds_closed(alone) == before, "it closes rounds that the clock has not come to again")
+            must(stands_still(alone), "it closes rounds that the clock has not come to again")
             must(host.poll() is None, "it has ended")
             alone.write("clock", "20000")
             must(waits_for(alone, 201), "it does not go on")
@@ -258,9 +274,8 @@ def follows_a_clock_that_is_set(alone):
 def hears_one_of_two_carriers(alone):
     """Two lines for the other station: frames go to both, and what comes from both counts once."""
     faces = [Links.bound((alone.other, PORT)), Links.bound((f"{network()}.3", PORT))]
-    alone.write("1.peers", f"0 {alone.other} {PORT}\n0 {network()}.3 {PORT}\n1 {alone.own} {PORT}\n")
-    options = ["--n", "2", "--epoch-ms", str(RUN), "--round-ms", "1", "--rounds", "1"]
-    host = Host(alone.program, alone.folder, 1, options)
+    alone.write("peers", f"0 {alone.other} {PORT}\n0 {network()}.3 {PORT}\n1 {alone.own} {PORT}\n")
+    host = alone.told()
     host.start()
     host.beat(1)
     must(host.told() == [1], "it sends no frame")
@@ -270,7 +285,7 @@ def hears_one_of_two_carriers(alone):
     for face in faces:
         face.sendto(datagrams.seal(bytes(16), RUN, 1, 0, frame), (alone.own, PORT))
         face.close()
-    host.beat(2)
+    host.beat(10)
     must(host.gone() == 0, f"it does not end well: {host.said()}")
     told = host.status()
     must((told["kept"], told["repeated"], told["heard"]) == (1, 1, 1), f"it tells {told}")
