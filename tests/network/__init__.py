@@ -10,6 +10,7 @@ flood                the same while others send all that they can
 record               what is compared of the reports of all stations
 named                one host with wrong options, files and states, and posts of every form
 document             the commands of docs/HOST.md
+old_state            a station that is put back to an old state
 faulty               hosts that are wrong on purpose
 build                the host, the shim that kills it at a chosen call (shim.c), and the fuzz target (fuzz.c)
 seeds                what the fuzz target begins with; the folder corpus has that and what was found since
