@@ -7,6 +7,8 @@ import time
 from .build import ROOT
 from .hosts import Fault
 from .links import network
+from .plan import Plan, Sizes
+from .rounds import Rounds
 
 ROUNDS = 40
 SHORTER = {"+ 30": "+ 1", "--round-ms 1000": f"--round-ms 100 --rounds {ROUNDS}"}
@@ -42,7 +44,7 @@ def start(block, station, folder):
                                 stdout=out, stderr=err, text=True)
 
 
-def follow(folder):
+def follow(_, folder):
     """Four stations; posts at two of them; one is killed and begins again; all end, and they told one listing."""
     first, host, last = blocks(folder)
     shell(first)
@@ -72,13 +74,26 @@ def follow(folder):
         raise Fault(f"docs/HOST.md: the reports are {said!r}")
 
 
+def pictured(tests, folder):
+    """The run of the document's picture, made again, is the script that the picture was drawn of."""
+    run = Rounds(tests.program, Plan("a", Sizes(4, 16, 15, 1, calm=True)), folder, tests.shim)
+    run.go()
+    script, _ = run.check()
+    if script != (ROOT / "examples" / "killed-station.script").read_text(encoding="ascii"):
+        raise Fault(f"docs/HOST.md: the picture's run is another now:\n{script}")
+    away = "".join("%d %d %d\n" % one for one in run.away)
+    if away != (ROOT / "examples" / "killed-station.away").read_text(encoding="ascii"):
+        raise Fault(f"docs/HOST.md: in the picture's run stations are away in other rounds now: {away}")
+
+
 def try_all(tests):
-    with tests.folder() as folder:
-        try:
-            follow(folder)
-            good = True
-        except Fault as fault:
-            print(f"try-host: {fault}", flush=True)
-            good = False
-    tests.count(good)
-    print("try-host: the commands of docs/HOST.md", flush=True)
+    for part in follow, pictured:
+        with tests.folder() as folder:
+            try:
+                part(tests, folder)
+                good = True
+            except Fault as fault:
+                print(f"try-host: {fault}", flush=True)
+                good = False
+        tests.count(good)
+    print("try-host: the commands of docs/HOST.md, and its picture's run", flush=True)
