@@ -1,15 +1,15 @@
 //! The peer's calls on states and answers as bytes, for the comparison with the model (tests/check-peer).
 //!
-//! A body is its kind, its event and its argument, 1, 4 and 4 bytes, the lowest first; every other number is one byte. A station is N, own number, count,
+//! A body is its kind, its event and its argument, 1, 4 and 4 bytes, the lowest first; every other number is one byte. A station is N, own number, limit, count,
 //! body, labels, acknowledged, held, table, lanes, waiting edits; a record is station, count, body, labels; a lane or queue is its length and its bodies.
 
 use relay_peer::air_logs;
 use relay_peer::bodies::Body;
 use relay_peer::frames::{self, Record};
 use relay_peer::group::{Group, Report};
-use relay_peer::labels::PLACES;
+use relay_peer::labels::{PLACES, pack, unpacked};
 use relay_peer::load;
-use relay_peer::queues::{Lane, Queue};
+use relay_peer::queues::{DEFAULT_LIMIT, Lane, Queue};
 use relay_peer::refusals::{Refusal, number};
 use relay_peer::station::{Station, TurnReport};
 
@@ -37,20 +37,20 @@ impl Reader<'_> {
     }
 
     fn record(&mut self) -> Record {
-        Record { station: self.small(), count: self.bytes::<1>()[0], body: self.body(), labels: self.bytes() }
+        Record { station: self.small(), count: self.bytes::<1>()[0], body: self.body(), labels: pack(&self.bytes(), PLACES) }
     }
 
     fn station(&mut self) -> Station {
-        let (n, own, [count], body) = (self.small(), self.small(), self.bytes(), self.body());
+        let (n, own, limit, [count], body) = (self.small(), self.small(), self.small(), self.bytes(), self.body());
         let (labels, acked, held) = (self.bytes(), self.flags(), self.flags());
         let table = std::array::from_fn(|_| self.record());
         let lanes = std::array::from_fn(|_| Lane { len: self.small(), bodies: [self.body(), self.body()] });
         let waiting = Queue { len: self.small(), slots: std::array::from_fn(|_| self.body()) };
-        Station { n, own, waiting, acked, body, count, labels, held, table, lanes }
+        Station { n, own, limit, waiting, acked, body, count, labels, held, table, lanes }
     }
 
     fn group(&mut self) -> Group {
-        let mut group = Group::fresh(1).expect("one is a size");
+        let mut group = Group::fresh(1, DEFAULT_LIMIT).expect("one is a size");
         group.stations = std::array::from_fn(|_| self.station());
         group
     }
@@ -68,7 +68,7 @@ fn put_bodies(out: &mut Vec<u8>, bodies: &[Body]) {
 }
 
 fn put_station(out: &mut Vec<u8>, station: &Station) {
-    out.extend([station.n as u8, station.own as u8, station.count]);
+    out.extend([station.n as u8, station.own as u8, station.limit as u8, station.count]);
     put_body(out, &station.body);
     out.extend(station.labels);
     out.extend(station.acked.map(u8::from));
@@ -76,7 +76,7 @@ fn put_station(out: &mut Vec<u8>, station: &Station) {
     for record in &station.table {
         out.extend([record.station as u8, record.count]);
         put_body(out, &record.body);
-        out.extend(record.labels);
+        out.extend((0..PLACES).map(|k| unpacked(record.labels, k)));
     }
     for lane in &station.lanes {
         out.push(lane.len as u8);
@@ -133,6 +133,18 @@ fn answer(name: u8, mut given: Reader) -> Vec<u8> {
             (answer, number_out) = (turned.map(|_| ()), 0);
             put_station(&mut out, &station);
             put_turn(&mut out, &turned.unwrap_or(TurnReport::NONE));
+        }
+        b'f' => {
+            let (n, own, limit) = (given.small(), given.small(), given.small());
+            let station = Station::fresh(n, own, limit);
+            (answer, number_out) = (station.map(|_| ()), 0);
+            put_station(&mut out, &station.unwrap_or(Station::fresh(1, 0, DEFAULT_LIMIT).expect("a station alone")));
+        }
+        b'n' => {
+            let (n, limit) = (given.small(), given.small());
+            let group = Group::fresh(n, limit);
+            (answer, number_out) = (group.as_ref().map(|_| ()).map_err(|&refusal| refusal), 0);
+            put_group(&mut out, &group.unwrap_or(Group::fresh(1, DEFAULT_LIMIT).expect("a station alone")));
         }
         b'g' => {
             let (mut group, place, body) = (given.group(), given.small(), given.body());

@@ -33,7 +33,7 @@ enum relay_refusal {
     RELAY_DONE = 0,           /* nothing is wrong */
     RELAY_BAD_NUMBER = 1,     /* n is not 1 to 16, a station is not below n, or too many rounds are due */
     RELAY_OUTSIDE_LIMITS = 2, /* the bytes are no state, or the state is outside its limits */
-    RELAY_QUEUE_FULL = 3,     /* 32 edits wait already */
+    RELAY_QUEUE_FULL = 3,     /* as many edits wait already as the station's limit */
     RELAY_NOT_AN_EDIT = 4,    /* the posted numbers are no edit of the kind table */
     RELAY_BAD_SHAPE = 5,      /* the length, byte 2 or byte 3 of a frame is wrong */
     RELAY_BAD_ADDRESS = 6,    /* the frame is for another n, or its sender is own or not below n */
@@ -42,6 +42,7 @@ enum relay_refusal {
     RELAY_SHORT_BUFFER = 9,   /* a lent buffer is too short */
     RELAY_COUNT_TOO_HIGH = 10, /* the own record's count is above 2 * (n - 1), at writing */
     RELAY_BAD_LINK_LOG = 12,  /* a link log is not whole rounds, or has more than 2,048 */
+    RELAY_BAD_LIMIT = 13,     /* a limit of waiting edits is not 1 to 32 */
     RELAY_CONFLICT = 14,      /* a heard record has the label and the count of the held one, and differs from it */
     RELAY_BAD_LISTING = 16,   /* a listing has a line of another form, or does not end with its last line */
     RELAY_BAD_QUESTION = 18,  /* a question is bad, is not whole, or is past the 64th */
@@ -106,7 +107,8 @@ uint32_t relay_frame_check(const uint8_t *bytes, size_t len, uint32_t n, uint32_
            + 16 to 27     the lane's second body
            + 28 to 43     record of station k
        720              number of waiting edits
-       721 to 723       zero
+       721              limit of waiting edits
+       722, 723         zero
        724 + 12 i       waiting edit i, oldest first, for i = 0 to 31
 
    Every field is there, also for stations from n up, past the length of a lane, past the number of waiting
@@ -146,7 +148,11 @@ uint32_t relay_frame_check(const uint8_t *bytes, size_t len, uint32_t n, uint32_
 #define RELAY_REPORT_BYTES 704
 #define RELAY_ROUND_BYTES 11264
 
-/* Makes a fresh station.
+/* The limit of waiting edits where none is named, and the largest. */
+#define RELAY_DEFAULT_LIMIT 8
+#define RELAY_MOST_LIMIT 32
+
+/* Makes a fresh station, with no limit named: RELAY_DEFAULT_LIMIT edits may wait at it.
 
    state, state_len  where the station goes: room for at least RELAY_STATION_BYTES
    n                 the number of stations, 1 to 16
@@ -163,6 +169,28 @@ uint32_t relay_frame_check(const uint8_t *bytes, size_t len, uint32_t n, uint32_
        printf("%u %d %d\n", (unsigned)refusal, state[0], state[1]);   prints 0 4 1 */
 uint32_t relay_station_fresh(uint8_t *state, size_t state_len, uint32_t n, uint32_t own);
 
+/* Makes a fresh station at which so many edits may wait. It keeps its limit; no call changes it.
+
+   state, state_len  where the station goes: room for at least RELAY_STATION_BYTES
+   n                 the number of stations, 1 to 16
+   own               the station's own number, below n
+   limit             how many edits may wait, 1 to RELAY_MOST_LIMIT
+
+   Returns 0, or, and then nothing changes, in this order:
+       1    n is not 1 to 16, or own is not below n
+       13   limit is not 1 to 32
+       9    state_len is less than RELAY_STATION_BYTES
+
+   Example: a station alone with room for one edit; the second post is refused.
+
+       uint8_t state[RELAY_STATION_BYTES];
+       relay_station_fresh_limited(state, sizeof state, 1, 0, 1);
+       uint32_t first = relay_station_post(state, sizeof state, 2, 7, 100);
+       uint32_t second = relay_station_post(state, sizeof state, 2, 8, 100);
+       printf("%u %u %d\n", (unsigned)first, (unsigned)second, state[721]);   prints 0 3 1 */
+uint32_t relay_station_fresh_limited(uint8_t *state, size_t state_len, uint32_t n, uint32_t own,
+                                     uint32_t limit);
+
 /* Posts an edit at a station: it waits behind those that wait already.
 
    state, state_len        the station, RELAY_STATION_BYTES bytes; it becomes the station with the edit
@@ -171,7 +199,7 @@ uint32_t relay_station_fresh(uint8_t *state, size_t state_len, uint32_t n, uint3
    Returns 0, or, and then nothing changes, in this order:
        2    the bytes are no station, or it is outside its limits
        4    the three numbers are no edit of the kind table
-       3    32 edits wait already
+       3    as many edits wait already as the station's limit
 
    Example: an insert at frame 100, and what is no edit.
 
@@ -258,7 +286,8 @@ uint32_t relay_station_hear(uint8_t *state, size_t state_len, const uint8_t *fra
        printf("%d %d %d\n", report[0], report[28], report[32]);   prints 1 2 7 */
 uint32_t relay_station_turn(uint8_t *state, size_t state_len, uint8_t *report, size_t report_len);
 
-/* Makes a fresh group: stations 0 to n - 1, fresh. From n up stands the fresh station 0 of n = 1.
+/* Makes a fresh group: stations 0 to n - 1, fresh, with no limit named. From n up stands the fresh station
+   0 of n = 1.
 
    state, state_len  where the group goes: room for at least RELAY_GROUP_BYTES
    n                 the number of stations, 1 to 16
@@ -274,6 +303,26 @@ uint32_t relay_station_turn(uint8_t *state, size_t state_len, uint8_t *report, s
        printf("%u %d\n", (unsigned)refusal, group[2 * RELAY_STATION_BYTES + 1]);   prints 0 2 */
 uint32_t relay_group_fresh(uint8_t *state, size_t state_len, uint32_t n);
 
+/* Makes a fresh group with so many edits that may wait at each of its stations. From n up stands the fresh
+   station 0 of n = 1 with RELAY_DEFAULT_LIMIT, whatever limit is named.
+
+   state, state_len  where the group goes: room for at least RELAY_GROUP_BYTES
+   n                 the number of stations, 1 to 16
+   limit             how many edits may wait at a station, 1 to RELAY_MOST_LIMIT
+
+   Returns 0, or, and then nothing changes, in this order:
+       1    n is not 1 to 16
+       13   limit is not 1 to 32
+       9    state_len is less than RELAY_GROUP_BYTES
+
+   Example: a group of two, and what stands behind it.
+
+       static uint8_t group[RELAY_GROUP_BYTES];
+       uint32_t refusal = relay_group_fresh_limited(group, sizeof group, 2, 32);
+       printf("%u %d %d\n", (unsigned)refusal, group[RELAY_STATION_BYTES + 721],
+              group[2 * RELAY_STATION_BYTES + 721]);   prints 0 32 8 */
+uint32_t relay_group_fresh_limited(uint8_t *state, size_t state_len, uint32_t n, uint32_t limit);
+
 /* Posts an edit at a station of a group.
 
    state, state_len        the group, RELAY_GROUP_BYTES bytes; it becomes the group with the edit
@@ -285,7 +334,7 @@ uint32_t relay_group_fresh(uint8_t *state, size_t state_len, uint32_t n);
             number is not its place
        1    station is not below n
        4    the three numbers are no edit of the kind table
-       3    32 edits wait at the station already
+       3    as many edits wait at the station already as its limit
 
    Example: a post at station 1, and one at a station that is not there.
 

@@ -3,6 +3,7 @@
 import unittest
 
 from model import demand3, group, scripts
+from model.bodies import DROP, Body
 from model.lines import PostLine, RoundLine
 
 RUNS = 320
@@ -11,10 +12,11 @@ RUNS = 320
 def check_seed(seed):
     """What the run of a seed breaks, with the seed and its script; None where it holds."""
     n, calls = scripts.seeded_calls(seed)
-    fault = demand3.first_fault(n, calls)
+    limit = scripts.seeded_limit(seed)
+    fault = demand3.first_fault(n, calls, limit)
     if fault is None:
         return None
-    return f"seed {seed}, {fault}\n{scripts.script_of(n, calls).decode('ascii')}"
+    return f"seed {seed}, {fault}, with the limit {limit}\n{scripts.script_of(n, calls).decode('ascii')}"
 
 
 class RandomRuns(unittest.TestCase):
@@ -31,10 +33,11 @@ class WhatTheRunsReach(unittest.TestCase):
 
     @classmethod
     def setUpClass(cls):
-        cls.refusals, cls.runs, cls.sizes = set(), [], set()
+        cls.refusals, cls.runs, cls.sizes, cls.limits = set(), [], set(), set()
         for seed in range(0, RUNS, 7):
             n, calls = scripts.seeded_calls(seed)
-            run = demand3.Run(n)
+            limit = scripts.seeded_limit(seed)
+            run = demand3.Run(n, limit)
             for call in calls:
                 if isinstance(call, RoundLine):
                     run.round(call.masks)
@@ -44,9 +47,13 @@ class WhatTheRunsReach(unittest.TestCase):
                 run.post(call.station, call.body)
             cls.runs.append(run)
             cls.sizes.add(n)
+            cls.limits.add(limit)
 
     def test_sizes(self):
         self.assertEqual(self.sizes, set(range(1, 17)))
+
+    def test_limits(self):
+        self.assertLess({1, 8, 32}, self.limits)
 
     def test_refused_posts(self):
         self.assertEqual(self.refusals, {0, 1, 3, 4})
@@ -70,6 +77,17 @@ class SmallLists(unittest.TestCase):
     def test_silence(self):
         for n in range(1, 17):
             self.assertIsNone(demand3.first_fault(n, [RoundLine((0,) * n)] * 4))
+
+    def test_every_limit(self):
+        """A full queue at every limit, and one post more, before the first round and between rounds."""
+        for limit in range(1, 33):
+            calls = [PostLine(0, Body(DROP, event, 0)) for event in range(1, limit + 2)]
+            calls += [RoundLine((2, 1))] * 3 + calls[:2] + [RoundLine((2, 1))] * 9
+            self.assertIsNone(demand3.first_fault(2, calls, limit))
+            run = demand3.Run(2, limit)
+            for call in calls[:limit + 1]:
+                run.post(call.station, call.body)
+            self.assertEqual(len(run.accepted[0]), limit)
 
     def test_two_stations_every_log_of_four_rounds(self):
         """All 256 logs: each station hears the other or not, round by round."""

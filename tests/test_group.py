@@ -38,9 +38,24 @@ class Fresh(unittest.TestCase):
                 size, own = (n, place) if place < n else (1, 0)
                 self.assertEqual(one[place], station.fresh(size, own).station)
 
+    def test_every_limit(self):
+        """The stations below N have the limit that was named; the places from N up hold 8."""
+        for n in (1, 2, 15, 16):
+            for limit in range(1, 33):
+                refusal, one = group.fresh(n, limit)
+                self.assertEqual(refusal, 0)
+                self.assertTrue(group.group_in_limits(one))
+                self.assertEqual(one[:n], tuple(station.fresh(n, own, limit).station for own in range(n)))
+                self.assertEqual(one[n:], (station.fresh(1, 0, 8).station,) * (16 - n))
+
     def test_refused(self):
+        """1, then 13; the answer never holds the limit that was named."""
+        alone = (station.fresh(1, 0).station,) * 16
         for n in (0, 17, 255):
-            self.assertEqual(group.fresh(n), (1, group.fresh(1).group))
+            for limit in (8, 1, 32, 0, 33):
+                self.assertEqual(group.fresh(n, limit), (1, alone))
+        for limit in (0, 33, 255, 256 + 8):
+            self.assertEqual(group.fresh(3, limit), (13, alone))
 
 
 class Limits(unittest.TestCase):
@@ -82,13 +97,25 @@ class Post(unittest.TestCase):
     def test_order(self):
         """2, 1, 4, 3; 2 stands with the limits above."""
         full = group.fresh(2).group
-        for _ in range(32):
+        for _ in range(8):
             full = group.post(full, 1, EDIT).group
         for place in (2, 15, 16, 255, 999_999_999):
             self.assertEqual(group.post(full, place, NEUTRAL), (1, full))
         self.assertEqual(group.post(full, 1, NEUTRAL), (4, full))
         self.assertEqual(group.post(full, 1, EDIT), (3, full))
         self.assertEqual(group.post(full, 0, EDIT).refusal, 0)
+
+
+    def test_stations_may_differ(self):
+        """Each station's own limit counts, and stations with different limits are one group."""
+        limits = (3, 1, 32)
+        one = tuple(station.fresh(3, own, limit).station for own, limit in enumerate(limits)) + group.fresh(3).group[3:]
+        self.assertTrue(group.group_in_limits(one))
+        for place, limit in enumerate(limits):
+            for _ in range(limit):
+                refusal, one = group.post(one, place, EDIT)
+                self.assertEqual(refusal, 0)
+            self.assertEqual(group.post(one, place, EDIT), (3, one))
 
 
 class Round(unittest.TestCase):

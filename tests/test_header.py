@@ -70,7 +70,7 @@ class Header(unittest.TestCase):
 
     def test_every_call_on_a_state_has_an_example(self):
         calls = {name for name in declared(TEXTS[HEADER.name]) if re.match("relay_(station|group)_", name)}
-        self.assertGreaterEqual(len(calls), 8)
+        self.assertGreaterEqual(len(calls), 10)
         code = "".join(code for code, _ in examples(TEXTS[HEADER.name]))
         self.assertEqual({name for name in calls if f"{name}(" not in code}, set())
 

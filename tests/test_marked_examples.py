@@ -1,4 +1,5 @@
-"""M1 to M12 of document 01, "Marked examples of the trade"; M10 with the numbers of document 02, A6."""
+"""M1 to M12 of document 01, "Marked examples of the trade"; M10 with the numbers of document 02, A6,
+and M11 at the limit 32 of A2."""
 
 import unittest
 
@@ -111,7 +112,8 @@ class Posts(unittest.TestCase):
                 self.assertEqual(self.refusal(kind, event, argument), expected)
 
     def test_m11(self):
-        full = station.fresh(1, 0).station
+        """At the limit 32 (document 02, A2)."""
+        full = station.fresh(1, 0, 32).station
         for event in range(1, 33):
             refusal, full = station.post(full, Body(DROP, event, 0))
             self.assertEqual(refusal, refusals.DONE)

@@ -17,8 +17,9 @@ import test_group
 import test_hearing
 import test_listing
 import test_marked_examples
+import test_station
 import test_turns
-from model import bodies, hearing, lines, records, station, turns
+from model import bodies, hearing, lines, listing, records, station, turns
 from model.bodies import EMPTY, INSERT, NEUTRAL, SHIFT
 from model.frames import read_frame
 from model.group import heard_stations
@@ -148,9 +149,10 @@ class WrongLimits(Broken):
                     self.assert_test_fails(test_marked_examples.Posts, test)
 
     def test_queue_off_by_one(self):
-        for most in (31, 33):
-            with broken("queue_full", lambda one: one.waiting.length >= most):
+        for change in (-1, 1):
+            with broken("queue_full", lambda one: one.waiting.length >= one.limit + change):
                 self.assert_test_fails(test_marked_examples.Posts, "test_m11")
+                self.assert_test_fails(test_station.Post, "test_every_limit")
 
     def test_lane_off_by_one(self):
         """A lane said to be full while it has a place."""
@@ -216,6 +218,44 @@ class WrongAges(Broken):
         with broken("age", lambda seen, held, n: records.NEWER if records.newer(seen, held) else records.CONFLICTING):
             self.assert_test_fails(test_hearing.Conflict, "test_same")
             self.assert_runs_notice("is refused with 14")
+
+
+class WrongQueueLimits(Broken):
+    """Faults in what document 02, A2 adds."""
+
+    def test_limit_ignored_at_post(self):
+        for most in (8, 32):
+            with broken("queue_full", lambda one: one.waiting.length >= most):
+                self.assert_test_fails(test_station.Post, "test_every_limit")
+                self.assert_test_fails(test_group.Post, "test_stations_may_differ")
+
+    def test_limit_of_33(self):
+        with broken("limit_valid", lambda limit: 1 <= limit <= 33):
+            self.assert_test_fails(test_station.Fresh, "test_refused")
+            self.assert_test_fails(test_group.Fresh, "test_refused")
+            self.assert_test_fails(test_station.Limits, "test_outside_every_call_gives_2")
+
+    def test_limit_of_0(self):
+        with broken("limit_valid", lambda limit: limit <= 32):
+            self.assert_test_fails(test_station.Fresh, "test_refused")
+            self.assert_test_fails(test_station.Limits, "test_outside_every_call_gives_2")
+
+    def test_8_where_the_listing_names_32(self):
+        with mock.patch.object(listing, "LIMIT", 8):
+            self.assert_test_fails(test_listing.Posts, "test_full_queue")
+
+    def test_32_where_no_limit_is_named(self):
+        """The limit of a refused call's answer and of the places from N up too."""
+        with broken("lone_state", lambda: station.fresh_state(1, 0, 32)):
+            self.assert_test_fails(test_station.Fresh, "test_refused")
+            self.assert_test_fails(test_group.Fresh, "test_fresh", "test_every_limit", "test_refused")
+
+    def test_named_limit_from_n_up(self):
+        def fresh_group_state(n, limit):
+            stations = tuple(station.fresh_state(n, own, limit) for own in range(n))
+            return stations + (station.fresh_state(1, 0, limit),) * (16 - n)
+        with broken("fresh_group_state", fresh_group_state):
+            self.assert_test_fails(test_group.Fresh, "test_every_limit")
 
 
 class WrongLines(Broken):

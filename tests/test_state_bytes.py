@@ -8,7 +8,7 @@ from model import group, states, turns
 from model.bodies import DROP, EMPTY, INSERT, NEUTRAL, SHIFT, Body
 from model.group import NO_REPORT, Report
 from model.hearing import Taking
-from model.queues import NO_LANE, QUEUE_LIMIT, Queue, replaced
+from model.queues import NO_LANE, CAPACITY, Queue, replaced
 from model.records import PLACES, Record
 from model.station import fresh_state
 
@@ -21,14 +21,14 @@ LABELS = (1, 2, 0, 1) + (0,) * 11 + (3,)
 
 def full_station():
     """A station in which no two fields are alike."""
-    s = fresh_state(4, 1)._replace(count=77, body=SHIFTED)
+    s = fresh_state(4, 1, 9)._replace(count=77, body=SHIFTED)
     return s._replace(
         labels=replaced(s.labels, 2, 2),
         acked=replaced(s.acked, 3, True),
         held=replaced(s.held, 2, True),
         lanes=replaced(s.lanes, 2, Queue(2, (INSERTED, DROPPED))),
         table=replaced(s.table, 2, Record(2, 5, INSERTED, LABELS)),
-        waiting=Queue(2, (DROPPED, SHIFTED) + (EMPTY,) * (QUEUE_LIMIT - 3) + (NEUTRAL,)))
+        waiting=Queue(2, (DROPPED, SHIFTED) + (EMPTY,) * (CAPACITY - 3) + (NEUTRAL,)))
 
 
 class Places(unittest.TestCase):
@@ -50,16 +50,18 @@ class Places(unittest.TestCase):
         self.assert_at(data, 16 + 44 * 2 + 16, DROPPED_BYTES)
         self.assert_at(data, 16 + 44 * 2 + 28, bytes([2, 5, 2, 0]) + INSERTED_BYTES[4:] + (1 + 2 * 4 + 1 * 64 + 3 * 2 ** 30).to_bytes(4, "little"))
         self.assert_at(data, 16 + 44 * 3, [1, 0, 0, 0])
-        self.assert_at(data, 720, [2, 0, 0, 0])
+        self.assert_at(data, 720, [2, 9, 0, 0])
         self.assert_at(data, 724, DROPPED_BYTES + SHIFTED_BYTES)
         self.assert_at(data, 724 + 12 * 31, [1])
 
     def test_group(self):
-        data = formats.group_bytes(group.fresh_group_state(3))
+        data = formats.group_bytes(group.fresh_group_state(3, 9))
         self.assertEqual(len(data), 17_728)
         for k in range(3):
             self.assert_at(data, 1_108 * k, [3, k])
+            self.assert_at(data, 1_108 * k + 721, [9])
         self.assert_at(data, 1_108 * 3, [1, 0])
+        self.assert_at(data, 1_108 * 3 + 721, [8])
 
     def test_turn(self):
         turn = turns.Turned(0, None, True, (NEUTRAL, INSERTED) + (EMPTY,) * 14, True, DROPPED, SHIFTED)
@@ -101,9 +103,9 @@ class Reading(unittest.TestCase):
                 self.assertNotEqual(formats.read_station(other), full_station(), at)
 
     def test_no_station(self):
-        data = formats.station_bytes(fresh_state(2, 1)._replace(lanes=(NO_LANE,) * PLACES))
+        data = formats.station_bytes(fresh_state(2, 1, 9)._replace(lanes=(NO_LANE,) * PLACES))
         for at, value in ((3, 1), (4, 5), (5, 1), (8, 1), (12, 1), (16, 2), (17, 2), (20, 5), (16 + 28 + 2, 5), (16 + 28 + 3, 1),
-                          (16 + 28 + 4, 1), (16 + 44 * 15, 255), (721, 1), (722, 1), (723, 1), (724 + 12 * 31, 9)):
+                          (16 + 28 + 4, 1), (16 + 44 * 15, 255), (722, 1), (723, 1), (724 + 12 * 31, 9)):
             self.assertIsNone(formats.read_station(data[:at] + bytes([value]) + data[at + 1:]), at)
         for other in (b"", data[:-1], data + b"\0"):
             self.assertIsNone(formats.read_station(other))

@@ -42,9 +42,21 @@ class Fresh(unittest.TestCase):
                 self.assertEqual(set(one.lanes), {Queue(0, (EMPTY,) * 2)})
                 self.assertEqual(one.waiting, Queue(0, (EMPTY,) * 32))
 
+                self.assertEqual(one.limit, 8)
+
+    def test_every_limit(self):
+        for limit in range(1, 33):
+            refusal, one = station.fresh(3, 2, limit)
+            self.assertEqual((refusal, one), (0, station.fresh(3, 2).station._replace(limit=limit)))
+            self.assertTrue(station.in_limits(one))
+
     def test_refused(self):
+        """1, then 13; the answer never holds the limit that was named."""
         for n, own in ((0, 0), (17, 0), (255, 3), (1, 1), (16, 16), (5, 255)):
-            self.assertEqual(station.fresh(n, own), (1, station.fresh(1, 0).station))
+            for limit in (8, 1, 32, 0, 33, 255):
+                self.assertEqual(station.fresh(n, own, limit), (1, station.fresh(1, 0).station))
+        for limit in (0, 33, 255, 256 + 8, 999_999_999):
+            self.assertEqual(station.fresh(5, 3, limit), (13, station.fresh(1, 0).station))
 
 
 class Limits(unittest.TestCase):
@@ -103,13 +115,27 @@ class Post(unittest.TestCase):
     def test_appends(self):
         for _, one in some_stations(100):
             refusal, after = station.post(one, EDIT)
-            if one.waiting.length == 32:
+            if one.waiting.length == one.limit:
                 self.assertEqual((refusal, after), (3, one))
                 self.assertEqual(station.post(one, NEUTRAL), (4, one))
             else:
                 self.assertEqual(refusal, 0)
                 self.assertEqual(contents(after.waiting), contents(one.waiting) + (EDIT,))
                 self.assertEqual(after._replace(waiting=one.waiting), one)
+
+
+    def test_every_limit(self):
+        """3 comes at the station's own limit, which no call changes."""
+        for limit in range(1, 33):
+            one = station.fresh(2, 0, limit).station
+            for event in range(1, limit + 1):
+                refusal, one = station.post(one, Body(DROP, event, 0))
+                self.assertEqual(refusal, 0)
+            self.assertEqual(station.post(one, EDIT), (3, one))
+            self.assertEqual(one.limit, limit)
+            later = turns.turn(one._replace(acked=states.flags(True, True))).station
+            self.assertEqual((later.limit, later.waiting.length), (limit, limit - 1))
+            self.assertEqual(station.post(later, EDIT).refusal, 0)
 
 
 class WriteFrame(unittest.TestCase):

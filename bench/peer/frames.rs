@@ -1,7 +1,7 @@
 //! Records and frames as bytes.
 
 use crate::bodies::{Body, numbers_in_limits};
-use crate::labels::{self, Labels, PLACES};
+use crate::labels::{self, PLACES};
 use crate::refusals::Refusal::{self, BadAddress, BadNumber, BadRecord, BadShape};
 use crate::refusals::require;
 
@@ -14,11 +14,12 @@ pub struct Record {
     pub station: usize,
     pub count: u8,
     pub body: Body,
-    pub labels: Labels,
+    /// Two bits for each station.
+    pub labels: u32,
 }
 
 impl Record {
-    pub const NONE: Record = Record { station: 0, count: 0, body: Body::Empty, labels: [0; PLACES] };
+    pub const NONE: Record = Record { station: 0, count: 0, body: Body::Empty, labels: 0 };
 }
 
 /// The sixteen bytes of one record, each field read where it is asked for.
@@ -119,7 +120,7 @@ fn write_record(record: &Record, n: usize, part: &mut [u8; RECORD_SIZE]) {
     part[..4].copy_from_slice(&[record.station as u8, record.count, kind, 0]);
     part[4..8].copy_from_slice(&event.to_le_bytes());
     part[8..12].copy_from_slice(&argument.to_le_bytes());
-    part[12..].copy_from_slice(&labels::pack(&record.labels, n).to_le_bytes());
+    part[12..].copy_from_slice(&(record.labels & labels::first(n)).to_le_bytes());
 }
 
 /// Writes a frame of these records to the start of a buffer that has room for them, and gives its length.

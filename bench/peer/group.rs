@@ -3,6 +3,7 @@
 use crate::bodies::Body;
 use crate::frames::{LARGEST_FRAME, numbers_valid};
 use crate::labels::PLACES;
+use crate::queues::DEFAULT_LIMIT;
 use crate::refusals::Refusal::{self, BadNumber, CountTooHigh, OutsideLimits};
 use crate::refusals::require;
 use crate::station::{Station, TurnReport};
@@ -81,11 +82,11 @@ pub struct Group {
 }
 
 impl Group {
-    pub fn fresh(n: usize) -> Result<Group, Refusal> {
-        let mut stations = [Station::fresh(1, 0)?; PLACES];
+    pub fn fresh(n: usize, limit: usize) -> Result<Group, Refusal> {
+        let mut stations = [Station::fresh(1, 0, DEFAULT_LIMIT)?; PLACES];
         require((1..=PLACES).contains(&n), BadNumber)?;
         for (own, station) in stations[..n].iter_mut().enumerate() {
-            *station = Station::fresh(n, own)?;
+            *station = Station::fresh(n, own, limit)?;
         }
         Ok(Group { stations, before: stations, frames: [Frame::NONE; PLACES] })
     }

@@ -2,7 +2,7 @@
 
 use crate::bodies::Body;
 use crate::frames::{self, Part};
-use crate::labels::{Age, age, pack, successor, unpacked};
+use crate::labels::{Age, age, first, successor, unpacked};
 use crate::refusals::Refusal::{self, Conflict, LaneFull, OutsideLimits};
 use crate::refusals::require;
 use crate::station::Station;
@@ -63,8 +63,8 @@ impl Station {
         if !self.held[k] {
             return Age::Newer;
         }
-        age((unpacked(part.labels(), k), part.count()), (held.labels[k], held.count), || {
-            part.body() == held.body && part.labels() == pack(&held.labels, self.n)
+        age((unpacked(part.labels(), k), part.count()), (unpacked(held.labels, k), held.count), || {
+            part.body() == held.body && part.labels() == held.labels & first(self.n)
         })
     }
 
@@ -75,9 +75,7 @@ impl Station {
         record.station = k;
         record.count = part.count();
         record.body = part.body();
-        for (j, label) in record.labels[..self.n].iter_mut().enumerate() {
-            *label = unpacked(part.labels(), j);
-        }
+        record.labels = record.labels & !first(self.n) | part.labels();
         self.held[k] = true;
     }
 }

@@ -16,12 +16,22 @@ pub fn in_limits(labels: &Labels, n: usize) -> bool {
 /// The first n labels, two bits each.
 pub fn pack(labels: &Labels, n: usize) -> u32 {
     let word = labels.iter().rev().fold(0, |word, &label| word << 2 | u64::from(label & 3));
-    (word & !(u64::MAX << (2 * n))) as u32
+    word as u32 & first(n)
+}
+
+/// The bits of the first n labels of a word.
+pub fn first(n: usize) -> u32 {
+    !(u64::MAX << (2 * n)) as u32
 }
 
 /// The label of station k in a word.
 pub fn unpacked(word: u32, k: usize) -> u8 {
     (word >> (2 * k) & 3) as u8
+}
+
+/// Whether the first n labels of a word are labels.
+pub fn labels_of_word(word: u32, n: usize) -> bool {
+    word & word >> 1 & 0x5555_5555 & first(n) == 0
 }
 
 /// Whether a word holds n labels and zeros above them.

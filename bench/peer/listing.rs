@@ -9,6 +9,8 @@ use crate::refusals::Refusal;
 use crate::script::{Command, LONGEST_LINE, read_line};
 
 const LAST_ROUND: u32 = 999_999;
+/// The limit of waiting edits that a listing names.
+const LIMIT: usize = 32;
 const END_LINE: &[u8] = b"END\n";
 
 /// Lists a whole script. A malformed line is listed as such, and nothing after it is read.
@@ -27,7 +29,7 @@ pub fn list(mut script: impl BufRead, out: impl Write) -> io::Result<()> {
             break;
         };
         match (command, &mut group) {
-            (Command::Size(n), None) => group = Group::fresh(n).ok().map(|group| (group, [Report::NONE; PLACES])),
+            (Command::Size(n), None) => group = Group::fresh(n, LIMIT).ok().map(|group| (group, [Report::NONE; PLACES])),
             (Command::Post { station, body }, Some((group, _))) => {
                 if let Err(refusal) = group.post(station, body) {
                     listing.refused(if station < group.n() { station } else { 0 }, refusal)?;

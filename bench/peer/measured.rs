@@ -4,6 +4,7 @@ use crate::bodies::Body;
 use crate::by_value;
 use crate::group::{Group, MOST_TAKINGS, Report};
 use crate::labels::PLACES;
+use crate::queues::CAPACITY;
 
 /// The bytes of one round's masks: sixteen, two bytes each, the low byte first.
 pub const MASKS_SIZE: usize = 2 * PLACES;
@@ -14,10 +15,10 @@ const POST_EVERY: u32 = 8;
 const LOW: u64 = 1 << 32;
 const FACTOR: u64 = 2_654_435_769;
 
-/// From fresh, rounds with the masks of a schedule, again and again; gives a checksum of what they report, and 0 if a number is refused.
+/// From a fresh group with the largest limit, rounds with the masks of a schedule, again and again; gives a checksum of what they report, and 0 if a number is refused.
 pub fn rounds(schedule: &[u8], n: u32, rounds: u32) -> u32 {
     let (schedule, rest) = schedule.as_chunks::<MASKS_SIZE>();
-    let Ok(mut group) = Group::fresh(n as usize) else { return 0 };
+    let Ok(mut group) = Group::fresh(n as usize, CAPACITY) else { return 0 };
     if schedule.is_empty() || !rest.is_empty() {
         return 0;
     }
@@ -37,7 +38,7 @@ pub fn rounds(schedule: &[u8], n: u32, rounds: u32) -> u32 {
 /// The same work with calls by value.
 pub fn rounds_by_value(schedule: &[u8], n: u32, rounds: u32) -> u32 {
     let (schedule, rest) = schedule.as_chunks::<MASKS_SIZE>();
-    let Ok(group) = Group::fresh(n as usize) else { return 0 };
+    let Ok(group) = Group::fresh(n as usize, CAPACITY) else { return 0 };
     if schedule.is_empty() || !rest.is_empty() {
         return 0;
     }

@@ -2,24 +2,26 @@
 
 use crate::bodies::Body;
 
-pub const QUEUE_LIMIT: usize = 32;
+pub const CAPACITY: usize = 32;
+/// The limit where none is named.
+pub const DEFAULT_LIMIT: usize = 8;
 pub const LANE_LIMIT: usize = 2;
 
 #[derive(Clone, Copy, Debug, PartialEq, Eq)]
 pub struct Queue {
     pub len: usize,
-    pub slots: [Body; QUEUE_LIMIT],
+    pub slots: [Body; CAPACITY],
+}
+
+pub fn limit_valid(limit: usize) -> bool {
+    (1..=CAPACITY).contains(&limit)
 }
 
 impl Queue {
-    pub const NONE: Queue = Queue { len: 0, slots: [Body::Empty; QUEUE_LIMIT] };
+    pub const NONE: Queue = Queue { len: 0, slots: [Body::Empty; CAPACITY] };
 
-    pub fn in_limits(&self) -> bool {
-        self.slots.get(..self.len).is_some_and(|waiting| waiting.iter().all(Body::is_edit))
-    }
-
-    pub fn is_full(&self) -> bool {
-        self.len >= QUEUE_LIMIT
+    pub fn in_limits(&self, limit: usize) -> bool {
+        limit_valid(limit) && self.len <= limit && self.slots[..self.len].iter().all(Body::is_edit)
     }
 
     /// Appends to a queue that is not full.
@@ -35,7 +37,7 @@ impl Queue {
         }
         let oldest = self.slots[0];
         self.slots.copy_within(1.., 0);
-        self.slots[QUEUE_LIMIT - 1] = Body::Empty;
+        self.slots[CAPACITY - 1] = Body::Empty;
         self.len -= 1;
         Some(oldest)
     }

@@ -3,6 +3,7 @@
 use crate::bodies::Body;
 use crate::frames::LARGEST_FRAME;
 use crate::labels::PLACES;
+use crate::queues::DEFAULT_LIMIT;
 use crate::station::Station;
 use crate::turns::TurnReport;
 
@@ -24,7 +25,7 @@ pub fn mix(sum: u32, number: u32) -> u32 {
 
 /// Each round's frames of all n stations, by ascending sender: the frames of a run from fresh in which everyone hears everyone.
 pub fn record(n: usize, rounds: usize) -> Vec<Vec<Vec<u8>>> {
-    let mut stations: Vec<_> = (0..n).map(|own| Station::fresh(n, own).expect("the numbers are valid")).collect();
+    let mut stations: Vec<_> = (0..n).map(|own| Station::fresh(n, own, DEFAULT_LIMIT).expect("the numbers are valid")).collect();
     (0..rounds).map(|round| play(&mut stations, round)).collect()
 }
 
@@ -53,7 +54,7 @@ fn written(station: &Station) -> Vec<u8> {
 
 /// The measured work in Rust: one station from fresh, which writes its frame, hears those of all others and takes its turn, in each recorded round.
 pub fn rounds(recorded: &[Vec<Vec<u8>>], n: usize) -> u32 {
-    let Ok(mut station) = Station::fresh(n, OWN) else { return 0 };
+    let Ok(mut station) = Station::fresh(n, OWN, DEFAULT_LIMIT) else { return 0 };
     let (mut frame, mut sum) = ([0; LARGEST_FRAME], 0);
     for (round, frames) in recorded.iter().enumerate() {
         if let Some((event, start)) = due(round, OWN) {

@@ -14,6 +14,7 @@ pub enum Refusal {
     CountTooHigh = 10,
     MalformedLine = 11,
     BadLinkLog = 12,
+    BadLimit = 13,
     Conflict = 14,
     BadListing = 16,
     BadQuestion = 18,

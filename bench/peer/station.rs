@@ -3,8 +3,8 @@
 use crate::bodies::Body;
 use crate::frames::{self, HEAD_SIZE, RECORD_SIZE, Record, count_limit, numbers_valid};
 use crate::labels::{self, Labels, PLACES};
-use crate::queues::{LANE_LIMIT, Lane, Queue};
-use crate::refusals::Refusal::{self, BadNumber, CountTooHigh, NotAnEdit, OutsideLimits, QueueFull, ShortBuffer};
+use crate::queues::{LANE_LIMIT, Lane, Queue, limit_valid};
+use crate::refusals::Refusal::{self, BadLimit, BadNumber, CountTooHigh, NotAnEdit, OutsideLimits, QueueFull, ShortBuffer};
 use crate::refusals::require;
 
 pub use crate::turns::TurnReport;
@@ -14,6 +14,8 @@ pub use crate::turns::TurnReport;
 pub struct Station {
     pub n: usize,
     pub own: usize,
+    /// Of the waiting edits.
+    pub limit: usize,
     pub waiting: Queue,
     pub acked: [bool; PLACES],
     pub body: Body,
@@ -25,11 +27,13 @@ pub struct Station {
 }
 
 impl Station {
-    pub fn fresh(n: usize, own: usize) -> Result<Station, Refusal> {
+    pub fn fresh(n: usize, own: usize, limit: usize) -> Result<Station, Refusal> {
         require(numbers_valid(n, own), BadNumber)?;
+        require(limit_valid(limit), BadLimit)?;
         let mut station = Station {
             n,
             own,
+            limit,
             waiting: Queue::NONE,
             acked: [false; PLACES],
             body: Body::Empty,
@@ -42,7 +46,7 @@ impl Station {
         station.acked[own] = true;
         station.labels[own] = 1;
         station.held[own] = true;
-        station.table[own] = Record { station: own, count: 0, body: Body::Empty, labels: station.labels };
+        station.table[own] = Record { station: own, count: 0, body: Body::Empty, labels: 1 << (2 * own) };
         Ok(station)
     }
 
@@ -52,7 +56,7 @@ impl Station {
             && self.held[self.own]
             && self.body.in_limits()
             && labels::in_limits(&self.labels, self.n)
-            && self.waiting.in_limits()
+            && self.waiting.in_limits(self.limit)
             && (0..self.n).all(|k| self.place_in_limits(k))
     }
 
@@ -67,7 +71,7 @@ impl Station {
         record.station == k
             && (k == self.own || usize::from(record.count) <= count_limit(self.n))
             && record.body.in_limits()
-            && labels::in_limits(&record.labels, self.n)
+            && labels::labels_of_word(record.labels, self.n)
     }
 
     pub fn post(&mut self, body: Body) -> Result<(), Refusal> {
@@ -78,7 +82,7 @@ impl Station {
     /// The post of a station inside its limits.
     pub(crate) fn append(&mut self, body: Body) -> Result<(), Refusal> {
         require(body.is_edit(), NotAnEdit)?;
-        require(!self.waiting.is_full(), QueueFull)?;
+        require(self.waiting.len < self.limit, QueueFull)?;
         self.waiting.push(body);
         Ok(())
     }

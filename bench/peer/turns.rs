@@ -1,7 +1,7 @@
 //! Turn: a station closes the round.
 
 use crate::bodies::Body;
-use crate::labels::{PLACES, successor};
+use crate::labels::{PLACES, first, pack, successor};
 use crate::refusals::Refusal::{self, OutsideLimits};
 use crate::refusals::require;
 use crate::station::Station;
@@ -70,6 +70,6 @@ impl Station {
         record.station = self.own;
         record.count = self.count;
         record.body = self.body;
-        record.labels[..self.n].copy_from_slice(&self.labels[..self.n]);
+        record.labels = record.labels & !first(self.n) | pack(&self.labels, self.n);
     }
 }

@@ -22,7 +22,7 @@ def with_lane(station, k, lane):
 def holding(rng, station, record):
     """The station with this record in its table, and anything in the labels from N up."""
     n, k = station.n, record.station
-    stored = record._replace(labels=record.labels[:n] + tuple(rng.randbytes(PLACES - n)))
+    stored = record._replace(labels=record.labels[:n] + tuple(rng.choices(range(4), k=PLACES - n)))
     return station._replace(held=replaced(station.held, k, True), table=replaced(station.table, k, stored))
 
 
@@ -113,7 +113,7 @@ def masks(n, hearer_of, senders):
 
 def two_faces(rng, n):
     """The hearer holds nothing of a station, and two senders show it with two bodies: the second conflicts with what came before in the round."""
-    stations = group.fresh_group_state(n)
+    stations = group.fresh_group_state(n, 8)
     one, shown = rng.sample(range(n), 2)
     senders = sorted(rng.sample(others(n, one, shown), 2))
     record = of(rng, n, shown)
@@ -128,7 +128,7 @@ def two_faces(rng, n):
 
 def both_in_two(rng, n):
     """A conflict in the frame of one sender and a full lane in that of another, in either order; and in one frame."""
-    stations = group.fresh_group_state(n)
+    stations = group.fresh_group_state(n, 8)
     one, shown, full = rng.sample(range(n), 3)
     senders = sorted(rng.sample(others(n, one, shown, full), 2))
     record = of(rng, n, shown)

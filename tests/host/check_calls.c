@@ -17,7 +17,7 @@
 
 #include "relay.h"
 
-enum { ROOM = 1 << 17, MOST = 8, BUFFERS = 3, CALLS = 8, SECONDS = 30 };
+enum { ROOM = 1 << 17, MOST = 8, BUFFERS = 3, CALLS = 10, SECONDS = 30 };
 
 struct buffer {
     uint32_t width, entries;
@@ -106,6 +106,8 @@ static uint32_t called(const struct call *c)
     case 5: return relay_group_fresh(b[0].lent, b[0].entries, n[0]);
     case 6: return relay_group_post(b[0].lent, b[0].entries, n[0], n[1], n[2], (int32_t)n[3]);
     case 7: return relay_group_round(b[0].lent, b[0].entries, (const uint16_t *)(const void *)b[1].lent, b[1].entries, b[2].lent, b[2].entries);
+    case 8: return relay_station_fresh_limited(b[0].lent, b[0].entries, n[0], n[1], n[2]);
+    case 9: return relay_group_fresh_limited(b[0].lent, b[0].entries, n[0], n[1]);
     default: stop("there is no such call");
     }
 }
@@ -140,7 +142,8 @@ static int tried(struct call *c, uint8_t *const rooms[BUFFERS], uint32_t *answer
 int main(void)
 {
     static const char *const names[CALLS] = {"relay_station_fresh", "relay_station_post", "relay_station_write", "relay_station_hear", "relay_station_turn",
-                                             "relay_group_fresh", "relay_group_post", "relay_group_round"};
+                                             "relay_group_fresh", "relay_group_post", "relay_group_round", "relay_station_fresh_limited",
+                                             "relay_group_fresh_limited"};
     unsigned long cases = 0, wrong = 0, done = 0;
     uint8_t *const rooms[BUFFERS] = {make_room(), make_room(), make_room()};
     struct call c;

@@ -16,11 +16,15 @@ def in_front(data, buffer):
     return data + bytes(buffer[len(data):])
 
 
-def station_fresh(state, n, own):
-    refusal, made = station.fresh(n, own)
+def station_fresh(state, n, own, *limit):
+    refusal, made = station.fresh(n, own, *limit)
     if refusal or len(state) < formats.STATION:
         return refusal or BUFFER_SHORT, [state]
     return DONE, [in_front(formats.station_bytes(made), state)]
+
+
+def station_fresh_limited(state, n, own, limit):
+    return station_fresh(state, n, own, limit)
 
 
 def station_post(state, *numbers):
@@ -61,11 +65,15 @@ def station_turn(state, report):
     return DONE, [formats.station_bytes(turned.station), in_front(formats.turn_bytes(turned), report)]
 
 
-def group_fresh(state, n):
-    refusal, made = group.fresh(n)
+def group_fresh(state, n, *limit):
+    refusal, made = group.fresh(n, *limit)
     if refusal or len(state) < formats.GROUP:
         return refusal or BUFFER_SHORT, [state]
     return DONE, [in_front(formats.group_bytes(made), state)]
+
+
+def group_fresh_limited(state, n, limit):
+    return group_fresh(state, n, limit)
 
 
 def group_post(state, place, *numbers):
@@ -89,7 +97,8 @@ def group_round(state, masks, reports):
 
 
 CALLS = {f"relay_{one.__name__}": one for one in (
-    station_fresh, station_post, station_write, station_hear, station_turn, group_fresh, group_post, group_round)}
+    station_fresh, station_post, station_write, station_hear, station_turn, group_fresh, group_post, group_round,
+    station_fresh_limited, group_fresh_limited)}
 
 
 def answer(name, *arguments):

@@ -73,7 +73,7 @@ def no_stations(rng, data):
             for value in (2, rng.randint(2, 255), 255):
                 yield changed(data, at + flag, [value])
         yield from no_record(rng, data, at + formats.RECORD_AT)
-    for zero in (1, 2, 3):
+    for zero in (2, 3):
         yield changed(data, formats.WAITING_AT + zero, [rng.choice((1, 2, 128, 255))])
     for at in bodies_at():
         yield from no_body(rng, data, at)
@@ -87,7 +87,8 @@ def refused_station(rng, station):
         return formats.station_bytes(rng.choice(list(outside.stations_outside(station).values())))
     if choice == 1:
         return rng.choice(list(no_stations(rng, data)))
-    return changed(data, *rng.choice(((0, [0]), (0, [17]), (1, [station.n]), (formats.WAITING_AT, [33]))))
+    return changed(data, *rng.choice(((0, [0]), (0, [17]), (1, [station.n]), (formats.WAITING_AT, [33]),
+                                      (formats.WAITING_AT, [station.limit + 1]), (formats.WAITING_AT + 1, [0]), (formats.WAITING_AT + 1, [33]))))
 
 
 def of_other_length(rng, data):

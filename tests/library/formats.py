@@ -10,7 +10,7 @@ import struct
 
 from model.bodies import DROP, NEUTRAL_KIND, SHIFT, Body
 from model.group import used_takings
-from model.queues import LANE_LIMIT, QUEUE_LIMIT, Queue
+from model.queues import CAPACITY, LANE_LIMIT, Queue
 from model.records import PLACES, Record, pack, unpack
 from model.station import Station
 
@@ -27,7 +27,7 @@ RECORD_AT = PLACE_HEAD + LANE_LIMIT * BODY
 PLACE = RECORD_AT + RECORD
 WAITING_AT = HEAD + PLACES * PLACE
 
-assert STATION == WAITING_AT + WAITING_HEAD + QUEUE_LIMIT * BODY
+assert STATION == WAITING_AT + WAITING_HEAD + CAPACITY * BODY
 assert GROUP == PLACES * STATION and ROUND == PLACES * REPORT
 
 BODY_FORM = struct.Struct("<IIi")    # kind and three zero bytes, event, argument
@@ -74,12 +74,12 @@ def place_bytes(station, k):
 def station_bytes(station):
     return (bytes([station.n, station.own, station.count, 0]) + BODY_FORM.pack(*station.body)
             + b"".join([place_bytes(station, k) for k in range(PLACES)])
-            + station.waiting.length.to_bytes(4, "little") + bodies_bytes(station.waiting.slots))
+            + bytes([station.waiting.length, station.limit, 0, 0]) + bodies_bytes(station.waiting.slots))
 
 
 @functools.lru_cache(maxsize=256)
 def read_station(data):
-    if len(data) != STATION or data[3] or any(data[WAITING_AT + 1:WAITING_AT + WAITING_HEAD]):
+    if len(data) != STATION or data[3] or any(data[WAITING_AT + 2:WAITING_AT + WAITING_HEAD]):
         return None
     parts = [data[at:at + PLACE] for at in range(HEAD, WAITING_AT, PLACE)]
     body = read_body(*BODY_FORM.unpack(data[4:HEAD]))
@@ -93,7 +93,7 @@ def read_station(data):
     return Station(data[0], data[1], data[2], body,
                    labels=tuple(part[2] for part in parts),
                    acked=tuple(acked == 1 for acked, _ in flags), held=tuple(held == 1 for _, held in flags),
-                   table=table, lanes=tuple(lanes), waiting=Queue(data[WAITING_AT], slots))
+                   table=table, lanes=tuple(lanes), waiting=Queue(data[WAITING_AT], slots), limit=data[WAITING_AT + 1])
 
 
 def group_bytes(group):
@@ -131,7 +131,9 @@ def field_at(at):
         return ("n", "own number", "own count", "zero")[at] if at < 4 else "present body"
     if at >= WAITING_AT:
         behind = at - WAITING_AT - WAITING_HEAD
-        return "number of waiting edits" if behind < 0 else f"waiting edit {behind // BODY}"
+        if behind < 0:
+            return ("number of waiting edits", "limit of waiting edits", "zero", "zero")[behind]
+        return f"waiting edit {behind // BODY}"
     k, behind = divmod(at - HEAD, PLACE)
     if behind < PLACE_HEAD:
         return f"{('acknowledged', 'held', 'label', 'lane length')[behind]} of station {k}"

@@ -7,7 +7,7 @@ from drawn import conflicts
 from model.bodies import EMPTY, NEUTRAL
 from model import outside, states
 from model.group import fresh_group_state
-from model.queues import NO_LANE, QUEUE_LIMIT, Queue, replaced
+from model.queues import CAPACITY, DEFAULT_LIMIT, NO_LANE, Queue, replaced
 from model.records import PLACES, count_limit, successor
 from model.scripts import refused_edit
 from model.station import LARGEST_COUNT, fresh_state
@@ -16,8 +16,8 @@ from . import formats
 from .cases import EDGES, NUMBERS, around, buffer, changed, no_stations, of_other_length, refused_station
 from .station_cases import first_of, lent
 
-FRESH, POST, ROUND = (f"relay_group_{name}" for name in ("fresh", "post", "round"))
-ORDERS = {FRESH: (1, 9), POST: (2, 1, 4, 3), ROUND: (2, 10, 14, 8, 9)}
+FRESH, LIMITED, POST, ROUND = (f"relay_group_{name}" for name in ("fresh", "fresh_limited", "post", "round"))
+ORDERS = {FRESH: (1, 9), LIMITED: (1, 13, 9), POST: (2, 1, 4, 3), ROUND: (2, 10, 14, 8, 9)}
 BEYOND = (16, 17, 255, 256, 2 ** 16, 2 ** 31, 2 ** 32 - 1)
 
 
@@ -47,6 +47,9 @@ def fresh(rng):
         yield FRESH, buffer(rng, formats.GROUP), n
         for room in around(formats.GROUP):
             yield FRESH, buffer(rng, room), n
+    for limit in {*NUMBERS, *range(1, CAPACITY + 1)}:
+        yield LIMITED, buffer(rng, formats.GROUP), rng.choice((1, 2, 15, 16, 0, 17)), limit
+        yield LIMITED, buffer(rng, rng.choice(around(formats.GROUP))), rng.randint(1, PLACES), limit
 
 
 def calm(rng, group, n):
@@ -75,7 +78,8 @@ def drawn(rng, count):
 def run(rng, n, rounds):
     """Posts and rounds from fresh."""
     def steps(step):
-        _, state = step(FRESH, buffer(rng, formats.GROUP + rng.choice((0, 9))), n)
+        limit = rng.choice(((), (1,), (DEFAULT_LIMIT,), (CAPACITY,), (rng.randint(1, CAPACITY),)))
+        _, state = step(LIMITED if limit else FRESH, buffer(rng, formats.GROUP + rng.choice((0, 9))), n, *limit)
         state = bytes(state[:formats.GROUP])
         for _ in range(rounds):
             for _ in range(rng.choice((0, 1, 2, 3))):
@@ -97,7 +101,7 @@ def another_n(rng):
     for n in range(1, PLACES + 1):
         for other in {1, n - 1, n + 1, PLACES} - {0, n, PLACES + 1}:
             place = rng.randrange(min(n, other))
-            given = replaced(fresh_group_state(n), place, fresh_state(other, place))
+            given = replaced(fresh_group_state(n, DEFAULT_LIMIT), place, fresh_state(other, place, DEFAULT_LIMIT))
             yield from both(rng, formats.group_bytes(given), n)
 
 
@@ -126,7 +130,7 @@ def no_state(rng, count):
             some = list(no_stations(rng, data[at:at + formats.STATION]))
             for bad in rng.sample(some, count):
                 yield from both(rng, changed(data, at, bad), n)
-            for zero in (3, formats.WAITING_AT + rng.choice((1, 2, 3))):
+            for zero in (3, formats.WAITING_AT + rng.choice((2, 3))):
                 yield rng.choice(list(both(rng, changed(data, at + zero, [rng.choice((1, 128, 255))]), n)))
         for length in (0, 1, formats.STATION, formats.GROUP - 1, formats.GROUP + 1, 2 * formats.GROUP):
             yield from both(rng, (data + data)[:length], n)
@@ -160,11 +164,16 @@ def fresh_with(rng, faults):
     return FRESH, buffer(rng, rng.choice((0, formats.STATION, formats.GROUP - 1)) if "9" in faults else formats.GROUP), n
 
 
+def limited_with(rng, faults):
+    limit = rng.choice((0, 33, 255, 256 + 8, 2 ** 32 - 1)) if "13" in faults else rng.randint(1, CAPACITY)
+    return LIMITED, *fresh_with(rng, faults)[1:], limit
+
+
 def inside(rng, least=1):
     """A group in which each station has room for an edit, can write its frame and has empty lanes."""
     n = rng.randint(least, PLACES)
     group = calm(rng, some_group(rng, n), n)
-    return n, tuple(s._replace(waiting=Queue(min(s.waiting.length, QUEUE_LIMIT - 1), s.waiting.slots)) for s in group[:n]) + group[n:]
+    return n, tuple(s._replace(waiting=Queue(min(s.waiting.length, s.limit - 1), s.waiting.slots)) for s in group[:n]) + group[n:]
 
 
 def state_with(rng, n, group, faults):
@@ -181,8 +190,8 @@ def post_with(rng, faults):
     n, group = inside(rng)
     place = rng.randrange(n)
     if "3" in faults:
-        full = Queue(QUEUE_LIMIT, tuple(states.random_edit(rng) for _ in range(QUEUE_LIMIT)))
-        group = tuple(s._replace(waiting=full) for s in group[:n]) + group[n:]
+        edits = tuple(states.random_edit(rng) for _ in range(CAPACITY))
+        group = tuple(s._replace(waiting=Queue(s.limit, edits)) for s in group[:n]) + group[n:]
     return post(rng, state_with(rng, n, group, faults), rng.choice((n, *BEYOND)) if "1" in faults else place,
                 (refused_edit if "4" in faults else states.random_edit)(rng))
 
@@ -254,7 +263,7 @@ def false_tables(rng, count):
         yield refusal, round_of(rng, formats.group_bytes(group), array("H", masks))
 
 
-FAULTS = {FRESH: (fresh_with, ("1", "9")), POST: (post_with, ("2", "1", "4", "3")),
+FAULTS = {FRESH: (fresh_with, ("1", "9")), LIMITED: (limited_with, ("1", "13", "9")), POST: (post_with, ("2", "1", "4", "3")),
           ROUND: (round_with, ("2", "10", "14", "8", "9, masks", "9, reports"))}
 
 

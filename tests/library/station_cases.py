@@ -6,7 +6,7 @@ from drawn import conflicts, frames as drawn_frames
 from model import outside, states
 from model.bodies import EMPTY, NEUTRAL
 from model.frames import frame_bytes, numbers_valid
-from model.queues import NO_LANE, QUEUE_LIMIT, Queue, replaced
+from model.queues import CAPACITY, DEFAULT_LIMIT, NO_LANE, Queue, replaced
 from model.records import PLACES, count_limit, successor
 from model.scripts import refused_edit
 from model.station import LARGEST_COUNT, fresh_state
@@ -15,8 +15,10 @@ from . import formats
 from .cases import EDGES, NUMBERS, around, buffer, changed, lengths, no_stations, of_other_length, refused_station
 
 LARGEST_FRAME = formats.SIZES["FRAME_MOST"]
-FRESH, POST, WRITE, HEAR, TURN = (f"relay_station_{name}" for name in ("fresh", "post", "write", "hear", "turn"))
-ORDERS = {FRESH: (1, 9), POST: (2, 4, 3), WRITE: (2, 10, 9), HEAR: (2, 5, 6, 7, 14, 8, 9), TURN: (2, 9)}
+FRESH, LIMITED, POST, WRITE, HEAR, TURN = (f"relay_station_{name}" for name in (
+    "fresh", "fresh_limited", "post", "write", "hear", "turn"))
+ORDERS = {FRESH: (1, 9), LIMITED: (1, 13, 9), POST: (2, 4, 3), WRITE: (2, 10, 9),
+          HEAR: (2, 5, 6, 7, 14, 8, 9), TURN: (2, 9)}
 
 
 def lent(rng, data):
@@ -71,6 +73,12 @@ def fresh(rng):
     for n in range(PLACES + 2):
         for room in around(formats.STATION):
             yield FRESH, buffer(rng, room), n, rng.choice((0, n // 2, n))
+            yield LIMITED, buffer(rng, room), n, rng.choice((0, n // 2, n)), rng.choice((0, 1, DEFAULT_LIMIT, CAPACITY, CAPACITY + 1))
+    for limit in NUMBERS:
+        for n, own in ((1, 0), (2, 1), (16, 15), (16, 16), (0, 0), (17, 0)):
+            yield LIMITED, buffer(rng, formats.STATION), n, own, limit
+    for limit in range(1, CAPACITY + 1):
+        yield LIMITED, buffer(rng, formats.STATION), 3, 2, limit
 
 
 def drawn(rng, count):
@@ -106,7 +114,7 @@ def frame_lengths(rng):
 def outside_limits(rng):
     """Each limit broken, in stations with and without anything else."""
     for n, own in ((2, 0), (2, 1), (5, 2), (16, 0), (16, 15)):
-        for s in (fresh_state(n, own), states.random_station(rng, n, own)):
+        for s in (fresh_state(n, own, DEFAULT_LIMIT), states.random_station(rng, n, own)):
             for broken in outside.stations_outside(s).values():
                 yield from all_calls(rng, formats.station_bytes(broken), some_frame(rng, s))
 
@@ -165,7 +173,9 @@ def links(rng, n):
 def run(rng, n, rounds, false=0.0):
     """Posts and rounds from fresh. A share of the frames is damaged, late, or the hearer's own."""
     def steps(step):
-        held = [bytes(step(FRESH, buffer(rng, formats.STATION + rng.choice((0, 7))), n, own)[1][:formats.STATION]) for own in range(n)]
+        limit = rng.choice(((), (1,), (DEFAULT_LIMIT,), (CAPACITY,), (rng.randint(1, CAPACITY),)))
+        held = [bytes(step(LIMITED if limit else FRESH, buffer(rng, formats.STATION + rng.choice((0, 7))), n, own, *limit)[1][:formats.STATION])
+                for own in range(n)]
         late = [b""] * n
         for _ in range(rounds):
             for _ in range(rng.choice((0, 1, 1, 2, 40 if rng.random() < 0.05 else 3))):
@@ -203,12 +213,17 @@ def fresh_with(rng, faults):
     return FRESH, buffer(rng, rng.randrange(formats.STATION) if "9" in faults else formats.STATION), n, own
 
 
+def limited_with(rng, faults):
+    limit = rng.choice((0, 33, 255, 256 + 8, 2 ** 32 - 1)) if "13" in faults else rng.randint(1, CAPACITY)
+    return LIMITED, *fresh_with(rng, faults)[1:], limit
+
+
 def inside(rng):
     """A station of at least two whose lanes are empty, whose own count can be written and who has room for an edit."""
     n = rng.randint(2, PLACES)
     s = states.random_station(rng, n, rng.randrange(n))
     table = replaced(s.table, s.own, s.table[s.own]._replace(count=rng.randint(0, count_limit(n))))
-    waiting = Queue(min(s.waiting.length, QUEUE_LIMIT - 1), s.waiting.slots)
+    waiting = Queue(min(s.waiting.length, s.limit - 1), s.waiting.slots)
     return s._replace(lanes=(NO_LANE,) * n + s.lanes[n:], table=table, waiting=waiting)
 
 
@@ -220,7 +235,7 @@ def state_with(rng, s, faults):
 def post_with(rng, faults):
     s = inside(rng)
     if "3" in faults:
-        s = s._replace(waiting=Queue(QUEUE_LIMIT, tuple(states.random_edit(rng) for _ in range(QUEUE_LIMIT))))
+        s = s._replace(waiting=Queue(s.limit, tuple(states.random_edit(rng) for _ in range(CAPACITY))))
     return post(rng, state_with(rng, s, faults), (refused_edit if "4" in faults else states.random_edit)(rng))
 
 
@@ -278,7 +293,8 @@ def false_frames(rng, count):
         yield refusal, hear(rng, formats.station_bytes(s), frame)
 
 
-FAULTS = {FRESH: (fresh_with, ("1, n", "1, own", "9")), POST: (post_with, ("2", "4", "3")),
+FAULTS = {FRESH: (fresh_with, ("1, n", "1, own", "9")), LIMITED: (limited_with, ("1, n", "1, own", "13", "9")),
+          POST: (post_with, ("2", "4", "3")),
           WRITE: (write_with, ("2", "10", "9, frame", "9, length")),
           HEAR: (hear_with, ("2", "5", "6", "7", "14", "8", "9")), TURN: (turn_with, ("2", "9"))}
 

@@ -208,6 +208,10 @@ def any_n(given):
     return 1 <= n <= PLACES and all(one.own == place and station.in_limits(one) for place, one in enumerate(given[:n]))
 
 
+def limit_from_n_up(n, limit):
+    return tuple(station.fresh_state(n, own, limit) for own in range(n)) + (station.fresh_state(1, 0, limit),) * (PLACES - n)
+
+
 def all_sixteen(given):
     return all(map(station.in_limits, given)) and group.group_n(given) >= 1
 
@@ -234,7 +238,12 @@ ENGINE = {
     "a body left in the unused place of a lane": by_model(lane_without_oldest=oldest_left),
     "waiting slots past the number cleared by a post": by_model(put_last=slots_cleared),
     "waiting slots past the number moved by a start": by_model(without_oldest=one_slot_more),
-    "a queue of 31 is full": by_model(queue_full=lambda one: one.waiting.length >= 31),
+    "a queue of one less than the limit is full": by_model(queue_full=lambda one: one.waiting.length >= one.limit - 1),
+    "a queue is full at 32 only": by_model(queue_full=lambda one: one.waiting.length >= 32),
+    "more may wait than the limit": by_model(waiting_in_limits=lambda waiting, limit, right=station.waiting_in_limits: right(waiting, max(limit, 32))),
+    "the limit that is named not kept": by_model(fresh_state=lambda n, own, limit, right=station.fresh_state: right(n, own, 8)),
+    "a limit of 33": by_model(limit_valid=lambda limit: 1 <= limit <= 33),
+    "a limit of 0": by_model(limit_valid=lambda limit: limit <= 32),
     "counts up to one more": by_model(count_limit=lambda n: 2 * n - 1),
     "counts up to one less": by_model(count_limit=lambda n: max(0, 2 * n - 3)),
     "the last label not judged": by_model(labels_in_limits=last_label_not_judged),
@@ -335,6 +344,8 @@ STATION = {
     "post gives 2 for 4": one_for_another(POST, 4, 2),
     "post gives 0 for 3": one_for_another(POST, 3, 0),
     "fresh gives 9 for 1": one_for_another(stations.FRESH, 1, 9),
+    "13 before 1": before_two(stations.LIMITED, lambda _, lent: 13 if lent[3] > 32 else 0),
+    "9 before 13": one_for_another(stations.LIMITED, 13, 9),
     "hear gives 7 for 8": one_for_another(HEAR, 8, 7),
     "write gives 9 for 10": one_for_another(WRITE, 10, 9),
     "9 before the others at hearing": before_two(HEAR, lambda buffers, _: 9 if buffers[2][1] < 16 else 0),
@@ -342,7 +353,7 @@ STATION = {
     "9 before the others at writing": before_two(WRITE, lambda buffers, _: 9 if buffers[2][1] < 1 else 0),
     "5 before 2": before_two(HEAR, lambda buffers, _: 5 if buffers[1][1] % 16 != 4 else 0),
     "4 before 2": before_two(POST, lambda _, lent: 4 if lent[1] > 4 else 0),
-    **dict(outside_buffers(stations.FRESH, 1)), **dict(outside_buffers(POST, 1)), **dict(outside_buffers(WRITE, 3)),
+    **dict(outside_buffers(stations.FRESH, 1)), **dict(outside_buffers(stations.LIMITED, 1)), **dict(outside_buffers(POST, 1)), **dict(outside_buffers(WRITE, 3)),
     **dict(outside_buffers(HEAR, 3)), **dict(outside_buffers(TURN, 2)),
 }
 
@@ -362,7 +373,7 @@ GROUP = {
     "takings not told": by_model(report_of=lambda takings, told, right=group.report_of: right([], told)),
     "takings in another order": by_model(report_of=lambda takings, told, right=group.report_of: right(takings[::-1], told)),
     "stations from N up made fresh": by_model(group_bytes=lambda given, right=formats.group_bytes: right(
-        tuple(given[:given[0].n]) + group.fresh_group_state(1)[given[0].n:] if given[0].n <= 16 else given)),
+        tuple(given[:given[0].n]) + group.lone_group_state()[given[0].n:] if given[0].n <= 16 else given)),
     "written though refused: the group": written_though_refused(0),
     "written though refused: the masks": written_though_refused(1),
     "written though refused: the reports": written_though_refused(2),
@@ -373,9 +384,11 @@ GROUP = {
     "round gives 8 for 10": one_for_another(groups.ROUND, 10, 8),
     "post gives 4 for 1": one_for_another(groups.POST, 1, 4),
     "9 before the others at a round": before_two(groups.ROUND, lambda buffers, _: 9 if buffers[1][1] < 16 else 0),
+    "13 before 1": before_two(groups.LIMITED, lambda _, lent: 13 if lent[2] > 32 else 0),
+    "the limit that is named from N up": by_model(fresh_group_state=limit_from_n_up),
     "1 before 2": before_two(groups.POST, lambda _, lent: 1 if lent[1] > 15 else 0),
     "fewer masks accepted": told(lambda refusal, name, buffers: 0 if (name, refusal) == (groups.ROUND, 9) else refusal),
-    **dict(outside_buffers(groups.FRESH, 1)), **dict(outside_buffers(groups.POST, 1)), **dict(outside_buffers(groups.ROUND, 3)),
+    **dict(outside_buffers(groups.FRESH, 1)), **dict(outside_buffers(groups.LIMITED, 1)), **dict(outside_buffers(groups.POST, 1)), **dict(outside_buffers(groups.ROUND, 3)),
 }
 
 
@@ -389,17 +402,18 @@ def busy(rng, count, least=1, own=None):
         own_lane = s.lanes[s.own] if rng.random() < 0.5 else NO_LANE
         full = [Queue(one, (states.random_edit(rng), states.random_edit(rng))) for one in (1, 2)]
         s = s._replace(acked=(True,) * n + s.acked[n:], lanes=replaced(tuple(rng.choices(full, k=n)) + s.lanes[n:], s.own, own_lane),
-                       waiting=Queue(rng.choice((0, 1, 2, 31)), tuple(states.random_edit(rng) for _ in range(32))))
+                       waiting=Queue(rng.choice((0, 1, s.limit - 1, s.limit)), tuple(states.random_edit(rng) for _ in range(32))))
         yield s
 
 
 def station_cases(rng):
     found = [case for _, case in stations.at_once(rng, HEAR, 2)]
-    for name in (stations.FRESH, POST, WRITE, TURN):
+    for name in (stations.FRESH, stations.LIMITED, POST, WRITE, TURN):
         found += [case for _, case in stations.at_once(rng, name, 4)]
     for s in busy(rng, 80):
         found += stations.all_calls(rng, formats.station_bytes(s), stations.some_frame(rng, s))
     found += stations.drawn(rng, 150)
+    found += [(stations.LIMITED, stations.buffer(rng, formats.STATION), 2, 1, limit) for limit in (0, 1, 32, 33)]
     found += [(stations.FRESH, stations.buffer(rng, room), 5, 3) for room in stations.around(formats.STATION)]
     found += stations.buffers(rng)
     found += stations.outside_limits(rng)
@@ -417,7 +431,7 @@ def busy_groups(rng, count):
 
 def named_groups(rng):
     """Groups that show one fault each: two stations exchanged; a station whose broadcast ends while its own lane is full and an edit waits."""
-    fresh = group.fresh_group_state(4)
+    fresh = group.fresh_group_state(4, 8)
     yield fresh[:1] + (fresh[2], fresh[1]) + fresh[3:]
     edit = states.random_edit(rng)
     ends = station.post(outside.with_lane(fresh[1], 1, edit), edit).station
@@ -429,8 +443,9 @@ def group_cases(rng):
     for given in named_groups(rng):
         found.append(groups.post(rng, formats.group_bytes(given), 1, states.random_edit(rng)))
         found.append(groups.round_of(rng, formats.group_bytes(given), array("H", [0] * PLACES)))
-    for name in (groups.FRESH, groups.POST, groups.ROUND):
+    for name in (groups.FRESH, groups.LIMITED, groups.POST, groups.ROUND):
         found += [case for _, case in groups.at_once(rng, name, 1)]
+    found += [(groups.LIMITED, groups.buffer(rng, formats.GROUP), n, limit) for n in (1, 3) for limit in (0, 1, 32, 33)]
     for n, given in busy_groups(rng, 20):
         found += [groups.post(rng, formats.group_bytes(given), place, states.random_edit(rng)) for place in range(n)]
         found.append(groups.round_of(rng, formats.group_bytes(given), array("H", [0] * PLACES)))

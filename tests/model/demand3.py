@@ -9,15 +9,15 @@ from .bodies import EMPTY_KIND, edit_kind
 from .hearing import Taking
 from .lines import PostLine
 from .links import Links
-from .queues import LANE_LIMIT, contents
+from .queues import DEFAULT_LIMIT, LANE_LIMIT, contents
 from .records import count_limit
 from .refusals import DONE
 
 
 class Run:
-    def __init__(self, n):
+    def __init__(self, n, limit=DEFAULT_LIMIT):
         self.n = n
-        self.group = groups.fresh(n).group
+        self.group = groups.fresh(n, limit).group
         self.log = []                                           # the masks of each round
         self.round_refusals = []
         self.accepted = [[] for _ in range(n)]                  # accepted posts
@@ -113,9 +113,9 @@ AFTER_EACH_CALL = (no_round_refused, counts_and_lanes_bounded, taken_begins_star
                    aired_lists_agree, posts_accounted_for)
 
 
-def first_fault(n, calls):
+def first_fault(n, calls, limit=DEFAULT_LIMIT):
     """What the first broken sentence says, or None: calls are post and round lines."""
-    run = Run(n)
+    run = Run(n, limit)
     for number, call in enumerate(calls, 1):
         if isinstance(call, PostLine):
             run.post(call.station, call.body)

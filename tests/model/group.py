@@ -9,10 +9,11 @@ from typing import NamedTuple
 from .bodies import EMPTY, Body
 from .frames import numbers_valid, read_frame
 from .hearing import FrameRefused, Taking, hear_records
-from .queues import replaced
+from .queues import DEFAULT_LIMIT, replaced
 from .records import PLACES
-from .refusals import BAD_NUMBER, COUNT_TOO_LARGE, DONE, OUTSIDE_LIMITS
-from .station import append_edit, count_writable, fresh_state, in_limits, written_frame
+from .refusals import BAD_LIMIT, BAD_NUMBER, COUNT_TOO_LARGE, DONE, OUTSIDE_LIMITS
+from .station import (append_edit, count_writable, fresh_state, in_limits, limit_valid, lone_state,
+                      written_frame)
 from .turns import NO_ROW, close_round
 
 MOST_TAKINGS = 30  # two bodies of each of fifteen others
@@ -36,15 +37,21 @@ class FreshGroup(NamedTuple):
     group: tuple
 
 
-def fresh_group_state(n):
-    stations = tuple(fresh_state(n, own) for own in range(n))
-    return stations + (fresh_state(1, 0),) * (PLACES - n)
+def fresh_group_state(n, limit):
+    stations = tuple(fresh_state(n, own, limit) for own in range(n))
+    return stations + (lone_state(),) * (PLACES - n)
 
 
-def fresh(n):
+def lone_group_state():
+    return fresh_group_state(1, DEFAULT_LIMIT)
+
+
+def fresh(n, limit=DEFAULT_LIMIT):
     if not 1 <= n <= PLACES:
-        return FreshGroup(BAD_NUMBER, fresh_group_state(1))
-    return FreshGroup(DONE, fresh_group_state(n))
+        return FreshGroup(BAD_NUMBER, lone_group_state())
+    if not limit_valid(limit):
+        return FreshGroup(BAD_LIMIT, lone_group_state())
+    return FreshGroup(DONE, fresh_group_state(n, limit))
 
 
 # Post.

@@ -7,6 +7,7 @@ from .lines import (END_LINE, PostLine, SizeLine, listing_line, malformed_line, 
 from .refusals import DONE
 
 LAST_ROUND = 999_999
+LIMIT = 32            # that the program names (document 02, A2)
 
 
 def split_lines(script):
@@ -37,7 +38,7 @@ def listing_lines(script):
         command = None if line is None else read_line(line, n)
         if isinstance(command, SizeLine):
             n = command.n
-            group = groups.fresh(n).group
+            group = groups.fresh(n, LIMIT).group
         elif isinstance(command, PostLine):
             refusal, group = groups.post(group, command.station, command.body)
             if refusal != DONE:

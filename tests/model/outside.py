@@ -1,7 +1,7 @@
 """Stations outside their limits, by name (document 01, "A station and its calls"). For tests."""
 
 from .bodies import DROP, EMPTY, INSERT, KINDS, NEUTRAL, Body
-from .queues import LANE_LIMIT, QUEUE_LIMIT, Queue, replaced
+from .queues import CAPACITY, LANE_LIMIT, Queue, replaced
 from .records import PLACES, Record, count_limit
 
 
@@ -23,7 +23,7 @@ def with_lane(station, k, *bodies):
 
 
 def with_waiting(station, length, first):
-    slots = (first,) + (Body(DROP, 1, 0),) * (QUEUE_LIMIT - 1)
+    slots = (first,) + (Body(DROP, 1, 0),) * (CAPACITY - 1)
     return station._replace(waiting=Queue(length, slots))
 
 
@@ -62,9 +62,15 @@ def stations_outside(s):
         "bad body in a lane": with_lane(s, other, BAD_BODY),
         "three in a lane": at_place(s, "lanes", other, Queue(3, (NEUTRAL,) * 2)),
         "255 in a lane": at_place(s, "lanes", other, Queue(255, (NEUTRAL,) * 2)),
-        "Neutral waiting": with_waiting(s, 2, NEUTRAL),
+        "Neutral waiting": with_waiting(s._replace(limit=2), 2, NEUTRAL),
         "Empty waiting": with_waiting(s, 1, EMPTY),
-        "bad edit waiting": with_waiting(s, 32, TOO_LATE),
-        "33 waiting": with_waiting(s, 33, Body(DROP, 1, 0)),
+        "bad edit waiting": with_waiting(s._replace(limit=32), 32, TOO_LATE),
+        "one more waiting than the limit": with_waiting(s, s.limit + 1, Body(DROP, 1, 0)),
+        "9 waiting at a limit of 8": with_waiting(s._replace(limit=8), 9, Body(DROP, 1, 0)),
+        "33 waiting": with_waiting(s._replace(limit=32), 33, Body(DROP, 1, 0)),
         "255 waiting": with_waiting(s, 255, Body(DROP, 1, 0)),
+        "a limit of 0": with_waiting(s._replace(limit=0), 0, Body(DROP, 1, 0)),
+        "a limit of 33": with_waiting(s._replace(limit=33), 0, Body(DROP, 1, 0)),
+        "33 waiting at a limit of 33": with_waiting(s._replace(limit=33), 33, Body(DROP, 1, 0)),
+        "a limit of 255": with_waiting(s._replace(limit=255), 0, Body(DROP, 1, 0)),
     }

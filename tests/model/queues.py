@@ -7,7 +7,8 @@ from typing import NamedTuple
 
 from .bodies import EMPTY
 
-QUEUE_LIMIT = 32
+CAPACITY = 32         # the most that a queue has room for, whatever the station's limit
+DEFAULT_LIMIT = 8     # where none is named (document 02, A2)
 LANE_LIMIT = 2
 OWN_LANE_LIMIT = 1
 
@@ -17,7 +18,7 @@ class Queue(NamedTuple):
     slots: tuple
 
 
-NO_WAITING = Queue(0, (EMPTY,) * QUEUE_LIMIT)
+NO_WAITING = Queue(0, (EMPTY,) * CAPACITY)
 NO_LANE = Queue(0, (EMPTY,) * LANE_LIMIT)
 
 

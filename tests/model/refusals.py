@@ -13,6 +13,7 @@ BUFFER_SHORT = 9
 COUNT_TOO_LARGE = 10     # the own record's, at writing
 MALFORMED_LINE = 11
 BAD_LOG = 12             # not whole rounds, or too many
+BAD_LIMIT = 13           # of waiting edits, at fresh
 CONFLICT = 14            # a heard record and the held one
 BAD_LISTING = 16         # a line's form, or no last line
 BAD_QUESTION = 18        # a station, a k, or one too many

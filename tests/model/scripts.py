@@ -5,6 +5,7 @@ from typing import NamedTuple
 
 from .bodies import DROP, EMPTY, INSERT, KINDS, NEUTRAL, SHIFT, Body
 from .lines import FIELD_WIDTH, PostLine, RoundLine
+from .queues import CAPACITY, DEFAULT_LIMIT
 from .records import PLACES
 
 
@@ -131,6 +132,12 @@ def seeded_calls(seed, shape=None):
     """The size and the calls that belong to a seed."""
     shape = shape or random_shape(seed)
     return shape.n, random_calls(random.Random(f"calls {seed}"), shape)
+
+
+def seeded_limit(seed):
+    """The limit of waiting edits that belongs to a seed, of all from 1 to 32; often the least, the default or the most."""
+    rng = random.Random(f"limit {seed}")
+    return rng.choice((1, DEFAULT_LIMIT, CAPACITY, rng.randint(1, CAPACITY)))
 
 
 def seeded_script(seed, shape=None):

@@ -4,7 +4,7 @@ import random
 
 from .bodies import DROP, EMPTY, INSERT, KINDS, NEUTRAL, SHIFT, Body
 from .frames import frame_bytes
-from .queues import LANE_LIMIT, NO_LANE, QUEUE_LIMIT, Queue, contents
+from .queues import CAPACITY, LANE_LIMIT, NO_LANE, Queue, contents
 from .records import NO_RECORD, PLACES, Record, count_limit
 from .station import LARGEST_COUNT, Station
 
@@ -46,8 +46,9 @@ def random_labels(rng, n, high):
 
 
 def random_record(rng, n, station, high=False):
-    return Record(station, rng.randint(0, count_limit(n)), random_body(rng),
-                  random_labels(rng, n, high))
+    """A record's labels have two bits each, those from n up too."""
+    labels = tuple(label % 4 for label in random_labels(rng, n, high))
+    return Record(station, rng.randint(0, count_limit(n)), random_body(rng), labels)
 
 
 def random_records(rng, n, sender):
@@ -63,7 +64,7 @@ ANY_BODIES = (EMPTY, NEUTRAL, Body(DROP, 5, 0), Body(DROP, 0, 0),
 
 def any_record(rng):
     """Any record, mostly outside its limits."""
-    return Record(*rng.randbytes(2), rng.choice(ANY_BODIES), tuple(rng.randbytes(PLACES)))
+    return Record(*rng.randbytes(2), rng.choice(ANY_BODIES), tuple(rng.choices(range(4), k=PLACES)))
 
 
 def any_slots(rng, bodies, size):
@@ -87,7 +88,8 @@ def random_station(rng, n, own):
     table = [random_record(rng, n, k, high=True) if held[k] else any_record(rng) for k in range(n)]
     if rng.random() < 0.2:
         table[own] = table[own]._replace(count=rng.randint(0, LARGEST_COUNT))
-    waiting = [random_edit(rng) for _ in range(rng.choice((0, 1, 5, QUEUE_LIMIT)))]
+    limit = rng.choice((1, 8, CAPACITY, rng.randint(1, CAPACITY)))
+    waiting = [random_edit(rng) for _ in range(rng.choice((0, 1, rng.randint(0, limit), limit)))]
     rest = PLACES - n
     return Station(
         n, own,
@@ -100,7 +102,8 @@ def random_station(rng, n, own):
         table=tuple(table + [any_record(rng) for _ in range(rest)]),
         lanes=tuple([random_lane(rng, 1 if k == own else LANE_LIMIT) for k in range(n)]
                     + [any_lane(rng) for _ in range(rest)]),
-        waiting=Queue(len(waiting), any_slots(rng, waiting, QUEUE_LIMIT)))
+        waiting=Queue(len(waiting), any_slots(rng, waiting, CAPACITY)),
+        limit=limit)
 
 
 def random_group(rng, n):

@@ -4,11 +4,11 @@ from typing import NamedTuple
 
 from .bodies import EMPTY, EMPTY_KIND, Body, body_in_limits, is_edit
 from .frames import frame_bytes, frame_size, numbers_valid
-from .queues import (LANE_LIMIT, NO_LANE, NO_WAITING, OWN_LANE_LIMIT, QUEUE_LIMIT, Queue,
-                     contents, put_last)
+from .queues import (CAPACITY, DEFAULT_LIMIT, LANE_LIMIT, NO_LANE, NO_WAITING, OWN_LANE_LIMIT,
+                     Queue, contents, put_last)
 from .records import (NO_RECORD, PLACES, Record, count_limit, labels_in_limits,
                       record_in_limits)
-from .refusals import (BAD_NUMBER, BUFFER_SHORT, COUNT_TOO_LARGE, DONE, NOT_AN_EDIT,
+from .refusals import (BAD_LIMIT, BAD_NUMBER, BUFFER_SHORT, COUNT_TOO_LARGE, DONE, NOT_AN_EDIT,
                        OUTSIDE_LIMITS, QUEUE_FULL)
 
 LARGEST_COUNT = 255
@@ -26,6 +26,7 @@ class Station(NamedTuple):
     table: tuple      # Records; one that is not held is no part of the state
     lanes: tuple      # Queues of two slots
     waiting: Queue    # thirty-two slots
+    limit: int        # of the waiting edits (document 02, A2)
 
 
 # Limits.
@@ -38,8 +39,14 @@ def lane_in_limits(lane, most):
     return lane.length <= most and all(map(is_lane_body, contents(lane)))
 
 
-def waiting_in_limits(waiting):
-    return waiting.length <= QUEUE_LIMIT and all(map(is_edit, contents(waiting)))
+def limit_valid(limit):
+    return 1 <= limit <= CAPACITY
+
+
+def waiting_in_limits(waiting, limit):
+    return (limit_valid(limit)
+            and waiting.length <= limit
+            and all(map(is_edit, contents(waiting))))
 
 
 def place_in_limits(station, k):
@@ -60,7 +67,7 @@ def in_limits(station):
             and station.count <= LARGEST_COUNT
             and body_in_limits(station.body)
             and labels_in_limits(station.labels, station.n)
-            and waiting_in_limits(station.waiting)
+            and waiting_in_limits(station.waiting, station.limit)
             and all(place_in_limits(station, k) for k in range(station.n)))
 
 
@@ -76,18 +83,25 @@ def only(k, value, other):
     return tuple(value if place == k else other for place in range(PLACES))
 
 
-def fresh_state(n, own):
+def fresh_state(n, own, limit):
     labels = only(own, 1, 0)
     self_only = only(own, True, False)
     table = only(own, Record(own, 0, EMPTY, labels), NO_RECORD)
     return Station(n, own, 0, EMPTY, labels, self_only, self_only, table,
-                   (NO_LANE,) * PLACES, NO_WAITING)
+                   (NO_LANE,) * PLACES, NO_WAITING, limit)
 
 
-def fresh(n, own):
+def lone_state():
+    """What a refused fresh call answers with, whatever limit it named."""
+    return fresh_state(1, 0, DEFAULT_LIMIT)
+
+
+def fresh(n, own, limit=DEFAULT_LIMIT):
     if not numbers_valid(n, own):
-        return FreshStation(BAD_NUMBER, fresh_state(1, 0))
-    return FreshStation(DONE, fresh_state(n, own))
+        return FreshStation(BAD_NUMBER, lone_state())
+    if not limit_valid(limit):
+        return FreshStation(BAD_LIMIT, lone_state())
+    return FreshStation(DONE, fresh_state(n, own, limit))
 
 
 # Post.
@@ -98,7 +112,7 @@ class PostedStation(NamedTuple):
 
 
 def queue_full(station):
-    return station.waiting.length >= QUEUE_LIMIT
+    return station.waiting.length >= station.limit
 
 
 def append_edit(station, body):

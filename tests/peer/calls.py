@@ -16,6 +16,7 @@ GROUPS = 80
 
 
 def compare():
+    compare_fresh()
     for number, (rng, s) in enumerate(states.some_stations(STATIONS, least_n=2)):
         body = rng.choice(states.ANY_BODIES + (states.random_edit(rng),))
         buffer = rng.randbytes(rng.choice((0, 3, 100, 260, 300)))
@@ -25,6 +26,20 @@ def compare():
         agree(name, calls(s, states.ANY_BODIES[2], bytes(260), b""))
     compare_rounds()
     compare_conflicts()
+
+
+def compare_fresh():
+    """Every limit, and numbers and limits outside theirs."""
+    for n, own in ((1, 0), (3, 2), (16, 15), (0, 0), (17, 3), (3, 3)):
+        for limit in (*range(34), 255):
+            refusal, _, after = built.call("f", bytes([n, own, limit]))
+            agree(f"fresh station {own} of {n}, limit {limit}", [
+                ("answer", tuple(station.fresh(n, own, limit)), (refusal, after.station()))])
+    for n in (0, 1, 2, 16, 17):
+        for limit in (0, 1, 8, 9, 32, 33):
+            refusal, _, after = built.call("n", bytes([n, limit]))
+            agree(f"fresh group of {n}, limit {limit}", [
+                ("answer", tuple(group.fresh(n, limit)), (refusal, after.group()))])
 
 
 def calls(s, body, buffer, frame):

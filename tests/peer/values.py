@@ -5,7 +5,7 @@ import struct
 from model.bodies import Body
 from model.group import MOST_TAKINGS, Report
 from model.hearing import Taking
-from model.queues import LANE_LIMIT, QUEUE_LIMIT, Queue
+from model.queues import CAPACITY, LANE_LIMIT, Queue
 from model.records import PLACES, Record
 from model.station import Station
 
@@ -23,7 +23,7 @@ def queue_bytes(queue):
 
 
 def station_bytes(s):
-    return (bytes([s.n, s.own, s.count]) + body_bytes(s.body) + bytes(s.labels) + bytes(s.acked) + bytes(s.held)
+    return (bytes([s.n, s.own, s.limit, s.count]) + body_bytes(s.body) + bytes(s.labels) + bytes(s.acked) + bytes(s.held)
             + b"".join(map(record_bytes, s.table)) + b"".join(map(queue_bytes, s.lanes)) + queue_bytes(s.waiting))
 
 
@@ -61,12 +61,12 @@ class Reader:
         return Queue(self.number(), self.several(self.body, limit))
 
     def station(self):
-        n, own, count, body = self.number(), self.number(), self.number(), self.body()
+        n, own, limit, count, body = *self.several(self.number, 4), self.body()
         labels = tuple(self.bytes(PLACES))
         acked, held = self.several(self.flag, PLACES), self.several(self.flag, PLACES)
         table = self.several(self.record, PLACES)
         lanes = self.several(lambda: self.queue(LANE_LIMIT), PLACES)
-        return Station(n, own, count, body, labels, acked, held, table, lanes, self.queue(QUEUE_LIMIT))
+        return Station(n, own, count, body, labels, acked, held, table, lanes, self.queue(CAPACITY), limit)
 
     def group(self):
         return self.several(self.station, PLACES)

@@ -1,7 +1,7 @@
 -- Two logs of one listing of the base program never differ, and are never refused: by demand 3 one of two aired lists is a beginning of the other, and a log is
 -- its station's aired list, or empty where the script has no such station.
 use Prim.Native.Nat.{ℕ, suc, _<_}
-use mathlib.Core.Path.{sym, ap, subst, _∙_}
+use mathlib.Core.Path.{refl, sym, ap, subst, _∙_}
 use mathlib.Core.List.{List, [], _∷_, _++_, map, map-append}
 use mathlib.Core.Logic.{_⊎_, ⊎-elim}
 use native.Mathlib.Omega.{arith}
@@ -55,7 +55,7 @@ module _ (script : List ℕ) where
               | no b ↦
                   (let lp : p < size script = omega arith in
                   let lq : q < size script = omega arith in
-                  let ok = accepted (setupOf (size script)) (record { low = omega arith; high = size-most script }) in
+                  let ok = accepted (setupOf (size script)) (record { low = omega arith; high = size-most script; limited = refl }) in
                   rw (script-log script p lp, script-log script q lq)
                   (begins-agree (airedList (size script) (told script) p) (airedList (size script) (told script) q)
                   (demand-three (setupOf (size script)) ok (callsOf script) .aired-lists-agree p q lp lq)))

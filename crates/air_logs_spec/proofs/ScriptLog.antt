@@ -92,7 +92,7 @@ module _ (script : List ℕ) where
 
   begun-members : 1 ≤ size → Members size ((begun (setupOf size)) .group)
   unfolding begun
-  begun-members low = fresh-members (setupOf size) size-most low
+  begun-members low = fresh-members (setupOf size) size-most low refl
 
   begun-rounds : length ((begun (setupOf size)) .rounds) ≡ 0
   unfolding begun

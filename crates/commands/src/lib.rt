@@ -15,6 +15,9 @@ ghost use Rattle.group_rules.specs.Calls.{groupFreshCall, groupPostCall};
 ghost use Rattle.lines.specs.Lines.{Put};
 ghost use Rattle.listing_rules.specs.Listing.{AnswersPost, postedBody, setupOf, sizedBy, refusedText};
 
+// The limit of waiting edits that a listing names.
+const LISTING_LIMIT: usize = 32;
+
 // The body that a post's numbers name; Empty, which is no edit, where they name none.
 pub fn posted_body(kind: u32, event: u32, argument: i32) -> Body
     ensures { λ r. ⌜ r ≡ postedBody kind event argument ⌝ }
@@ -58,7 +61,8 @@ fn put_post(s: Session, station: usize, refusal: u32, out: &mut [u8]) -> usize
 pub fn apply_size(s: Session, n: usize) -> Applied
     ensures { λ r. ⌜ (r .session ≡ sizedBy s n (groupFreshCall (setupOf n))) × (r .len ≡ 0) ⌝ }
 {
-    let made = group::fresh(Setup { n });
+    let limit = LISTING_LIMIT;
+    let made = group::fresh_limited(Setup { n, limit });
     let group = made.group;
     let session = Session {
         n,

@@ -1,10 +1,11 @@
-// The fresh station.
+// The fresh station, and what it is given where no limit is named.
 
 ghost use mathlib.Core.Path.{_≡_};
 ghost use Prim.Native.Nat.{_<_};
-ghost use Rattle.station_rules.specs.State.{freshStation};
+ghost use Rattle.station_rules.specs.State.{sized, freshStation};
 use frame_rules::Record;
 use kinds::Body;
+use lanes::DEFAULT_LIMIT;
 use lanes::Lane;
 use station_rules::Setup;
 use station_rules::Station;
@@ -14,7 +15,7 @@ pub fn fresh_station(setup: Setup, own: usize) -> Station
     requires { ⌜ own < 16 ⌝ }
     ensures { λ r. ⌜ r ≡ freshStation setup own ⌝ }
 {
-    let waiting = lanes::none_waiting();
+    let waiting = lanes::none_waiting(setup.limit);
     let mut acked = [false; 16];
     acked[own] = true;
     let mut held = [false; 16];
@@ -51,5 +52,15 @@ pub fn fresh_station(setup: Setup, own: usize) -> Station
         held: held,
         table: table,
         lanes: lanes,
+    }
+}
+
+// What is given where no limit is named.
+pub fn sized(n: usize) -> Setup
+    ensures { λ r. ⌜ r ≡ sized n ⌝ }
+{
+    Setup {
+        n,
+        limit: DEFAULT_LIMIT,
     }
 }

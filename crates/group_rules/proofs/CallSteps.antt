@@ -12,6 +12,7 @@ use Rattle.places.proofs.Laws.{and-left, allBelow-not, anyBelow-none, anyBelow-
 use Rattle.kinds.specs.declared.Body.{Body}
 use Rattle.kinds.specs.Refusals.{done}
 use Rattle.frame_rules.specs.Frame.{validNumber}
+use Rattle.lanes.specs.Waiting.{limitInside}
 use Rattle.station_rules.specs.declared.Setup.{Setup}
 use Rattle.station_rules.specs.declared.Station.{Station}
 use Rattle.station_rules.specs.declared.Kept.{Kept}
@@ -27,14 +28,19 @@ use Rattle.group_rules.specs.Calls.{groupFreshRefusal, groupFreshCall, g
 use Rattle.group_rules.proofs.FirstRefusal.{first-none, first-hit}
 use Rattle.group_rules.proofs.Members.{member-at}
 
--- fresh: 1
+-- fresh: 1, 13
 module _ (setup : Setup) (g : List Station) where
   abbrev n : ℕ
   n = setup .n
 
-  pub fresh-done : validNumber n 0 ≡ true → g ≡ freshGroup setup → record { refusal = 0; group = g } ≡ groupFreshCall setup
+  pub fresh-done : validNumber n 0 ≡ true → limitInside (setup .limit) ≡ true → g ≡ freshGroup setup → record { refusal = 0; group = g } ≡ groupFreshCall setup
   unfolding groupFreshCall groupFreshRefusal
-  fresh-done v e = rw (and-left (leb 1 n && leb n 16) (ltb 0 n) v, e)
+  fresh-done v l e = rw (and-left (leb 1 n && leb n 16) (ltb 0 n) v, l, e)
+
+  pub fresh-unlimited :
+      validNumber n 0 ≡ true → limitInside (setup .limit) ≡ false → g ≡ freshGroup aloneSetup → record { refusal = 13; group = g } ≡ groupFreshCall setup
+  unfolding groupFreshCall groupFreshRefusal
+  fresh-unlimited v l e = rw (and-left (leb 1 n && leb n 16) (ltb 0 n) v, l, e)
 
   pub fresh-refused : validNumber n 0 ≡ false → g ≡ freshGroup aloneSetup → record { refusal = 1; group = g } ≡ groupFreshCall setup
   unfolding groupFreshCall groupFreshRefusal

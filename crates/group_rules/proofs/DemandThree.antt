@@ -53,7 +53,7 @@ module _ (setup : Setup) (accepted : groupFreshRefusal setup ≡ done) (calls : 
 
   -- the group is inside its limits after every round
   after-rounds : (u : ℕ) → Members n (groupAfter setup calls u)
-  after-rounds zero = rw (group-first setup calls) (fresh-members setup (ok .high) (ok .low))
+  after-rounds zero = rw (group-first setup calls) (fresh-members setup (ok .high) (ok .low) (ok .limited))
   after-rounds (suc u) =
       let c = ready-members u (after-rounds u) in
       rw (run-step R u) (after-members n (R .ready u) c (R .masks (suc u)) (round-runs u c))

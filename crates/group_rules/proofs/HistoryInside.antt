@@ -28,7 +28,7 @@ members-continued n H (call ∷ calls) c = members-continued n (next H call) cal
 
 pub members-begun : (setup : Setup) → Accepts setup → Members (setup .n) ((begun setup) .group)
 unfolding begun
-members-begun setup ok = fresh-members setup (ok .high) (ok .low)
+members-begun setup ok = fresh-members setup (ok .high) (ok .low) (ok .limited)
 
 module _ (setup : Setup) (ok : Accepts setup) (calls : List Call) where
   abbrev n : ℕ

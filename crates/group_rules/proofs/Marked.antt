@@ -28,7 +28,7 @@ use Rattle.station_rules.proofs.Bodies as held
 use Rattle.station_rules.proofs.Examples as station
 use Rattle.station_rules.specs.declared.Station.{Station}
 use Rattle.station_rules.specs.Calls.{posted, postCall}
-use Rattle.lanes.specs.Queue.{queueCapacity, noSlot}
+use Rattle.lanes.specs.Queue.{noSlot}
 use Rattle.lanes.specs.Waiting.{waitingCount}
 use Rattle.station_rules.specs.Hearing.{Hearing, silent}
 use Rattle.station_rules.specs.Turn.{turnReport}
@@ -122,7 +122,7 @@ module _ (b : Body) (e : postable b ≡ true) where
 
 -- of two posts to a station with room, one that may be posted and one not, the first is taken and the second gives 4
 posts :
-    (s : Station) → stationInside s ≡ true → waitingCount (s .waiting) < queueCapacity → (a b : Body) → postable a ≡ true → postable b ≡ false →
+    (s : Station) → stationInside s ≡ true → waitingCount (s .waiting) < s .waiting .limit → (a b : Body) → postable a ≡ true → postable b ≡ false →
     ((postCall s a) .refusal ≡ done) × ((postCall s b) .refusal ≡ notAnEdit)
 posts s i room a b p q = (station.taken s i a p room, station.refused s i b q)
 
@@ -161,8 +161,8 @@ marked =
           λ s event holds.
           let o = kinds.m10-outside event in
           (held.post-two s _ o holds, held.write-two s _ o holds, held.hear-two s _ o holds, held.turn-two s _ o holds);
-      m11-room = λ s b inside room e. station.m11-room s inside b e room;
-      m11 = λ s b inside full e. station.m11 s inside b e full;
+      m11-room = λ s b inside limit room e. station.m11-room s inside b e limit room;
+      m11 = λ s b inside limit full e. station.m11 s inside b e limit full;
       m12-starts = λ b masks₁ masks₂ e. starts b e masks₁ masks₂;
       m12-airs = λ b masks₁ masks₂ e. aired b e masks₁ masks₂;
     }

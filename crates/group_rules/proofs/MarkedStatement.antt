@@ -17,7 +17,7 @@ use Rattle.frame_rules.specs.Words.{wordAt, signed}
 use Rattle.frame_rules.specs.Frame.{validNumber, part, shapeWrong, addressWrong, checkRefusal, frameBytes}
 use Rattle.station_rules.specs.declared.Station.{Station}
 use Rattle.station_rules.specs.declared.TurnReport.{TurnReport}
-use Rattle.lanes.specs.Queue.{queueCapacity, noSlot}
+use Rattle.lanes.specs.Queue.{noSlot}
 use Rattle.lanes.specs.Waiting.{waitingCount}
 use Rattle.station_rules.specs.State.{aloneSetup}
 use Rattle.station_rules.specs.Limits.{stationInside}
@@ -54,11 +54,11 @@ pub record Marked : Type 0 where
   pub m8-all : (n sender : ℕ) (rs : List Record) → length rs ≡ 16 → length (frameBytes n sender rs) ≡ 260
   -- M9: a station inside its limits with room in its queue takes a shift by -90,000 and refuses -90,001
   pub m9 :
-      (s : Station) → stationInside s ≡ true → waitingCount (s .waiting) < queueCapacity → (event : ℕ) → 1 ≤ event → event ≤ 99_999_999 →
+      (s : Station) → stationInside s ≡ true → waitingCount (s .waiting) < s .waiting .limit → (event : ℕ) → 1 ≤ event → event ≤ 99_999_999 →
       ((postCall s (Shift event (negsuc 89_999))) .refusal ≡ done) × ((postCall s (Shift event (negsuc 90_000))) .refusal ≡ notAnEdit)
   -- M10, read with the numbers of request A6: it takes a start at 2,699,999 and refuses 2,700,000
   pub m10 :
-      (s : Station) → stationInside s ≡ true → waitingCount (s .waiting) < queueCapacity → (event : ℕ) → 1 ≤ event → event ≤ 99_999_999 →
+      (s : Station) → stationInside s ≡ true → waitingCount (s .waiting) < s .waiting .limit → (event : ℕ) → 1 ≤ event → event ≤ 99_999_999 →
       ((postCall s (Insert event (pos 2_699_999))) .refusal ≡ done)
       × ((postCall s (Insert event (pos 2_700_000))) .refusal ≡ notAnEdit)
   -- A6, in a frame: the check accepts a record with a start at 2,699,999; it gives 7 where any record of the frame has
@@ -76,11 +76,11 @@ pub record Marked : Type 0 where
       × ((room : ℕ) → (writeCall s room) .refusal ≡ outsideLimits)
       × ((bytes : List ℕ) → (hearCall s bytes) .refusal ≡ outsideLimits)
       × ((turnCall s) .refusal ≡ outsideLimits)
-  -- M11: as long as fewer than 32 wait, an edit is accepted and waits; where 32 wait, one more is refused
+  -- M11, where the limit is 32: as long as fewer than 32 wait, an edit is accepted and waits; where 32 wait, one more is refused
   pub m11-room :
-      (s : Station) (b : Body) → stationInside s ≡ true → waitingCount (s .waiting) < queueCapacity → postable b ≡ true →
+      (s : Station) (b : Body) → stationInside s ≡ true → s .waiting .limit ≡ 32 → waitingCount (s .waiting) < 32 → postable b ≡ true →
       ((postCall s b) .refusal ≡ done) × (waitingCount (((postCall s b) .station) .waiting) ≡ waitingCount (s .waiting) + 1)
-  pub m11 : (s : Station) (b : Body) → stationInside s ≡ true → waitingCount (s .waiting) ≡ queueCapacity → postable b ≡ true → (postCall s b) .refusal ≡ queueFull
+  pub m11 : (s : Station) (b : Body) → stationInside s ≡ true → s .waiting .limit ≡ 32 → waitingCount (s .waiting) ≡ 32 → postable b ≡ true → (postCall s b) .refusal ≡ queueFull
   -- M12: one edit at a station alone: in round 1 it starts where Empty ends; in round 2 it is aired and ends, and Neutral starts
   pub m12-starts :
       (b : Body) (masks₁ masks₂ : List ℕ) → postable b ≡ true →

@@ -11,6 +11,7 @@ use borrow.Author.Tests.{eqb-true, eq-eqb}
 use Rattle.places.specs.Places.{allBelow}
 use Rattle.places.proofs.Laws.{and-both, and-left, and-right, allBelow-at, allBelow-make, length-fill, fill-below}
 use Rattle.places.proofs.Keeps.{fill-keeps}
+use Rattle.lanes.specs.Waiting.{limitInside}
 use Rattle.station_rules.specs.declared.Setup.{Setup}
 use Rattle.station_rules.specs.declared.Station.{Station}
 use Rattle.station_rules.specs.State.{aloneSetup, freshStation}
@@ -102,8 +103,8 @@ module _ (setup : Setup) (high : setup .n ≤ 16) where
             (rw (getD-replicate 16 k (freshStation aloneSetup 0) noStation l) (fresh-shaped aloneSetup 0)) (λ j m. fresh-shaped setup j);
       }
 
-  pub fresh-members : 1 ≤ n → Members n (freshGroup setup)
-  fresh-members low =
+  pub fresh-members : 1 ≤ n → limitInside (setup .limit) ≡ true → Members n (freshGroup setup)
+  fresh-members low limited =
       record {
         low = low;
         high = high;
@@ -111,11 +112,11 @@ module _ (setup : Setup) (high : setup .n ≤ 16) where
         shape = fresh-shape;
         member =
             λ k l. record {
-              inside = rw (fresh-at k l) (fresh-holds setup k high l);
+              inside = rw (fresh-at k l) (fresh-holds setup k high l limited);
               size = rw (fresh-at k l) (fresh-self setup k .n);
               own = rw (fresh-at k l) (fresh-self setup k .own);
             };
       }
 
 pub fresh-inside : (setup : Setup) → Accepts setup → groupInside (freshGroup setup) ≡ true
-fresh-inside setup ok = members-inside (setup .n) (freshGroup setup) (fresh-members setup (ok .high) (ok .low))
+fresh-inside setup ok = members-inside (setup .n) (freshGroup setup) (fresh-members setup (ok .high) (ok .low) (ok .limited))

@@ -22,8 +22,8 @@ use Rattle.station_rules.specs.State.{Cell, laneAt, freshStation}
 use Rattle.station_rules.specs.Hearing.{silent}
 use Rattle.station_rules.specs.Turn.{airs, rowOf, startedBody, turnReport, afterTurn}
 use Rattle.lanes.specs.Queue.{noSlot}
-use Rattle.lanes.specs.Waiting.{waitingEdits, waitingCount, hasRoom}
-use Rattle.lanes.proofs.WaitingLaws.{WaitingSized, none-edits, edits-count, posted-edits}
+use Rattle.lanes.specs.Waiting.{waitingEdits, waitingCount, hasRoom, waitingInside}
+use Rattle.lanes.proofs.WaitingLaws.{WaitingSized, none-edits, edits-count, posted-edits, room-most}
 use Rattle.station_rules.specs.Calls.{posted, noTurn}
 use Rattle.station_rules.proofs.Setters.{fresh-self, fresh-own}
 use Rattle.station_rules.proofs.LimitsHearing.{Hears}
@@ -62,10 +62,10 @@ ownEdits g p = onlyEdits (bodies (laneAt (stationAt g p) p))
 -- a post
 
 posted-waits :
-    (s : Station) (b : Body) → WaitingSized (s .waiting) → hasRoom (s .waiting) ≡ true →
+    (s : Station) (b : Body) → WaitingSized (s .waiting) → waitingInside (s .waiting) ≡ true → hasRoom (s .waiting) ≡ true →
     waitingEdits ((posted s b) .waiting) ≡ waitingEdits (s .waiting) ++ (b ∷ [])
 unfolding posted
-posted-waits s b c l = posted-edits (s .waiting) b c l
+posted-waits s b c i l = posted-edits (s .waiting) b c (room-most (s .waiting) i l)
 
 -- the posts that a call adds to the accepted ones
 abbrev accepts : List Station → Post → List Post
@@ -90,7 +90,7 @@ module _ (n : ℕ) (g : List Station) (c : Members n g) (x : Post) (p : ℕ) whe
             | yes same ↦
                 subst (λ (j : ℕ). waits (afterPost g x) j ≡ waits g j ++ postsAt j (x ∷ [])) (sym same)
                 (ap (λ (s : Station). waitingEdits (s .waiting)) (posted-at n g c x below)
-                ∙ posted-waits (stationAt g k) (x .body) sized (made .room)
+                ∙ posted-waits (stationAt g k) (x .body) sized (c .member k below .inside .waiting) (made .room)
                 ∙ ap (λ (l : List Body). waits g k ++ l) (sym (post-here x)))
             | no ne ↦
                 ap (λ (s : Station). waitingEdits (s .waiting)) (posted-other n g c x below p ne)
@@ -340,7 +340,7 @@ kept-continued n H [] c = c
 kept-continued n H (call ∷ calls) c = kept-continued n (next H call) calls (kept-next n H call c)
 
 fresh-waits : (setup : Setup) (p : ℕ) → waitingEdits (freshStation setup p .waiting) ≡ []
-fresh-waits setup p = ap waitingEdits (fresh-self setup p .waiting) ∙ none-edits
+fresh-waits setup p = ap waitingEdits (fresh-self setup p .waiting) ∙ none-edits (setup .limit)
 
 fresh-lane : (setup : Setup) (p : ℕ) → p < 16 → onlyEdits (bodies (laneAt (freshStation setup p) p)) ≡ []
 unfolding bodies onlyEdits

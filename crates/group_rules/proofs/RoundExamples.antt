@@ -10,13 +10,13 @@ use Rattle.kinds.specs.declared.Body.the-variants.{Neutral, Drop}
 use Rattle.kinds.specs.Refusals.{done, laneFull, conflict}
 use Rattle.label_words.specs.Packing.{packed}
 use Rattle.station_rules.specs.declared.Station.{Station}
-use Rattle.station_rules.specs.State.{cellOf, withCell}
+use Rattle.station_rules.specs.State.{sized, cellOf, withCell}
 use Rattle.group_rules.specs.State.{stationAt, groupInside, freshGroup}
 use Rattle.group_rules.specs.Calls.{roundRefusal, roundCall}
 use Rattle.group_rules.proofs.Computing.{groupRuns}
 
 abbrev fresh : List Station
-fresh = freshGroup (record { n = 3 })
+fresh = freshGroup (sized 3)
 
 -- station i with a record of station k in its table, whose labels are these
 abbrev with-record : List Station → ℕ → ℕ → ℕ → Body → List ℕ → List Station

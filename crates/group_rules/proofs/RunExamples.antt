@@ -16,7 +16,7 @@ seven = Insert 7 (pos 100)
 
 -- the calls of document 01's example
 unfoldable pub listing : History
-listing = historyOf (record { n = 2 }) (post (record { station = 0; body = seven }) ∷ replicate 3 (round (2 ∷ 1 ∷ [])))
+listing = historyOf (record { n = 2; limit = 32 }) (post (record { station = 0; body = seven }) ∷ replicate 3 (round (2 ∷ 1 ∷ [])))
 
 -- stations 0 and 2 hear station 1 only, and it hears both
 abbrev pub chain : History

@@ -9,6 +9,7 @@ use Rattle.kinds.specs.declared.Body.the-variants.{Empty, Neutral, Drop}
 use Rattle.places.specs.Places.{gather, tabulate}
 use Rattle.station_rules.specs.declared.Taking.{Taking}
 use Rattle.group_rules.specs.declared.Report.{Report}
+use Rattle.station_rules.specs.State.{sized}
 use Rattle.group_rules.specs.History.{History, Call.post, Call.round, historyOf, noRound, reportIn, unlessEmpty, editsOf, airedList}
 
 -- a line of the listing: a body taken, aired or ended, with its source
@@ -37,7 +38,7 @@ edits n = tabulate n (λ k. record { source = k; body = edit k })
 
 -- one edit posted at each of n stations, and then rounds in which they hear by the same masks
 unfoldable pub run : ℕ → ℕ → List ℕ → History
-run n rounds masks = historyOf (record { n = n }) (tabulate n (λ k. post (record { station = k; body = edit k })) ++ replicate rounds (round masks))
+run n rounds masks = historyOf (sized n) (tabulate n (λ k. post (record { station = k; body = edit k })) ++ replicate rounds (round masks))
 
 -- what is read off a run in which everyone hears everyone: the lines of rounds 2 to 4 and what is aired, station by station. One value, so that a run
 -- is computed once

@@ -4,9 +4,10 @@ use mathlib.Core.Bool.{cond, not, _&&_}
 use mathlib.Core.List.{List, _++_}
 use lib.ListN.{set, replicate, length}
 use lib.Dec.{leb, ltb, eqb}
-use Rattle.kinds.specs.Refusals.{done, badNumber, outsideLimits, countTooHigh, refuse}
+use Rattle.kinds.specs.Refusals.{done, badNumber, badLimit, outsideLimits, countTooHigh, refuse}
 use Rattle.links.specs.Log.{hearsIn}
 use Rattle.places.specs.Places.{anyBelow, fill}
+use Rattle.lanes.specs.Waiting.{limitInside}
 use Rattle.station_rules.specs.declared.Setup.{Setup}
 use Rattle.station_rules.specs.declared.Station.{Station}
 use Rattle.station_rules.specs.State.{sentRecords, aloneSetup}
@@ -20,9 +21,11 @@ use Rattle.group_rules.specs.declared.KeptGroup.{KeptGroup}
 use Rattle.group_rules.specs.declared.RoundDone.{RoundDone}
 use Rattle.group_rules.specs.State.{stationAt, sizeOf, groupInside, freshGroup}
 
--- group fresh: 1
+-- group fresh: 1, 13
 unfoldable pub groupFreshRefusal : Setup → ℕ
-groupFreshRefusal setup = refuse (not (leb 1 (setup .n) && leb (setup .n) 16)) badNumber done
+groupFreshRefusal setup =
+    refuse (not (leb 1 (setup .n) && leb (setup .n) 16)) badNumber
+    (refuse (not (limitInside (setup .limit))) badLimit done)
 
 -- a refused call returns the fresh group of N = 1
 unfoldable pub groupFreshCall : Setup → KeptGroup

@@ -53,6 +53,10 @@ malformedLine = 11
 abbrev pub badLinkLog : ℕ
 badLinkLog = 12
 
+-- a limit of waiting edits is not 1 to 32 (document 02, A2)
+abbrev pub badLimit : ℕ
+badLimit = 13
+
 -- a record of another station conflicts with the one held of it (document 02, A4)
 abbrev pub conflict : ℕ
 conflict = 14

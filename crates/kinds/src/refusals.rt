@@ -26,6 +26,8 @@ pub const MALFORMED_LINE: u32 = 11;
 
 pub const BAD_LINK_LOG: u32 = 12;
 
+pub const BAD_LIMIT: u32 = 13;
+
 pub const CONFLICT: u32 = 14;
 
 pub const BAD_LISTING: u32 = 16;

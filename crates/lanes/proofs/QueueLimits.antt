@@ -21,18 +21,18 @@ use Rattle.lanes.proofs.QueueLaws.{unqueued-at}
 abbrev slotBody : Queue → ℕ → Body
 slotBody q i = (getD (q .slots) i noSlot) .body
 
-pub queue-most : (q : Queue) → queueInside q ≡ true → q .len ≤ queueCapacity
+pub queue-most : (limit : ℕ) (q : Queue) → queueInside limit q ≡ true → q .len ≤ limit
 unfolding queueInside
-queue-most q h = leb-true (q .len) queueCapacity (and-left (leb (q .len) queueCapacity) (allBelow (q .len) (λ i. postable (slotBody q i))) h)
+queue-most limit q h = leb-true (q .len) limit (and-left (leb (q .len) limit) (allBelow (q .len) (λ i. postable (slotBody q i))) h)
 
-pub queue-postable : (q : Queue) → queueInside q ≡ true → (i : ℕ) → i < q .len → postable (slotBody q i) ≡ true
+pub queue-postable : (limit : ℕ) (q : Queue) → queueInside limit q ≡ true → (i : ℕ) → i < q .len → postable (slotBody q i) ≡ true
 unfolding queueInside
-queue-postable q h =
-    allBelow-at (q .len) (λ i. postable (slotBody q i)) (and-right (leb (q .len) queueCapacity) (allBelow (q .len) (λ i. postable (slotBody q i))) h)
+queue-postable limit q h =
+    allBelow-at (q .len) (λ i. postable (slotBody q i)) (and-right (leb (q .len) limit) (allBelow (q .len) (λ i. postable (slotBody q i))) h)
 
-pub queue-make : (q : Queue) → q .len ≤ queueCapacity → ((i : ℕ) → i < q .len → postable (slotBody q i) ≡ true) → queueInside q ≡ true
+pub queue-make : (limit : ℕ) (q : Queue) → q .len ≤ limit → ((i : ℕ) → i < q .len → postable (slotBody q i) ≡ true) → queueInside limit q ≡ true
 unfolding queueInside
-queue-make q l h = and-both (le-leb (q .len) queueCapacity l) (allBelow-make (q .len) (λ i. postable (slotBody q i)) h)
+queue-make limit q l h = and-both (le-leb (q .len) limit l) (allBelow-make (q .len) (λ i. postable (slotBody q i)) h)
 
 pub queued-len : (q : Queue) (b : Body) → (queued q b) .len ≡ suc (q .len)
 unfolding queued
@@ -53,23 +53,25 @@ queued-before q b i l =
     (getD-set-other (q .slots) (q .len) i (record { body = b }) noSlot (λ e. absurd (omega arith)))
 
 pub queued-inside :
-    (q : Queue) (b : Body) → length (q .slots) ≡ queueCapacity → queueInside q ≡ true → q .len < queueCapacity → postable b ≡ true → queueInside (queued q b) ≡ true
-queued-inside q b shape h l e = queue-make (queued q b) (omega (arith, queued-len q b)) each
+    (limit : ℕ) (q : Queue) (b : Body) → length (q .slots) ≡ queueCapacity → limit ≤ queueCapacity → queueInside limit q ≡ true → q .len < limit → postable b ≡ true →
+    queueInside limit (queued q b) ≡ true
+queued-inside limit q b shape high h l e = queue-make limit (queued q b) (omega (arith, queued-len q b)) each
   where
     each : (i : ℕ) → i < (queued q b) .len → postable (slotBody (queued q b) i) ≡ true
     each i m =
         elim (ℕ-discrete i (q .len)) [
           | yes same ↦ rw (same, queued-last q b (omega arith)) e
-          | no ne ↦ rw (queued-before q b i (omega (arith, queued-len q b))) (queue-postable q h i (omega (arith, queued-len q b)))
+          | no ne ↦ rw (queued-before q b i (omega (arith, queued-len q b))) (queue-postable limit q h i (omega (arith, queued-len q b)))
         ]
 
-pub unqueued-inside : (q : Queue) → length (q .slots) ≡ queueCapacity → queueInside q ≡ true → queueInside (unqueued q) ≡ true
-unqueued-inside q shape h =
-    let most : q .len ≤ queueCapacity = queue-most q h in
+pub unqueued-inside :
+    (limit : ℕ) (q : Queue) → length (q .slots) ≡ queueCapacity → limit ≤ queueCapacity → queueInside limit q ≡ true → queueInside limit (unqueued q) ≡ true
+unqueued-inside limit q shape high h =
+    let most : q .len ≤ limit = queue-most limit q h in
     let len : (unqueued q) .len ≡ q .len - 1 = unqueued-len q in
-    queue-make (unqueued q) (omega arith)
-    (λ i m. ap (λ (x : Slot). postable (x .body)) (unqueued-at q i (omega arith) (omega arith)) ∙ queue-postable q h (suc i) (omega arith))
+    queue-make limit (unqueued q) (omega arith)
+    (λ i m. ap (λ (x : Slot). postable (x .body)) (unqueued-at q i (omega arith) (omega arith)) ∙ queue-postable limit q h (suc i) (omega arith))
 
-pub oldest-postable : (q : Queue) → queueInside q ≡ true → 0 < q .len → postable (oldest q) ≡ true
+pub oldest-postable : (limit : ℕ) (q : Queue) → queueInside limit q ≡ true → 0 < q .len → postable (oldest q) ≡ true
 unfolding oldest
-oldest-postable q h l = queue-postable q h 0 l
+oldest-postable limit q h l = queue-postable limit q h 0 l

@@ -8,4 +8,4 @@ use Rattle.lanes.proofs.Waiting as Declared
 use Rattle.lanes.proofs.WaitingLaws.{WaitingSized}
 
 pub owned-sized : (w : Waiting) (vs : List Val) → shadow (Declared.the-field .row .own (Declared.the-type .to w) vs) → WaitingSized w
-owned-sized w vs h = record { slots = simp length-map at (h .1 .1 .0 .1 .1 .1 .0 .1 .0 .1) }
+owned-sized w vs h = record { slots = simp length-map at (h .1 .1 .1 .0 .1 .1 .1 .0 .1 .0 .1) }

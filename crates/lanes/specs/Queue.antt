@@ -38,6 +38,6 @@ oldest q = (getD (q .slots) 0 noSlot) .body
 unfoldable pub unqueued : Queue → Queue
 unqueued q = record { len = q .len - 1; slots = take (q .len - 1) (drop 1 (q .slots)) ++ (noSlot ∷ drop (q .len) (q .slots)) }
 
--- no more than there is room for, and each may be posted
-unfoldable pub queueInside : Queue → Bool
-queueInside q = leb (q .len) queueCapacity && allBelow (q .len) (λ i. postable ((getD (q .slots) i noSlot) .body))
+-- no more than a limit, and each may be posted
+unfoldable pub queueInside : ℕ → Queue → Bool
+queueInside limit q = leb (q .len) limit && allBelow (q .len) (λ i. postable ((getD (q .slots) i noSlot) .body))

@@ -20,8 +20,11 @@ pub struct Lane {
     pub second: Body,
 }
 
-// How many edits a queue has room for.
+// How many edits a queue has room for, whatever its limit.
 pub const QUEUE_CAPACITY: usize = 32;
+
+// How many edits may wait where no limit is named.
+pub const DEFAULT_LIMIT: usize = 8;
 
 // Edits in the order posted, oldest first.
 pub struct Queue {
@@ -29,8 +32,9 @@ pub struct Queue {
     pub slots: [Slot; QUEUE_CAPACITY],
 }
 
-// The edits of a station that wait to start.
+// The edits of a station that wait to start, and how many may wait: the station's limit.
 pub struct Waiting {
+    pub limit: usize,
     pub queue: Queue,
 }
 
@@ -115,12 +119,13 @@ fn unqueued(queue: Queue) -> Queue
     }
 }
 
-// May each body of the queue be posted, and are there no more than it has room for?
-fn queue_inside(queue: Queue) -> bool
-    ensures { λ r. ⌜ r ≡ queueSpec.queueInside queue ⌝ }
+// Are there no more bodies in the queue than a limit, which it has room for, and may each be posted?
+fn queue_inside(queue: Queue, limit: usize) -> bool
+    requires { ⌜ limit ≤ queueSpec.queueCapacity ⌝ }
+    ensures { λ r. ⌜ r ≡ queueSpec.queueInside limit queue ⌝ }
 {
     let len = queue.len;
-    if QUEUE_CAPACITY < len {
+    if limit < len {
         return false;
     }
     let mut i: usize = 0;
@@ -135,12 +140,15 @@ fn queue_inside(queue: Queue) -> bool
     true
 }
 
-// No edit waits.
-pub fn none_waiting() -> Waiting
-    ensures { λ r. ⌜ r ≡ waitingSpec.noneWaiting ⌝ }
+// No edit waits, and so many may.
+pub fn none_waiting(limit: usize) -> Waiting
+    ensures { λ r. ⌜ r ≡ waitingSpec.noneWaiting limit ⌝ }
 {
     let queue = empty_queue();
-    Waiting { queue: queue }
+    Waiting {
+        limit: limit,
+        queue: queue,
+    }
 }
 
 // How many edits wait.
@@ -151,22 +159,35 @@ pub fn waiting_count(waiting: Waiting) -> usize
     queue.len
 }
 
+// Can this be a limit: 1 to 32?
+pub fn limit_inside(limit: usize) -> bool
+    ensures { λ r. ⌜ r ≡ waitingSpec.limitInside limit ⌝ }
+{
+    if limit < 1 {
+        return false;
+    }
+    limit <= QUEUE_CAPACITY
+}
+
 // Is there room for one more edit?
 pub fn has_room(waiting: Waiting) -> bool
     ensures { λ r. ⌜ r ≡ waitingSpec.hasRoom waiting ⌝ }
 {
     let queue = waiting.queue;
-    queue.len < QUEUE_CAPACITY
+    queue.len < waiting.limit
 }
 
 // The waiting edits once one more is posted.
 pub fn with_posted(waiting: Waiting, body: Body) -> Waiting
-    requires { ⌜ waitingSpec.hasRoom waiting ≡ true ⌝ }
+    requires { ⌜ waitingSpec.waitingCount waiting < queueSpec.queueCapacity ⌝ }
     ensures { λ r. ⌜ r ≡ waitingSpec.withPosted waiting body ⌝ }
 {
     let queue = waiting.queue;
     let longer = queued(queue, body);
-    Waiting { queue: longer }
+    Waiting {
+        limit: waiting.limit,
+        queue: longer,
+    }
 }
 
 // The edit that starts next.
@@ -179,18 +200,25 @@ pub fn next_edit(waiting: Waiting) -> Body
 
 // The waiting edits once the next one has started.
 pub fn without_next(waiting: Waiting) -> Waiting
-    requires { ⌜ (0 < waitingSpec.waitingCount waiting) × (waitingSpec.waitingInside waiting ≡ true) ⌝ }
+    requires { ⌜ (0 < waitingSpec.waitingCount waiting) × (waitingSpec.waitingCount waiting ≤ queueSpec.queueCapacity) ⌝ }
     ensures { λ r. ⌜ r ≡ waitingSpec.withoutNext waiting ⌝ }
 {
     let queue = waiting.queue;
     let shorter = unqueued(queue);
-    Waiting { queue: shorter }
+    Waiting {
+        limit: waiting.limit,
+        queue: shorter,
+    }
 }
 
 // Are the waiting edits inside their limits?
 pub fn waiting_inside(waiting: Waiting) -> bool
     ensures { λ r. ⌜ r ≡ waitingSpec.waitingInside waiting ⌝ }
 {
+    let limit = waiting.limit;
+    if !limit_inside(limit) {
+        return false;
+    }
     let queue = waiting.queue;
-    queue_inside(queue)
+    queue_inside(queue, limit)
 }

@@ -5,7 +5,6 @@ use kinds::refusals::MALFORMED_LINE;
 use lines::REFUSED;
 use listing_rules::Applied;
 use listing_rules::Session;
-use station_rules::Setup;
 ghost use mathlib.Core.Path.{_≡_};
 ghost use mathlib.Core.Bool.{_&&_, _||_};
 ghost use mathlib.Core.List.{_++_};
@@ -22,7 +21,7 @@ const MALFORMED: usize = MALFORMED_LINE as usize;
 pub fn begin() -> Session
     ensures { λ r. ⌜ r ≡ sessionBegun ⌝ }
 {
-    let made = group::fresh(Setup { n: 1 });
+    let made = group::fresh(1);
     let group = made.group;
     Session {
         n: 0,

@@ -1,7 +1,7 @@
 -- Document 01's example: the definition gives its listing, line by line. What bytes a line has is said by Lines.
 use mathlib.Core.Path.{_≡_, refl}
 use mathlib.Core.List.{List, [], _∷_, _++_}
-use Prim.Native.Nat.{ℕ}
+use Prim.Native.Nat.{ℕ, zero, suc}
 use lib.IntN.{pos}
 use Rattle.kinds.specs.declared.Body.the-variants.{Empty, Neutral, Insert}
 use Rattle.column_writer.specs.Writing.{natColumns}
@@ -46,3 +46,23 @@ empty = refl
 pub stops : listingOf (88 ∷ 10 ∷ script) ≡ lineBytes 0 turnedDown 0 11 Empty ++ endLine
 unfolding listingRuns
 stops = refl
+
+-- a script of one station, and a line that posts an edit there
+abbrev alone : List ℕ
+alone = 78 ∷ natColumns 9 1 ++ (10 ∷ [])
+
+abbrev postLine : List ℕ
+postLine = 80 ∷ natColumns 9 0 ++ natColumns 9 3 ++ natColumns 9 7 ++ natColumns 9 0 ++ (10 ∷ [])
+
+unfoldable pub posts : ℕ → List ℕ
+posts zero = []
+posts (suc k) = postLine ++ posts k
+
+-- the listing's limit is 32: of 33 posts before the first round the last alone is refused
+pub thirty-two : listingOf (alone ++ posts 32) ≡ endLine
+unfolding listingRuns posts
+thirty-two = refl
+
+pub thirty-three : listingOf (alone ++ posts 33) ≡ lineBytes 0 turnedDown 0 3 Empty ++ endLine
+unfolding listingRuns posts
+thirty-three = refl

@@ -178,7 +178,7 @@ lines-do (line l ls) s H low c =
 -- the `N` line makes the fresh group
 fresh-group : (n : ℕ) → 1 ≤ n → n ≤ 16 → (groupFreshCall (setupOf n)) .group ≡ (begun (setupOf n)) .group
 unfolding groupFreshCall begun
-fresh-group n low high = rw (accepted (setupOf n) (record { low = low; high = high }))
+fresh-group n low high = rw (accepted (setupOf n) (record { low = low; high = high; limited = refl }))
 
 sized-stands : (n : ℕ) → 1 ≤ n → n ≤ 16 → Stands (sizedBy listing.sessionBegun n (groupFreshCall (setupOf n))) (begun (setupOf n))
 unfolding sizedBy listing.sessionBegun

@@ -30,9 +30,13 @@ use Rattle.round_lines.specs.Reports.{roundText}
 unfoldable pub sessionBegun : Session
 sessionBegun = record { n = 0; rounds = 0; stopped = false; group = freshGroup aloneSetup }
 
+-- the limit that a listing names (document 02, A2): the largest, with which document 01's listings are read
+abbrev pub listingLimit : ℕ
+listingLimit = 32
+
 -- what an `N` line gives the fresh group
 abbrev pub setupOf : ℕ → Setup
-setupOf n = record { n = n }
+setupOf n = record { n = n; limit = listingLimit }
 
 -- the body that a post's numbers name; numbers that no body has are posted as Empty, which is no edit
 unfoldable pub postedBody : ℕ → ℕ → ℤ → Body

@@ -232,7 +232,7 @@ module _ (n : ℕ) (low : 1 ≤ n) (high : n ≤ 16) where
   unfolding obeyed sizedBy groupFreshCall groupFreshRefusal sessionBegun
   size-after =
       rw (obeys sessionBegun (sizeLine n) (Size n) refl said-size, le-leb 1 n low, le-leb n 16 high)
-      (record { size = refl; rounds = refl; reading = refl; members = fresh-members (setupOf n) high low })
+      (record { size = refl; rounds = refl; reading = refl; members = fresh-members (setupOf n) high low refl })
 
 -- what goes through all lines goes through the text of them
 goes-through : {s t : Session} {ls : List (List ℕ)} → Goes s ls t → t .stopped ≡ false → restText t 0 ≡ [] → Through s (allLines ls) t

@@ -6,9 +6,9 @@ use mathlib.Core.Path.{_≡_, refl}
 use Prim.Native.Nat.{ℕ}
 use lib.ListN.{getD}
 use Rattle.places.specs.Places.{tabulate}
+use Rattle.station_rules.specs.State.{sized}
 use Rattle.group_rules.specs.History.{History, Call, Call.round, historyOf, noRound, reportIn}
 use Rattle.group_rules.proofs.Computing.{groupRuns}
-use Rattle.planning_runs.specs.Runs.{sized}
 
 -- in which of the first eight rounds station p airs a row
 unfoldable pub airsIn : History → ℕ → List Bool

@@ -1,4 +1,4 @@
--- The forecast agrees with the group's rounds from fresh, for every list of posts and rounds: through demand 3 alone, which knows no bound on the rounds. For
+-- The forecast agrees with the group's rounds from fresh, for every setup that fresh accepts and every list of posts and rounds: through demand 3 alone, which knows no bound on the rounds. For
 -- every log of whole rounds there are such lists: its rounds with no post among them is one.
 use mathlib.Core.List.{List, [], _∷_, _++_, append-nil, append-assoc}
 use mathlib.Core.Path.{_≡_, refl, sym, ap, _∙_}
@@ -12,47 +12,52 @@ use Rattle.links.specs.Relay.{ofLog}
 use Rattle.links.specs.Forecast.{endCount, lastEnd}
 use Rattle.links.proofs.Forecast.{endCount-same, lastEnd-same}
 use Rattle.links.proofs.Log.{cut-mask, cut-length}
-use Rattle.group_rules.specs.Calls.{roundCall}
+use Rattle.station_rules.specs.declared.Setup.{Setup}
+use Rattle.group_rules.specs.Calls.{groupFreshRefusal, roundCall}
 use Rattle.group_rules.specs.History.{History, Call, Call.round, next, begun, continued, historyOf}
+use Rattle.group_rules.proofs.Setups.{accepts}
 use Rattle.group_rules.proofs.DemandThree.{demand-three}
 use Rattle.planning_spec.specs.LinkLog.{roundsOf, linksOf, logRefusal}
 use Rattle.planning_spec.specs.Forecast.{forecastCall}
-use Rattle.planning_spec.proofs.LinkLog.{accepted}
 use Rattle.planning_spec.proofs.Forecast.{forecast-done, perStation-below}
-use Rattle.planning_runs.specs.Runs.{sized, endsReported, lastReported, RoundsHave}
-use Rattle.planning_runs.proofs.Reported.{group-taken, reported-count, reported-last, rounds-same, rounds-number, masks-at}
+use Rattle.planning_runs.specs.Runs.{endsReported, lastReported, RoundsHave}
+use Rattle.planning_runs.proofs.Reported.{reported-count, reported-last, rounds-same, rounds-number, masks-at}
 
 -- For every log, however long: the ends that the rounds report are those that its links bring, in number and last round.
-pub runs-ends : (n : ℕ) → 1 ≤ n → n ≤ 16 → (calls : List Call) (log : List ℕ) → RoundsHave n (historyOf (sized n) calls) log
-    → (s : ℕ) → s < n
-    → (endsReported (historyOf (sized n) calls) s (length (historyOf (sized n) calls .rounds)) ≡ endCount (linksOf n log) (roundsOf n log) s)
-    × (lastReported (historyOf (sized n) calls) s (length (historyOf (sized n) calls .rounds)) ≡ lastEnd (linksOf n log) (roundsOf n log) s)
-runs-ends n low high calls log has s ls =
-    let H = historyOf (sized n) calls in
-    let e : roundsOf n log ≡ length (H .rounds) = rounds-number n low H log has in
-    let same = rounds-same n low H log has in
-    let u = roundsOf n log in
-    let l : roundsOf n log ≤ length (H .rounds) = omega (arith, e) in (
-      ap (λ (v : ℕ). endsReported H s v) (sym e)
-          ∙ reported-count n H (demand-three (sized n) (group-taken n low high) calls) s ls u l
-          ∙ endCount-same (ofLog n (H .log)) (linksOf n log) u same u s (le-refl u),
-      ap (λ (v : ℕ). lastReported H s v) (sym e)
-          ∙ reported-last n H (demand-three (sized n) (group-taken n low high) calls) s ls u l
-          ∙ lastEnd-same (ofLog n (H .log)) (linksOf n log) u same u s (le-refl u),
-    )
+module _ (setup : Setup) (fresh : groupFreshRefusal setup ≡ done) where
+  abbrev n : ℕ
+  n = setup .n
 
--- And so the forecast's, where the call is not refused.
-pub runs-forecast : (n : ℕ) (calls : List Call) (log : List ℕ) → RoundsHave n (historyOf (sized n) calls) log
-    → logRefusal n (length log) ≡ done → (s : ℕ) → s < n
-    → (endsReported (historyOf (sized n) calls) s (length (historyOf (sized n) calls .rounds)) ≡ getD (forecastCall n log .ends) s 0)
-    × (lastReported (historyOf (sized n) calls) s (length (historyOf (sized n) calls .rounds)) ≡ getD (forecastCall n log .last) s 0)
-runs-forecast n calls log has e s ls =
-    let a = accepted n (length log) e in
-    let r = runs-ends n (a .some) (a .few) calls log has s ls in
-    rw (forecast-done n log e) (
-      r .0 ∙ sym (perStation-below n (λ t. endCount (linksOf n log) (roundsOf n log) t) s (a .few) ls),
-      r .1 ∙ sym (perStation-below n (λ t. lastEnd (linksOf n log) (roundsOf n log) t) s (a .few) ls),
-    )
+  pub runs-ends : (calls : List Call) (log : List ℕ) → RoundsHave n (historyOf setup calls) log → (s : ℕ) → s < n
+      → (endsReported (historyOf setup calls) s (length (historyOf setup calls .rounds)) ≡ endCount (linksOf n log) (roundsOf n log) s)
+      × (lastReported (historyOf setup calls) s (length (historyOf setup calls .rounds)) ≡ lastEnd (linksOf n log) (roundsOf n log) s)
+  runs-ends calls log has s ls =
+      let H = historyOf setup calls in
+      let low : 1 ≤ n = accepts setup fresh .low in
+      let e : roundsOf n log ≡ length (H .rounds) = rounds-number n low H log has in
+      let same = rounds-same n low H log has in
+      let u = roundsOf n log in
+      let l : roundsOf n log ≤ length (H .rounds) = omega (arith, e) in (
+        ap (λ (v : ℕ). endsReported H s v) (sym e)
+            ∙ reported-count n H (demand-three setup fresh calls) s ls u l
+            ∙ endCount-same (ofLog n (H .log)) (linksOf n log) u same u s (le-refl u),
+        ap (λ (v : ℕ). lastReported H s v) (sym e)
+            ∙ reported-last n H (demand-three setup fresh calls) s ls u l
+            ∙ lastEnd-same (ofLog n (H .log)) (linksOf n log) u same u s (le-refl u),
+      )
+
+  -- And so the forecast's, where the call is not refused.
+  pub runs-forecast : (calls : List Call) (log : List ℕ) → RoundsHave n (historyOf setup calls) log
+      → logRefusal n (length log) ≡ done → (s : ℕ) → s < n
+      → (endsReported (historyOf setup calls) s (length (historyOf setup calls .rounds)) ≡ getD (forecastCall n log .ends) s 0)
+      × (lastReported (historyOf setup calls) s (length (historyOf setup calls .rounds)) ≡ getD (forecastCall n log .last) s 0)
+  runs-forecast calls log has e s ls =
+      let high : n ≤ 16 = accepts setup fresh .high in
+      let r = runs-ends calls log has s ls in
+      rw (forecast-done n log e) (
+        r .0 ∙ sym (perStation-below n (λ t. endCount (linksOf n log) (roundsOf n log) t) s high ls),
+        r .1 ∙ sym (perStation-below n (λ t. lastEnd (linksOf n log) (roundsOf n log) t) s high ls),
+      )
 
 -- The rounds of a log, with no post.
 pub roundsOnly : List (List ℕ) → List Call
@@ -71,17 +76,18 @@ continued-rounds H (masks ∷ rest) =
     let e = continued-rounds (next H (round masks)) rest in
     omega (arith, e, length-append (H .rounds) (roundCall (H .group) masks ∷ []))
 
-begun-log : (n : ℕ) → (begun (sized n) .log ≡ []) × (length (begun (sized n) .rounds) ≡ 0)
+begun-log : (setup : Setup) → (begun setup .log ≡ []) × (length (begun setup .rounds) ≡ 0)
 unfolding begun
-begun-log n = (refl, refl)
+begun-log setup = (refl, refl)
 
-pub rounds-have : (n : ℕ) (log : List ℕ) → length log ≡ roundsOf n log * n
-    → RoundsHave n (historyOf (sized n) (roundsOnly (cut n (roundsOf n log) log))) log
-rounds-have n log whole =
+pub rounds-have : (setup : Setup) (log : List ℕ) → length log ≡ roundsOf (setup .n) log * setup .n
+    → RoundsHave (setup .n) (historyOf setup (roundsOnly (cut (setup .n) (roundsOf (setup .n) log) log))) log
+rounds-have setup log whole =
+    let n = setup .n in
     let rounds = cut n (roundsOf n log) log in
-    let e : length (historyOf (sized n) (roundsOnly rounds) .rounds) ≡ roundsOf n log =
-    omega (arith, continued-rounds (begun (sized n)) rounds, begun-log n .1, cut-length n (roundsOf n log) log) in
-    let f : historyOf (sized n) (roundsOnly rounds) .log ≡ rounds = continued-log (begun (sized n)) rounds ∙ ap (λ (l : List (List ℕ)). l ++ rounds) (begun-log n .0) in
+    let e : length (historyOf setup (roundsOnly rounds) .rounds) ≡ roundsOf n log =
+    omega (arith, continued-rounds (begun setup) rounds, begun-log setup .1, cut-length n (roundsOf n log) log) in
+    let f : historyOf setup (roundsOnly rounds) .log ≡ rounds = continued-log (begun setup) rounds ∙ ap (λ (l : List (List ℕ)). l ++ rounds) (begun-log setup .0) in
     record {
       whole = whole ∙ ap (λ (u : ℕ). u * n) (sym e);
       masks =

@@ -2,7 +2,7 @@
 -- reported are those of the links, by demand 3, and among links those with more hearings end no later.
 use mathlib.Core.Bool.{true}
 use mathlib.Core.List.{List}
-use mathlib.Core.Path.{_≡_, refl, sym, _∙_}
+use mathlib.Core.Path.{_≡_, refl, sym, subst, _∙_}
 use Prim.Native.Nat.{ℕ, zero, suc, max, _+_, _*_, _/_, _<_, _≤_}
 use native.Mathlib.Decide.{decLe}
 use native.Mathlib.Nat.{le-refl}
@@ -16,6 +16,7 @@ use Rattle.links.proofs.Log.{hearsIn-hearer}
 use Rattle.links.proofs.Forecast.{num-endCount}
 use Rattle.links.proofs.Part.{ends-part, comes-numbers}
 use Rattle.links.proofs.Prefix.{Same}
+use Rattle.station_rules.specs.declared.Setup.{Setup}
 use Rattle.group_rules.specs.History.{History, Call, historyOf, endsAt}
 use Rattle.group_rules.specs.Demand.{Demand}
 use Rattle.group_rules.proofs.DemandThree.{demand-three}
@@ -23,8 +24,8 @@ use Rattle.planning_spec.specs.LinkLog.{roundsOf, linksOf}
 use Rattle.planning_spec.specs.Merge.{mergedLog, logsRefusal}
 use Rattle.planning_spec.proofs.LinkLog.{hearsIn-mask, whole-hears}
 use Rattle.planning_spec.proofs.Merge.{BothAccepted, both-accepted, merged-whole, part-first, part-second}
-use Rattle.planning_runs.specs.Runs.{sized, EndReported, EndReportedBy, RoundsFollow}
-use Rattle.planning_runs.proofs.Reported.{group-taken, reported-ends, reported-count, no-round, masks-at}
+use Rattle.planning_runs.specs.Runs.{FreshOf, EndReported, EndReportedBy, RoundsFollow}
+use Rattle.planning_runs.proofs.Reported.{reported-ends, reported-count, no-round, masks-at}
 
 -- The k-th end that is reported is the k-th of the links.
 module _ (n : ℕ) (H : History) (d : Demand n H) (s : ℕ) (ls : s < n) where
@@ -47,20 +48,24 @@ module _ (n : ℕ) (H : History) (d : Demand n H) (s : ℕ) (ls : s < n) where
         number = omega (arith, reported-count n H d s ls u l, h .1, num-endCount L u s);
       }
 
--- Any two lists of posts and rounds, where up to a round each hearing of the first is one of the second.
-pub runs-part : (n : ℕ) → 1 ≤ n → n ≤ 16 → (calls more : List Call) (last : ℕ)
-    → Part (ofLog n (historyOf (sized n) calls .log)) (ofLog n (historyOf (sized n) more .log)) last
-    → (s k u : ℕ) → s < n → u ≤ last → u ≤ length (historyOf (sized n) more .rounds)
-    → EndReported (historyOf (sized n) calls) s k u → EndReportedBy (historyOf (sized n) more) s k u
-runs-part n low high calls more last part s k u ls l m e =
-    let H = historyOf (sized n) calls in
-    let G = historyOf (sized n) more in
+-- Demand 3 of a fresh group of n stations.
+fresh-demand : (n : ℕ) (setup : Setup) → FreshOf n setup → (calls : List Call) → Demand n (historyOf setup calls)
+fresh-demand n setup fresh calls = subst (λ m. Demand m (historyOf setup calls)) (fresh .size) (demand-three setup (fresh .taken) calls)
+
+-- Any two lists of posts and rounds, from two setups with the same N, where up to a round each hearing of the first is one of the second.
+pub runs-part : (n : ℕ) (one two : Setup) → FreshOf n one → FreshOf n two → (calls more : List Call) (last : ℕ)
+    → Part (ofLog n (historyOf one calls .log)) (ofLog n (historyOf two more .log)) last
+    → (s k u : ℕ) → s < n → u ≤ last → u ≤ length (historyOf two more .rounds)
+    → EndReported (historyOf one calls) s k u → EndReportedBy (historyOf two more) s k u
+runs-part n one two begins begins-too calls more last part s k u ls l m e =
+    let H = historyOf one calls in
+    let G = historyOf two more in
     let c =
-    ends-part (ofLog n (H .log)) (ofLog n (G .log)) last part s k u l (reported-comes n H (demand-three (sized n) (group-taken n low high) calls) s ls k u e) in
+    ends-part (ofLog n (H .log)) (ofLog n (G .log)) last part s k u l (reported-comes n H (fresh-demand n one begins calls) s ls k u e) in
     record {
       round = c .round;
       by = c .by;
-      reports = comes-reported n G (demand-three (sized n) (group-taken n low high) more) s ls k (c .round) (omega (arith, c .by)) (c .comes);
+      reports = comes-reported n G (fresh-demand n two begins-too more) s ls k (c .round) (omega (arith, c .by)) (c .comes);
     }
 
 -- Rounds that follow a log have its links, as far as they go.
@@ -91,7 +96,8 @@ between L A B M l m last h k a p b =
 
 -- The merged log against either, over lists of posts and rounds from fresh: `calls` with one log, `more` with the merged log, any posts in each, and at least u
 -- rounds in `more`.
-module _ (n : ℕ) (first second : List ℕ) (taken : logsRefusal n (length first) (length second) ≡ done) where
+module _ (n : ℕ) (one two : Setup) (begins : FreshOf n one) (begins-too : FreshOf n two)
+    (first second : List ℕ) (taken : logsRefusal n (length first) (length second) ≡ done) where
   both : BothAccepted n (length first) (length second)
   both = both-accepted n (length first) (length second) taken
 
@@ -99,29 +105,29 @@ module _ (n : ℕ) (first second : List ℕ) (taken : logsRefusal n (length firs
   merged = mergedLog n first second
 
   against : (log : List ℕ) (r : ℕ) → length log ≡ r * n → ((last : ℕ) → Part (linksOf n log) (linksOf n merged) last)
-      → (calls more : List Call) → RoundsFollow n (historyOf (sized n) calls) log → RoundsFollow n (historyOf (sized n) more) merged
-      → (s k u : ℕ) → s < n → u ≤ length (historyOf (sized n) more .rounds)
-      → EndReported (historyOf (sized n) calls) s k u → EndReportedBy (historyOf (sized n) more) s k u
+      → (calls more : List Call) → RoundsFollow n (historyOf one calls) log → RoundsFollow n (historyOf two more) merged
+      → (s k u : ℕ) → s < n → u ≤ length (historyOf two more .rounds)
+      → EndReported (historyOf one calls) s k u → EndReportedBy (historyOf two more) s k u
   against log r whole part calls more f g s k u ls l e =
-      let H = historyOf (sized n) calls in
-      let G = historyOf (sized n) more in
-      runs-part n (both .one .some) (both .one .few) calls more u
+      let H = historyOf one calls in
+      let G = historyOf two more in
+      runs-part n one two begins begins-too calls more u
       (between (ofLog n (H .log)) (linksOf n log) (linksOf n merged) (ofLog n (G .log)) (length (H .rounds)) (length (G .rounds)) u (e .within) l
       (follow-same n r H log whole f) (part u)
       (follow-same n (max (length first / n) (length second / n)) G merged
       (merged-whole n (length first / n) (length second / n) first second (both .one .whole) (both .two .whole)) g))
       s k u ls (le-refl u) l e
 
-  pub runs-first : (calls more : List Call) → RoundsFollow n (historyOf (sized n) calls) first → RoundsFollow n (historyOf (sized n) more) merged
-      → (s k u : ℕ) → s < n → u ≤ length (historyOf (sized n) more .rounds)
-      → EndReported (historyOf (sized n) calls) s k u → EndReportedBy (historyOf (sized n) more) s k u
+  pub runs-first : (calls more : List Call) → RoundsFollow n (historyOf one calls) first → RoundsFollow n (historyOf two more) merged
+      → (s k u : ℕ) → s < n → u ≤ length (historyOf two more .rounds)
+      → EndReported (historyOf one calls) s k u → EndReportedBy (historyOf two more) s k u
   runs-first =
       against first (length first / n) (both .one .whole)
       (part-first n (length first / n) (length second / n) first second (both .one .whole) (both .two .whole))
 
-  pub runs-second : (calls more : List Call) → RoundsFollow n (historyOf (sized n) calls) second → RoundsFollow n (historyOf (sized n) more) merged
-      → (s k u : ℕ) → s < n → u ≤ length (historyOf (sized n) more .rounds)
-      → EndReported (historyOf (sized n) calls) s k u → EndReportedBy (historyOf (sized n) more) s k u
+  pub runs-second : (calls more : List Call) → RoundsFollow n (historyOf one calls) second → RoundsFollow n (historyOf two more) merged
+      → (s k u : ℕ) → s < n → u ≤ length (historyOf two more .rounds)
+      → EndReported (historyOf one calls) s k u → EndReportedBy (historyOf two more) s k u
   runs-second =
       against second (length second / n) (both .two .whole)
       (part-second n (length first / n) (length second / n) first second (both .one .whole) (both .two .whole))

@@ -19,6 +19,7 @@ use Rattle.links.specs.Question.{BroughtIn, Answered, in-round, in-none, answer
 use Rattle.links.proofs.Clock.{news-start}
 use Rattle.links.proofs.Got.{got-none, got-mono, got-step}
 use Rattle.links.proofs.Question.{has-got, answer-relays, has-later, answer-same}
+use Rattle.station_rules.specs.declared.Setup.{Setup}
 use Rattle.station_rules.specs.State.{labelOf}
 use Rattle.group_rules.specs.declared.RoundDone.{RoundDone}
 use Rattle.group_rules.specs.State.{stationAt}
@@ -32,27 +33,23 @@ use Rattle.group_rules.proofs.Setups.{Accepts, accepts}
 use Rattle.group_rules.proofs.DemandThree.{free}
 use Rattle.planning_spec.specs.LinkLog.{roundsOf, linksOf}
 use Rattle.planning_spec.specs.Questions.{questionAt, questionCount, questionsRefusal, answerTo, never, questionsCall}
-use Rattle.planning_spec.proofs.LinkLog.{accepted}
 use Rattle.planning_spec.proofs.Questions.{asked, taken, call-answer}
-use Rattle.planning_runs.specs.Runs.{sized, RoundsHave}
+use Rattle.planning_runs.specs.Runs.{RoundsHave}
 use Rattle.planning_runs.specs.Advances.{labelAfter, advances, advancesBy, AdvancesIn, AnsweredBy, advanced, not-yet, RunAnswer}
-use Rattle.planning_runs.proofs.Reported.{group-taken, rounds-same, rounds-number}
+use Rattle.planning_runs.proofs.Reported.{rounds-same, rounds-number}
 
-module _ (n : ℕ) (low : 1 ≤ n) (high : n ≤ 16) (calls : List Call) (r s : ℕ) (lr : r < n) (ls : s < n) where
+module _ (setup : Setup) (fresh : groupFreshRefusal setup ≡ done) (calls : List Call) (r s : ℕ) (lr : r < setup .n) (ls : s < setup .n) where
   abbrev H : History
-  H = historyOf (sized n) calls
+  H = historyOf setup calls
 
-  taken-fresh : groupFreshRefusal (sized n) ≡ done
-  taken-fresh = group-taken n low high
-
-  abbrev ok : Accepts (sized n)
-  ok = accepts (sized n) taken-fresh
+  abbrev ok : Accepts setup
+  ok = accepts setup fresh
 
   abbrev R : Run
-  R = runOf (sized n) ok calls
+  R = runOf setup ok calls
 
   abbrev L : Links
-  L = ofLog n (H .log)
+  L = ofLog (setup .n) (H .log)
 
   round-group : (u : ℕ) → (roundIn R u) .group ≡ R .after (suc u)
   unfolding roundIn
@@ -60,24 +57,24 @@ module _ (n : ℕ) (low : 1 ≤ n) (high : n ≤ 16) (calls : List Call) (r s : 
 
   group-at : (u : ℕ) → u < length (H .rounds) → (getD (H .rounds) u noRound) .group ≡ R .after (suc u)
   group-at u l =
-      ap (λ (rs : List RoundDone). (getD rs u noRound) .group) (history-rounds (sized n) ok calls (free (sized n) taken-fresh calls))
+      ap (λ (rs : List RoundDone). (getD rs u noRound) .group) (history-rounds setup ok calls (free setup fresh calls))
       ∙ ap (λ (x : RoundDone). x .group) (rounds-at R (length (H .rounds)) u l)
       ∙ round-group u
 
   run-label : (u : ℕ) → labelOf (stationAt (R .after u) r) s ≡ got L u r s % 3
   run-label u =
       labels-got R u r lr s ls
-      ∙ ap (λ (M : Links). got M u r s % 3) (sym (history-links (sized n) ok calls (free (sized n) taken-fresh calls)))
+      ∙ ap (λ (M : Links). got M u r s % 3) (sym (history-links setup ok calls (free setup fresh calls)))
 
   -- The label after a round is what is had then, by threes.
-  pub label-got : (u : ℕ) → u ≤ length (H .rounds) → labelAfter n H r s u ≡ got L u r s % 3
+  pub label-got : (u : ℕ) → u ≤ length (H .rounds) → labelAfter setup H r s u ≡ got L u r s % 3
   unfolding labelAfter
-  label-got zero l = ap (λ (g : List _). labelOf (stationAt g r) s) (sym (group-first (sized n) calls)) ∙ run-label 0
+  label-got zero l = ap (λ (g : List _). labelOf (stationAt g r) s) (sym (group-first setup calls)) ∙ run-label 0
   label-got (suc u) l = ap (λ (g : List _). labelOf (stationAt g r) s) (group-at u l) ∙ run-label (suc u)
 
   -- It advances exactly where what is had rises.
-  rises : (u : ℕ) → suc u ≤ length (H .rounds) → ((advances n H r s (suc u) ≡ true) × (got L (suc u) r s ≡ suc (got L u r s)))
-      ⊎ ((advances n H r s (suc u) ≡ false) × (got L (suc u) r s ≡ got L u r s))
+  rises : (u : ℕ) → suc u ≤ length (H .rounds) → ((advances setup H r s (suc u) ≡ true) × (got L (suc u) r s ≡ suc (got L u r s)))
+      ⊎ ((advances setup H r s (suc u) ≡ false) × (got L (suc u) r s ≡ got L u r s))
   unfolding advances
   rises u l =
       let a = label-got u (omega arith) in
@@ -85,30 +82,30 @@ module _ (n : ℕ) (low : 1 ≤ n) (high : n ≤ 16) (calls : List Call) (r s : 
       let m = got-mono L u (suc u) r s (omega arith) in
       let c = got-step L u r s lr in
       elim (ℕ-discrete (got L (suc u) r s) (got L u r s)) [
-        | yes e ↦ inr (ne-eqb (labelAfter n H r s (suc u)) (successor (labelAfter n H r s u)) (λ q. omega arith), e)
+        | yes e ↦ inr (ne-eqb (labelAfter setup H r s (suc u)) (successor (labelAfter setup H r s u)) (λ q. omega arith), e)
         | no d ↦
             (let e : got L (suc u) r s ≡ suc (got L u r s) = omega arith in
-            inl (eq-eqb (labelAfter n H r s (suc u)) (successor (labelAfter n H r s u)) (omega arith), e))
+            inl (eq-eqb (labelAfter setup H r s (suc u)) (successor (labelAfter setup H r s u)) (omega arith), e))
       ]
 
   module _ (other : r ≡ s → ⊥) where
     -- So its advances count the broadcasts that were received.
-    pub advances-got : (u : ℕ) → u ≤ length (H .rounds) → advancesBy n H r s u ≡ got L u r s
+    pub advances-got : (u : ℕ) → u ≤ length (H .rounds) → advancesBy setup H r s u ≡ got L u r s
     unfolding advancesBy
     advances-got zero l = sym (got-none L 0 r s (news-start L r s other))
     advances-got (suc u) l =
         ⊎-elim
-        (λ (e : (advances n H r s (suc u) ≡ true) × (got L (suc u) r s ≡ suc (got L u r s))).
+        (λ (e : (advances setup H r s (suc u) ≡ true) × (got L (suc u) r s ≡ suc (got L u r s))).
         rw (e .0) (ap suc (advances-got u (omega arith)) ∙ sym (e .1)))
-        (λ (e : (advances n H r s (suc u) ≡ false) × (got L (suc u) r s ≡ got L u r s)).
+        (λ (e : (advances setup H r s (suc u) ≡ false) × (got L (suc u) r s ≡ got L u r s)).
         rw (e .0) (advances-got u (omega arith) ∙ sym (e .1)))
         (rises u l)
 
     -- The k-th advance is in the first round by which r has broadcast number k of s.
-    pub advances-brought : (k u : ℕ) → 1 ≤ k → u ≤ length (H .rounds) → AdvancesIn n H r s k u ↔ BroughtIn L r s k u
+    pub advances-brought : (k u : ℕ) → 1 ≤ k → u ≤ length (H .rounds) → AdvancesIn setup H r s k u ↔ BroughtIn L r s k u
     advances-brought k u lk l = (there u l, back u l)
       where
-        there : (u : ℕ) → u ≤ length (H .rounds) → AdvancesIn n H r s k u → BroughtIn L r s k u
+        there : (u : ℕ) → u ≤ length (H .rounds) → AdvancesIn setup H r s k u → BroughtIn L r s k u
         there zero l a = absurd (omega (arith, a .number, advances-got 0 l, got-none L 0 r s (news-start L r s other)))
         there (suc u) l a =
             record {
@@ -134,7 +131,7 @@ module _ (n : ℕ) (low : 1 ≤ n) (high : n ≤ 16) (calls : List Call) (r s : 
                   ];
             }
 
-        back : (u : ℕ) → u ≤ length (H .rounds) → BroughtIn L r s k u → AdvancesIn n H r s k u
+        back : (u : ℕ) → u ≤ length (H .rounds) → BroughtIn L r s k u → AdvancesIn setup H r s k u
         back zero l b = absurd (omega (arith, has-got L r s k 0 lk .1 (b .has), got-none L 0 r s (news-start L r s other)))
         back (suc u) l b =
             let h = has-got L r s k (suc u) lk .1 (b .has) in
@@ -150,51 +147,53 @@ module _ (n : ℕ) (low : 1 ≤ n) (high : n ≤ 16) (calls : List Call) (r s : 
             (rises u l)
 
 -- The answer over as many rounds as were done, whatever was posted.
-pub answer-advances : (n : ℕ) → 1 ≤ n → n ≤ 16 → (calls : List Call) (r s k : ℕ) → r < n → s < n → (r ≡ s → ⊥) → 1 ≤ k
-    → AnsweredBy n (historyOf (sized n) calls) r s k (answerIn (ofLog n (historyOf (sized n) calls .log)) r s k (length (historyOf (sized n) calls .rounds)))
-answer-advances n low high calls r s k lr ls d lk =
-    let last = length (historyOf (sized n) calls .rounds) in
-    let M = ofLog n (historyOf (sized n) calls .log) in
-    go (answerIn M r s k last) (answer-relays M r s k last lk)
-  where
-    go : (a : Option ℕ) → Answered (ofLog n (historyOf (sized n) calls .log)) r s k (length (historyOf (sized n) calls .rounds)) a
-        → AnsweredBy n (historyOf (sized n) calls) r s k a
-    go (some u) (in-round l b) = advanced {u = u} (advances-brought n low high calls r s lr ls d k u lk l .1 b)
-    go none (in-none f) =
-        not-yet
-        (λ u a.
-        f
-        (has-later (ofLog n (historyOf (sized n) calls .log)) r s k u (length (historyOf (sized n) calls .rounds)) lk (a .within)
-        (advances-brought n low high calls r s lr ls d k u lk (a .within) .0 a .has)))
+module _ (setup : Setup) (fresh : groupFreshRefusal setup ≡ done) (calls : List Call) where
+  abbrev n : ℕ
+  n = setup .n
 
--- The same for a log that the rounds have, however long.
-pub log-advances : (n : ℕ) → 1 ≤ n → n ≤ 16 → (calls : List Call) (log : List ℕ) → RoundsHave n (historyOf (sized n) calls) log
-    → (r s k : ℕ) → r < n → s < n → (r ≡ s → ⊥) → 1 ≤ k
-    → AnsweredBy n (historyOf (sized n) calls) r s k (answerIn (linksOf n log) r s k (roundsOf n log))
-log-advances n low high calls log has r s k lr ls d lk =
-    let H = historyOf (sized n) calls in
-    let e : answerIn (ofLog n (H .log)) r s k (length (H .rounds)) ≡ answerIn (linksOf n log) r s k (roundsOf n log) =
-    ap (λ (x : ℕ). answerIn (ofLog n (H .log)) r s k x) (sym (rounds-number n low H log has))
-    ∙ answer-same (ofLog n (H .log)) (linksOf n log) (roundsOf n log) (rounds-same n low H log has) r s k (roundsOf n log) (le-refl (roundsOf n log)) in
-    rw e at (answer-advances n low high calls r s k lr ls d lk)
+  abbrev K : History
+  K = historyOf setup calls
 
--- And so the answers of a page: in every run from fresh whose rounds have this log, for two stations, the label of the receiver for the sender advances for the
--- k-th time in the round answered, and never is the answer exactly where it does not.
-pub runs-questions : (n : ℕ) (calls : List Call) (log page : List ℕ) → RoundsHave n (historyOf (sized n) calls) log
-    → questionsRefusal n log page ≡ done → (i : ℕ) → i < questionCount page
-    → (questionAt page i .receiver ≡ questionAt page i .sender → ⊥)
-    → RunAnswer n (historyOf (sized n) calls) (questionAt page i .receiver) (questionAt page i .sender) (questionAt page i .number)
-    (getD (questionsCall n log page .answers) i never)
-unfolding answerTo
-runs-questions n calls log page has e i l other =
-    let q = questionAt page i in
-    let t = taken n log page e in
-    let a = accepted n (length log) (t .0) in
-    let p = asked n page (t .1) in
-    record {
-      round = answerIn (linksOf n log) (q .receiver) (q .sender) (q .number) (roundsOf n log);
-      given = call-answer n log page e i l;
-      by-rounds =
-          log-advances n (a .some) (a .few) calls log has (q .receiver) (q .sender) (q .number) (p .receivers i l) (p .senders i l) other
-          (p .numbers i l);
-    }
+  pub answer-advances : (r s k : ℕ) → r < n → s < n → (r ≡ s → ⊥) → 1 ≤ k
+      → AnsweredBy setup K r s k (answerIn (ofLog n (K .log)) r s k (length (K .rounds)))
+  answer-advances r s k lr ls d lk =
+      let last = length (K .rounds) in
+      let M = ofLog n (K .log) in
+      go (answerIn M r s k last) (answer-relays M r s k last lk)
+    where
+      go : (a : Option ℕ) → Answered (ofLog n (K .log)) r s k (length (K .rounds)) a → AnsweredBy setup K r s k a
+      go (some u) (in-round l b) = advanced {u = u} (advances-brought setup fresh calls r s lr ls d k u lk l .1 b)
+      go none (in-none f) =
+          not-yet
+          (λ u a.
+          f
+          (has-later (ofLog n (K .log)) r s k u (length (K .rounds)) lk (a .within)
+          (advances-brought setup fresh calls r s lr ls d k u lk (a .within) .0 a .has)))
+
+  -- The same for a log that the rounds have, however long.
+  pub log-advances : (log : List ℕ) → RoundsHave n K log → (r s k : ℕ) → r < n → s < n → (r ≡ s → ⊥) → 1 ≤ k
+      → AnsweredBy setup K r s k (answerIn (linksOf n log) r s k (roundsOf n log))
+  log-advances log has r s k lr ls d lk =
+      let low : 1 ≤ n = accepts setup fresh .low in
+      let e : answerIn (ofLog n (K .log)) r s k (length (K .rounds)) ≡ answerIn (linksOf n log) r s k (roundsOf n log) =
+      ap (λ (x : ℕ). answerIn (ofLog n (K .log)) r s k x) (sym (rounds-number n low K log has))
+      ∙ answer-same (ofLog n (K .log)) (linksOf n log) (roundsOf n log) (rounds-same n low K log has) r s k (roundsOf n log) (le-refl (roundsOf n log)) in
+      rw e at (answer-advances r s k lr ls d lk)
+
+  -- And so the answers of a page: in every run from fresh whose rounds have this log, for two stations, the label of the receiver for the sender advances for
+  -- the k-th time in the round answered, and never is the answer exactly where it does not.
+  pub runs-questions : (log page : List ℕ) → RoundsHave n K log → questionsRefusal n log page ≡ done → (i : ℕ) → i < questionCount page
+      → (questionAt page i .receiver ≡ questionAt page i .sender → ⊥)
+      → RunAnswer setup K (questionAt page i .receiver) (questionAt page i .sender) (questionAt page i .number)
+      (getD (questionsCall n log page .answers) i never)
+  unfolding answerTo
+  runs-questions log page has e i l other =
+      let q = questionAt page i in
+      let p = asked n page (taken n log page e .1) in
+      record {
+        round = answerIn (linksOf n log) (q .receiver) (q .sender) (q .number) (roundsOf n log);
+        given = call-answer n log page e i l;
+        by-rounds =
+            log-advances log has (q .receiver) (q .sender) (q .number) (p .receivers i l) (p .senders i l) other
+            (p .numbers i l);
+      }

@@ -17,17 +17,10 @@ use Rattle.links.proofs.Forecast.{endCount-zero, endCount-step, lastEnd-zero, l
 use Rattle.links.proofs.Log.{hearsIn-hearer, cut-mask}
 use Rattle.links.proofs.Number.{ends-zero}
 use Rattle.links.proofs.Prefix.{Same}
-use Rattle.kinds.specs.Refusals.{done}
-use Rattle.group_rules.specs.Calls.{groupFreshRefusal}
 use Rattle.group_rules.specs.History.{History, endsAt, startedIn}
-use Rattle.group_rules.proofs.Setups.{accepted}
 use Rattle.group_rules.specs.Demand.{Demand}
 use Rattle.planning_spec.specs.LinkLog.{roundsOf, linksOf}
-use Rattle.planning_runs.specs.Runs.{sized, endsReported, lastReported, RoundsHave}
-
--- a group of 1 to 16 stations is not refused
-pub group-taken : (n : ℕ) → 1 ≤ n → n ≤ 16 → groupFreshRefusal (sized n) ≡ done
-group-taken n low high = accepted (sized n) (record { low = low; high = high })
+use Rattle.planning_runs.specs.Runs.{endsReported, lastReported, RoundsHave}
 
 last-started : (H : History) (s u : ℕ) → lastReported H s u ≡ startedIn H s u
 unfolding lastReported startedIn

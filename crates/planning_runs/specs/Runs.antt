@@ -4,12 +4,15 @@ use mathlib.Core.Bool.{true, cond}
 use mathlib.Core.List.{List, []}
 use mathlib.Core.Path.{_≡_}
 use lib.ListN.{getD, length}
+use Rattle.kinds.specs.Refusals.{done}
 use Rattle.station_rules.specs.declared.Setup.{Setup}
+use Rattle.group_rules.specs.Calls.{groupFreshRefusal}
 use Rattle.group_rules.specs.History.{History, endsAt}
 
--- what the fresh group of n is given
-abbrev pub sized : ℕ → Setup
-sized n = record { n = n }
+-- what a fresh group of n stations may be given, whatever else is in it
+pub record FreshOf (n : ℕ) (setup : Setup) : Type 0 where
+  pub size : setup .n ≡ n
+  pub taken : groupFreshRefusal setup ≡ done
 
 -- how many ends s reports in the rounds up to u
 unfoldable pub endsReported : History → ℕ → ℕ → ℕ

@@ -6,6 +6,7 @@ use group_rules::KeptGroup;
 use group_rules::Post;
 use group_rules::Report;
 use kinds::Body;
+use lanes::QUEUE_CAPACITY;
 use station_rules::Setup;
 use station_rules::Station;
 
@@ -123,11 +124,12 @@ fn posted(g: [Station; 16], n: usize, post: u32) -> KeptGroup
     group::post(g, made)
 }
 
-// From fresh, so many rounds; gives a checksum of what they report.
+// From a fresh group with the largest limit, so many rounds; gives a checksum of what they report.
 fn run(schedule: &[u8], n: usize, rounds: u32) -> u32
     requires { ⌜ (1 ≤ n) × (n ≤ 16) × (32 ≤ length (now schedule)) ⌝ }
 {
-    let fresh = group::fresh(Setup { n });
+    let limit = QUEUE_CAPACITY;
+    let fresh = group::fresh_limited(Setup { n, limit });
     let mut g = fresh.group;
     let mut sum: u64 = 0;
     let mut number: u32 = 0;

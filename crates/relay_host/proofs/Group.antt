@@ -24,37 +24,36 @@ use Rattle.station_bytes_spec.specs.Reports.{reportsWidth, encodeReports}
 use Rattle.station_bytes_spec.proofs.Bytes.{filled}
 use Rattle.station_bytes_spec.proofs.Group.{length-group}
 use Rattle.station_bytes_spec.proofs.Reports.{length-reports}
-use Rattle.relay_host.specs.Group.{groupFreshAnswer, groupFreshReturned, groupPostAnswer, groupPostReturned, sixteenMasks, roundAnswer, roundReturned}
+use Rattle.relay_host.specs.Group.{groupFreshReturned, groupPostAnswer, groupPostReturned, sixteenMasks, roundAnswer, roundReturned}
 use Rattle.relay_host.proofs.Refusals.{first-refused, first-done, state-refused, state-taken, no-room, room, kept-whole, front-made, refused-is-2, short-is-9}
 
 -- ---- fresh
 
-module _ (n : ℕ) (state : List ℕ) (k : KeptGroup) (call : k ≡ groupFreshAnswer n) where
+module _ (k : KeptGroup) (state : List ℕ) where
   pub fresh-refused :
-      (k .refusal ≡ done → ⊥) → (k .refusal ≡ groupFreshReturned n state) × (state ≡ frontWritten (k .refusal) (encodeGroup (groupFreshAnswer n .group)) state)
+      (k .refusal ≡ done → ⊥) → (k .refusal ≡ groupFreshReturned k state) × (state ≡ frontWritten (k .refusal) (encodeGroup (k .group)) state)
   unfolding groupFreshReturned
-  fresh-refused d =
-      let e = ap (λ (x : KeptGroup). x .refusal) call in
-      (e ∙ first-refused _ _ (λ z. d (e ∙ z)), kept-whole _ _ state d)
+  fresh-refused d = (first-refused _ _ d, kept-whole _ _ state d)
 
   module _ (fine : k .refusal ≡ done) where
-    fresh-fine : (groupFreshAnswer n) .refusal ≡ done
-    fresh-fine = ap (λ (x : KeptGroup). x .refusal) (sym call) ∙ fine
-
     pub fresh-short :
-        length state < groupWidth → (shortBuffer ≡ groupFreshReturned n state) × (state ≡ frontWritten shortBuffer (encodeGroup (groupFreshAnswer n .group)) state)
+        length state < groupWidth → (shortBuffer ≡ groupFreshReturned k state) × (state ≡ frontWritten shortBuffer (encodeGroup (k .group)) state)
     unfolding groupFreshReturned
-    fresh-short h = (no-room groupWidth state h ∙ first-done _ _ fresh-fine, kept-whole _ _ state short-is-9)
+    fresh-short h = (no-room groupWidth state h ∙ first-done _ _ fine, kept-whole _ _ state short-is-9)
 
     pub fresh-done :
         groupWidth ≤ length state → (l : List ℕ) → l ≡ sets state 0 (encodeGroup (k .group)) →
-        (done ≡ groupFreshReturned n state) × (l ≡ frontWritten done (encodeGroup (groupFreshAnswer n .group)) state)
+        (done ≡ groupFreshReturned k state) × (l ≡ frontWritten done (encodeGroup (k .group)) state)
     unfolding groupFreshReturned
     fresh-done h l made =
-        let g = groupFreshAnswer n .group in (
-          room groupWidth state h ∙ first-done _ _ fresh-fine,
-          front-made (encodeGroup g) state l (omega (arith, length-group g)) (made ∙ ap (λ (x : KeptGroup). sets state 0 (encodeGroup (x .group))) call),
-        )
+        (room groupWidth state h ∙ first-done _ _ fine, front-made (encodeGroup (k .group)) state l (omega (arith, length-group (k .group))) made)
+
+-- what is put is what the call's definition answers
+pub fresh-answered :
+    (k made : KeptGroup) (r : ℕ) (state l : List ℕ) → k ≡ made → (r ≡ groupFreshReturned k state) × (l ≡ frontWritten r (encodeGroup (k .group)) state) →
+    (r ≡ groupFreshReturned made state) × (l ≡ frontWritten r (encodeGroup (made .group)) state)
+fresh-answered k made r state l e h =
+    (h .0 ∙ ap (λ (x : KeptGroup). groupFreshReturned x state) e, h .1 ∙ ap (λ (x : KeptGroup). frontWritten r (encodeGroup (x .group)) state) e)
 
 -- ---- bytes that are no group
 

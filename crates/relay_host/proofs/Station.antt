@@ -25,37 +25,36 @@ use Rattle.station_bytes_spec.specs.Station.{stationWidth, encodeStation, decod
 use Rattle.station_bytes_spec.specs.Reports.{turnWidth, encodeTurn, encodeFlags}
 use Rattle.station_bytes_spec.proofs.Station.{length-station}
 use Rattle.station_bytes_spec.proofs.Reports.{length-turn, length-flags}
-use Rattle.relay_host.specs.Station.{namedBody, freshAnswer, freshReturned, postAnswer, postReturned, hearAnswer, hearReturned, turnAnswer, turnReturned}
+use Rattle.relay_host.specs.Station.{namedBody, freshReturned, postAnswer, postReturned, hearAnswer, hearReturned, turnAnswer, turnReturned}
 use Rattle.relay_host.proofs.Refusals.{first-refused, first-done, state-refused, state-taken, no-room, room, kept-whole, front-made, refused-is-2, short-is-9}
 
 -- ---- fresh
 
-module _ (n own : ℕ) (state : List ℕ) (k : Kept) (call : k ≡ freshAnswer n own) where
+module _ (k : Kept) (state : List ℕ) where
   pub fresh-refused :
-      (k .refusal ≡ done → ⊥) → (k .refusal ≡ freshReturned n own state) × (state ≡ frontWritten (k .refusal) (encodeStation (freshAnswer n own .station)) state)
+      (k .refusal ≡ done → ⊥) → (k .refusal ≡ freshReturned k state) × (state ≡ frontWritten (k .refusal) (encodeStation (k .station)) state)
   unfolding freshReturned
-  fresh-refused d =
-      let e = ap (λ (x : Kept). x .refusal) call in
-      (e ∙ first-refused _ _ (λ z. d (e ∙ z)), kept-whole _ _ state d)
+  fresh-refused d = (first-refused _ _ d, kept-whole _ _ state d)
 
   module _ (fine : k .refusal ≡ done) where
-    fresh-fine : (freshAnswer n own) .refusal ≡ done
-    fresh-fine = ap (λ (x : Kept). x .refusal) (sym call) ∙ fine
-
     pub fresh-short :
-        length state < stationWidth → (shortBuffer ≡ freshReturned n own state) × (state ≡ frontWritten shortBuffer (encodeStation (freshAnswer n own .station)) state)
+        length state < stationWidth → (shortBuffer ≡ freshReturned k state) × (state ≡ frontWritten shortBuffer (encodeStation (k .station)) state)
     unfolding freshReturned
-    fresh-short h = (no-room stationWidth state h ∙ first-done _ _ fresh-fine, kept-whole _ _ state short-is-9)
+    fresh-short h = (no-room stationWidth state h ∙ first-done _ _ fine, kept-whole _ _ state short-is-9)
 
     pub fresh-done :
         stationWidth ≤ length state → (l : List ℕ) → l ≡ sets state 0 (encodeStation (k .station)) →
-        (done ≡ freshReturned n own state) × (l ≡ frontWritten done (encodeStation (freshAnswer n own .station)) state)
+        (done ≡ freshReturned k state) × (l ≡ frontWritten done (encodeStation (k .station)) state)
     unfolding freshReturned
     fresh-done h l made =
-        let s = freshAnswer n own .station in (
-          room stationWidth state h ∙ first-done _ _ fresh-fine,
-          front-made (encodeStation s) state l (omega (arith, length-station s)) (made ∙ ap (λ (x : Kept). sets state 0 (encodeStation (x .station))) call),
-        )
+        (room stationWidth state h ∙ first-done _ _ fine, front-made (encodeStation (k .station)) state l (omega (arith, length-station (k .station))) made)
+
+-- what is put is what the call's definition answers
+pub fresh-answered :
+    (k made : Kept) (r : ℕ) (state l : List ℕ) → k ≡ made → (r ≡ freshReturned k state) × (l ≡ frontWritten r (encodeStation (k .station)) state) →
+    (r ≡ freshReturned made state) × (l ≡ frontWritten r (encodeStation (made .station)) state)
+fresh-answered k made r state l e h =
+    (h .0 ∙ ap (λ (x : Kept). freshReturned x state) e, h .1 ∙ ap (λ (x : Kept). frontWritten r (encodeStation (x .station)) state) e)
 
 -- ---- bytes that are no station
 

@@ -9,7 +9,7 @@ use Rattle.kinds.specs.Refusals.{done, outsideLimits, refuse}
 use Rattle.places.specs.Places.{tabulate}
 use Rattle.group_rules.specs.declared.KeptGroup.{KeptGroup}
 use Rattle.group_rules.specs.declared.RoundDone.{RoundDone}
-use Rattle.group_rules.specs.Calls.{groupFreshCall, groupPostCall, roundCall}
+use Rattle.group_rules.specs.Calls.{groupPostCall, roundCall}
 use Rattle.station_bytes_spec.specs.Group.{groupWidth, decodeGroup, isGroup}
 use Rattle.station_bytes_spec.specs.Reports.{reportsWidth}
 use Rattle.relay_host.specs.Station.{orElse, roomRefusal}
@@ -18,12 +18,9 @@ use Rattle.relay_host.specs.Station.{orElse, roomRefusal}
 abbrev pub groupRefusal : List ℕ → ℕ
 groupRefusal b = refuse (not (isGroup b)) outsideLimits done
 
--- group fresh: 1, 9
-abbrev pub groupFreshAnswer : ℕ → KeptGroup
-groupFreshAnswer n = groupFreshCall (record { n = n })
-
-unfoldable pub groupFreshReturned : ℕ → List ℕ → ℕ
-groupFreshReturned n state = orElse ((groupFreshAnswer n) .refusal) (roomRefusal groupWidth state)
+-- group fresh, by what the group's call answers: 1, 13, 9
+unfoldable pub groupFreshReturned : KeptGroup → List ℕ → ℕ
+groupFreshReturned made state = orElse (made .refusal) (roomRefusal groupWidth state)
 
 -- group post: 2, 1, 4, 3
 abbrev pub groupPostAnswer : List ℕ → ℕ → Body → KeptGroup

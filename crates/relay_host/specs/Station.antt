@@ -15,7 +15,7 @@ use Rattle.station_rules.specs.declared.Kept.{Kept}
 use Rattle.station_rules.specs.declared.Heard.{Heard}
 use Rattle.station_rules.specs.declared.Turned.{Turned}
 use Rattle.station_rules.specs.declared.Station.{Station}
-use Rattle.station_rules.specs.Calls.{freshCall, postCall, writeCall, hearCall, turnCall}
+use Rattle.station_rules.specs.Calls.{postCall, writeCall, hearCall, turnCall}
 use Rattle.station_bytes_spec.specs.Station.{stationWidth, decodeStation, isStation}
 use Rattle.station_bytes_spec.specs.Reports.{turnWidth}
 
@@ -39,12 +39,9 @@ stationOf b = decodeStation b 0
 unfoldable pub namedBody : ℕ → ℕ → ℤ → Body
 namedBody kind event argument = cond (numbersInside kind event argument) (bodyOf kind event argument) Empty
 
--- fresh: 1, 9
-abbrev pub freshAnswer : ℕ → ℕ → Kept
-freshAnswer n own = freshCall (record { n = n }) own
-
-unfoldable pub freshReturned : ℕ → ℕ → List ℕ → ℕ
-freshReturned n own state = orElse ((freshAnswer n own) .refusal) (roomRefusal stationWidth state)
+-- fresh, by what the station's call answers: 1, 13, 9
+unfoldable pub freshReturned : Kept → List ℕ → ℕ
+freshReturned made state = orElse (made .refusal) (roomRefusal stationWidth state)
 
 -- post: 2, 4, 3
 abbrev pub postAnswer : List ℕ → Body → Kept

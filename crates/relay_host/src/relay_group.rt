@@ -3,10 +3,13 @@
 ghost use mathlib.Core.Path.{_≡_};
 ghost use lib.ListN.{getD};
 ghost use Rattle.planning_spec.specs.Merge.{frontWritten};
+ghost use Rattle.station_rules.specs.State.{sized};
+ghost use Rattle.group_rules.specs.Calls.{groupFreshCall};
 ghost use Rattle.station_bytes_spec.specs.Group.{encodeGroup};
 ghost use Rattle.station_bytes_spec.specs.Reports.{encodeReports};
 ghost use Rattle.relay_host.specs.Station.{namedBody};
-ghost use Rattle.relay_host.specs.Group.{groupFreshAnswer, groupFreshReturned, groupPostAnswer, groupPostReturned, sixteenMasks, roundAnswer, roundReturned};
+ghost use Rattle.relay_host.specs.Group.{groupFreshReturned, groupPostAnswer, groupPostReturned, sixteenMasks, roundAnswer, roundReturned};
+use group_rules::KeptGroup;
 use group_rules::Post;
 use kinds::refusals::DONE;
 use kinds::refusals::OUTSIDE_LIMITS;
@@ -17,13 +20,11 @@ const GROUP_WIDTH: usize = 17728;
 
 const REPORTS_WIDTH: usize = 11264;
 
-// Group fresh: n stations, as they begin.
-#[no_mangle]
-pub extern "C" fn relay_group_fresh(state: &mut [u8], n: u32) -> u32
-    ensures { λ r. ⌜ (r ≡ groupFreshReturned n (now (state .entry)))
-        × (now (state .exit) ≡ frontWritten r (encodeGroup (groupFreshAnswer n .group)) (now (state .entry))) ⌝ }
+// What a fresh call answered, put into a lent buffer.
+fn put_fresh(state: &mut [u8], made: KeptGroup) -> u32
+    ensures { λ r. ⌜ (r ≡ groupFreshReturned made (now (state .entry)))
+        × (now (state .exit) ≡ frontWritten r (encodeGroup (made .group)) (now (state .entry))) ⌝ }
 {
-    let made = group::fresh(Setup { n: n as usize });
     if made.refusal != DONE {
         return made.refusal;
     }
@@ -33,6 +34,31 @@ pub extern "C" fn relay_group_fresh(state: &mut [u8], n: u32) -> u32
     let stations = made.group;
     station_encoder::put_group(state, stations);
     DONE
+}
+
+// Group fresh, with no limit named: n stations, as they begin.
+#[no_mangle]
+pub extern "C" fn relay_group_fresh(state: &mut [u8], n: u32) -> u32
+    ensures { λ r. ⌜ (r ≡ groupFreshReturned (groupFreshCall (sized n)) (now (state .entry)))
+        × (now (state .exit) ≡ frontWritten r (encodeGroup (groupFreshCall (sized n) .group)) (now (state .entry))) ⌝ }
+{
+    let made = group::fresh(n as usize);
+    put_fresh(state, made)
+}
+
+// Group fresh, with a limit named.
+#[no_mangle]
+pub extern "C" fn relay_group_fresh_limited(state: &mut [u8], n: u32, limit: u32) -> u32
+    ensures { λ r. ⌜ (r ≡ groupFreshReturned (groupFreshCall (record { n = n; limit = limit })) (now (state .entry)))
+        × (now (state .exit) ≡ frontWritten r
+        (encodeGroup (groupFreshCall (record { n = n; limit = limit }) .group)) (now (state .entry))) ⌝ }
+{
+    let setup = Setup {
+        n: n as usize,
+        limit: limit as usize,
+    };
+    let made = group::fresh_limited(setup);
+    put_fresh(state, made)
 }
 
 // Group post: one more waiting edit at a station.

@@ -4,14 +4,16 @@ ghost use mathlib.Core.Path.{_≡_};
 ghost use mathlib.Core.List.{[], _∷_};
 ghost use lib.ListN.{length};
 ghost use Rattle.planning_spec.specs.Merge.{frontWritten};
-ghost use Rattle.station_rules.specs.Calls.{frameOf};
+ghost use Rattle.station_rules.specs.State.{sized};
+ghost use Rattle.station_rules.specs.Calls.{freshCall, frameOf};
 ghost use Rattle.station_bytes_spec.specs.Station.{encodeStation};
 ghost use Rattle.station_bytes_spec.specs.Reports.{encodeFlags, encodeTurn};
-ghost use Rattle.relay_host.specs.Station.{stationOf, namedBody, freshAnswer, freshReturned, postAnswer, postReturned, writeReturned, hearAnswer, hearReturned, turnAnswer, turnReturned};
+ghost use Rattle.relay_host.specs.Station.{stationOf, namedBody, freshReturned, postAnswer, postReturned, writeReturned, hearAnswer, hearReturned, turnAnswer, turnReturned};
 use kinds::Body;
 use kinds::refusals::DONE;
 use kinds::refusals::OUTSIDE_LIMITS;
 use kinds::refusals::SHORT_BUFFER;
+use station_rules::Kept;
 use station_rules::Setup;
 
 const STATION_WIDTH: usize = 1108;
@@ -28,13 +30,11 @@ pub fn named_body(kind: u32, event: u32, argument: i32) -> Body
     Body::Empty
 }
 
-// Fresh: station own of n, as it begins.
-#[no_mangle]
-pub extern "C" fn relay_station_fresh(state: &mut [u8], n: u32, own: u32) -> u32
-    ensures { λ r. ⌜ (r ≡ freshReturned n own (now (state .entry)))
-        × (now (state .exit) ≡ frontWritten r (encodeStation (freshAnswer n own .station)) (now (state .entry))) ⌝ }
+// What a fresh call answered, put into a lent buffer.
+fn put_fresh(state: &mut [u8], made: Kept) -> u32
+    ensures { λ r. ⌜ (r ≡ freshReturned made (now (state .entry)))
+        × (now (state .exit) ≡ frontWritten r (encodeStation (made .station)) (now (state .entry))) ⌝ }
 {
-    let made = station::fresh(Setup { n: n as usize }, own as usize);
     if made.refusal != DONE {
         return made.refusal;
     }
@@ -44,6 +44,32 @@ pub extern "C" fn relay_station_fresh(state: &mut [u8], n: u32, own: u32) -> u32
     let station = made.station;
     station_encoder::put_station(state, 0, station);
     DONE
+}
+
+// Fresh, with no limit named: station own of n, as it begins.
+#[no_mangle]
+pub extern "C" fn relay_station_fresh(state: &mut [u8], n: u32, own: u32) -> u32
+    ensures { λ r. ⌜ (r ≡ freshReturned (freshCall (sized n) own) (now (state .entry)))
+        × (now (state .exit) ≡ frontWritten r (encodeStation (freshCall (sized n) own .station))
+        (now (state .entry))) ⌝ }
+{
+    let made = station::fresh(n as usize, own as usize);
+    put_fresh(state, made)
+}
+
+// Fresh, with a limit named.
+#[no_mangle]
+pub extern "C" fn relay_station_fresh_limited(state: &mut [u8], n: u32, own: u32, limit: u32) -> u32
+    ensures { λ r. ⌜ (r ≡ freshReturned (freshCall (record { n = n; limit = limit }) own) (now (state .entry)))
+        × (now (state .exit) ≡ frontWritten r
+        (encodeStation (freshCall (record { n = n; limit = limit }) own .station)) (now (state .entry))) ⌝ }
+{
+    let setup = Setup {
+        n: n as usize,
+        limit: limit as usize,
+    };
+    let made = station::fresh_limited(setup, own as usize);
+    put_fresh(state, made)
 }
 
 // Post: one more waiting edit.

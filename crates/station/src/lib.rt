@@ -1,13 +1,16 @@
 // The calls of a station that need no frame: fresh, post and turn.
 
 ghost use mathlib.Core.Path.{_≡_};
+ghost use Rattle.station_rules.specs.State.{sized};
 ghost use Rattle.station_rules.specs.Calls.{freshCall, postCall, noTurn, turnCall};
 use kinds::Body;
+use kinds::refusals::BAD_LIMIT;
 use kinds::refusals::BAD_NUMBER;
 use kinds::refusals::DONE;
 use kinds::refusals::NOT_AN_EDIT;
 use kinds::refusals::OUTSIDE_LIMITS;
 use kinds::refusals::QUEUE_FULL;
+use lanes::DEFAULT_LIMIT;
 use lanes::Slot;
 use station_rules::Kept;
 use station_rules::Setup;
@@ -15,22 +18,41 @@ use station_rules::Station;
 use station_rules::TurnReport;
 use station_rules::Turned;
 
-// Fresh: station own, as it begins.
-pub fn fresh(setup: Setup, own: usize) -> Kept
+// Fresh, with a limit named: station own, as it begins.
+pub fn fresh_limited(setup: Setup, own: usize) -> Kept
     ensures { λ r. ⌜ r ≡ freshCall setup own ⌝ }
 {
-    if numbers::valid_number(setup.n, own) {
-        let station = fresh_station::fresh_station(setup, own);
+    let alone = Setup {
+        n: 1,
+        limit: DEFAULT_LIMIT,
+    };
+    if !numbers::valid_number(setup.n, own) {
+        let station = fresh_station::fresh_station(alone, 0);
         return Kept {
-            refusal: DONE,
+            refusal: BAD_NUMBER,
             station: station,
         };
     }
-    let station = fresh_station::fresh_station(Setup { n: 1 }, 0);
+    if !lanes::limit_inside(setup.limit) {
+        let station = fresh_station::fresh_station(alone, 0);
+        return Kept {
+            refusal: BAD_LIMIT,
+            station: station,
+        };
+    }
+    let station = fresh_station::fresh_station(setup, own);
     Kept {
-        refusal: BAD_NUMBER,
+        refusal: DONE,
         station: station,
     }
+}
+
+// Fresh, with no limit named.
+pub fn fresh(n: usize, own: usize) -> Kept
+    ensures { λ r. ⌜ r ≡ freshCall (sized n) own ⌝ }
+{
+    let setup = fresh_station::sized(n);
+    fresh_limited(setup, own)
 }
 
 // Post: one more waiting edit.

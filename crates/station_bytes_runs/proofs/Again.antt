@@ -10,6 +10,7 @@ use borrow.Author.Tests.{eqb-true, eq-eqb}
 use Rattle.kinds.specs.declared.Body.{Body}
 use Rattle.kinds.specs.Refusals.{done, outsideLimits, refuse}
 use Rattle.frame_rules.specs.Frame.{validNumber, frameRefusal, recordsOf, recordsInside, shapeWrong, addressWrong}
+use Rattle.lanes.specs.Waiting.{limitInside, hasRoom}
 use Rattle.station_rules.specs.declared.Setup.{Setup}
 use Rattle.station_rules.specs.declared.Station.{Station}
 use Rattle.station_rules.specs.Limits.{stationInside}
@@ -135,14 +136,17 @@ module _ (s : Station) (shape : Shaped s) (f : Fitting s) where
 -- fresh, also where it is refused: the answer is then the fresh station of N = 1
 pub after-fresh : (setup : Setup) (own : ℕ) → Again ((freshCall setup own) .station)
 unfolding freshCall
-after-fresh setup own = go (validNumber (setup .n) own) refl
+after-fresh setup own = go (validNumber (setup .n) own) (limitInside (setup .limit)) refl refl
   where
-    go : (t : Bool) → validNumber (setup .n) own ≡ t → Again ((freshCall setup own) .station)
-    go true e =
+    alone-again : Again (freshStation aloneSetup 0)
+    alone-again = again (freshStation aloneSetup 0) (fresh-shaped aloneSetup 0) (fresh-fitting aloneSetup 0 (omega arith)) (fresh-inside aloneSetup 0 refl refl)
+
+    go : (t u : Bool) → validNumber (setup .n) own ≡ t → limitInside (setup .limit) ≡ u → Again ((freshCall setup own) .station)
+    go true true e d =
         let v = valid-parts (setup .n) own e in
-        rw e (again (freshStation setup own) (fresh-shaped setup own) (fresh-fitting setup own (omega (arith, v .1, v .2))) (fresh-inside setup own e))
-    go false e =
-        rw e (again (freshStation aloneSetup 0) (fresh-shaped aloneSetup 0) (fresh-fitting aloneSetup 0 (omega arith)) (fresh-inside aloneSetup 0 refl))
+        rw (e, d) (again (freshStation setup own) (fresh-shaped setup own) (fresh-fitting setup own (omega (arith, v .1, v .2))) (fresh-inside setup own e d))
+    go true false e d = rw (e, d) alone-again
+    go false u e d = rw e alone-again
 
 module _ (b : List ℕ) (small : AllBytes b) where
   abbrev now : Station

@@ -142,9 +142,9 @@ module _ (w : Waiting) (f : EditsFit w) where
   unfolding waitingAt
   edit-fits i = f .slot i
 
-pub none-fit : EditsFit noneWaiting
+pub none-fit : (limit : ℕ) → EditsFit (noneWaiting limit)
 unfolding noneWaiting emptyQueue
-none-fit =
+none-fit limit =
     slots-fit (replicate 32 noSlot)
     (λ i l. subst (λ (s : Slot). BodyFits (s .body)) (sym (getD-replicate 32 i noSlot noSlot (rw (length-replicate 32 noSlot) at l))) empty-fits)
 

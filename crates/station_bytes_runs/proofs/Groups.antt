@@ -17,8 +17,8 @@ use Rattle.label_words.proofs.Laws.{label-less, over-less}
 use Rattle.links.specs.Log.{hearsIn}
 use Rattle.frame_rules.specs.declared.Record.{Record}
 use Rattle.frame_rules.specs.Record.{recordLabel, framed}
-use Rattle.lanes.specs.Waiting.{waitingCount, waitingInside}
-use Rattle.lanes.proofs.QueueLimits.{queue-most}
+use Rattle.lanes.specs.Waiting.{waitingCount}
+use Rattle.lanes.proofs.WaitingLaws.{limit-most, inside-limit, inside-most}
 use Rattle.station_rules.specs.declared.Setup.{Setup}
 use Rattle.station_rules.specs.declared.Station.{Station}
 use Rattle.station_rules.specs.State.{heldOf, recordOf, sentRecords, aloneSetup, freshStation, noStation}
@@ -31,6 +31,7 @@ use Rattle.station_rules.proofs.LimitsSent.{sent-carried}
 use Rattle.group_rules.specs.declared.Post.{Post}
 use Rattle.group_rules.specs.State.{stationAt, sizeOf, freshGroup}
 use Rattle.group_rules.specs.Calls.{groupPostCall, heardBelow, heard, roundRefusal, afterRound, roundCall}
+use Rattle.group_rules.proofs.Setups.{Accepts}
 use Rattle.group_rules.proofs.Members.{Members, fresh-members}
 use Rattle.group_rules.proofs.MembersPost.{Accepted, accepted, post-accepted, post-refused, post-refusal, post-members}
 use Rattle.group_rules.proofs.MembersRound.{Runs, runs, run-hears, run-room, after-at, after-above, round-done, round-refused, round-members}
@@ -47,14 +48,15 @@ pub record OneByte (s : Station) : Type 0 where
   pub n : s .n < 256
   pub own : s .own < 256
   pub count : waitingCount (s .waiting) < 256
+  pub limit : s .waiting .limit < 256
 
 inside-bytes : (s : Station) → Inside s → OneByte s
-unfolding waitingCount waitingInside
 inside-bytes s i =
     record {
       n = omega (arith, i .high);
       own = omega (arith, i .own, i .high);
-      count = omega (arith, queue-most (s .waiting .queue) (i .waiting));
+      count = omega (arith, inside-most (s .waiting) (i .waiting));
+      limit = omega (arith, limit-most (s .waiting .limit) (inside-limit (s .waiting) (i .waiting)));
     }
 
 fits : (s : Station) → Shaped s → Fitting s → OneByte s → StationFits s
@@ -69,7 +71,7 @@ fits s shape f b =
       table-long = shape .table;
       lanes-long = shape .lanes;
       cell-fits = f .cells;
-      waiting-fits = record { count-byte = b .count; sized = shape .waiting; edit-fits = λ i l. edit-fits (s .waiting) (f .edits) i };
+      waiting-fits = record { count-byte = b .count; limit-byte = b .limit; sized = shape .waiting; edit-fits = λ i l. edit-fits (s .waiting) (f .edits) i };
     }
 
 -- a group of n as a call leaves it: inside its limits, and all sixteen stations of their types
@@ -101,23 +103,23 @@ bytes-after n g h m old same k l =
 
 -- ---- fresh
 
-pub fresh-kept : (setup : Setup) → 1 ≤ setup .n → setup .n ≤ 16 → Kept (setup .n) (freshGroup setup)
-fresh-kept setup low high =
+pub fresh-kept : (setup : Setup) → Accepts setup → Kept (setup .n) (freshGroup setup)
+fresh-kept setup ok =
     record {
       members = members;
-      fitting = each Fitting (λ k l. fresh-fitting setup k (omega arith)) (fresh-fitting aloneSetup 0 (omega arith));
+      fitting = each Fitting (λ k l. fresh-fitting setup k (omega (arith, ok .high))) (fresh-fitting aloneSetup 0 (omega arith));
       bytes =
           each OneByte (λ k l. subst OneByte (at-below k l) (inside-bytes (stationAt (freshGroup setup) k) (members .member k l .inside)))
-          (inside-bytes (freshStation aloneSetup 0) (inside-open (freshStation aloneSetup 0) (fresh-inside aloneSetup 0 refl)));
+          (inside-bytes (freshStation aloneSetup 0) (inside-open (freshStation aloneSetup 0) (fresh-inside aloneSetup 0 refl refl)));
     }
   where
     members : Members (setup .n) (freshGroup setup)
-    members = fresh-members setup high low
+    members = fresh-members setup (ok .high) (ok .low) (ok .limited)
 
     at-below : (k : ℕ) → k < setup .n → stationAt (freshGroup setup) k ≡ freshStation setup k
     at-below k l =
         unfold freshGroup in
-        (fill-below (setup .n) (freshStation setup) (replicate 16 (freshStation aloneSetup 0)) k noStation l (omega arith))
+        (fill-below (setup .n) (freshStation setup) (replicate 16 (freshStation aloneSetup 0)) k noStation l (omega (arith, ok .high)))
 
     at-above : (k : ℕ) → setup .n ≤ k → k < 16 → stationAt (freshGroup setup) k ≡ freshStation aloneSetup 0
     at-above k l m =

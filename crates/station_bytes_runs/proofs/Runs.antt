@@ -2,15 +2,16 @@
 use mathlib.Core.Path.{_≡_, refl, sym, ap, subst, _∙_}
 use mathlib.Core.Bool.{Bool, true, false, cond, false≢true}
 use mathlib.Core.List.{List, [], _∷_}
-use Prim.Native.Nat.{ℕ, _≤_}
+use Prim.Native.Nat.{ℕ}
 use lib.Dec.{eqb}
 use Rattle.kinds.specs.Refusals.{done}
 use Rattle.station_rules.specs.declared.Setup.{Setup}
 use Rattle.station_rules.specs.declared.Station.{Station}
 use Rattle.group_rules.specs.declared.Post.{Post}
 use Rattle.group_rules.specs.State.{freshGroup}
-use Rattle.group_rules.specs.Calls.{groupPostCall, roundCall, roundRefusal}
+use Rattle.group_rules.specs.Calls.{groupFreshRefusal, groupPostCall, roundCall, roundRefusal}
 use Rattle.group_rules.specs.History.{Call, post, round, History, next, begun, continued, historyOf}
+use Rattle.group_rules.proofs.Setups.{accepts}
 use Rattle.group_rules.proofs.MembersPost.{post-refused}
 use Rattle.group_rules.proofs.MembersRound.{round-refused}
 use Rattle.station_bytes_spec.specs.Group.{encodeGroup, decodeGroup, isGroup}
@@ -90,11 +91,11 @@ begun-group : (setup : Setup) → (begun setup) .group ≡ freshGroup setup
 unfolding begun
 begun-group setup = refl
 
-module _ (setup : Setup) (low : 1 ≤ setup .n) (high : setup .n ≤ 16) (calls : List Call) (f : CallsFit calls) where
+module _ (setup : Setup) (fresh : groupFreshRefusal setup ≡ done) (calls : List Call) (f : CallsFit calls) where
   both-ways :
       Kept (setup .n) ((historyOf setup calls) .group)
       × (continuedBytes (encodeGroup ((begun setup) .group)) calls ≡ encodeGroup ((historyOf setup calls) .group))
-  both-ways = continued-bytes (setup .n) calls f (begun setup) (subst (Kept (setup .n)) (sym (begun-group setup)) (fresh-kept setup low high))
+  both-ways = continued-bytes (setup .n) calls f (begun setup) (subst (Kept (setup .n)) (sym (begun-group setup)) (fresh-kept setup (accepts setup fresh)))
 
   -- the bytes after the calls are those of the history's group
   pub runs-on-bytes : continuedBytes (encodeGroup (freshGroup setup)) calls ≡ encodeGroup ((historyOf setup calls) .group)

@@ -111,7 +111,7 @@ fresh-fitting setup own l =
     record {
       body = subst BodyFits (sym (fresh-self setup own .body)) empty-fits;
       cells = go;
-      edits = subst EditsFit (sym (fresh-self setup own .waiting)) none-fit;
+      edits = subst EditsFit (sym (fresh-self setup own .waiting)) (none-fit (setup .limit));
     }
   where
     own-fits : RecordFits (freshRecord own)

@@ -23,7 +23,7 @@ use Rattle.station_bytes_spec.specs.Reports.{turnWidth, encodeTurn, enco
 use Rattle.station_bytes_spec.proofs.Bytes.{Stands, stands-left, stands-right, stands-word, stands-joined, first-byte, byte-small, length-word}
 use Rattle.station_bytes_spec.proofs.Body.{BodyFits, length-body, body-words, RecordFits, labels-there, event-there, argument-there, four-there}
 use Rattle.station_bytes_spec.proofs.Reports.{length-taking, length-takings}
-use Rattle.station_bytes_spec.proofs.Station.{CellFits, StationFits, stands-four, stands-first, stands-second, stands-entry, stands-edit, count-there, stands-numbers, stands-body, stands-cell, stands-waiting}
+use Rattle.station_bytes_spec.proofs.Station.{CellFits, StationFits, stands-four, stands-first, stands-second, stands-entry, stands-edit, stands-heads, count-there, limit-there, stands-numbers, stands-body, stands-cell, stands-waiting}
 
 -- RELAY_STATION_BYTES and the others
 pub widths : (stationWidth ≡ 1108) × (groupWidth ≡ 17_728) × (turnWidth ≡ 220) × (reportWidth ≡ 704) × (reportsWidth ≡ 11_264)
@@ -93,13 +93,16 @@ pub record StationPlaces (l : List ℕ) (at : ℕ) (s : Station) : Type 0 where
   pub zero-byte : byteAt l (at + 3) ≡ 0
   pub body : Stands l (at + 4) (encodeBody (s .body))
   pub cell : (k : ℕ) → k < 16 → CellPlaces l (at + 16 + 44 * k) (cellOf s k)
-  pub waiting-count : wordAt l (at + 720) ≡ waitingCount (s .waiting)
+  pub waiting-count : byteAt l (at + 720) ≡ waitingCount (s .waiting)
+  pub waiting-limit : byteAt l (at + 720 + 1) ≡ s .waiting .limit
+  pub zero-bytes : (byteAt l (at + 720 + 2) ≡ 0) × (byteAt l (at + 720 + 3) ≡ 0)
   pub waiting : (i : ℕ) → i < 32 → Stands l (at + 720 + 4 + 12 * i) (encodeBody (waitingAt (s .waiting) i))
 
 pub station-places : (l : List ℕ) (at : ℕ) (s : Station) → StationFits s → Stands l at (encodeStation s) → StationPlaces l at s
 station-places l at s f h =
     let numbers = stands-numbers s f l at h in
     let edits = stands-waiting s f l at h in
+    let heads = stands-heads (s .waiting) l (at + 720) (f .waiting-fits) edits in
     record {
       n = first-byte l at _ _ numbers;
       own = numbers .is 1 (omega arith);
@@ -108,6 +111,8 @@ station-places l at s f h =
       body = stands-body s f l at h;
       cell = λ k m. cell-places l (at + 16 + 44 * k) (cellOf s k) (f .cell-fits k m) (stands-cell s f l at h k m);
       waiting-count = count-there (s .waiting) l (at + 720) (f .waiting-fits) edits;
+      waiting-limit = limit-there (s .waiting) l (at + 720) (f .waiting-fits) edits;
+      zero-bytes = (heads .is 2 (omega arith), heads .is 3 (omega arith));
       waiting = λ i m. stands-edit (s .waiting) l (at + 720) (f .waiting-fits) edits i m;
     }
 

@@ -1,11 +1,11 @@
--- A station inside its limits is decoded from its encoding, whatever stands from N up and past a length: its limits make N, its own number and the number of waiting edits bytes, and its types say the rest.
+-- A station inside its limits is decoded from its encoding, whatever stands from N up and past a length: its limits make N, its own number, the number of waiting edits and their limit bytes, and its types say the rest.
 use mathlib.Core.Path.{_≡_}
 use mathlib.Core.Bool.{true}
 use Prim.Native.Nat.{ℕ, _<_}
 use native.Mathlib.Omega.{arith}
 use lib.ListN.{length}
-use Rattle.lanes.specs.Waiting.{waitingCount, waitingAt, waitingInside}
-use Rattle.lanes.proofs.QueueLimits.{queue-most}
+use Rattle.lanes.specs.Waiting.{waitingCount, waitingAt}
+use Rattle.lanes.proofs.WaitingLaws.{limit-most, inside-limit, inside-most}
 use Rattle.station_rules.specs.declared.Station.{Station}
 use Rattle.station_rules.specs.State.{cellOf}
 use Rattle.station_rules.specs.Limits.{stationInside}
@@ -24,8 +24,10 @@ pub record Typed (s : Station) : Type 0 where
 
 module _ (s : Station) (t : Typed s) (h : stationInside s ≡ true) where
   few-wait : waitingCount (s .waiting) < 256
-  unfolding waitingCount waitingInside
-  few-wait = omega (arith, queue-most (s .waiting .queue) ((inside-open s h) .waiting))
+  few-wait = omega (arith, inside-most (s .waiting) (inside-open s h .waiting))
+
+  limit-small : s .waiting .limit < 256
+  limit-small = omega (arith, limit-most (s .waiting .limit) (inside-limit (s .waiting) (inside-open s h .waiting)))
 
   pub inside-fits : StationFits s
   inside-fits =
@@ -40,7 +42,7 @@ module _ (s : Station) (t : Typed s) (h : stationInside s ≡ true) where
         table-long = t .shape .table;
         lanes-long = t .shape .lanes;
         cell-fits = t .cell-typed;
-        waiting-fits = record { count-byte = few-wait; sized = t .shape .waiting; edit-fits = t .edit-typed };
+        waiting-fits = record { count-byte = few-wait; limit-byte = limit-small; sized = t .shape .waiting; edit-fits = t .edit-typed };
       }
 
   pub inside-decoded : decodeStation (encodeStation s) 0 ≡ s

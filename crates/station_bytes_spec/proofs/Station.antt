@@ -131,6 +131,7 @@ module _ (l : List ℕ) (bytes : AllBytes l) (at : ℕ) (room : at + cellWidth �
 
 pub record WaitingFits (w : Waiting) : Type 0 where
   pub count-byte : waitingCount w < 256
+  pub limit-byte : w .limit < 256
   pub sized : WaitingSized w
   pub edit-fits : (i : ℕ) → i < 32 → BodyFits (waitingAt w i)
 
@@ -141,23 +142,29 @@ module _ (w : Waiting) where
   length-edits : length edits ≡ 384
   length-edits = joined-long 32 12 (λ i. encodeBody (waitingAt w i)) (λ i m. length-body (waitingAt w i))
 
+  abbrev heads : List ℕ
+  heads = asByte (waitingCount w) ∷ asByte (w .limit) ∷ 0 ∷ 0 ∷ []
+
   pub length-waiting : length (encodeWaiting w) ≡ waitingWidth
   unfolding encodeWaiting
-  length-waiting = length-append (wordBytes (asByte (waitingCount w))) edits ∙ ap₂ _+_ (length-word (asByte (waitingCount w))) length-edits
+  length-waiting = length-append heads edits ∙ ap (λ (k : ℕ). 4 + k) length-edits
 
   module _ (l : List ℕ) (at : ℕ) (f : WaitingFits w) (h : Stands l at (encodeWaiting w)) where
-    pub count-there : wordAt l at ≡ waitingCount w
+    pub stands-heads : Stands l at heads
     unfolding encodeWaiting
-    count-there =
-        stands-word l at (asByte (waitingCount w)) (omega (arith, byte-small (waitingCount w)))
-        (stands-left l at (wordBytes (asByte (waitingCount w))) edits h)
-        ∙ byte-same (waitingCount w) (f .count-byte)
+    stands-heads = stands-left l at heads edits h
+
+    pub count-there : byteAt l at ≡ waitingCount w
+    count-there = first-byte l at _ _ stands-heads ∙ byte-same (waitingCount w) (f .count-byte)
+
+    pub limit-there : byteAt l (at + 1) ≡ w .limit
+    limit-there = stands-heads .is 1 (omega arith) ∙ byte-same (w .limit) (f .limit-byte)
 
     pub stands-edit : (i : ℕ) → i < 32 → Stands l (at + 4 + 12 * i) (encodeBody (waitingAt w i))
     unfolding encodeWaiting
     stands-edit i m =
         stands-joined l (at + 4) 32 12 (λ j. encodeBody (waitingAt w j)) (λ j q. length-body (waitingAt w j))
-        (stands-right l at (wordBytes (asByte (waitingCount w))) edits 4 (length-word (asByte (waitingCount w))) h) i m
+        (stands-right l at heads edits 4 refl h) i m
 
     edit-there : (i : ℕ) → i < 32 → decodeBody l (at + 4 + 12 * i) ≡ waitingAt w i
     edit-there i m = body-decoded l (at + 4 + 12 * i) (waitingAt w i) (f .edit-fits i m) (stands-edit i m)
@@ -166,6 +173,7 @@ module _ (w : Waiting) where
     unfolding decodeWaiting waitingCount waitingAt
     waiting-decoded =
         λ i. record {
+          limit = limit-there i;
           queue =
               record {
                 len = count-there i;
@@ -178,7 +186,7 @@ module _ (w : Waiting) where
     pub waiting-accepted : isWaiting l at ≡ true
     unfolding isWaiting
     waiting-accepted =
-        and-both (lt-ltb (wordAt l at) 256 (omega (arith, count-there, f .count-byte)))
+        and-both (and-both (eq-eqb _ _ (stands-heads .is 2 (omega arith))) (eq-eqb _ _ (stands-heads .is 3 (omega arith))))
         (allBelow-make 32 (λ i. isBody l (at + 4 + 12 * i))
         (λ i m. body-accepted l (at + 4 + 12 * i) (waitingAt w i) (f .edit-fits i m) (stands-edit i m)))
 
@@ -188,26 +196,38 @@ module _ (l : List ℕ) (bytes : AllBytes l) (at : ℕ) (room : at + waitingWidt
   edit-read i m =
       ap (λ (s : Slot). s .body) (tabulate-at 32 (λ j. record { body = decodeBody l (at + 4 + 12 * j) }) i noSlot m)
 
-  count-read : waitingCount (decodeWaiting l at) ≡ wordAt l at
+  count-read : waitingCount (decodeWaiting l at) ≡ byteAt l at
   unfolding waitingCount decodeWaiting
   count-read = refl
+
+  limit-read : (decodeWaiting l at) .limit ≡ byteAt l (at + 1)
+  unfolding decodeWaiting
+  limit-read = refl
 
   pub waiting-encoded : isWaiting l at ≡ true → encodeWaiting (decodeWaiting l at) ≡ span at waitingWidth l
   unfolding encodeWaiting isWaiting
   waiting-encoded h =
-      let tests = both (ltb (wordAt l at) 256) (allBelow 32 (λ i. isBody l (at + 4 + 12 * i))) h in
-      let count = ap (λ (x : ℕ). wordBytes (asByte x)) count-read ∙ ap wordBytes (byte-same (wordAt l at) (ltb-true _ _ (tests .0))) ∙ word-span l bytes at (omega arith) in
+      let t₁ = eqb (byteAt l (at + 2)) 0 in
+      let t₂ = eqb (byteAt l (at + 3)) 0 in
+      let tests = both (t₁ && t₂) (allBelow 32 (λ i. isBody l (at + 4 + 12 * i))) h in
+      let zeros = both t₁ t₂ (tests .0) in
+      let third : 0 ≡ byteAt l (at + 2) = sym (eqb-true _ _ (zeros .0)) in
+      let fourth : 0 ≡ byteAt l (at + 3) = sym (eqb-true _ _ (zeros .1)) in
+      let count = ap asByte count-read ∙ byte-same (byteAt l at) (bytes .small at) in
+      let limit = ap asByte limit-read ∙ byte-same (byteAt l (at + 1)) (bytes .small (at + 1)) in
       let edits =
       joined-ext 32 (λ i. encodeBody (waitingAt (decodeWaiting l at) i)) (λ i. span (at + 4 + 12 * i) 12 l)
       (λ i m.
       ap encodeBody (edit-read i m)
       ∙ body-encoded l bytes (at + 4 + 12 * i) (omega arith) (allBelow-at 32 (λ j. isBody l (at + 4 + 12 * j)) (tests .1) i m))
       ∙ spans-joined l (at + 4) 32 12 in
-      (λ i. count i ++ edits i) ∙ span-join l at 4 384 388 refl
+      (λ i. (count i ∷ limit i ∷ third i ∷ fourth i ∷ []) ++ edits i)
+      ∙ ap (λ (r : List ℕ). r ++ span (at + 4) 384 l) (four-span l at (omega arith))
+      ∙ span-join l at 4 384 388 refl
 
 -- ---- the station
 
--- what the types of a station say of it, and that N, its own number and the number of waiting edits are bytes
+-- what the types of a station say of it, and that N, its own number, the number of waiting edits and their limit are bytes
 pub record StationFits (s : Station) : Type 0 where
   pub n-byte : s .n < 256
   pub own-byte : s .own < 256

@@ -3,10 +3,9 @@
 use Prim.Native.Nat.{ℕ, _+_, _*_}
 use mathlib.Core.Bool.{Bool, _&&_}
 use mathlib.Core.List.{List, [], _∷_, _++_}
-use lib.Dec.{eqb, leb, ltb}
+use lib.Dec.{eqb, leb}
 use lib.ListN.{length}
 use Rattle.places.specs.Places.{allBelow, tabulate}
-use Rattle.frame_rules.specs.Words.{wordAt, wordBytes}
 use Rattle.lanes.specs.declared.Lane.{Lane}
 use Rattle.lanes.specs.declared.Waiting.{Waiting}
 use Rattle.lanes.specs.Waiting.{waitingCount, waitingAt}
@@ -47,21 +46,22 @@ isCell b at =
     && isBody b (at + 16)
     && isRecord b (at + 28)
 
--- the waiting edits: how many wait, in four bytes, and 32 bodies
+-- the waiting edits: how many wait, the limit, two zeros, and 32 bodies
 abbrev pub waitingWidth : ℕ
 waitingWidth = 4 + bodyWidth * 32
 
 unfoldable pub encodeWaiting : Waiting → List ℕ
-encodeWaiting w = wordBytes (asByte (waitingCount w)) ++ joinedBelow 32 (λ i. encodeBody (waitingAt w i))
+encodeWaiting w = (asByte (waitingCount w) ∷ asByte (w .limit) ∷ 0 ∷ 0 ∷ []) ++ joinedBelow 32 (λ i. encodeBody (waitingAt w i))
 
 unfoldable pub decodeWaiting : List ℕ → ℕ → Waiting
 decodeWaiting b at =
     record {
-      queue = record { len = wordAt b at; slots = tabulate 32 (λ i. record { body = decodeBody b (at + 4 + bodyWidth * i) }) };
+      limit = byteAt b (at + 1);
+      queue = record { len = byteAt b at; slots = tabulate 32 (λ i. record { body = decodeBody b (at + 4 + bodyWidth * i) }) };
     }
 
 unfoldable pub isWaiting : List ℕ → ℕ → Bool
-isWaiting b at = ltb (wordAt b at) 256 && allBelow 32 (λ i. isBody b (at + 4 + bodyWidth * i))
+isWaiting b at = eqb (byteAt b (at + 2)) 0 && eqb (byteAt b (at + 3)) 0 && allBelow 32 (λ i. isBody b (at + 4 + bodyWidth * i))
 
 -- the whole station
 abbrev pub cellsWidth : ℕ

@@ -10,7 +10,7 @@ use lib.ListN.{set, length, replicate}
 use mir.Syntax.{w32}
 use mir.Val.{SFits, toZ, ofZ}
 use mir.ValLaws.{toZ-ofZ}
-use borrow.Author.Tests.{lt-leb, le-leb, eq-eqb, ne-eqb, lt-ltb, le-ltb}
+use borrow.Author.Tests.{lt-leb, le-leb, eq-eqb, ne-eqb}
 use Rattle.kinds.specs.declared.Body.{Body}
 use Rattle.kinds.specs.Body.{kindOf, eventOf, argumentOf, bodyOf}
 use Rattle.places.specs.Places.{allBelow, fill, tabulate}
@@ -103,18 +103,23 @@ module _ (b : List ℕ) (at : ℕ) where
   abbrev edits : ℕ → Bool
   edits i = isBody b (at + 4 + 12 * i)
 
-  pub many-wait : 256 ≤ wordAt b at → false ≡ isWaiting b at
+  pub third-marked : (byteAt b (at + 2) ≡ 0 → ⊥) → false ≡ isWaiting b at
   unfolding isWaiting
-  many-wait h = rw (le-ltb _ _ h)
+  third-marked d = rw (ne-eqb _ _ d)
 
-  module _ (few : wordAt b at < 256) where
-    pub no-edit : (i : ℕ) → i < 32 → edits i ≡ false → false ≡ isWaiting b at
+  module _ (h₁ : byteAt b (at + 2) ≡ 0) where
+    pub fourth-marked : (byteAt b (at + 3) ≡ 0 → ⊥) → false ≡ isWaiting b at
     unfolding isWaiting
-    no-edit i l h = rw (lt-ltb _ _ few) (sym (allBelow-fails 32 edits i l h))
+    fourth-marked d = rw (eq-eqb _ _ h₁, ne-eqb _ _ d)
 
-    pub all-edits : (i : ℕ) → i ≡ 32 → allBelow i edits ≡ true → true ≡ isWaiting b at
-    unfolding isWaiting
-    all-edits i e h = rw (lt-ltb _ _ few) (rw e at (sym h))
+    module _ (h₂ : byteAt b (at + 3) ≡ 0) where
+      pub no-edit : (i : ℕ) → i < 32 → edits i ≡ false → false ≡ isWaiting b at
+      unfolding isWaiting
+      no-edit i l h = rw (eq-eqb _ _ h₁, eq-eqb _ _ h₂) (sym (allBelow-fails 32 edits i l h))
+
+      pub all-edits : (i : ℕ) → i ≡ 32 → allBelow i edits ≡ true → true ≡ isWaiting b at
+      unfolding isWaiting
+      all-edits i e h = rw (eq-eqb _ _ h₁, eq-eqb _ _ h₂) (rw e at (sym h))
 
   -- ---- a station
 
@@ -191,12 +196,13 @@ abbrev pub editIn : List ℕ → ℕ → ℕ → Slot
 editIn b at i = record { body = decodeBody b (at + 4 + 12 * i) }
 
 pub waiting-read :
-    (b : List ℕ) (at len : ℕ) (slots : List Slot) (i : ℕ) → len ≡ wordAt b at → i ≡ 32 → slots ≡ fill i (editIn b at) (replicate 32 noSlot) →
-    _≡_ {A = Waiting} (record { queue = record { len = len; slots = slots } }) (decodeWaiting b at)
+    (b : List ℕ) (at len limit : ℕ) (slots : List Slot) (i : ℕ) → len ≡ byteAt b at → limit ≡ byteAt b (at + 1) → i ≡ 32 →
+    slots ≡ fill i (editIn b at) (replicate 32 noSlot) →
+    _≡_ {A = Waiting} (record { limit = limit; queue = record { len = len; slots = slots } }) (decodeWaiting b at)
 unfolding decodeWaiting
-waiting-read b at len slots i l e h =
+waiting-read b at len limit slots i l m e h =
     let all = all-filled 32 i (editIn b at) slots (replicate 32 noSlot) noSlot refl e h in
-    (λ j. record { queue = record { len = l j; slots = all j } })
+    (λ j. record { limit = m j; queue = record { len = l j; slots = all j } })
 
 -- the five arrays of a station, read cell by cell below k
 pub record CellsRead (b : List ℕ) (at k : ℕ) (acked held : List Bool) (labels : List ℕ) (table : List Record) (lanes : List Lane) : Type 0 where

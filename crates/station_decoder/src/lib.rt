@@ -165,12 +165,16 @@ fn read_waiting(bytes: &[u8], at: usize) -> Waiting
         slots[i] = Slot { body: body };
         i += 1;
     }
-    let len = word_at(bytes, at) as usize;
+    let len = record_reader::wide(bytes[at]);
+    let limit = record_reader::wide(bytes[at + 1]);
     let queue = Queue {
         len: len,
         slots: slots,
     };
-    Waiting { queue: queue }
+    Waiting {
+        limit: limit,
+        queue: queue,
+    }
 }
 
 // Are the bytes at a place those of waiting edits?
@@ -178,7 +182,10 @@ fn waiting_right(bytes: &[u8], at: usize) -> bool
     requires { ⌜ at + waitingWidth ≤ length (now bytes) ⌝ }
     ensures { λ r. ⌜ r ≡ isWaiting (now (bytes .entry)) at ⌝ }
 {
-    if 256 <= word_at(bytes, at) {
+    if bytes[at + 2] != 0 {
+        return false;
+    }
+    if bytes[at + 3] != 0 {
         return false;
     }
     let mut i: usize = 0;

@@ -132,12 +132,12 @@ module _ (l : List ℕ) (at : ℕ) where
       (length-body (s .body)) (joined-long 16 cellWidth (λ k. encodeCell (cellOf s k)) (λ k m. length-cell (cellOf s k))) refl refl s₁ s₂ s₃ s₄
       ∙ (λ i. sets l at ((en i ∷ eo i ∷ s .count ∷ 0 ∷ []) ++ encodeBody (s .body) ++ cells ++ encodeWaiting (s .waiting)))
 
-  -- the waiting edits: their number, and then the bodies
+  -- the waiting edits: their number and their limit, and then the bodies
   pub waiting-written :
-      (w : Waiting) (c : ℕ) (l₁ l₂ : List ℕ) (i : ℕ) → c ≡ asByte (w .queue .len) → i ≡ 32 → l₁ ≡ sets l at (wordBytes c) →
+      (w : Waiting) (c m : ℕ) (l₁ l₂ : List ℕ) (i : ℕ) → c ≡ asByte (w .queue .len) → m ≡ asByte (w .limit) → i ≡ 32 → l₁ ≡ sets l at (c ∷ m ∷ 0 ∷ 0 ∷ []) →
       l₂ ≡ sets l₁ (at + 4) (joinedBelow i (λ j. encodeBody ((getD (w .queue .slots) j noSlot) .body))) → l₂ ≡ sets l at (encodeWaiting w)
   unfolding encodeWaiting waitingCount waitingAt
-  waiting-written w c l₁ l₂ i count e first second =
+  waiting-written w c m l₁ l₂ i count limit e first second =
       let edits : ℕ → List ℕ = λ j. encodeBody ((getD (w .queue .slots) j noSlot) .body) in
-      written-more l l₁ l₂ at (wordBytes c) (joinedBelow 32 edits) 4 first (length-word c) (all-written l₁ l₂ (at + 4) 32 i edits e second)
-      ∙ ap (λ (x : ℕ). sets l at (wordBytes x ++ joinedBelow 32 edits)) count
+      written-more l l₁ l₂ at (c ∷ m ∷ 0 ∷ 0 ∷ []) (joinedBelow 32 edits) 4 first refl (all-written l₁ l₂ (at + 4) 32 i edits e second)
+      ∙ (λ k. sets l at ((count k ∷ limit k ∷ 0 ∷ 0 ∷ []) ++ joinedBelow 32 edits))

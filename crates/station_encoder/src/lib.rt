@@ -137,7 +137,7 @@ fn put_waiting(bytes: &mut [u8], at: usize, waiting: Waiting)
 {
     let queue = waiting.queue;
     let slots = queue.slots;
-    put_word(bytes, at, as_byte(queue.len) as u32);
+    put_four(bytes, at, as_byte(queue.len), as_byte(waiting.limit), 0, 0);
     let mut i: usize = 0;
     while i < 32 {
         let slot = slots[i];

@@ -11,7 +11,7 @@ use Rattle.kind_limits.specs.Limits.{postable}
 use Rattle.kinds.specs.Refusals.{done}
 use Rattle.frame_rules.specs.Frame.{validNumber, frameRefusal, recordsOf}
 use Rattle.places.proofs.Laws.{and-left, and-right}
-use Rattle.lanes.specs.Waiting.{hasRoom}
+use Rattle.lanes.specs.Waiting.{limitInside, hasRoom}
 use Rattle.station_rules.specs.declared.Setup.{Setup}
 use Rattle.station_rules.specs.declared.Station.{Station}
 use Rattle.station_rules.specs.Hearing.{Hearing, silent, hearFrame}
@@ -24,18 +24,24 @@ valid-parts n own h =
     let p = and-left (leb 1 n && leb n 16) (ltb own n) h in
     (leb-true _ _ (and-left _ _ p), leb-true _ _ (and-right (leb 1 n) _ p), ltb-true _ _ (and-right (leb 1 n && leb n 16) _ h))
 
--- fresh: 1
+-- fresh: 1, 13
 pub fresh-done :
-    (setup : Setup) (own : ℕ) (s : Station) → validNumber (setup .n) own ≡ true → s ≡ freshStation setup own →
+    (setup : Setup) (own : ℕ) (s : Station) → validNumber (setup .n) own ≡ true → limitInside (setup .limit) ≡ true → s ≡ freshStation setup own →
     record { refusal = 0; station = s } ≡ freshCall setup own
 unfolding freshCall
-fresh-done setup own s v e = rw (v, e)
+fresh-done setup own s v l e = rw (v, l, e)
 
 pub fresh-refused :
     (setup : Setup) (own : ℕ) (s : Station) → validNumber (setup .n) own ≡ false → s ≡ freshStation aloneSetup 0 →
     record { refusal = 1; station = s } ≡ freshCall setup own
 unfolding freshCall
 fresh-refused setup own s v e = rw (v, e)
+
+pub fresh-unlimited :
+    (setup : Setup) (own : ℕ) (s : Station) → validNumber (setup .n) own ≡ true → limitInside (setup .limit) ≡ false → s ≡ freshStation aloneSetup 0 →
+    record { refusal = 13; station = s } ≡ freshCall setup own
+unfolding freshCall
+fresh-unlimited setup own s v l e = rw (v, l, e)
 
 -- post: 2, 4, 3
 module _ (s : Station) (b : Body) where

@@ -53,16 +53,16 @@ module _ (s : Station) (i : stationInside s ≡ true) where
   pub refused : (b : Body) → postable b ≡ false → (postCall s b) .refusal ≡ 4
   refused b e = sym (ap (λ (k : Kept). k .refusal) (post-no-edit s b i e))
 
-  pub taken : (b : Body) → postable b ≡ true → waitingCount (s .waiting) < queueCapacity → (postCall s b) .refusal ≡ 0
+  pub taken : (b : Body) → postable b ≡ true → waitingCount (s .waiting) < s .waiting .limit → (postCall s b) .refusal ≡ 0
   taken b e l = sym (ap (λ (k : Kept). k .refusal) (post-done s b i e (room-below (s .waiting) l)))
 
   -- as long as fewer than 32 wait, an edit is accepted and waits
-  pub m11-room : (b : Body) → postable b ≡ true → waitingCount (s .waiting) < queueCapacity → ((postCall s b) .refusal ≡ 0) × (waitingCount ((postCall s b) .station .waiting) ≡ waitingCount (s .waiting) + 1)
-  m11-room b e l = (taken b e l, sym (ap (λ (k : Kept). waitingCount (k .station .waiting)) (post-done s b i e (room-below (s .waiting) l))) ∙ one-more)
+  pub m11-room : (b : Body) → postable b ≡ true → s .waiting .limit ≡ 32 → waitingCount (s .waiting) < 32 → ((postCall s b) .refusal ≡ 0) × (waitingCount ((postCall s b) .station .waiting) ≡ waitingCount (s .waiting) + 1)
+  m11-room b e limit wait = let l : waitingCount (s .waiting) < s .waiting .limit = omega arith in (taken b e l, sym (ap (λ (k : Kept). waitingCount (k .station .waiting)) (post-done s b i e (room-below (s .waiting) l))) ∙ one-more)
     where
       one-more : waitingCount ((posted s b) .waiting) ≡ waitingCount (s .waiting) + 1
       one-more = unfold posted in posted-count (s .waiting) b ∙ omega arith
 
   -- the 33rd waiting edit
-  pub m11 : (b : Body) → postable b ≡ true → waitingCount (s .waiting) ≡ queueCapacity → (postCall s b) .refusal ≡ 3
-  m11 b e l = sym (ap (λ (k : Kept). k .refusal) (post-full s b i e (room-full (s .waiting) (omega arith))))
+  pub m11 : (b : Body) → postable b ≡ true → s .waiting .limit ≡ 32 → waitingCount (s .waiting) ≡ 32 → (postCall s b) .refusal ≡ 3
+  m11 b e limit l = sym (ap (λ (k : Kept). k .refusal) (post-full s b i e (room-full (s .waiting) (omega arith))))

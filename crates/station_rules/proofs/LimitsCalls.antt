@@ -17,7 +17,7 @@ use Rattle.frame_rules.proofs.RecordTrip.{held-fits}
 use Rattle.frame_rules.specs.Frame.{validNumber, part, recordStation, shapeWrong, addressWrong, recordsInside, frameRefusal, recordsOf}
 use Rattle.places.specs.Places.{allBelow, anyBelow, tabulate}
 use Rattle.places.proofs.Laws.{and-left, allBelow-at}
-use Rattle.lanes.specs.Waiting.{hasRoom}
+use Rattle.lanes.specs.Waiting.{limitInside, hasRoom}
 use Rattle.station_rules.specs.declared.Setup.{Setup}
 use Rattle.station_rules.specs.declared.Station.{Station}
 use Rattle.station_rules.specs.declared.Heard.{Heard}
@@ -64,13 +64,14 @@ frame-carried n bytes h = go (getD bytes 2 0) (omega arith)
 
 pub fresh-call-inside : (setup : Setup) (own : ℕ) → stationInside ((freshCall setup own) .station) ≡ true
 unfolding freshCall
-fresh-call-inside setup own = go (validNumber (setup .n) own) refl
+fresh-call-inside setup own = go (validNumber (setup .n) own) (limitInside (setup .limit)) refl refl
   where
     go :
-        (t : Bool) → validNumber (setup .n) own ≡ t →
+        (t u : Bool) → validNumber (setup .n) own ≡ t → limitInside (setup .limit) ≡ u →
         stationInside ((freshCall setup own) .station) ≡ true
-    go true e = rw e (fresh-inside setup own e)
-    go false e = rw e (fresh-inside aloneSetup 0 refl)
+    go true true e l = rw (e, l) (fresh-inside setup own e l)
+    go true false e l = rw (e, l) (fresh-inside aloneSetup 0 refl refl)
+    go false u e l = rw e (fresh-inside aloneSetup 0 refl refl)
 
 module _ (s : Station) (shape : Shaped s) (inside : stationInside s ≡ true) where
   pub post-call-inside : (b : Body) → stationInside ((postCall s b) .station) ≡ true

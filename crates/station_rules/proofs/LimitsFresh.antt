@@ -14,7 +14,7 @@ use Rattle.frame_rules.specs.Frame.{validNumber}
 use Rattle.places.proofs.Laws.{and-left, and-right}
 use Rattle.station_rules.specs.declared.Setup.{Setup}
 use Rattle.station_rules.specs.declared.Station.{Station}
-use Rattle.lanes.specs.Waiting.{hasRoom, withPosted}
+use Rattle.lanes.specs.Waiting.{limitInside, hasRoom, withPosted}
 use Rattle.lanes.proofs.WaitingLaws as waiting
 use Rattle.station_rules.specs.State.{Cell, cellOf, freshRecord, freshStation}
 use Rattle.station_rules.specs.Limits.{stationInside}
@@ -46,8 +46,8 @@ module _ (setup : Setup) (own : ℕ) (high : setup .n ≤ 16) (below : own < set
             (record { label = refl; held = λ e. absurd (true≢false (sym e)); lane = lane-none (cond (eqb k own) 1 2) Empty Empty })
       ]
 
-  pub fresh-holds : Inside (freshStation setup own)
-  fresh-holds =
+  pub fresh-holds : limitInside (setup .limit) ≡ true → Inside (freshStation setup own)
+  fresh-holds limited =
       let self = fresh-self setup own in
       let cell = fresh-own setup own (omega arith) in
       inside-as (setup .n) own (freshStation setup own) (self .n) (self .own)
@@ -58,17 +58,18 @@ module _ (setup : Setup) (own : ℕ) (high : setup .n ≤ 16) (below : own < set
         acked = ap (λ (c : Cell). c .acked) cell;
         held = ap (λ (c : Cell). c .held) cell;
         body = rw (self .body) empty-inside;
-        waiting = rw (self .waiting) waiting.none-inside;
+        waiting = rw (self .waiting) (waiting.none-inside (setup .limit) limited);
         places = fresh-cell;
       })
 
-pub fresh-inside : (setup : Setup) (own : ℕ) → validNumber (setup .n) own ≡ true → stationInside (freshStation setup own) ≡ true
-fresh-inside setup own h =
+pub fresh-inside :
+    (setup : Setup) (own : ℕ) → validNumber (setup .n) own ≡ true → limitInside (setup .limit) ≡ true → stationInside (freshStation setup own) ≡ true
+fresh-inside setup own h limited =
     let n = setup .n in
     inside-make (freshStation setup own)
     (fresh-holds setup own
     (leb-true n 16 (and-right (leb 1 n) (leb n 16) (and-left (leb 1 n && leb n 16) (ltb own n) h)))
-    (ltb-true own n (and-right (leb 1 n && leb n 16) (ltb own n) h)))
+    (ltb-true own n (and-right (leb 1 n && leb n 16) (ltb own n) h)) limited)
 
 pub posted-holds : (s : Station) (b : Body) → Shaped s → Inside s → postable b ≡ true → hasRoom (s .waiting) ≡ true → Inside (posted s b)
 unfolding posted

@@ -17,7 +17,7 @@ use Rattle.lanes.specs.Queue.{queueCapacity, noSlot}
 use Rattle.lanes.specs.Waiting.{waitingEdits}
 use Rattle.station_rules.specs.declared.Station.{Station}
 use Rattle.station_rules.specs.declared.TurnReport.{TurnReport}
-use Rattle.station_rules.specs.State.{aloneSetup, freshStation, cellOf, labelOf, ackedOf, heldOf, laneAt, withEntry, withCell}
+use Rattle.station_rules.specs.State.{sized, aloneSetup, freshStation, cellOf, labelOf, ackedOf, heldOf, laneAt, withEntry, withCell}
 use Rattle.station_rules.specs.Hearing.{Hearing, silent, hearRecord, hearRecords, hearFrame}
 use Rattle.station_rules.specs.Turn.{afterTurn, turnReport}
 use Rattle.station_rules.specs.Calls.{postCall, frameOf, hearCall}
@@ -49,7 +49,7 @@ pub record Alone : Type 0 where
 
 -- a station alone, with so many edits posted
 unfoldable pub posts : ℕ → Station
-posts zero = freshStation aloneSetup 0
+posts zero = freshStation (record { n = 1; limit = queueCapacity }) 0
 posts (suc k) = with-edit (posts k) edit
 
 pub record Posts : Type 0 where
@@ -58,8 +58,8 @@ pub record Posts : Type 0 where
 
 -- a frame that comes is heard
 pub record Frame : Type 0 where
-  pub is-heard : (hearCall (freshStation (record { n = 2 }) 0) (frameOf (freshStation (record { n = 2 }) 1))) .refusal ≡ done
-  pub shows : heldOf ((hearCall (freshStation (record { n = 2 }) 0) (frameOf (freshStation (record { n = 2 }) 1))) .station) 1 ≡ true
+  pub is-heard : (hearCall (freshStation (sized 2) 0) (frameOf (freshStation (sized 2) 1))) .refusal ≡ done
+  pub shows : heldOf ((hearCall (freshStation (sized 2) 0) (frameOf (freshStation (sized 2) 1))) .station) 1 ≡ true
 
 -- a record of station 1 with a count, a body, and its labels for station 0 and for itself
 abbrev of-one : ℕ → Body → ℕ → ℕ → Record
@@ -67,7 +67,7 @@ of-one count b zero-label own-label = record { station = 1; count = count; body 
 
 -- station 0 of two, with two edits posted, once it has heard the fresh station 1
 abbrev first : Hearing
-first = hearRecord (silent (with-edit (with-edit (freshStation (record { n = 2 }) 0) edit) other)) (of-one 0 Empty 0 1)
+first = hearRecord (silent (with-edit (with-edit (freshStation (sized 2) 0) edit) other)) (of-one 0 Empty 0 1)
 
 -- then a record that shows more, and acknowledges
 abbrev second : Hearing
@@ -125,7 +125,7 @@ abbrev one-held : Record
 one-held = record { station = 1; count = 2; body = Shift 9 (pos 5); labels = packed (2 ∷ 1 ∷ 0 ∷ []) }
 
 abbrev holds-one : Hearing
-holds-one = hearRecord (silent (freshStation (record { n = 3 }) 0)) one-held
+holds-one = hearRecord (silent (freshStation (sized 3) 0)) one-held
 
 -- the record with another body, other labels, or another station
 abbrev with-body : Body → Record
@@ -171,7 +171,7 @@ pub record Conflicts : Type 0 where
   pub conflict-frame : (hearFrame (hearFrame lane-full (with-body edit ∷ [])) (of-two 0 edit 0 ∷ [])) .refusal ≡ conflict
   -- a conflict with a record that came in the frame before
   pub frame-before :
-      (hearFrame (hearFrame (silent (freshStation (record { n = 3 }) 0)) (one-held ∷ [])) (with-body edit ∷ [])) .refusal ≡ conflict
+      (hearFrame (hearFrame (silent (freshStation (sized 3) 0)) (one-held ∷ [])) (with-body edit ∷ [])) .refusal ≡ conflict
 
 -- by computation
 pub alone-runs : Alone

@@ -254,7 +254,7 @@ module _ (own : ℕ) where
 
 -- the fresh station
 module _ (setup : Setup) (own : ℕ) where
-  pub fresh-self : Self (freshStation setup own) (setup .n) own noneWaiting Empty 0
+  pub fresh-self : Self (freshStation setup own) (setup .n) own (noneWaiting (setup .limit)) Empty 0
   unfolding freshStation
   fresh-self = record { n = refl; own = refl; waiting = refl; body = refl; count = refl }
 
@@ -300,7 +300,7 @@ module _ (setup : Setup) (own : ℕ) where
         held = simp length-set;
         table = simp length-set;
         lanes = refl;
-        waiting = none-sized;
+        waiting = none-sized (setup .limit);
       }
 
 -- the records that are sent are those of the table

@@ -7,7 +7,7 @@ use lib.Dec.{ltb, eqb}
 use Rattle.kinds.specs.declared.Body.{Body}
 use Rattle.kinds.specs.declared.Body.the-variants.{Empty}
 use Rattle.kind_limits.specs.Limits.{postable}
-use Rattle.kinds.specs.Refusals.{done, badNumber, outsideLimits, queueFull, notAnEdit, shortBuffer, countTooHigh, refuse}
+use Rattle.kinds.specs.Refusals.{done, badNumber, badLimit, outsideLimits, queueFull, notAnEdit, shortBuffer, countTooHigh, refuse}
 use Rattle.frame_rules.specs.Record.{countInside}
 use Rattle.frame_rules.specs.Frame.{validNumber, frameRefusal, recordsOf, frameBytes}
 use Rattle.station_rules.specs.declared.Setup.{Setup}
@@ -19,15 +19,17 @@ use Rattle.frame_rules.specs.declared.Written.{Written}
 use Rattle.station_rules.specs.declared.Heard.{Heard}
 use Rattle.station_rules.specs.declared.Turned.{Turned}
 use Rattle.lanes.specs.Queue.{noSlot}
-use Rattle.lanes.specs.Waiting.{hasRoom, withPosted}
+use Rattle.lanes.specs.Waiting.{limitInside, hasRoom, withPosted}
 use Rattle.station_rules.specs.State.{recordOf, withWaiting, sentRecords, aloneSetup, freshStation}
 use Rattle.station_rules.specs.Limits.{stationInside}
 use Rattle.station_rules.specs.Hearing.{silent, hearFrame}
 use Rattle.station_rules.specs.Turn.{afterTurn, turnReport}
 
--- "Fresh": 1
+-- "Fresh": 1, 13
 abbrev pub freshRefusal : Setup → ℕ → ℕ
-freshRefusal setup own = refuse (not (validNumber (setup .n) own)) badNumber done
+freshRefusal setup own =
+    refuse (not (validNumber (setup .n) own)) badNumber
+    (refuse (not (limitInside (setup .limit))) badLimit done)
 
 -- a refused call returns the fresh station of N = 1
 unfoldable pub freshCall : Setup → ℕ → Kept

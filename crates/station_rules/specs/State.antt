@@ -15,7 +15,7 @@ use Rattle.lanes.specs.declared.Waiting.{Waiting}
 use Rattle.station_rules.specs.declared.Setup.{Setup}
 use Rattle.station_rules.specs.declared.Station.{Station}
 use Rattle.lanes.specs.Lane.{noLane}
-use Rattle.lanes.specs.Waiting.{noneWaiting, absentWaiting}
+use Rattle.lanes.specs.Waiting.{defaultLimit, noneWaiting, absentWaiting}
 
 -- what a station has of station k: its label for it, whether it is acknowledged, whether the table holds a record of it, that record, and its lane
 pub record Cell : Type 0 where
@@ -134,9 +134,13 @@ withLanes s lane = withArrays s (s .acked) (s .labels) (s .held) (s .table) (fil
 unfoldable pub sentRecords : Station → List Record
 sentRecords s = gather (s .n) (heldOf s) (λ k. framed (s .n) (recordOf s k))
 
+-- what is given where no limit is named (document 02, A2)
+abbrev pub sized : ℕ → Setup
+sized n = record { n = n; limit = defaultLimit }
+
 -- what a station alone is given: a refused fresh call answers with it, and it stands in a fresh group's places from N up
 abbrev pub aloneSetup : Setup
-aloneSetup = record { n = 1 }
+aloneSetup = sized 1
 
 -- the labels of a fresh station: 1 for itself, 0 for others
 abbrev pub freshLabels : ℕ → List ℕ
@@ -153,7 +157,7 @@ freshStation setup own =
     record {
       n = setup .n;
       own = own;
-      waiting = noneWaiting;
+      waiting = noneWaiting (setup .limit);
       acked = set (replicate 16 false) own true;
       body = Empty;
       count = 0;

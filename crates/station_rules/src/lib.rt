@@ -6,9 +6,10 @@ use lanes::Lane;
 use lanes::Slot;
 use lanes::Waiting;
 
-// What a fresh station or group is given: N.
+// What a fresh station or group is given: N, and how many edits may wait at a station.
 pub struct Setup {
     pub n: usize,
+    pub limit: usize,
 }
 
 // A station, place by place: what it has of station k stands at place k of each array.

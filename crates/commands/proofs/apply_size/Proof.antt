@@ -5,12 +5,12 @@ use borrow.Author.Needs.{needs}
 use Rattle.commands.proofs.apply_size.Statement.{statement}
 use Rattle.commands.proofs.apply_size.Tie as tie
 
-fresh-requires : tie.Need-fresh-requires
-fresh-requires c κs = search needs
+fresh-limited-requires : tie.Need-fresh-limited-requires
+fresh-limited-requires c κs = search needs
 
 returns : tie.Need-returns
 unfolding sizedBy
-returns c = (ap (sizedBy (c .before .before .args .s) (c .before .before .args .n)) (c .before .fresh .ensures), refl)
+returns c = (ap (sizedBy (c .before .before .args .s) (c .before .before .args .n)) (c .before .fresh-limited .ensures), refl)
 
 pub apply-size-spec : {M : Type 1} → statement M
-apply-size-spec = tie.close (tie.spec fresh-requires returns)
+apply-size-spec = tie.close (tie.spec fresh-limited-requires returns)

@@ -12,10 +12,10 @@ use Rattle.group.proofs.fresh_group.Statement.{statement}
 use Rattle.group.proofs.fresh_group.Tie as tie
 
 abbrev Inv-loop : tie.InvT-loop
-Inv-loop setup group₀ k₀ group k = (k ≤ setup .n) × (group ≡ fill k (freshStation setup) (replicate 16 (freshStation aloneSetup 0)))
+Inv-loop setup limit group₀ k₀ group k = (k ≤ setup .n) × (group ≡ fill k (freshStation setup) (replicate 16 (freshStation aloneSetup 0)))
 
 abbrev μ-loop : tie.MeasureT-loop
-μ-loop setup group₀ k₀ group k = setup .n - k
+μ-loop setup limit group₀ k₀ group k = setup .n - k
 
 fresh-station-requires : tie.Need-fresh-station-requires Inv-loop μ-loop
 fresh-station-requires c κs = search needs

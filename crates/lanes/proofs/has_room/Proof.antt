@@ -1,4 +1,4 @@
--- `lanes::has_room` compares the length of the queue with its capacity.
+-- `lanes::has_room` compares the length of the queue with the limit.
 use mathlib.Core.Path.{refl}
 use Rattle.lanes.specs.Waiting.{waitingCount, hasRoom}
 use Rattle.lanes.proofs.has_room.Statement.{statement}

@@ -17,10 +17,10 @@ use Rattle.lanes.proofs.queue_inside.Lts as lts
 use Rattle.kind_limits.proofs.postable.Reads as postable-reads
 
 abbrev Inv-loop : tie.InvT-loop
-Inv-loop queue len i₀ i = (i ≤ len) × (len ≡ queue .len) × (len ≤ queueCapacity) × (allBelow i (λ k. postable ((getD (queue .slots) k noSlot) .body)) ≡ true)
+Inv-loop limit queue len i₀ i = (i ≤ len) × (len ≡ queue .len) × (len ≤ limit) × (allBelow i (λ k. postable ((getD (queue .slots) k noSlot) .body)) ≡ true)
 
 abbrev μ-loop : tie.MeasureT-loop
-μ-loop queue len i₀ i = len - i
+μ-loop limit queue len i₀ i = len - i
 
 returns : tie.Need-returns Inv-loop μ-loop
 unfolding queueInside

@@ -1,11 +1,11 @@
 -- `lanes::with_posted` puts the body last into the queue, which has room for it.
-use Rattle.lanes.specs.Waiting.{withPosted}
-use Rattle.lanes.proofs.WaitingLaws.{room-count}
+use Rattle.lanes.specs.Waiting.{waitingCount, withPosted}
 use Rattle.lanes.proofs.with_posted.Statement.{statement}
 use Rattle.lanes.proofs.with_posted.Tie as tie
 
 queued-requires : tie.Need-queued-requires
-queued-requires c κs = room-count (c .before .args .waiting) (c .before .pre)
+unfolding waitingCount
+queued-requires c κs = c .before .pre
 
 returns : tie.Need-returns
 unfolding withPosted

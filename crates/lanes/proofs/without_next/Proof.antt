@@ -1,12 +1,11 @@
 -- `lanes::without_next` removes the oldest body of the queue, which is inside its limits.
-use Rattle.lanes.specs.Waiting.{waitingCount, withoutNext, waitingInside}
-use Rattle.lanes.proofs.QueueLimits.{queue-most}
+use Rattle.lanes.specs.Waiting.{waitingCount, withoutNext}
 use Rattle.lanes.proofs.without_next.Statement.{statement}
 use Rattle.lanes.proofs.without_next.Tie as tie
 
 unqueued-requires : tie.Need-unqueued-requires
-unfolding waitingCount waitingInside
-unqueued-requires c κs = (c .before .pre .0, queue-most (c .before .args .waiting .queue) (c .before .pre .1))
+unfolding waitingCount
+unqueued-requires c κs = c .before .pre
 
 returns : tie.Need-returns
 unfolding withoutNext

@@ -6,19 +6,19 @@ use Rattle.relay_bench.proofs.run.Statement.{statement}
 use Rattle.relay_bench.proofs.run.Tie as tie
 
 abbrev Inv-loop2 : tie.InvT-loop2
-Inv-loop2 schedule n rounds g sum₀ number done k₀ sum k = (1 ≤ n) × (n ≤ 16) × (32 ≤ length schedule) × (number < rounds) × (k ≤ n)
+Inv-loop2 schedule n rounds limit g sum₀ number done k₀ sum k = (1 ≤ n) × (n ≤ 16) × (32 ≤ length schedule) × (number < rounds) × (k ≤ n)
 
 abbrev μ-loop2 : tie.MeasureT-loop2
-μ-loop2 schedule n rounds g sum₀ number done k₀ sum k = n - k
+μ-loop2 schedule n rounds limit g sum₀ number done k₀ sum k = n - k
 
 abbrev Inv-loop : tie.InvT-loop
-Inv-loop schedule n rounds g₀ sum₀ number₀ g sum number = (1 ≤ n) × (n ≤ 16) × (32 ≤ length schedule) × (number ≤ rounds)
+Inv-loop schedule n rounds limit g₀ sum₀ number₀ g sum number = (1 ≤ n) × (n ≤ 16) × (32 ≤ length schedule) × (number ≤ rounds)
 
 abbrev μ-loop : tie.MeasureT-loop
-μ-loop schedule n rounds g₀ sum₀ number₀ g sum number = rounds - number
+μ-loop schedule n rounds limit g₀ sum₀ number₀ g sum number = rounds - number
 
-fresh-requires : tie.Need-fresh-requires Inv-loop2 μ-loop2 Inv-loop μ-loop
-fresh-requires c κs = search needs
+fresh-limited-requires : tie.Need-fresh-limited-requires Inv-loop2 μ-loop2 Inv-loop μ-loop
+fresh-limited-requires c κs = search needs
 
 loop-holds : tie.Need-loop-holds Inv-loop2 μ-loop2 Inv-loop μ-loop
 loop-holds c = search needs
@@ -76,7 +76,7 @@ run-spec =
     μ-loop2
     Inv-loop
     μ-loop
-    fresh-requires
+    fresh-limited-requires
     loop-holds
     posted-requires
     masks-of-requires

@@ -7,6 +7,8 @@ use Rattle.station_rules.specs.declared.Kept.{Kept}
 use Rattle.station_rules.specs.State.{withWaiting}
 use Rattle.station_rules.specs.Calls.{posted}
 use Rattle.station_rules.proofs.CallSteps.{post-outside, post-no-edit, post-full, post-done}
+use Rattle.lanes.proofs.WaitingLaws.{room-most}
+use Rattle.station_rules.proofs.StationLimits.{inside-open}
 use borrow.Author.Needs.{needs}
 use Rattle.station.proofs.post.Statement.{statement}
 use Rattle.station.proofs.post.Tie as tie
@@ -36,7 +38,10 @@ returns-3 c =
     post-full _ _ (sym (d .before .before .before .station-inside .ensures) ∙ not-false _ (d .before .before .if1 .left)) (sym (d .before .postable .ensures) ∙ not-false _ (d .if2 .left)) (sym (c .before .has-room .ensures) ∙ not-true _ (c .if3 .taken))
 
 with-posted-requires : tie.Need-with-posted-requires
-with-posted-requires c κs = sym (c .before .has-room .ensures) ∙ not-false _ (c .if3 .left)
+with-posted-requires c κs =
+    let d = c .before .before .before in
+    let i = sym (d .before .before .before .station-inside .ensures) ∙ not-false _ (d .before .before .if1 .left) in
+    room-most _ (inside-open _ i .waiting) (sym (c .before .has-room .ensures) ∙ not-false _ (c .if3 .left))
 
 returns-4 : tie.Need-returns-4
 unfolding posted

@@ -1,5 +1,6 @@
 -- `turn_parts::waiting_after` meets its contract.
 use borrow.Author.Tests.{not-true, not-false}
+use Rattle.lanes.proofs.WaitingLaws.{inside-most}
 use Rattle.turn_parts.proofs.waiting_after.Statement.{statement}
 use Rattle.turn_parts.proofs.waiting_after.Tie as tie
 
@@ -7,7 +8,7 @@ returns : tie.Need-returns
 returns c = rw (not-true (c .before .args .starts) (c .if1 .taken))
 
 without-next-requires : tie.Need-without-next-requires
-without-next-requires c κs = (c .before .pre .0 (not-false (c .before .args .starts) (c .if1 .left)), c .before .pre .1)
+without-next-requires c κs = (c .before .pre .0 (not-false (c .before .args .starts) (c .if1 .left)), inside-most _ (c .before .pre .1))
 
 returns-2 : tie.Need-returns-2
 returns-2 c = rw (not-false (c .before .before .args .starts) (c .before .if1 .left)) (c .without-next .ensures)

@@ -1,30 +1,11 @@
--- Each return is a case of the definition: the station's refusal, no room, or the station at the front.
-use Rattle.relay_host.proofs.Station.{fresh-refused, fresh-short, fresh-done}
+-- What the station's fresh call answers is put into the buffer.
 use borrow.Author.Needs.{needs}
+use Rattle.relay_host.proofs.Station.{fresh-answered}
 use Rattle.relay_host.proofs.relay_station.relay_station_fresh.Statement.{statement}
 use Rattle.relay_host.proofs.relay_station.relay_station_fresh.Tie as tie
 
-fresh-requires : tie.Need-fresh-requires
-fresh-requires c κs = search needs
-
 returns : tie.Need-returns
-returns c = fresh-refused _ _ _ _ (c .before .before .fresh .ensures) (c .if1 .taken)
-
-returns-2 : tie.Need-returns-2
-returns-2 c = fresh-short _ _ _ _ (c .before .before .before .fresh .ensures) (c .before .if1 .left) (c .if2 .taken)
-
-put-station-requires : tie.Need-put-station-requires
-put-station-requires c κs = search needs
-
-same-length : tie.Need-same-length
-same-length c = search needs
-
-returns-3 : tie.Need-returns-3
-returns-3 c =
-    let z = c .before .before .before .before .before in
-    fresh-done _ _ _ _ (z .before .before .before .fresh .ensures) (z .before .if1 .left) (z .if2 .left) _ (c .before .before .put-station .ensures)
+returns c = fresh-answered _ _ _ _ _ (c .before .before .before .before .fresh .ensures) (c .before .before .put-fresh .ensures)
 
 pub relay-station-fresh-spec : {M : Type 1} → statement M
-relay-station-fresh-spec =
-    tie.close
-    (tie.spec fresh-requires returns returns-2 put-station-requires same-length returns-3)
+relay-station-fresh-spec = tie.close (tie.spec (λ c κs. search needs) (λ c κs. search needs) (λ c. search needs) returns)

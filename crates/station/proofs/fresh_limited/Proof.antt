@@ -1,0 +1,45 @@
+-- `station::fresh_limited` meets its contract, refusal by refusal.
+use native.Mathlib.Omega.{arith}
+use mathlib.Core.Path.{sym, _∙_}
+use borrow.Author.Needs.{needs}
+use borrow.Author.Tests.{not-true, not-false}
+use Rattle.station_rules.proofs.CallSteps.{valid-parts, fresh-done, fresh-unlimited, fresh-refused}
+use Rattle.station.proofs.fresh_limited.Statement.{statement}
+use Rattle.station.proofs.fresh_limited.Tie as tie
+
+returns : tie.Need-returns
+returns c = fresh-refused _ _ _ (sym (c .before .before .valid-number .ensures) ∙ not-true _ (c .before .if1 .taken)) (c .fresh-station .ensures)
+
+returns-2 : tie.Need-returns-2
+returns-2 c =
+    let d = c .before .before .before in
+    fresh-unlimited _ _ _
+    (sym (d .before .valid-number .ensures) ∙ not-false _ (d .if1 .left))
+    (sym (c .before .before .limit-inside .ensures) ∙ not-true _ (c .before .if2 .taken))
+    (c .fresh-station2 .ensures)
+
+fresh-station-requires-3 : tie.Need-fresh-station-requires-3
+fresh-station-requires-3 c κs =
+    let d = c .before .before in
+    omega (arith, valid-parts (d .before .before .args .setup .n) (d .before .before .args .own) (sym (d .before .valid-number .ensures) ∙ not-false _ (d .if1 .left)))
+
+returns-3 : tie.Need-returns-3
+returns-3 c =
+    let d = c .before .before .before in
+    fresh-done _ _ _
+    (sym (d .before .valid-number .ensures) ∙ not-false _ (d .if1 .left))
+    (sym (c .before .before .limit-inside .ensures) ∙ not-false _ (c .before .if2 .left))
+    (c .fresh-station3 .ensures)
+
+pub fresh-limited-spec : {M : Type 1} → statement M
+fresh-limited-spec =
+    tie.close
+    (tie.spec
+    (λ c κs. search needs)
+    (λ c κs. search needs)
+    returns
+    (λ c κs. search needs)
+    (λ c κs. search needs)
+    returns-2
+    fresh-station-requires-3
+    returns-3)
