@@ -52,8 +52,8 @@ pub unsafe extern "C" fn relay_frame_check(bytes: *const u8, len: usize, n: u32,
 }
 
 #[unsafe(no_mangle)]
-pub unsafe extern "C" fn relay_station_fresh(state: *mut u8, _: usize, n: u32, own: u32) -> u32 {
-    let made = Station::fresh(n as usize, own as usize);
+pub unsafe extern "C" fn relay_station_fresh_limited(state: *mut u8, _: usize, n: u32, own: u32, limit: u32) -> u32 {
+    let made = Station::fresh(n as usize, own as usize, limit as usize);
     if let Ok(station) = &made {
         unsafe { put_station(state, station) };
     }

@@ -4,6 +4,9 @@
 
 #include "bytes.h"
 
+/* How many edits may wait: as many as at the stations of a script, so that reports can be compared with listings. */
+enum { QUEUE_LIMIT = RELAY_MOST_LIMIT };
+
 /* Places in a frame: a head, and then records. */
 enum { FRAME_SENDER = 1, FRAME_RECORDS = 2, FRAME_HEAD = 4, RECORD_KIND = 2, RECORD_NUMBERS = 4 };
 
@@ -20,7 +23,7 @@ static struct body body_of(uint32_t kind, const uint8_t *numbers)
 
 uint32_t engine_fresh(uint8_t state[STATE_BYTES], uint32_t n, uint32_t own)
 {
-    return relay_station_fresh(state, STATE_BYTES, n, own);
+    return relay_station_fresh_limited(state, STATE_BYTES, n, own, QUEUE_LIMIT);
 }
 
 uint32_t engine_post(uint8_t state[STATE_BYTES], struct body edit)
