@@ -12,7 +12,7 @@
        6   a saved state, as it is
        7   a saved state of this station with these bytes at the front of its state, and as its text
        8   a datagram of these bytes from station p, under a right tag
-       9   a saved state of these bytes, under a right checksum
+       9   a saved state of this station with these bytes over it from place p on, under a right checksum
 
    Whatever comes, the station stays inside its limits, hears no frame that the check refuses, closes its rounds, and
    every datagram meets one fate. A host that would end because of any of it ends the test. */
@@ -141,12 +141,16 @@ static void load(const uint8_t *bytes, size_t len)
     free(exact);
 }
 
-static void load_summed(uint8_t *bytes, size_t len)
+static void load_changed(const struct station *station, size_t at, const uint8_t *bytes, size_t len)
 {
     static const uint8_t no_key[KEY_BYTES];
-    if (len >= TAG_BYTES)
-        put_number(bytes + len - TAG_BYTES, siphash(no_key, bytes, len - TAG_BYTES), TAG_BYTES);
-    load(bytes, len);
+    static uint8_t made[SAVED_MOST];
+    struct saved saved = {.run = run, .done = station->done, .n = station->n, .own = station->own,
+                          .state = station->state, .text = ""};
+    size_t whole = saved_encode(made, &saved);
+    memcpy(made + at, bytes, len < whole - at ? len : whole - at);
+    put_number(made + whole - TAG_BYTES, siphash(no_key, made, whole - TAG_BYTES), TAG_BYTES);
+    load(made, whole);
 }
 
 static void take_tagged(struct station *station, int peer, uint8_t *bytes, size_t len)
@@ -187,7 +191,7 @@ static void step(struct station *station, const uint8_t head[STEP_HEAD], uint8_t
     case 6: load(bytes, len); break;
     case 7: load_state(station, bytes, len); break;
     case 8: take_tagged(station, p, bytes, len); break;
-    default: load_summed(bytes, len); break;
+    default: load_changed(station, head[1], bytes, len); break;
     }
 }
 

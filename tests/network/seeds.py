@@ -40,8 +40,9 @@ def inputs(frames, state, n):
     sealed = datagrams.seal(KEY, RUN, 1, 0, frames[1, 0])
     lengths = 0, 7, 8, 9, 16, 23, 24, 25, 43, 44, 45, 284, 285, 400, 4000
     yield "lengths", begin + b"".join(step(8, 0, (sealed + bytes(4000))[:length]) for length in lengths)
-    lengths = 8, 40, 48, 1148, 1155, 1156, 1157, len(state)
-    yield "cut-states", begin + b"".join(step(9, 0, state[:length]) for length in lengths)
+    lengths = 0, 1, 2, 1000, 131_072, 131_073, 2**32 - 1
+    yield "cut-states", begin + b"".join(step(9, 36, length.to_bytes(4, "little")) for length in lengths)
+    yield "changed-states", begin + b"".join(step(9, place, b"\1") for place in range(41)) + step(9, 0)
     rising = [step(3, 0, bytes([n, 0, 1, 0, 0, 0, 0, 0]) + bytes(8) + bytes([k % 3, 0, 0, 0])) for k in range(1, 9)]
     yield "no-frame", begin + step(4, 0).join(rising)
     for number in range(4):
