@@ -89,7 +89,7 @@ int main(int argc, char **argv)
     must(relay_station_fresh(state, sizeof state, N, 0), "fresh");
     must(relay_station_fresh(other, sizeof other, N, 1), "fresh");
     must(relay_station_post(state, sizeof state, 2, 7, 100), "post");
-    printf("posted: %u edit waits\n", (unsigned)word_at(state + 720));
+    printf("posted: %u edit waits\n", (unsigned)state[720]);
     printf("a drop with an argument is refused with %u\n", (unsigned)relay_station_post(state, sizeof state, 3, 7, 100));
     save(argv[1], state);
     for (int round = 1; round <= ROUNDS; round++) {
