@@ -1,7 +1,8 @@
 /* Loaded before a host (LD_PRELOAD): it watches the calls by which the host saves, tells and sends.
 
    RELAY_KILL_CALL=K kills the process at its K-th watched call: before it, or with RELAY_KILL_AFTER=1 behind it, where
-   a write is cut in the middle. With RELAY_KILL_AFTER=2 the call fails instead, as on a broken disk.
+   a write is cut in the middle. With RELAY_KILL_AFTER=2 the call fails instead, as on a broken disk; sending fails up
+   to the next call that is none, for a host lives with a link that is down.
 
    RELAY_CLOCK=FILE adds the milliseconds that the file holds to the system's clock, as if somebody set it.
 
@@ -40,12 +41,16 @@ static void wrong(const char *what)
     abort();
 }
 
+static int put_off; /* a call failed that a host lives with: the next one fails too */
+
 /* 1 where the process is to die at this call. */
 static int due(void)
 {
     static long calls;
     const char *at = getenv("RELAY_KILL_CALL");
-    return at != NULL && ++calls == atol(at);
+    int now = put_off;
+    put_off = 0;
+    return now || (at != NULL && ++calls == atol(at));
 }
 
 /* What happens there: before the call, behind it, or a failure. */
@@ -229,8 +234,10 @@ ssize_t sendto(int to, const void *bytes, size_t len, int flags, const struct so
         wrong("sends a frame of a round that does not follow the saved one");
     if (dies && way() == BEFORE)
         die();
-    if (dies && way() == FAILS)
+    if (dies && way() == FAILS) {
+        put_off = 1;
         return failed();
+    }
     ssize_t result = real(to, bytes, len, flags, address, size);
     if (dies)
         die();
