@@ -22,6 +22,8 @@ SVG = "{http://www.w3.org/2000/svg}"
 
 TWO = (ROOT / "examples" / "two-stations.script").read_bytes()
 FIVE = (ROOT / "examples" / "five-stations.script").read_bytes()
+KILLED = (ROOT / "examples" / "killed-station.script").read_bytes()
+AWAY = ROOT / "examples" / "killed-station.away"
 
 
 model_listing = functools.cache(listing.listing)
@@ -193,6 +195,18 @@ class Pictures(unittest.TestCase):
         self.check(FIVE)
         self.assertEqual(run(FIVE, model_listing(FIVE)).stdout, (ROOT / "docs" / "five-stations.svg").read_bytes())
 
+    def test_killed_station(self):
+        """The picture in the documents is this one; the absence of station 2 covers its row in rounds 5 to 7."""
+        drawn = self.check(KILLED, "--rounds", "1-14", "--away", str(AWAY), last=14)
+        svg = run(KILLED, model_listing(KILLED), "--rounds", "1-14", "--away", str(AWAY)).stdout
+        self.assertEqual(svg, (ROOT / "docs" / "killed-station.svg").read_bytes())
+        absence, = (group for group in drawn.root.iter(SVG + "g") if group.get("data-first"))
+        self.assertEqual([int(absence.get(f"data-{name}")) for name in ("station", "first", "last")], [2, 5, 7])
+        band = absence.find(SVG + "rect")
+        left, right = float(band.get("x")), float(band.get("x")) + float(band.get("width"))
+        self.assertAlmostEqual(left, drawn.by_round[5][0], delta=0.2)
+        self.assertAlmostEqual(right, drawn.by_round[7][0] + drawn.by_round[7][2], delta=0.2)
+
     def test_sixteen_stations_and_sixty_rounds(self):
         drawn = self.check(scripts.seeded_script(1, scripts.Shape(16, 60, 0.15, 2.0)))
         self.assertLess(float(drawn.root.get("width")), 2100)
@@ -275,6 +289,13 @@ class Refusals(unittest.TestCase):
             self.check(TWO, model_listing(TWO), "not two rounds", f"--rounds={window}")
         self.check(TWO, model_listing(TWO), "the script has 3 rounds", "--rounds", "4-5")
         self.check(TWO, model_listing(TWO), "cannot write", "-o", "/nowhere/at/all")
+
+    def test_absences(self):
+        for text in ("2 1 1\n", "0 0 1\n", "0 1\n", "0 1 1", "0 1 1 1\n", "a 1 1\n", "0 -1 1\n"):
+            with tempfile.TemporaryDirectory() as folder:
+                away = pathlib.Path(folder, "away")
+                away.write_text("1 2 3\n" + text, encoding="ascii")
+                self.check(TWO, model_listing(TWO), "--away line 2: not a station below 2 and two rounds", "--away", str(away))
 
     def test_files(self):
         done = subprocess.run([sys.executable, str(PICTURE), "/nowhere/script", "-"], input=b"", capture_output=True, check=False)
