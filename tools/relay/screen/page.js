@@ -1,0 +1,526 @@
+// The page: what is shown, what is picked and edited, and the calls that follow. Every round that it shows comes from
+// the server; the page has no rule of its own.
+
+import { call, Fault, namedPlans, readPlan, text } from "./calls.js";
+import { Edits, Plan, decode } from "./plan.js";
+import { legend, Picture } from "./picture.js";
+import { counted, endWords, fillForecast, fillQuestions, fillWindows, relayWords } from "./tables.js";
+
+const BOTH = "both";
+const at = (name) => document.getElementById(name);
+const picture = new Picture(at("picture"), at("scroll"), at("size"));
+
+const state = {
+  plans: [], // of the carriers, as edited
+  show: 0, // a carrier, or both
+  edits: new Edits(),
+  merged: null, // both carriers' plan
+  questions: [],
+  answered: [], // the questions of the last answers
+  answers: [],
+  chosen: null, // the question that is shown
+  found: null, // the last answer of the server
+  version: 0, // of plans and questions: an answer to an older one is dropped
+  editedAt: null,
+};
+
+function shown() {
+  return state.show === BOTH ? state.merged : state.plans[state.show];
+}
+
+function say(words) {
+  at("said").textContent = words;
+}
+
+function showFault(place, words) {
+  place.textContent = words;
+  place.hidden = !words;
+}
+
+// Runs what may be refused, and shows the words.
+async function trying(act) {
+  try {
+    await act();
+    return true;
+  } catch (wrong) {
+    if (!(wrong instanceof Fault)) throw wrong;
+    showFault(at("fault"), wrong.message);
+    return false;
+  }
+}
+
+// Asking the server.
+
+function given(more = {}) {
+  return { plans: state.plans.map((plan) => plan.forCall()), show: state.show, ...more };
+}
+
+// The rounds to ask for: those in view, and some on both sides.
+function wanted() {
+  const [first, last] = picture.view();
+  const more = Math.ceil((last - first) / 4) + 8;
+  return [Math.max(1, first - more), last + more];
+}
+
+let busy = false;
+let again = false;
+
+// One call at a time; what has changed meanwhile is asked for after it.
+async function look() {
+  if (state.plans.length === 0) return;
+  again = true;
+  if (busy) return;
+  busy = true;
+  while (again) {
+    again = false;
+    const version = state.version;
+    const asked = state.questions;
+    await trying(async () => {
+      const found = await call("look", given({ view: wanted(), questions: asked }));
+      if (version === state.version) take(found, asked);
+    });
+  }
+  busy = false;
+}
+
+function changed() {
+  state.version++;
+  return look();
+}
+
+function take(found, asked) {
+  showFault(at("question-fault"), found.question_fault ?? "");
+  if (found.question_fault) {
+    state.questions = state.answered;
+    state.chosen = null;
+    changed();
+    return;
+  }
+  const fresh = state.answered !== asked && state.chosen !== null;
+  state.found = found;
+  state.answered = asked;
+  state.answers = found.answers;
+  if (found.log !== null) state.merged = new Plan("both plans", state.plans[0].n, decode(found.log));
+  Object.assign(picture, {
+    plan: shown(), carriers: state.show === BOTH ? state.plans : null, last: found.forecast.last, part: found.part,
+    partAlone: found.part_alone,
+  });
+  choose(state.chosen, fresh);
+  fillForecast(at("forecast"), found, state.show === BOTH);
+  fillStation();
+  picture.resize();
+  picture.draw();
+  took(found.library_ms);
+  clearTimeout(take.delta);
+  take.delta = setTimeout(findDelta, 150);
+}
+
+function took(library) {
+  if (state.editedAt === null) return;
+  const all = performance.now() - state.editedAt;
+  state.editedAt = null;
+  at("took").textContent = `The last edit was answered in ${all.toFixed(1)} ms, of which the library took ${library.toFixed(1)} ms.`;
+  Object.assign(at("took").dataset, { all, library });
+}
+
+async function findDelta() {
+  const now = Number(at("now").value);
+  const version = state.version;
+  await trying(async () => {
+    const found = await call("delta", given({ from: now, waiting: 0 }));
+    if (version !== state.version) return;
+    at("delta").textContent = found.delta === null
+      ? `From round ${found.from} on there is no Δ: the plan does not bring news from every station to every other and have room for it.`
+      : `Δ from round ${found.from} on is ${counted(found.delta, "round")}.`;
+    showBound(found);
+  });
+}
+
+// The bound, where the server gives one.
+function showBound(found) {
+  const [one, two] = (found.on_air_by ?? []).map((round) => (round === null ? "past the end of the plan" : `by round ${round}`));
+  at("bound").hidden = one === undefined;
+  at("bound").textContent = `An edit posted then, with none of its desk before it, is on air everywhere ${one} where one desk is in use, and ${two} where both are.`;
+}
+
+// Plans.
+
+async function open(which, plan) {
+  const plans = [...state.plans];
+  plans[Math.min(which, plans.length)] = plan;
+  const show = plans.length === 2 ? BOTH : 0;
+  await call("look", { plans: plans.map((one) => one.forCall()), show, view: [1, 1], questions: [] });
+  if (state.plans.length && plans[0].n !== state.plans[0].n) state.questions = [];
+  Object.assign(state, { plans, show, edits: new Edits(), merged: null, chosen: null });
+  // Until the server has merged them, the picture of both is that of the longer.
+  picture.plan = show === BOTH && plans[1].rounds > plans[0].rounds ? plans[1] : plans[0];
+  picture.carriers = show === BOTH ? plans : null;
+  picture.part = null;
+  picture.partAlone = [];
+  picture.last = [];
+  showFault(at("fault"), "");
+  showPlans();
+  picture.resize();
+  await changed();
+}
+
+function showPlans() {
+  const { plans } = state;
+  const { n } = plans[0];
+  const names = plans.map((plan) => `${plan.name} (${counted(plan.rounds, "round")})`).join(" and ");
+  at("what").textContent = `${counted(n, "station")}: ${names}`;
+  document.title = `${plans.map((plan) => plan.name).join(" + ")} - planning screen`;
+  at("shown").hidden = plans.length < 2;
+  for (const one of document.getElementsByName("show")) one.checked = one.value === String(state.show);
+  at("station").replaceChildren(...Array.from({ length: n }, (_, station) => new Option(String(station), String(station))));
+  at("legend").replaceChildren(...legend(state.show === BOTH));
+  showEdits();
+}
+
+function showEdits() {
+  at("undo").disabled = state.edits.done.length === 0;
+  at("redo").disabled = state.edits.undone.length === 0;
+  at("reset").disabled = state.edits.done.length === 0;
+}
+
+function setShow(value) {
+  state.show = value === BOTH ? BOTH : Number(value);
+  state.merged = state.show === BOTH ? state.merged : null;
+  picture.carriers = state.show === BOTH ? state.plans : null;
+  if (state.show !== BOTH) picture.plan = shown();
+  at("legend").replaceChildren(...legend(state.show === BOTH));
+  say(`Shown: ${value === BOTH ? "both carriers together" : state.plans[state.show].name}.`);
+  changed();
+}
+
+// What if.
+
+function edited(words) {
+  state.editedAt = performance.now();
+  say(words);
+  showEdits();
+  picture.later();
+  return changed();
+}
+
+// Puts a window there or takes it away. What is taken from both carriers' plan is taken from each; what is added there is
+// added to the first that has these rounds.
+function put(hearer, heard, from, to, on) {
+  const adding = state.plans.findIndex((plan) => to <= plan.rounds);
+  const step = state.plans.map((plan, which) => {
+    const mine = state.show === BOTH ? !on || which === adding : which === state.show;
+    return mine && from <= plan.rounds ? plan.put(hearer, heard, from, Math.min(to, plan.rounds), on) : [];
+  });
+  state.edits.add(step);
+  const where = from === to ? `round ${from}` : `rounds ${from} to ${to}`;
+  const carrier = state.show === BOTH ? (on ? `, over the ${["first", "second"][adding]} carrier` : ", over both carriers") : "";
+  return edited(`${on ? "Added" : "Taken away"}: station ${hearer} hears ${heard} in ${where}${carrier}.`);
+}
+
+function takeAway(hearer, heard, round) {
+  const [first, last] = shown().windowAround(hearer, heard, round);
+  return put(hearer, heard, first, last, false);
+}
+
+function undo() {
+  if (state.edits.undo(state.plans)) edited("Undone.");
+}
+
+function redo() {
+  if (state.edits.redo(state.plans)) edited("Done again.");
+}
+
+function reset() {
+  while (state.edits.undo(state.plans));
+  edited("The plan is as it was read.");
+}
+
+// Questions.
+
+function question(sender, receiver, k) {
+  state.questions = [...state.questions, [sender, receiver, k]];
+  state.chosen = state.questions.length - 1;
+  pick(null);
+  return changed();
+}
+
+// Shows a question on the picture, or none.
+function choose(which, go = true) {
+  state.chosen = which !== null && which < state.answers.length ? which : null;
+  const answer = state.chosen === null ? null : state.answers[state.chosen];
+  picture.relay = answer && { question: state.answered[state.chosen], answer };
+  fillQuestions(at("questions").tBodies[0], state.answered, state.answers, state.chosen, choose, removeQuestion);
+  if (answer && go) tell(picture.relay);
+  picture.later();
+}
+
+function tell({ question: asked, answer }) {
+  const [sender, receiver, k] = asked;
+  const received = answer.round === null ? "never" : `in round ${answer.round}`;
+  const error = answer.error ? ` Error: ${answer.error}.` : "";
+  say(`Station ${receiver} receives broadcast ${k} of ${sender} ${received}: ${relayWords(asked, answer)}.${error}`);
+  if (answer.start === null) return;
+  picture.reveal(sender, Math.max(1, answer.start), picture.block);
+  const last = answer.hops.at(-1);
+  if (last) picture.reveal(last[2], last[0], picture.block);
+}
+
+function removeQuestion(which) {
+  state.questions = state.questions.filter((_, other) => other !== which);
+  state.chosen = null;
+  changed();
+}
+
+function pick(picked) {
+  picture.picked = picked;
+  if (picked) {
+    at("sender").value = picked.sender;
+    at("k").value = picked.k;
+    say(`Picked: broadcast ${picked.k} of station ${picked.sender}. Now pick the receiver: click on its line or its name. Escape drops the pick.`);
+  }
+  picture.later();
+}
+
+// One station, as a table.
+
+function fillStation() {
+  const plan = shown();
+  if (!plan || !state.found) return;
+  const station = Number(at("station").value);
+  const [first, last] = picture.view();
+  const left = fillWindows(at("windows").tBodies[0], plan, station, first, last, (hearer, heard, from, to) => put(hearer, heard, from, to, false));
+  at("more-windows").hidden = left === 0;
+  at("more-windows").textContent = `${counted(left, "window")} more: zoom in, or go to other rounds, to see them.`;
+  at("station-ends").textContent = endWords(station, state.found.part, state.found.part_alone);
+  at("seen").textContent = plan.rounds ? `to ${last} of ${plan.rounds}` : "";
+}
+
+// The picture: what is at a place, and what a click does there.
+
+function describe({ station, heard, round }) {
+  if (round === null) return `Station ${station}.`;
+  if (heard !== null) {
+    if (!shown().hears(station, heard, round)) return `Round ${round}: station ${station} does not hear ${heard}.`;
+    const [first, last] = shown().windowAround(station, heard, round);
+    return `Round ${round}: station ${station} hears ${heard}; the window is rounds ${first} to ${last}.`;
+  }
+  const ended = picture.part?.ends[station].includes(round) ? ` It ends in this round.` : "";
+  return `Round ${round}: broadcast ${picture.broadcastAt(station, round) ?? "?"} of station ${station}.${ended}`;
+}
+
+function act(place) {
+  if (!place) return;
+  const { station, heard, round } = place;
+  if (round !== null && heard !== null) {
+    if (shown().hears(station, heard, round)) takeAway(station, heard, round);
+    else put(station, heard, round, round, true);
+  } else if (picture.picked) {
+    question(picture.picked.sender, station, picture.picked.k);
+  } else if (round === null) {
+    at("station").value = station;
+    fillStation();
+    say(`Station ${station} is in the table.`);
+  } else {
+    const k = picture.broadcastAt(station, round);
+    if (k !== null) pick({ sender: station, k });
+  }
+}
+
+function place(event) {
+  const box = at("picture").getBoundingClientRect();
+  return picture.hit(event.clientX - box.left, event.clientY - box.top);
+}
+
+function pointerDown(event) {
+  if (event.button !== 0 || !shown()) return;
+  const found = place(event);
+  const empty = found && found.heard !== null && found.round !== null && !shown().hears(found.station, found.heard, found.round);
+  picture.pull = empty ? { hearer: found.station, heard: found.heard, begun: found.round, from: found.round, to: found.round } : null;
+  pointerDown.at = found;
+  if (picture.pull) at("picture").setPointerCapture(event.pointerId);
+}
+
+function pointerMove(event) {
+  const found = shown() && place(event);
+  const { pull } = picture;
+  if (pull) {
+    const box = at("picture").getBoundingClientRect();
+    const along = picture.hit(event.clientX - box.left, pull.y ?? event.clientY - box.top);
+    if (along?.round) {
+      pull.from = Math.min(pull.begun, along.round);
+      pull.to = Math.max(pull.begun, along.round);
+      picture.later();
+    }
+  } else {
+    at("picture").title = found ? describe(found) : "";
+  }
+}
+
+function pointerUp(event) {
+  const { pull } = picture;
+  picture.pull = null;
+  const began = pointerDown.at;
+  pointerDown.at = null;
+  if (!began || !shown()) return;
+  if (pull) {
+    put(pull.hearer, pull.heard, pull.from, pull.to, true);
+    return;
+  }
+  const found = place(event);
+  if (found && ["station", "heard"].every((name) => found[name] === began[name])) act(began);
+}
+
+// Keys on the picture.
+
+function moveCursor(rows, rounds) {
+  const { cursor, n, plan } = picture;
+  cursor.row = Math.max(0, Math.min(n * n - 1, cursor.row + rows));
+  cursor.round = Math.max(1, Math.min(plan.rounds, cursor.round + rounds));
+  const found = { ...picture.rowAt(cursor.row), round: cursor.round };
+  picture.reveal(found.station, cursor.round, picture.block);
+  say(describe(found));
+  picture.later();
+}
+
+function key(event) {
+  if (!picture.plan || event.altKey || event.metaKey || event.ctrlKey) return;
+  const many = event.shiftKey ? 10 : 1;
+  const { n, cursor, plan } = picture;
+  const keys = {
+    ArrowUp: () => moveCursor(-many, 0),
+    ArrowDown: () => moveCursor(many, 0),
+    ArrowLeft: () => moveCursor(0, -many),
+    ArrowRight: () => moveCursor(0, many),
+    PageUp: () => moveCursor(-n, 0),
+    PageDown: () => moveCursor(n, 0),
+    Home: () => moveCursor(0, -plan.rounds),
+    End: () => moveCursor(0, plan.rounds),
+    Enter: () => act({ ...picture.rowAt(cursor.row), round: cursor.round }),
+    " ": () => act({ ...picture.rowAt(cursor.row), round: cursor.round }),
+    Escape: () => { pick(null); say("Nothing is picked."); },
+    "+": () => zoomBy(1),
+    "=": () => zoomBy(1),
+    "-": () => zoomBy(-1),
+  };
+  if (!(event.key in keys)) return;
+  event.preventDefault();
+  keys[event.key]();
+}
+
+// Zoom and scroll.
+
+function zoomTo(column, where) {
+  if (!picture.plan) return;
+  picture.zoom(column, where);
+  showZoom();
+}
+
+function showZoom() {
+  at("zoom").value = 2 * Math.log2(picture.column);
+  at("zoom").setAttribute("aria-valuetext", `${picture.column.toFixed(1)} pixels a round`);
+  scrolled();
+}
+
+function zoomBy(steps, where) {
+  zoomTo(Math.min(64, Math.max(0.5, picture.column * 2 ** (steps / 2))), where);
+}
+
+function scrolled() {
+  clearTimeout(scrolled.timer);
+  scrolled.timer = setTimeout(() => {
+    const [first, last] = picture.view();
+    const { part } = picture;
+    if (document.activeElement !== at("first")) at("first").value = first;
+    fillStation();
+    if (part && (first < part.first || last > part.last)) look();
+  }, 30);
+}
+
+// Exports.
+
+async function save(name, path, more) {
+  await trying(async () => {
+    const content = new Blob([await text(path, given(more))]);
+    const link = document.createElement("a");
+    link.href = URL.createObjectURL(content);
+    link.download = name;
+    link.click();
+    setTimeout(() => URL.revokeObjectURL(link.href), 10_000);
+    say(`Saved ${name}.`);
+  });
+}
+
+// What the page listens to.
+
+function numbers(...names) {
+  return names.map((name) => Number(at(name).value));
+}
+
+function submitted(name, act) {
+  at(name).addEventListener("submit", (event) => {
+    event.preventDefault();
+    if (state.plans.length) act();
+  });
+}
+
+submitted("ask", () => question(...numbers("sender", "receiver", "k")));
+submitted("go", () => picture.goTo(...numbers("first")));
+submitted("when", findDelta);
+submitted("add", () => {
+  const [station, heard, from, to] = numbers("station", "heard", "from", "to");
+  const { n, rounds } = shown();
+  if (heard < n && heard !== station && from >= 1 && from <= to && to <= rounds) put(station, heard, from, to, true);
+  else say(`A window is of another station, 0 to ${n - 1}, and of rounds from 1 to ${rounds}.`);
+});
+for (const one of document.getElementsByName("show")) one.addEventListener("change", () => setShow(one.value));
+at("zoom").addEventListener("input", () => zoomTo(2 ** (Number(at("zoom").value) / 2)));
+at("whole").addEventListener("click", () => {
+  if (!picture.plan) return;
+  picture.whole();
+  showZoom();
+});
+at("undo").addEventListener("click", undo);
+at("redo").addEventListener("click", redo);
+at("reset").addEventListener("click", reset);
+at("station").addEventListener("change", fillStation);
+at("export-script").addEventListener("click", () => save("plan.script", "script"));
+at("export-picture").addEventListener("click", () => save("plan.svg", "picture"));
+at("export-forecast").addEventListener("click", () => save("ends.csv", "forecast.csv"));
+at("export-answers").addEventListener("click", () => save("answers.csv", "answers.csv", { questions: state.answered }));
+for (const [name, which] of [["open-first", 0], ["open-second", 1]]) {
+  at(name).addEventListener("change", async () => {
+    const [file] = at(name).files;
+    if (file) await trying(async () => open(which, Plan.read(await readPlan(file))));
+    at(name).value = "";
+  });
+}
+at("picture").addEventListener("pointerdown", pointerDown);
+at("picture").addEventListener("pointermove", pointerMove);
+at("picture").addEventListener("pointerup", pointerUp);
+at("picture").addEventListener("keydown", key);
+at("picture").addEventListener("focus", () => picture.later());
+at("picture").addEventListener("blur", () => picture.later());
+at("scroll").addEventListener("scroll", scrolled);
+at("scroll").addEventListener("wheel", (event) => {
+  if (!event.ctrlKey) return;
+  event.preventDefault();
+  zoomBy(event.deltaY < 0 ? 1 : -1, event.clientX - at("picture").getBoundingClientRect().left);
+}, { passive: false });
+document.addEventListener("keydown", (event) => {
+  if (!(event.ctrlKey || event.metaKey) || event.key.toLowerCase() !== "z") return;
+  if (event.target instanceof HTMLInputElement && event.target.type === "number") return;
+  event.preventDefault();
+  (event.shiftKey ? redo : undo)();
+});
+new ResizeObserver(() => picture.resize()).observe(at("scroll"));
+
+await trying(async () => {
+  const faults = [];
+  for (const [which, found] of (await namedPlans()).entries()) {
+    if (found.fault) faults.push(found.fault);
+    else await trying(async () => open(which, Plan.read(found)));
+  }
+  if (faults.length) showFault(at("fault"), faults.join("; "));
+});
+window.relayScreen = { picture, state }; // for looking into it, by tests too
+document.body.dataset.ready = "yes";

@@ -1,0 +1,431 @@
+// The picture: stations down, rounds across. Each station has a block: a line with its broadcasts and their ends, and
+// under it a row for each station that it may hear. Only what is in view is drawn.
+
+const LEFT = 104; // of the rounds; the names of the rows stand before
+const TOP = 26; // of the blocks; the numbers of the rounds stand above
+const RIGHT = 24;
+const STEPS = [1, 2, 5, 10, 20, 50, 100, 200, 500];
+const FONT = "'DejaVu Sans', Verdana, Arial, sans-serif";
+
+// Okabe and Ito's colours, or near them. In both carriers' plan a bar's height and place tell its carrier too.
+export const COLOURS = {
+  window: "#56b4e9", first: "#56b4e9", second: "#e69f00", both: "#0072b2", broadcast: "#009e73", open: "#8a939c", end: "#111",
+  firstEnd: "#0072b2", secondEnd: "#a65f00", relay: "#d55e00", cursor: "#000", pull: "#cc79a7", paper: "#fff", even: "#f3f4f6",
+  grid: "#dfe2e6", text: "#222", faint: "#444",
+};
+const CARRIER = [null, COLOURS.first, COLOURS.second, COLOURS.both]; // by who has the hearing, 1 and 2 added up
+
+export class Picture {
+  constructor(canvas, scroller, size) {
+    this.canvas = canvas;
+    this.scroller = scroller;
+    this.size = size;
+    this.column = 8; // pixels a round
+    this.plan = null; // the plan shown
+    this.carriers = null; // both carriers' plans, where they are shown together
+    this.last = []; // the round of each station's last end
+    this.part = null; // the ends in some rounds, and of each carrier alone
+    this.partAlone = [];
+    this.relay = null; // the question and the answer that are shown
+    this.picked = null; // a sender and a k
+    this.cursor = { row: 0, round: 1 };
+    this.pull = null; // a window that is being pulled open
+    this.waiting = false;
+    scroller.addEventListener("scroll", () => this.later());
+  }
+
+  // Layout.
+
+  get n() {
+    return this.plan.n;
+  }
+
+  get row() {
+    return this.n <= 6 ? 13 : 10;
+  }
+
+  get lane() {
+    return this.carriers ? 38 : 26;
+  }
+
+  get block() {
+    return this.lane + this.row * (this.n - 1) + 8;
+  }
+
+  resize() {
+    const { clientWidth: width, clientHeight: height } = this.scroller;
+    const scale = window.devicePixelRatio || 1;
+    if (this.plan) {
+      this.size.style.width = `${LEFT + this.column * this.plan.rounds + RIGHT}px`;
+      this.size.style.height = `${TOP + this.block * this.n}px`;
+    }
+    this.canvas.style.width = `${width}px`;
+    this.canvas.style.height = `${height}px`;
+    this.canvas.width = Math.round(width * scale);
+    this.canvas.height = Math.round(height * scale);
+    this.later();
+  }
+
+  // The rounds in view.
+  view() {
+    if (!this.plan) return [1, 1];
+    const first = Math.floor(this.scroller.scrollLeft / this.column) + 1;
+    const wide = Math.ceil((this.scroller.clientWidth - LEFT) / this.column);
+    return [Math.max(1, Math.min(first, this.plan.rounds)), Math.max(1, Math.min(first + wide, this.plan.rounds))];
+  }
+
+  x(round) {
+    return LEFT + this.column * (round - 1) - this.scroller.scrollLeft;
+  }
+
+  middle(round) {
+    return round === 0 ? this.x(1) : this.x(round) + this.column / 2;
+  }
+
+  top(station) {
+    return TOP + this.block * station - this.scroller.scrollTop;
+  }
+
+  laneMiddle(station) {
+    return this.top(station) + this.lane / 2;
+  }
+
+  rowTop(station, heard) {
+    return this.top(station) + this.lane + this.row * (heard - (heard > station));
+  }
+
+  // Zooms so that the round under a place of the view stays there.
+  zoom(column, at = LEFT) {
+    const round = (this.scroller.scrollLeft + at - LEFT) / this.column;
+    this.column = column;
+    this.resize();
+    this.scroller.scrollLeft = round * column - (at - LEFT);
+    this.later();
+  }
+
+  // Zooms so that all rounds are in view, if they can be.
+  whole() {
+    const room = this.scroller.clientWidth - LEFT - RIGHT;
+    this.zoom(Math.min(64, Math.max(0.5, room / Math.max(1, this.plan.rounds))));
+    this.scroller.scrollLeft = 0;
+  }
+
+  goTo(round) {
+    this.scroller.scrollLeft = this.column * (round - 1);
+  }
+
+  // Scrolls just so far that a round of a row can be seen.
+  reveal(station, round, height = this.lane) {
+    const { scroller } = this;
+    const left = this.x(round) - LEFT - this.column;
+    const right = this.x(round) + 2 * this.column - scroller.clientWidth;
+    if (left < 0) scroller.scrollLeft += left;
+    else if (right > 0) scroller.scrollLeft += right;
+    const above = this.top(station) - TOP;
+    const below = this.top(station) + height - scroller.clientHeight;
+    if (above < 0) scroller.scrollTop += above;
+    else if (below > 0) scroller.scrollTop += below;
+  }
+
+  // Rows: of each station its line, then those of the others by number.
+
+  rowAt(row) {
+    const station = Math.floor(row / this.n);
+    const other = (row % this.n) - 1;
+    return { station, heard: other < 0 ? null : other + (other >= station) };
+  }
+
+  // What stands at a place of the canvas: a station, whom it hears in that row or null for its line, and a round or null
+  // for the names at the left.
+  hit(x, y) {
+    if (!this.plan || y < TOP) return null;
+    const down = y - TOP + this.scroller.scrollTop;
+    const station = Math.floor(down / this.block);
+    if (station >= this.n) return null;
+    const inside = down - station * this.block - this.lane;
+    const other = Math.floor(inside / this.row);
+    const heard = inside < 0 || other >= this.n - 1 ? null : other + (other >= station);
+    const round = Math.floor((x - LEFT + this.scroller.scrollLeft) / this.column) + 1;
+    if (x >= LEFT && round > this.plan.rounds) return null;
+    return { station, heard, round: x < LEFT ? null : round };
+  }
+
+  // The broadcast of a station that runs in a round, or null where its ends are not known yet.
+  broadcastAt(station, round) {
+    const { part } = this;
+    if (!part || round < part.first || round > part.last) return null;
+    return part.before[station] + part.ends[station].filter((end) => end < round).length + 1;
+  }
+
+  // Drawing.
+
+  later() {
+    if (this.waiting) return;
+    this.waiting = true;
+    requestAnimationFrame(() => {
+      this.waiting = false;
+      this.draw();
+    });
+  }
+
+  draw() {
+    const { clientWidth: width, clientHeight: height } = this.scroller;
+    const scale = this.canvas.width / Math.max(1, width);
+    const paint = this.canvas.getContext("2d");
+    paint.setTransform(scale, 0, 0, scale, 0, 0);
+    paint.fillStyle = COLOURS.paper;
+    paint.fillRect(0, 0, width, height);
+    if (!this.plan) return;
+    const stations = [...Array(this.n).keys()].filter((s) => this.top(s) < height && this.top(s) + this.block > TOP);
+    for (const station of stations) this.drawBlock(paint, station, width);
+    this.drawGrid(paint, height);
+    for (const station of stations) this.drawWindows(paint, station);
+    for (const station of stations) this.drawLane(paint, station, width);
+    if (this.pull) this.drawPull(paint);
+    if (this.relay) this.drawRelay(paint);
+    if (document.activeElement === this.canvas) this.drawCursor(paint);
+    this.drawNames(paint, stations, height);
+    this.drawAxis(paint, width);
+  }
+
+  drawBlock(paint, station, width) {
+    paint.fillStyle = station % 2 ? COLOURS.even : COLOURS.paper;
+    paint.fillRect(0, this.top(station), width, this.block);
+  }
+
+  // The rounds that have a number on the axis.
+  numbered() {
+    const step = STEPS.find((one) => one * this.column >= 38) ?? STEPS.at(-1);
+    const [first, last] = this.view();
+    const found = [];
+    for (let round = Math.ceil(first / step) * step; round <= last; round += step) found.push(round);
+    return found;
+  }
+
+  drawGrid(paint, height) {
+    paint.fillStyle = COLOURS.grid;
+    for (const round of this.numbered()) paint.fillRect(Math.round(this.middle(round)), TOP, 1, height - TOP);
+    const end = this.x(this.plan.rounds + 1);
+    paint.fillStyle = COLOURS.open;
+    paint.fillRect(Math.round(end), TOP, 1, height - TOP);
+  }
+
+  // Who has a hearing: 1 for the first carrier, 2 for the second, 3 for both; of one plan alone 1.
+  carrying(hearer, heard, round) {
+    if (!this.carriers) return this.plan.hears(hearer, heard, round);
+    const [one, two] = this.carriers; // past its end a plan has no mask, and nobody hears
+    return one.hears(hearer, heard, round) + 2 * two.hears(hearer, heard, round);
+  }
+
+  drawWindows(paint, station) {
+    const [first, last] = this.view();
+    for (let heard = 0; heard < this.n; heard++) {
+      const y = this.rowTop(station, heard);
+      if (heard === station || y > this.scroller.clientHeight || y + this.row < TOP) continue;
+      let kind = 0;
+      let since = first;
+      for (let round = first; round <= last + 1; round++) {
+        const next = round > last ? 0 : this.carrying(station, heard, round);
+        if (next === kind) continue;
+        if (kind) this.drawBar(paint, kind, since, round - 1, y);
+        kind = next;
+        since = round;
+      }
+    }
+  }
+
+  drawBar(paint, kind, first, last, y) {
+    const high = this.row - 3;
+    paint.fillStyle = this.carriers ? CARRIER[kind] : COLOURS.window;
+    const [from, tall] = !this.carriers || kind === 3 ? [0, high] : kind === 1 ? [0, high / 2] : [high / 2, high / 2];
+    const gap = this.column >= 6 ? 1 : 0;
+    paint.fillRect(this.x(first), y + 1 + from, Math.max(0.8, this.column * (last - first + 1) - gap), tall);
+  }
+
+  drawLane(paint, station, width) {
+    const y = this.laneMiddle(station);
+    const done = this.last[station] ? this.middle(this.last[station]) : this.x(1);
+    paint.fillStyle = COLOURS.open;
+    paint.fillRect(Math.max(LEFT, done), y - 0.75, Math.max(0, Math.min(width, this.x(this.plan.rounds + 1)) - Math.max(LEFT, done)), 1.5);
+    paint.fillStyle = COLOURS.broadcast;
+    paint.fillRect(Math.max(LEFT, this.x(1)), y - 2, Math.max(0, Math.min(width, done) - Math.max(LEFT, this.x(1))), 4);
+    if (!this.part) return;
+    this.drawEnds(paint, this.part.ends[station], y - 9, 18, COLOURS.end, this.column >= 4 ? 2.4 : 1);
+    this.drawNumbers(paint, station, y);
+    if (this.partAlone.length === 2) {
+      this.drawEnds(paint, this.partAlone[0].ends[station], y - 18, 7, COLOURS.firstEnd, 2);
+      this.drawEnds(paint, this.partAlone[1].ends[station], y + 11, 7, COLOURS.secondEnd, 2);
+    }
+  }
+
+  drawEnds(paint, ends, y, tall, colour, wide) {
+    paint.fillStyle = colour;
+    for (const round of ends) {
+      const x = this.middle(round);
+      if (x > LEFT - 2 && x < this.scroller.clientWidth + 2) paint.fillRect(x - wide / 2, y, wide, tall);
+    }
+  }
+
+  // The number of each broadcast, where there is room for it.
+  drawNumbers(paint, station, y) {
+    const { first, before, ends } = this.part;
+    paint.font = `10px ${FONT}`;
+    paint.fillStyle = COLOURS.faint;
+    paint.textAlign = "center";
+    let since = before[station] ? first - 1 : 0;
+    ends[station].forEach((round, at) => {
+      const x = (this.middle(since) + this.middle(round)) / 2;
+      if (this.middle(round) - this.middle(since) > 24 && x > LEFT) paint.fillText(before[station] + at + 1, x, y - 4);
+      since = round;
+    });
+    if (this.picked?.sender === station) {
+      paint.strokeStyle = COLOURS.relay;
+      paint.lineWidth = 2;
+      const [from, to] = this.extent(station, this.picked.k);
+      paint.strokeRect(Math.max(LEFT + 1, from), y - 11, to - Math.max(LEFT + 1, from), 22);
+    }
+  }
+
+  // From where to where a broadcast runs, as far as it is in view.
+  extent(station, k) {
+    const { first, last, before, ends } = this.part;
+    const at = k - 1 - before[station];
+    return [this.middle(at < 1 ? Math.max(0, first - 1) : ends[station][at - 1]), this.middle(ends[station][at] ?? last)];
+  }
+
+  drawPull(paint) {
+    const { hearer, heard, from, to } = this.pull;
+    paint.fillStyle = COLOURS.pull;
+    paint.fillRect(this.x(from), this.rowTop(hearer, heard) + 1, this.column * (to - from + 1), this.row - 3);
+  }
+
+  // The relay of the chosen answer: from the sender's line into the rows in which it is heard, and to the next line.
+  relayPoints() {
+    const { question: [sender], answer: { start, hops } } = this.relay;
+    const points = [[this.middle(start), this.laneMiddle(sender), false]];
+    for (const [round, heard, hearer] of hops) {
+      points.push([this.middle(round), this.rowTop(hearer, heard) + this.row / 2 - 0.5, true]);
+      points.push([this.middle(round), this.laneMiddle(hearer), false]);
+    }
+    return points;
+  }
+
+  drawRelay(paint) {
+    if (this.relay.answer.start === null) return;
+    const points = this.relayPoints();
+    paint.save();
+    paint.beginPath();
+    paint.rect(LEFT - 6, TOP - 6, this.scroller.clientWidth, this.scroller.clientHeight);
+    paint.clip();
+    for (const [colour, wide] of [[COLOURS.paper, 6], [COLOURS.relay, 3]]) {
+      paint.strokeStyle = colour;
+      paint.lineWidth = wide;
+      paint.setLineDash(this.relay.answer.error ? [6, 4] : []);
+      paint.beginPath();
+      points.forEach(([x, y], at) => (at ? paint.lineTo(x, y) : paint.moveTo(x, y)));
+      paint.stroke();
+    }
+    paint.setLineDash([]);
+    points.forEach(([x, y, hop], at) => {
+      paint.beginPath();
+      if (hop) paint.arc(x, y, 5, 0, 2 * Math.PI);
+      else paint.rect(x - 4.5, y - 4.5, 9, 9);
+      paint.fillStyle = at === 0 || at === points.length - 1 ? COLOURS.relay : COLOURS.paper;
+      paint.fill();
+      paint.strokeStyle = COLOURS.relay;
+      paint.lineWidth = 2.5;
+      paint.stroke();
+    });
+    paint.restore();
+  }
+
+  drawCursor(paint) {
+    const { station, heard } = this.rowAt(this.cursor.row);
+    const [y, high] = heard === null ? [this.top(station) + 1, this.lane - 2] : [this.rowTop(station, heard) - 1, this.row + 1];
+    paint.strokeStyle = COLOURS.cursor;
+    paint.lineWidth = 2;
+    paint.strokeRect(this.x(this.cursor.round) - 1, y, Math.max(4, this.column + 1), high);
+  }
+
+  drawNames(paint, stations, height) {
+    paint.fillStyle = COLOURS.paper;
+    paint.fillRect(0, 0, LEFT - 4, height);
+    for (const station of stations) {
+      paint.fillStyle = station % 2 ? COLOURS.even : COLOURS.paper;
+      paint.fillRect(0, this.top(station), LEFT - 4, this.block);
+      paint.fillStyle = COLOURS.text;
+      paint.textAlign = "left";
+      paint.font = `bold 12px ${FONT}`;
+      paint.fillText(`station ${station}`, 6, this.laneMiddle(station) + 4);
+      paint.textAlign = "right";
+      paint.font = `${Math.min(10, this.row - 1)}px ${FONT}`;
+      paint.fillStyle = COLOURS.faint;
+      for (let heard = 0; heard < this.n; heard++) {
+        if (heard !== station) paint.fillText(`hears ${heard}`, LEFT - 10, this.rowTop(station, heard) + this.row - 3);
+      }
+    }
+  }
+
+  drawAxis(paint, width) {
+    paint.fillStyle = COLOURS.paper;
+    paint.fillRect(0, 0, width, TOP);
+    paint.fillStyle = COLOURS.faint;
+    paint.font = `11px ${FONT}`;
+    paint.textAlign = "center";
+    for (const round of this.numbered()) if (this.middle(round) > LEFT) paint.fillText(round, this.middle(round), TOP - 9);
+    paint.textAlign = "left";
+    paint.fillText("round", 6, TOP - 9);
+  }
+}
+
+// One entry of the legend: its words, and a sample drawn by a function.
+function entry(words, draw) {
+  const item = document.createElement("li");
+  const sample = document.createElement("canvas");
+  const scale = window.devicePixelRatio || 1;
+  sample.width = 30 * scale;
+  sample.height = 18 * scale;
+  sample.style.width = "30px";
+  sample.style.height = "18px";
+  sample.setAttribute("aria-hidden", "true");
+  const paint = sample.getContext("2d");
+  paint.scale(scale, scale);
+  draw(paint);
+  item.append(sample, words);
+  return item;
+}
+
+function filled(colour, ...rectangles) {
+  return (paint) => {
+    paint.fillStyle = colour;
+    for (const one of rectangles) paint.fillRect(...one);
+  };
+}
+
+export function legend(both) {
+  const bars = both
+    ? [entry("heard over both carriers", filled(COLOURS.both, [2, 4, 26, 10])),
+      entry("over the first alone (upper half)", filled(COLOURS.first, [2, 4, 26, 5])),
+      entry("over the second alone (lower half)", filled(COLOURS.second, [2, 9, 26, 5])),
+      entry("end under the first alone (above)", filled(COLOURS.firstEnd, [14, 0, 2, 7])),
+      entry("end under the second alone (below)", filled(COLOURS.secondEnd, [14, 11, 2, 7]))]
+    : [entry("link window: the station hears that of the row", filled(COLOURS.window, [2, 4, 26, 10]))];
+  return [
+    entry("broadcast, and its end", (paint) => {
+      filled(COLOURS.broadcast, [2, 7, 22, 4])(paint);
+      filled(COLOURS.end, [23, 0, 2.4, 18])(paint);
+    }),
+    entry("broadcast that does not end in the plan", filled(COLOURS.open, [2, 8, 26, 1.5])),
+    ...bars,
+    entry("relay of the chosen answer", (paint) => {
+      filled(COLOURS.relay, [2, 8, 26, 3], [0, 5, 8, 8])(paint);
+      paint.beginPath();
+      paint.arc(22, 9.5, 5, 0, 2 * Math.PI);
+      paint.fillStyle = COLOURS.paper;
+      paint.fill();
+      paint.strokeStyle = COLOURS.relay;
+      paint.lineWidth = 2.5;
+      paint.stroke();
+    }),
+  ];
+}
