@@ -9,22 +9,15 @@ judges what is found: it has the same number of ends in the part, and the same l
 from . import library
 from .faults import Wrong
 
-STEP = 256      # rounds of a plan that are asked about at once
 
-
-def directly(call, *given):
-    """Makes a call of the library."""
-    return call(*given)
-
-
-def in_part(n, log, first, last, ask=directly):
+def in_part(n, log, first, last):
     """For each station the number of ends before round `first`, and the rounds of those up to round `last`.
 
-    The log is one that the library accepts, and the part lies in it. `ask` makes the calls.
+    The log is one that the library accepts, and the part lies in it.
     """
-    before, starts = ask(library.forecast, n, log[:n * (first - 1)])[1]
-    until, latest = ask(library.forecast, n, log[:n * last])[1]
-    found = [of_station(n, log, station, starts[station], last, until[station] - before[station], ask)
+    before, starts = library.forecast(n, log[:n * (first - 1)])[1]
+    until, latest = library.forecast(n, log[:n * last])[1]
+    found = [of_station(n, log[:n * last], station, starts[station], until[station] - before[station])
              for station in range(n)]
     for station, rounds in enumerate(found):
         if rounds and rounds[-1] != latest[station]:
@@ -33,15 +26,23 @@ def in_part(n, log, first, last, ask=directly):
     return before[:n], found
 
 
-def of_station(n, log, station, start, last, count, ask):
-    """The rounds of so many ends after an end, or after round 0."""
-    found, step = [], STEP
+def of_station(n, log, station, start, count):
+    """The rounds of so many ends after a round, in which the station starts a broadcast."""
+    found, rounds = [], len(log) // n
     page = [(station, station, 2 + at) for at in range(library.MOST_QUESTIONS)]
     while len(found) < count:
-        part, asked = log[n * start:n * min(start + step, last)], page[:count - len(found)]
-        more = [start + number for number in ask(library.questions, n, part, asked)[1] if number is not None]
-        if not more and start + step >= last:
+        asked = page[:count - len(found)]
+        # A page of ends should come in these rounds; where one does not, what came of it is taken.
+        step = 1 + (rounds - start) * 5 * len(asked) // (4 * (count - len(found)))
+        more = ends_after(n, log, start, step, asked) or ends_after(n, log, start, rounds, asked)
+        if not more:
             raise Wrong(f"{len(found)} ends of station {station} were found where the library counts {count}")
         found += more
-        start, step = (found[-1], STEP) if more else (start, 2 * step)
+        start = found[-1]
     return found
+
+
+def ends_after(n, log, start, step, asked):
+    """The rounds of the ends asked for that come in so many rounds after a start."""
+    answers = library.questions(n, log[n * start:n * (start + step)], asked)[1]
+    return [start + number for number in answers if number is not None]

@@ -8,7 +8,6 @@ import base64
 import binascii
 import io
 import sys
-import time
 from array import array
 
 from .. import ask, delta, ends, forecast, forecast_picture, hops, library, merge, plans
@@ -158,23 +157,9 @@ def questions_of(given):
 
 # The calls.
 
-class Library:
-    """Makes the library's calls, and adds up the time that they take."""
-
-    def __init__(self):
-        self.seconds = 0
-
-    def ask(self, call, *given):
-        began = time.perf_counter()
-        try:
-            return call(*given)
-        finally:
-            self.seconds += time.perf_counter() - began
-
-
-def forecast_of(plan, ask_library=ends.directly):
+def forecast_of(plan):
     """The library's forecast, or its refusal in words."""
-    refusal, (counts, last) = ask_library(library.forecast, plan.n, plan.log)
+    refusal, (counts, last) = library.forecast(plan.n, plan.log)
     if refusal == 1:
         raise Wrong(f"{plans.shown(plan.name)}: refused with 1: a plan has 1 to 16 stations, not {plan.n}")
     if refusal:
@@ -182,23 +167,23 @@ def forecast_of(plan, ask_library=ends.directly):
     return {"ends": counts[:plan.n], "last": last[:plan.n]}
 
 
-def part_of(plan, view, ask_library):
+def part_of(plan, view):
     """The ends in the rounds of a view."""
     first, last = max(1, view[0]), min(plan.rounds, view[1])
     if first > last:
         before, found = [0] * plan.n, [[] for _ in range(plan.n)]
     else:
-        before, found = ends.in_part(plan.n, plan.log, first, last, ask_library)
+        before, found = ends.in_part(plan.n, plan.log, first, last)
     return {"first": first, "last": last, "before": before, "ends": found}
 
 
-def answers_of(plan, asked, ask_library):
+def answers_of(plan, asked):
     """The answer to each question, the round in which the broadcast starts, and the relay that brings it."""
     numbers = [one.numbers for one in asked]
-    refusal, rounds = ask_library(library.questions, plan.n, plan.log, numbers)
+    refusal, rounds = library.questions(plan.n, plan.log, numbers)
     if refusal:
         raise Wrong(ask.refused(plan, asked))
-    _, starts = ask_library(library.questions, plan.n, plan.log, [(s, s, k) for s, _, k in numbers])
+    _, starts = library.questions(plan.n, plan.log, [(s, s, k) for s, _, k in numbers])
     heard, came, found = hearings(plan.n, plan.log) if asked else [], {}, []
     for (sender, receiver, _), start, number in zip(numbers, starts, rounds):
         if start is not None and (sender, start) not in came:
@@ -210,27 +195,27 @@ def answers_of(plan, asked, ask_library):
 
 def look(given):
     """What the page shows of one plan, or of two: forecasts, the ends in view, and answers."""
-    used = Library()
+    began = library.clock.seconds
     carriers, view = carriers_of(given), [number_of(one, "view") for one in list_of(given, "view")]
     if len(view) != 2:
         raise Wrong("'view' is a first and a last round")
-    alone = [forecast_of(plan, used.ask) for plan in carriers]
-    plan = used.ask(chosen, given, carriers)
+    alone = [forecast_of(plan) for plan in carriers]
+    plan = chosen(given, carriers)
     both = given.get("show") == BOTH
     found = {
         "rounds": plan.rounds,
         "log": text_of(plan.log) if both else None,
-        "forecast": forecast_of(plan, used.ask) if both else alone[given["show"]],
+        "forecast": forecast_of(plan) if both else alone[given["show"]],
         "alone": alone,
-        "part": part_of(plan, view, used.ask),
-        "part_alone": [part_of(one, view, used.ask) for one in carriers] if both else [],
+        "part": part_of(plan, view),
+        "part_alone": [part_of(one, view) for one in carriers] if both else [],
         "answers": [], "question_fault": None,
     }
     try:
-        found["answers"] = answers_of(plan, questions_of(given), used.ask)
+        found["answers"] = answers_of(plan, questions_of(given))
     except Wrong as wrong:
         found["question_fault"] = str(wrong)
-    found["library_ms"] = 1_000 * used.seconds
+    found["library_ms"] = 1_000 * (library.clock.seconds - began)
     return found
 
 
@@ -256,7 +241,7 @@ def script(given):
 
 def picture(given):
     plan = plan_shown(given)
-    return forecast_picture.draw(plan, part_of(plan, (1, plan.rounds), ends.directly)["ends"])
+    return forecast_picture.draw(plan, part_of(plan, (1, plan.rounds))["ends"])
 
 
 def forecast_values(given):
