@@ -16,7 +16,7 @@ class Hop(NamedTuple):
 def arrivals(heard, sender, start):
     """For each station that a relay from the sender after this round reaches, the last hop of one that arrives first.
 
-    `heard` is what `hearings` gives. The sender itself is there in the round of the start, heard by no hop. Stations are
+    `heard` is what `hearings` gives. The sender itself is there in the round of the start, by no hop. Stations are
     gone through in the order in which they are reached.
     """
     came, left = {sender: Hop(start, None, sender)}, set(range(len(heard)))

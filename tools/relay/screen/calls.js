@@ -18,7 +18,8 @@ async function answered(path, options) {
 }
 
 function posted(path, given) {
-  return answered(path, { method: "POST", headers: { "Content-Type": "application/json" }, body: JSON.stringify(given) });
+  const headers = { "Content-Type": "application/json" };
+  return answered(path, { method: "POST", headers, body: JSON.stringify(given) });
 }
 
 export async function namedPlans() {

@@ -2,6 +2,7 @@
 // the server; the page has no rule of its own.
 
 import { call, Fault, namedPlans, readPlan, text } from "./calls.js";
+import { listen } from "./input.js";
 import { Edits, Plan, decode } from "./plan.js";
 import { legend, Picture } from "./picture.js";
 import { counted, endWords, fillForecast, fillQuestions, fillWindows, relayWords } from "./tables.js";
@@ -119,7 +120,8 @@ function took(library) {
   if (state.editedAt === null) return;
   const all = performance.now() - state.editedAt;
   state.editedAt = null;
-  at("took").textContent = `The last edit was answered in ${all.toFixed(1)} ms, of which the library took ${library.toFixed(1)} ms.`;
+  const [whole, part] = [all, library].map((one) => one.toFixed(1));
+  at("took").textContent = `The last edit was answered in ${whole} ms, of which the library took ${part} ms.`;
   Object.assign(at("took").dataset, { all, library });
 }
 
@@ -130,7 +132,7 @@ async function findDelta() {
     const found = await call("delta", given({ from: now, waiting: 0 }));
     if (version !== state.version) return;
     at("delta").textContent = found.delta === null
-      ? `From round ${found.from} on there is no Δ: the plan does not bring news from every station to every other and have room for it.`
+      ? `From round ${found.from} on there is no Δ: the plan does not have relays between every two stations.`
       : `Δ from round ${found.from} on is ${counted(found.delta, "round")}.`;
     showBound(found);
   });
@@ -138,9 +140,11 @@ async function findDelta() {
 
 // The bound, where the server gives one.
 function showBound(found) {
-  const [one, two] = (found.on_air_by ?? []).map((round) => (round === null ? "past the end of the plan" : `by round ${round}`));
+  const when = (round) => (round === null ? "past the end of the plan" : `by round ${round}`);
+  const [one, two] = (found.on_air_by ?? []).map(when);
   at("bound").hidden = one === undefined;
-  at("bound").textContent = `An edit posted then, with none of its desk before it, is on air everywhere ${one} where one desk is in use, and ${two} where both are.`;
+  at("bound").textContent = "An edit posted then, with none of its desk before it, is on air everywhere "
+    + `${one} where one desk is in use, and ${two} where both are.`;
 }
 
 // Plans.
@@ -155,12 +159,13 @@ async function open(which, plan) {
   // Until the server has merged them, the picture of both is that of the longer.
   picture.plan = show === BOTH && plans[1].rounds > plans[0].rounds ? plans[1] : plans[0];
   picture.carriers = show === BOTH ? plans : null;
-  picture.part = null;
-  picture.partAlone = [];
-  picture.last = [];
+  Object.assign(picture, { part: null, partAlone: [], last: [], relay: null, picked: null });
+  picture.cursor = { row: 0, round: 1 };
   showFault(at("fault"), "");
   showPlans();
   picture.resize();
+  if (picture.column * picture.plan.rounds < at("scroll").clientWidth) picture.whole();
+  showZoom();
   await changed();
 }
 
@@ -172,7 +177,8 @@ function showPlans() {
   document.title = `${plans.map((plan) => plan.name).join(" + ")} - planning screen`;
   at("shown").hidden = plans.length < 2;
   for (const one of document.getElementsByName("show")) one.checked = one.value === String(state.show);
-  at("station").replaceChildren(...Array.from({ length: n }, (_, station) => new Option(String(station), String(station))));
+  const stations = Array.from({ length: n }, (_, station) => new Option(String(station), String(station)));
+  at("station").replaceChildren(...stations);
   at("legend").replaceChildren(...legend(state.show === BOTH));
   showEdits();
 }
@@ -203,8 +209,8 @@ function edited(words) {
   return changed();
 }
 
-// Puts a window there or takes it away. What is taken from both carriers' plan is taken from each; what is added there is
-// added to the first that has these rounds.
+// Puts a window there or takes it away. What is taken from both carriers' plan is taken from each; what is added there
+// is added to the first that has these rounds.
 function put(hearer, heard, from, to, on) {
   const adding = state.plans.findIndex((plan) => to <= plan.rounds);
   const step = state.plans.map((plan, which) => {
@@ -213,8 +219,9 @@ function put(hearer, heard, from, to, on) {
   });
   state.edits.add(step);
   const where = from === to ? `round ${from}` : `rounds ${from} to ${to}`;
-  const carrier = state.show === BOTH ? (on ? `, over the ${["first", "second"][adding]} carrier` : ", over both carriers") : "";
-  return edited(`${on ? "Added" : "Taken away"}: station ${hearer} hears ${heard} in ${where}${carrier}.`);
+  const over = on ? `, over the ${["first", "second"][adding]} carrier` : ", over both carriers";
+  const words = `${on ? "Added" : "Taken away"}: station ${hearer} hears ${heard} in ${where}`;
+  return edited(`${words}${state.show === BOTH ? over : ""}.`);
 }
 
 function takeAway(hearer, heard, round) {
@@ -276,7 +283,8 @@ function pick(picked) {
   if (picked) {
     at("sender").value = picked.sender;
     at("k").value = picked.k;
-    say(`Picked: broadcast ${picked.k} of station ${picked.sender}. Now pick the receiver: click on its line or its name. Escape drops the pick.`);
+    say(`Picked: broadcast ${picked.k} of station ${picked.sender}. Now pick the receiver, by a click or by Enter on `
+      + "its line. Escape drops the pick.");
   }
   picture.later();
 }
@@ -288,7 +296,8 @@ function fillStation() {
   if (!plan || !state.found) return;
   const station = Number(at("station").value);
   const [first, last] = picture.view();
-  const left = fillWindows(at("windows").tBodies[0], plan, station, first, last, (hearer, heard, from, to) => put(hearer, heard, from, to, false));
+  const remove = (hearer, heard, from, to) => put(hearer, heard, from, to, false);
+  const left = fillWindows(at("windows").tBodies[0], plan, station, first, last, remove);
   at("more-windows").hidden = left === 0;
   at("more-windows").textContent = `${counted(left, "window")} more: zoom in, or go to other rounds, to see them.`;
   at("station-ends").textContent = endWords(station, state.found.part, state.found.part_alone);
@@ -324,87 +333,6 @@ function act(place) {
     const k = picture.broadcastAt(station, round);
     if (k !== null) pick({ sender: station, k });
   }
-}
-
-function place(event) {
-  const box = at("picture").getBoundingClientRect();
-  return picture.hit(event.clientX - box.left, event.clientY - box.top);
-}
-
-function pointerDown(event) {
-  if (event.button !== 0 || !shown()) return;
-  const found = place(event);
-  const empty = found && found.heard !== null && found.round !== null && !shown().hears(found.station, found.heard, found.round);
-  picture.pull = empty ? { hearer: found.station, heard: found.heard, begun: found.round, from: found.round, to: found.round } : null;
-  pointerDown.at = found;
-  if (picture.pull) at("picture").setPointerCapture(event.pointerId);
-}
-
-function pointerMove(event) {
-  const found = shown() && place(event);
-  const { pull } = picture;
-  if (pull) {
-    const box = at("picture").getBoundingClientRect();
-    const along = picture.hit(event.clientX - box.left, pull.y ?? event.clientY - box.top);
-    if (along?.round) {
-      pull.from = Math.min(pull.begun, along.round);
-      pull.to = Math.max(pull.begun, along.round);
-      picture.later();
-    }
-  } else {
-    at("picture").title = found ? describe(found) : "";
-  }
-}
-
-function pointerUp(event) {
-  const { pull } = picture;
-  picture.pull = null;
-  const began = pointerDown.at;
-  pointerDown.at = null;
-  if (!began || !shown()) return;
-  if (pull) {
-    put(pull.hearer, pull.heard, pull.from, pull.to, true);
-    return;
-  }
-  const found = place(event);
-  if (found && ["station", "heard"].every((name) => found[name] === began[name])) act(began);
-}
-
-// Keys on the picture.
-
-function moveCursor(rows, rounds) {
-  const { cursor, n, plan } = picture;
-  cursor.row = Math.max(0, Math.min(n * n - 1, cursor.row + rows));
-  cursor.round = Math.max(1, Math.min(plan.rounds, cursor.round + rounds));
-  const found = { ...picture.rowAt(cursor.row), round: cursor.round };
-  picture.reveal(found.station, cursor.round, picture.block);
-  say(describe(found));
-  picture.later();
-}
-
-function key(event) {
-  if (!picture.plan || event.altKey || event.metaKey || event.ctrlKey) return;
-  const many = event.shiftKey ? 10 : 1;
-  const { n, cursor, plan } = picture;
-  const keys = {
-    ArrowUp: () => moveCursor(-many, 0),
-    ArrowDown: () => moveCursor(many, 0),
-    ArrowLeft: () => moveCursor(0, -many),
-    ArrowRight: () => moveCursor(0, many),
-    PageUp: () => moveCursor(-n, 0),
-    PageDown: () => moveCursor(n, 0),
-    Home: () => moveCursor(0, -plan.rounds),
-    End: () => moveCursor(0, plan.rounds),
-    Enter: () => act({ ...picture.rowAt(cursor.row), round: cursor.round }),
-    " ": () => act({ ...picture.rowAt(cursor.row), round: cursor.round }),
-    Escape: () => { pick(null); say("Nothing is picked."); },
-    "+": () => zoomBy(1),
-    "=": () => zoomBy(1),
-    "-": () => zoomBy(-1),
-  };
-  if (!(event.key in keys)) return;
-  event.preventDefault();
-  keys[event.key]();
 }
 
 // Zoom and scroll.
@@ -494,18 +422,8 @@ for (const [name, which] of [["open-first", 0], ["open-second", 1]]) {
     at(name).value = "";
   });
 }
-at("picture").addEventListener("pointerdown", pointerDown);
-at("picture").addEventListener("pointermove", pointerMove);
-at("picture").addEventListener("pointerup", pointerUp);
-at("picture").addEventListener("keydown", key);
-at("picture").addEventListener("focus", () => picture.later());
-at("picture").addEventListener("blur", () => picture.later());
 at("scroll").addEventListener("scroll", scrolled);
-at("scroll").addEventListener("wheel", (event) => {
-  if (!event.ctrlKey) return;
-  event.preventDefault();
-  zoomBy(event.deltaY < 0 ? 1 : -1, event.clientX - at("picture").getBoundingClientRect().left);
-}, { passive: false });
+listen(picture, { shown, act, describe, put, pick, say, zoomBy });
 document.addEventListener("keydown", (event) => {
   if (!(event.ctrlKey || event.metaKey) || event.key.toLowerCase() !== "z") return;
   if (event.target instanceof HTMLInputElement && event.target.type === "number") return;

@@ -9,9 +9,9 @@ const FONT = "'DejaVu Sans', Verdana, Arial, sans-serif";
 
 // Okabe and Ito's colours, or near them. In both carriers' plan a bar's height and place tell its carrier too.
 export const COLOURS = {
-  window: "#56b4e9", first: "#56b4e9", second: "#e69f00", both: "#0072b2", broadcast: "#009e73", open: "#8a939c", end: "#111",
-  firstEnd: "#0072b2", secondEnd: "#a65f00", relay: "#d55e00", cursor: "#000", pull: "#cc79a7", paper: "#fff", even: "#f3f4f6",
-  grid: "#dfe2e6", text: "#222", faint: "#444",
+  window: "#56b4e9", first: "#56b4e9", second: "#e69f00", both: "#0072b2", broadcast: "#009e73", open: "#8a939c",
+  end: "#111111", firstEnd: "#0072b2", secondEnd: "#a65f00", relay: "#d55e00", cursor: "#000000", pull: "#cc79a7",
+  paper: "#ffffff", even: "#f3f4f6", grid: "#dfe2e6", text: "#222222", faint: "#444444",
 };
 const CARRIER = [null, COLOURS.first, COLOURS.second, COLOURS.both]; // by who has the hearing, 1 and 2 added up
 
@@ -52,17 +52,21 @@ export class Picture {
     return this.lane + this.row * (this.n - 1) + 8;
   }
 
+  // Fits the canvas into the view, and what can be scrolled to the plan.
   resize() {
-    const { clientWidth: width, clientHeight: height } = this.scroller;
-    const scale = window.devicePixelRatio || 1;
     if (this.plan) {
       this.size.style.width = `${LEFT + this.column * this.plan.rounds + RIGHT}px`;
       this.size.style.height = `${TOP + this.block * this.n}px`;
     }
-    this.canvas.style.width = `${width}px`;
-    this.canvas.style.height = `${height}px`;
-    this.canvas.width = Math.round(width * scale);
-    this.canvas.height = Math.round(height * scale);
+    const { clientWidth: width } = this.scroller;
+    const height = Math.min(this.scroller.clientHeight, this.size.offsetHeight);
+    const scale = window.devicePixelRatio || 1;
+    if (this.canvas.width !== Math.round(width * scale) || this.canvas.height !== Math.round(height * scale)) {
+      this.canvas.style.width = `${width}px`;
+      this.canvas.style.height = `${height}px`;
+      this.canvas.width = Math.round(width * scale);
+      this.canvas.height = Math.round(height * scale);
+    }
     this.later();
   }
 
@@ -135,8 +139,8 @@ export class Picture {
     return { station, heard: other < 0 ? null : other + (other >= station) };
   }
 
-  // What stands at a place of the canvas: a station, whom it hears in that row or null for its line, and a round or null
-  // for the names at the left.
+  // What stands at a place of the canvas: a station; whom it hears in that row, null for its line; a round, null for the
+  // names at the left.
   hit(x, y) {
     if (!this.plan || y < TOP) return null;
     const down = y - TOP + this.scroller.scrollTop;
@@ -145,9 +149,14 @@ export class Picture {
     const inside = down - station * this.block - this.lane;
     const other = Math.floor(inside / this.row);
     const heard = inside < 0 || other >= this.n - 1 ? null : other + (other >= station);
+    if (x >= LEFT && x >= this.x(this.plan.rounds + 1)) return null;
+    return { station, heard, round: x < LEFT ? null : this.roundAt(x) };
+  }
+
+  // The round at a place of the canvas, or the nearest.
+  roundAt(x) {
     const round = Math.floor((x - LEFT + this.scroller.scrollLeft) / this.column) + 1;
-    if (x >= LEFT && round > this.plan.rounds) return null;
-    return { station, heard, round: x < LEFT ? null : round };
+    return Math.max(1, Math.min(this.plan.rounds, round));
   }
 
   // The broadcast of a station that runs in a round, or null where its ends are not known yet.
@@ -244,11 +253,13 @@ export class Picture {
 
   drawLane(paint, station, width) {
     const y = this.laneMiddle(station);
-    const done = this.last[station] ? this.middle(this.last[station]) : this.x(1);
+    const within = (x) => Math.max(LEFT, Math.min(width, x));
+    const [begin, end] = [within(this.x(1)), within(this.x(this.plan.rounds + 1))];
+    const done = this.last[station] ? within(this.middle(this.last[station])) : begin;
     paint.fillStyle = COLOURS.open;
-    paint.fillRect(Math.max(LEFT, done), y - 0.75, Math.max(0, Math.min(width, this.x(this.plan.rounds + 1)) - Math.max(LEFT, done)), 1.5);
+    paint.fillRect(done, y - 0.75, end - done, 1.5);
     paint.fillStyle = COLOURS.broadcast;
-    paint.fillRect(Math.max(LEFT, this.x(1)), y - 2, Math.max(0, Math.min(width, done) - Math.max(LEFT, this.x(1))), 4);
+    paint.fillRect(begin, y - 2, done - begin, 4);
     if (!this.part) return;
     this.drawEnds(paint, this.part.ends[station], y - 9, 18, COLOURS.end, this.column >= 4 ? 2.4 : 1);
     this.drawNumbers(paint, station, y);
@@ -290,7 +301,8 @@ export class Picture {
   extent(station, k) {
     const { first, last, before, ends } = this.part;
     const at = k - 1 - before[station];
-    return [this.middle(at < 1 ? Math.max(0, first - 1) : ends[station][at - 1]), this.middle(ends[station][at] ?? last)];
+    const since = at < 1 ? first - 1 : ends[station][at - 1];
+    return [this.middle(since), this.middle(ends[station][at] ?? last)];
   }
 
   drawPull(paint) {
@@ -341,7 +353,8 @@ export class Picture {
 
   drawCursor(paint) {
     const { station, heard } = this.rowAt(this.cursor.row);
-    const [y, high] = heard === null ? [this.top(station) + 1, this.lane - 2] : [this.rowTop(station, heard) - 1, this.row + 1];
+    const line = [this.top(station) + 1, this.lane - 2];
+    const [y, high] = heard === null ? line : [this.rowTop(station, heard) - 1, this.row + 1];
     paint.strokeStyle = COLOURS.cursor;
     paint.lineWidth = 2;
     paint.strokeRect(this.x(this.cursor.round) - 1, y, Math.max(4, this.column + 1), high);
@@ -372,7 +385,9 @@ export class Picture {
     paint.fillStyle = COLOURS.faint;
     paint.font = `11px ${FONT}`;
     paint.textAlign = "center";
-    for (const round of this.numbered()) if (this.middle(round) > LEFT) paint.fillText(round, this.middle(round), TOP - 9);
+    for (const round of this.numbered()) {
+      if (this.middle(round) > LEFT) paint.fillText(round, this.middle(round), TOP - 9);
+    }
     paint.textAlign = "left";
     paint.fillText("round", 6, TOP - 9);
   }

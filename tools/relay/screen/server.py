@@ -25,7 +25,8 @@ JSON, TEXT = "application/json", "text/plain; charset=utf-8"
 FILES = {
     "/": ("page.html", "text/html; charset=utf-8"),
     "/style.css": ("style.css", "text/css; charset=utf-8"),
-    **{f"/{name}.js": (f"{name}.js", "text/javascript; charset=utf-8") for name in ("calls", "page", "picture", "plan", "tables")},
+    **{f"/{name}.js": (f"{name}.js", "text/javascript; charset=utf-8")
+       for name in ("calls", "input", "page", "picture", "plan", "tables")},
 }
 CALLS = {"/look": answers.look, "/delta": answers.delta_of}
 EXPORTS = {
@@ -111,7 +112,7 @@ class Handler(http.server.BaseHTTPRequestHandler):
         return data
 
     def pass_over(self):
-        """Reads the rest of the body and forgets it, so that the sender reads the answer; past all measure it does not."""
+        """Reads the rest of the body and forgets it, so that the sender comes to read the answer."""
         rest = min(self.left, MOST_PASSED_OVER)
         self.close_connection |= self.left > rest
         try:

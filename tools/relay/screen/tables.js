@@ -54,7 +54,8 @@ export function fillQuestions(body, questions, answers, chosen, show, remove) {
     const number = answer ? answer.round ?? "never" : "…";
     const words = cell("td", answer ? relayWords(question, answer) : "", "words");
     if (answer?.error) words.append(" ", cell("strong", `Error: ${answer.error}.`, "error"));
-    const element = row(...question.map((one) => cell("td", String(one))), cell("td", String(number), "answer"), words, acts);
+    const numbers = question.map((one) => cell("td", String(one)));
+    const element = row(...numbers, cell("td", String(number), "answer"), words, acts);
     if (at === chosen) element.className = "picked";
     return element;
   }));
@@ -114,5 +115,6 @@ export function endWords(station, part, partAlone) {
     return `${which ? "second" : "first"} alone ${round ?? "not in view"}`;
   });
   const shown = ends.map((round, at) => (partAlone.length ? `${round} (${alone(at).join(", ")})` : String(round)));
-  return `Station ${station} ends ${counted(ends.length, "broadcast")} in ${where}, from number ${number(0)} on, in rounds ${shown.join(", ")}.`;
+  const count = counted(ends.length, "broadcast");
+  return `Station ${station} ends ${count} in ${where}, from number ${number(0)} on, in rounds ${shown.join(", ")}.`;
 }
