@@ -1,4 +1,4 @@
-"""The planning screen: windows, ends and answers of a plan on one page.
+"""The planning screen: windows, ends and answers on one page.
 
 Serves the page on 127.0.0.1, for a browser on this machine, and prints its
 address; Ctrl+C ends it. The page shows link windows as bars and ends as marks,

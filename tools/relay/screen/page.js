@@ -356,6 +356,7 @@ function zoomBy(steps, where) {
 function scrolled() {
   clearTimeout(scrolled.timer);
   scrolled.timer = setTimeout(() => {
+    scrolled.timer = null;
     const [first, last] = picture.view();
     const { part } = picture;
     if (document.activeElement !== at("first")) at("first").value = first;
@@ -363,6 +364,8 @@ function scrolled() {
     if (part && (first < part.first || last > part.last)) look();
   }, 30);
 }
+
+scrolled.timer = null;
 
 // Exports.
 
@@ -440,5 +443,6 @@ await trying(async () => {
   }
   if (faults.length) showFault(at("fault"), faults.join("; "));
 });
-window.relayScreen = { picture, state }; // for looking into it, by tests too
+// For looking into it, by tests too: what is shown, and whether all of it is answered.
+window.relayScreen = { picture, state, settled: () => !busy && !picture.waiting && scrolled.timer === null };
 document.body.dataset.ready = "yes";
