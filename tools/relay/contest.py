@@ -1,4 +1,4 @@
-"""The link contest: who can force the result, and with which first pick?
+"""The link contest: who can force the result, and by which pick?
 
 The keeper picks a set of masks for each odd round, the breaker for each even
 one, and both know the rounds before. The file, # begins a comment:

@@ -108,10 +108,10 @@ function take(found, asked) {
   });
   choose(state.chosen, fresh);
   fillForecast(at("forecast"), found, state.show === BOTH);
-  fillStation();
   picture.resize();
   picture.draw();
   took(found.library_ms);
+  scrolled(); // the table of one station comes a little later
   clearTimeout(take.delta);
   take.delta = setTimeout(findDelta, 150);
 }

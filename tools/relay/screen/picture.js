@@ -226,29 +226,35 @@ export class Picture {
     return one.hears(hearer, heard, round) + 2 * two.hears(hearer, heard, round);
   }
 
+  // Where several rounds share a pixel, what is heard in one of them is shown.
   drawWindows(paint, station) {
     const [first, last] = this.view();
+    const shared = Math.max(1, Math.floor(1 / this.column));
+    const begin = first - ((first - 1) % shared);
+    const origin = this.x(1);
     for (let heard = 0; heard < this.n; heard++) {
       const y = this.rowTop(station, heard);
       if (heard === station || y > this.scroller.clientHeight || y + this.row < TOP) continue;
       let kind = 0;
-      let since = first;
-      for (let round = first; round <= last + 1; round++) {
-        const next = round > last ? 0 : this.carrying(station, heard, round);
+      let since = begin;
+      for (let round = begin; round <= last + shared; round += shared) {
+        let next = 0;
+        for (let one = round; one < round + shared && one <= last; one++) next |= this.carrying(station, heard, one);
         if (next === kind) continue;
-        if (kind) this.drawBar(paint, kind, since, round - 1, y);
+        if (kind) this.drawBar(paint, kind, origin + this.column * (since - 1), this.column * (round - since), y);
         kind = next;
         since = round;
       }
     }
   }
 
-  drawBar(paint, kind, first, last, y) {
+  drawBar(paint, kind, x, wide, y) {
     const high = this.row - 3;
-    paint.fillStyle = this.carriers ? CARRIER[kind] : COLOURS.window;
-    const [from, tall] = !this.carriers || kind === 3 ? [0, high] : kind === 1 ? [0, high / 2] : [high / 2, high / 2];
+    const half = this.carriers && kind !== 3;
+    const colour = this.carriers ? CARRIER[kind] : COLOURS.window;
+    if (paint.fillStyle !== colour) paint.fillStyle = colour;
     const gap = this.column >= 6 ? 1 : 0;
-    paint.fillRect(this.x(first), y + 1 + from, Math.max(0.8, this.column * (last - first + 1) - gap), tall);
+    paint.fillRect(x, y + 1 + (half && kind === 2 ? high / 2 : 0), Math.max(0.8, wide - gap), half ? high / 2 : high);
   }
 
   drawLane(paint, station, width) {
@@ -271,9 +277,11 @@ export class Picture {
 
   drawEnds(paint, ends, y, tall, colour, wide) {
     paint.fillStyle = colour;
+    const origin = this.middle(1);
+    const right = this.scroller.clientWidth;
     for (const round of ends) {
-      const x = this.middle(round);
-      if (x > LEFT - 2 && x < this.scroller.clientWidth + 2) paint.fillRect(x - wide / 2, y, wide, tall);
+      const x = origin + this.column * (round - 1);
+      if (x > LEFT - 2 && x < right + 2) paint.fillRect(x - wide / 2, y, wide, tall);
     }
   }
 
@@ -284,7 +292,8 @@ export class Picture {
     paint.fillStyle = COLOURS.faint;
     paint.textAlign = "center";
     let since = before[station] ? first - 1 : 0;
-    ends[station].forEach((round, at) => {
+    const roomy = this.column * (this.part.last - first + 1) > 24 * ends[station].length;
+    (roomy ? ends[station] : []).forEach((round, at) => {
       const x = (this.middle(since) + this.middle(round)) / 2;
       if (this.middle(round) - this.middle(since) > 24 && x > LEFT) paint.fillText(before[station] + at + 1, x, y - 4);
       since = round;
