@@ -1,4 +1,5 @@
-"""Chromium through the DevTools protocol: messages of JSON that end with a NUL, over the pipes 3 and 4 of its process."""
+"""Chromium through the DevTools protocol: messages of JSON that end with a NUL, over the pipes 3 and 4 of its process.
+"""
 
 import base64
 import fcntl
@@ -153,7 +154,8 @@ class Page:
 
     def type_into(self, selector, text):
         """Puts a text into a field as if it was typed."""
-        self.value(f"(() => {{ const one = document.querySelector({json.dumps(selector)}); one.focus(); one.select(); }})()")
+        field = f"document.querySelector({json.dumps(selector)})"
+        self.value(f"(() => {{ {field}.focus(); {field}.select(); }})()")
         self.send("Input.insertText", text=str(text))
 
     def open_file(self, selector, file):
@@ -161,5 +163,8 @@ class Page:
         node = self.send("DOM.querySelector", nodeId=root, selector=selector)["nodeId"]
         self.send("DOM.setFileInputFiles", files=[str(file)], nodeId=node)
 
-    def screenshot(self):
-        return base64.b64decode(self.send("Page.captureScreenshot", format="png")["data"])
+    def screenshot(self, height, scale):
+        """The upper part of the page, as PNG."""
+        width = self.value("document.documentElement.clientWidth")
+        clip = {"x": 0, "y": 0, "width": width, "height": height, "scale": scale}
+        return base64.b64decode(self.send("Page.captureScreenshot", format="png", clip=clip)["data"])
