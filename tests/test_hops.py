@@ -1,4 +1,5 @@
-"""The hops of a relay (tools/relay/hops.py) and the ends in a part of a plan (tools/relay/ends.py) against the model."""
+"""The hops of a relay (tools/relay/hops.py) and the ends in a part of a plan (tools/relay/ends.py), against the model.
+"""
 
 import random
 import unittest
@@ -23,10 +24,11 @@ def drawn(rng, count):
 class Hearings(unittest.TestCase):
     def test_bits(self):
         for n, log in drawn(random.Random("hearings"), 30):
-            rounds = rounds_of(log, n)
-            expected = [[sum(1 << u for u, masks in enumerate(rounds) if i != j and masks[i] >> j & 1) for j in range(n)]
-                        for i in range(n)]
-            self.assertEqual(hearings(n, log), expected)
+            found = hearings(n, log)
+            for i in range(n):
+                for j in range(n):
+                    heard = [i != j and masks[i] >> j & 1 for masks in rounds_of(log, n)]
+                    self.assertEqual(found[i][j], sum(1 << u for u, one in enumerate(heard) if one))
 
 
 class Hops(unittest.TestCase):
@@ -70,8 +72,8 @@ class Hops(unittest.TestCase):
 class Ends(unittest.TestCase):
     def test_parts(self):
         rng = random.Random("ends")
-        plans = [*drawn(rng, 40), (2, logs.full_mesh(2, 700)), (1, array("H", [0] * 300)), (5, logs.random_log(rng, 5, 900))]
-        for n, log in plans:
+        long = (2, logs.full_mesh(2, 700)), (1, array("H", [0] * 300)), (5, logs.random_log(rng, 5, 900))
+        for n, log in (*drawn(rng, 40), *long):
             rounds = len(log) // n
             links = Links(n, rounds_of(log, n))
             whole = [end_rounds(links, s) for s in range(n)]

@@ -157,10 +157,11 @@ class Damaged(Served):
 
     def test_lines_of_http(self):
         host = f"Host: 127.0.0.1:{self.port}\r\n".encode()
-        for data, status in ((b"POST /look HTTP/1.1\r\n" + host + b"Transfer-Encoding: chunked\r\n\r\n0\r\n\r\n", "411"),
-                             (b"POST /look HTTP/1.1\r\n" + host + b"Content-Length: -1\r\n\r\n", "400"),
-                             (b"POST /look HTTP/1.1\r\n" + host + b"Content-Length: x\r\n\r\n", "400"),
-                             (b"POST /look HTTP/1.1\r\n" + host + b"Content-Length: " + b"9" * 30 + b"\r\n\r\n", "400"),
+        post = b"POST /look HTTP/1.1\r\n" + host
+        for data, status in ((post + b"Transfer-Encoding: chunked\r\n\r\n0\r\n\r\n", "411"),
+                             (post + b"Content-Length: -1\r\n\r\n", "400"),
+                             (post + b"Content-Length: x\r\n\r\n", "400"),
+                             (post + b"Content-Length: " + b"9" * 30 + b"\r\n\r\n", "400"),
                              (b"GET /" + b"x" * 70_000 + b" HTTP/1.1\r\n\r\n", "414"),
                              (b"GET / HTTP/1.1\r\n" + b"A: b\r\n" * 300 + b"\r\n", "431"),
                              (b"GET / HTTP/9.9\r\n\r\n", "505"), (b"nonsense\r\n\r\n", "400")):
@@ -258,8 +259,8 @@ class Command(unittest.TestCase):
             self.assertEqual(one.wait(SECONDS), 128 + signal.SIGINT)
 
     def test_refused(self):
-        self.assertEqual(run("screen", "-", given=N2 + b"x\n"),
-                         (1, "", "relay screen: standard input, line 2: the line begins with 'x'; its letter is N, P or R\n"))
+        words = "standard input, line 2: the line begins with 'x'; its letter is N, P or R"
+        self.assertEqual(run("screen", "-", given=N2 + b"x\n"), (1, "", f"relay screen: {words}\n"))
         self.assertEqual(run("screen", "/nowhere"),
                          (2, "", "relay screen: cannot read /nowhere: No such file or directory\n"))
         self.assertEqual(run("screen", EXAMPLE, "-", given=N2)[:2], (1, ""))

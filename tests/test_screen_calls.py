@@ -10,6 +10,7 @@ import urllib.error
 import urllib.request
 from array import array
 from unittest import mock
+from xml.etree import ElementTree
 
 from browser.served import screen
 from library import logs
@@ -23,6 +24,7 @@ from relay.screen import answers
 
 EXAMPLE = ROOT / "examples" / "five-stations.plan"
 MOST = 2 ** 32 - 1
+SVG = "{http://www.w3.org/2000/svg}"
 
 
 def encoded(log):
@@ -163,7 +165,8 @@ class Refused(Calls):
         plan = 5, logs.full_mesh(5, 9)
         limits = "refused with 18: a station is 0 to 4 in this plan and k is at least 1, not"
         for asked, words in (([(0, 1, 1)] * 65, "refused with 18: 65 questions, and at most 64 are answered at once"),
-                             ([(0, 1, 1), (0, 5, 1)], f"question 2: {limits} 0 5 1"), ([(5, 0, 1)], f"question 1: {limits} 5 0 1"),
+                             ([(0, 1, 1), (0, 5, 1)], f"question 2: {limits} 0 5 1"),
+                             ([(5, 0, 1)], f"question 1: {limits} 5 0 1"),
                              ([(0, 1, 0)], f"question 1: {limits} 0 1 0"), ([(0, 1)], f"question 1: {ask.FORM}"),
                              ([(0, 1, MOST + 1)], f"question 1: {ask.FORM}"), ([(0, 1, -1)], f"question 1: {ask.FORM}"),
                              ([(0, 1, True)], f"question 1: {ask.FORM}"), ([(0, 1, "1")], f"question 1: {ask.FORM}"),
@@ -183,23 +186,27 @@ class Refused(Calls):
                 ([good | {"n": 2 ** 32}], "'n' is a number from 0 to 4,294,967,295"),
                 ([good | {"n": 0}], "p: refused with 1: a plan has 1 to 16 stations, not 0"),
                 ([good | {"n": 17}], "p: refused with 1: a plan has 1 to 16 stations, not 17"),
-                ([good | {"log": 7}], "'log' is no text in base 64"), ([good | {"log": "!"}], "'log' is no text in base 64"),
+                ([good | {"log": 7}], "'log' is no text in base 64"),
+                ([good | {"log": "!"}], "'log' is no text in base 64"),
                 ([good | {"log": "\u00e9"}], "'log' is no text in base 64"),
                 ([good | {"log": "AAAA"}], "'log' has half a mask at its end"),
                 ([good | {"log": encoded([0] * 3)}], f"{rounds} 1 round, and at most 2,048 are taken"),
                 ([good | {"log": encoded([0] * 2 * 2_049)}], f"{rounds} 2,049 rounds, and at most 2,048 are taken"),
                 ([good, good | {"name": "q", "n": 3}],
                  "q is for 3 stations, but p for 2: two plans are merged for one group")):
+            show = "both" if len(sent) == 2 else 0
+            more = {"plans": sent, "show": show, "view": [1, 1], "questions": [], "from": 0}
             for path in ("look", "delta", "script", "picture", "forecast.csv", "answers.csv"):
-                more = {"plans": sent, "show": "both" if len(sent) == 2 else 0, "view": [1, 1], "questions": [], "from": 0}
                 self.assertEqual(self.post(path, more), words, (path, words))
 
     def test_the_rest(self):
         sent = given((2, [0] * 4))
         for path, change, words in (
-                ("look", {"view": [1]}, "'view' is a first and a last round"), ("look", {"view": 7}, "'view' is a list"),
+                ("look", {"view": [1]}, "'view' is a first and a last round"),
+                ("look", {"view": 7}, "'view' is a list"),
                 ("look", {"view": [1, -1]}, "'view' is a number from 0 to 4,294,967,295"),
-                ("delta", {"from": 3}, "'from' is a number from 0 to 2"), ("delta", {}, "'from' is a number from 0 to 2"),
+                ("delta", {"from": 3}, "'from' is a number from 0 to 2"),
+                ("delta", {}, "'from' is a number from 0 to 2"),
                 *((path, {"show": show}, "'show' is the number of a plan, from 0, or 'both' where there are two")
                   for path in ("look", "delta", "script") for show in (1, -1, "both", True, None, "0"))):
             self.assertEqual(self.post(path, sent | change), words, (path, change))
@@ -250,6 +257,23 @@ class Texts(Calls):
         plan = plans.read(str(EXAMPLE))
         self.assertEqual(self.post("picture", given((plan.n, plan.log))),
                          (ROOT / "docs" / "link-plan.svg").read_text(encoding="utf-8"))
+
+    def test_relay_in_the_picture(self):
+        """With a question its relay is drawn, through the middle of each round of a hop and from height to height."""
+        plan = plans.read(str(EXAMPLE))
+        root = ElementTree.fromstring(self.post("picture", given((plan.n, plan.log), asked=[(4, 1, 2)])))
+        relay = [one for one in root.iter(f"{SVG}path") if one.get("class") == "relay"]
+        self.assertEqual([one.findtext(f"{SVG}title") for one in relay],
+                         ["relay: from station 4 in round 15, station 3 hears 4 in round 16, "
+                          "station 0 hears 3 in round 17, station 1 hears 0 in round 18"])
+        points = [tuple(map(float, one.split())) for one in relay[0].get("d")[1:].split("L")]
+        column = (points[-1][0] - points[0][0]) / 3
+        self.assertEqual([round((x - points[0][0]) / column) for x, _ in points], [0, 1, 1, 2, 2, 3, 3])
+        names = (one for one in root.iter(f"{SVG}text") if one.get("class") == "station")
+        heights = {one.text: float(one.get("y")) - 4 for one in names}
+        for at, station in ((0, 4), (2, 3), (4, 0), (6, 1)):
+            self.assertAlmostEqual(points[at][1], heights[f"station {station}"], delta=0.2)
+        self.assertNotIn("relay", self.post("picture", given((plan.n, plan.log), asked=[(4, 1, 99)])))
 
     def test_exports_of_both(self):
         first, second = (2, [2, 0] * 3), (2, [0, 1] * 5)

@@ -240,8 +240,11 @@ def script(given):
 
 
 def picture(given):
-    plan = plan_shown(given)
-    return forecast_picture.draw(plan, part_of(plan, (1, plan.rounds))["ends"])
+    """The picture, with the relay that answers the first question, if there is one."""
+    plan, asked = plan_shown(given), questions_of(given)[:1]
+    relays = [(one.numbers[0], answer["start"], answer["hops"])
+              for one, answer in zip(asked, answers_of(plan, asked)) if answer["start"] is not None]
+    return forecast_picture.draw(plan, part_of(plan, (1, plan.rounds))["ends"], *relays)
 
 
 def forecast_values(given):

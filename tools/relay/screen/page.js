@@ -415,7 +415,9 @@ at("redo").addEventListener("click", redo);
 at("reset").addEventListener("click", reset);
 at("station").addEventListener("change", fillStation);
 at("export-script").addEventListener("click", () => save("plan.script", "script"));
-at("export-picture").addEventListener("click", () => save("plan.svg", "picture"));
+at("export-picture").addEventListener("click", () => {
+  save("plan.svg", "picture", { questions: picture.relay ? [picture.relay.question] : [] });
+});
 at("export-forecast").addEventListener("click", () => save("ends.csv", "forecast.csv"));
 at("export-answers").addEventListener("click", () => save("answers.csv", "answers.csv", { questions: state.answered }));
 for (const [name, which] of [["open-first", 0], ["open-second", 1]]) {

@@ -1,6 +1,7 @@
 // The tables beside the picture: what it shows as text, for reading and for those who do not see it.
 
-export const MOST_WINDOWS = 200; // rows of the table of windows
+const MOST_WINDOWS = 200; // rows of the table of windows
+const MOST_ENDS = 100; // in the words on a station's ends
 
 export function counted(count, noun) {
   return `${count} ${noun}${count === 1 ? "" : "s"}`;
@@ -114,7 +115,9 @@ export function endWords(station, part, partAlone) {
     const round = one.ends[station][number(at) - one.before[station] - 1];
     return `${which ? "second" : "first"} alone ${round ?? "not in view"}`;
   });
-  const shown = ends.map((round, at) => (partAlone.length ? `${round} (${alone(at).join(", ")})` : String(round)));
+  const words = (round, at) => (partAlone.length ? `${round} (${alone(at).join(", ")})` : String(round));
+  const shown = ends.slice(0, MOST_ENDS).map(words).join(", ");
   const count = counted(ends.length, "broadcast");
-  return `Station ${station} ends ${count} in ${where}, from number ${number(0)} on, in rounds ${shown.join(", ")}.`;
+  const more = ends.length > MOST_ENDS ? ` and ${ends.length - MOST_ENDS} more: zoom in to see them` : "";
+  return `Station ${station} ends ${count} in ${where}, from number ${number(0)} on, in rounds ${shown}${more}.`;
 }
