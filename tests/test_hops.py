@@ -80,9 +80,10 @@ class Ends(unittest.TestCase):
             for _ in range(3 if rounds else 0):
                 first = rng.choice((1, rng.randint(1, rounds)))
                 last = rng.choice((rounds, rng.randint(first, rounds)))
+                stations = rng.sample(range(n), rng.randint(1, n))
                 expected = ([sum(u < first for u in one) for one in whole],
-                            [[u for u in one if first <= u <= last] for one in whole])
-                self.assertEqual(ends.in_part(n, log, first, last), expected, (n, list(log), first, last))
+                            {s: [u for u in whole[s] if first <= u <= last] for s in stations})
+                self.assertEqual(ends.in_part(n, log, first, last, stations), expected, (n, list(log), first, last))
 
     def test_judged(self):
         """Ends that are not those of the library's forecast are not shown."""
@@ -97,7 +98,7 @@ class Ends(unittest.TestCase):
         for wrong, words in ((moved, "were found up to round 39, but the library's last is in round 40"),
                              (lost, "0 ends of station 0 were found where the library counts 20")):
             with mock.patch.object(library, "questions", wrong), self.assertRaisesRegex(faults.Wrong, words):
-                ends.in_part(3, log, 1, 40)
+                ends.in_part(3, log, 1, 40, range(3))
 
 
 if __name__ == "__main__":

@@ -87,9 +87,11 @@ class Look(Calls):
             links, rounds = Links(n, forecast.rounds_of(log, n)), len(log) // n
             first = rng.randint(0, rounds + 3)
             last = rng.randint(first, rounds + 5)
-            part = self.look((n, log), view=(first, last))["part"]
+            stations = rng.sample(range(n + 1), rng.randint(0, n))
+            part = self.look((n, log), view=(first, last), stations=stations)["part"]
             whole = [forecast.end_rounds(links, s) for s in range(n)]
-            self.assertEqual(part["ends"], [[u for u in one if first <= u <= last] for one in whole])
+            self.assertEqual(part["ends"], [[u for u in one if first <= u <= last] if s in stations else None
+                                            for s, one in enumerate(whole)])
             self.assertEqual((part["first"], part["last"]), (max(1, first), min(rounds, last)))
             if part["first"] <= part["last"]:
                 self.assertEqual(part["before"], [sum(u < first for u in one) for one in whole])
@@ -203,7 +205,8 @@ class Refused(Calls):
         sent = given((2, [0] * 4))
         for path, change, words in (
                 ("look", {"view": [1]}, "'view' is a first and a last round"),
-                ("look", {"view": 7}, "'view' is a list"),
+                ("look", {"view": 7}, "'view' is a list"), ("look", {"stations": 7}, "'stations' is a list"),
+                ("look", {"stations": ["0"]}, "'stations' is a number from 0 to 4,294,967,295"),
                 ("look", {"view": [1, -1]}, "'view' is a number from 0 to 4,294,967,295"),
                 ("delta", {"from": 3}, "'from' is a number from 0 to 2"),
                 ("delta", {}, "'from' is a number from 0 to 2"),

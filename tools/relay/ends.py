@@ -10,16 +10,16 @@ from . import library
 from .faults import Wrong
 
 
-def in_part(n, log, first, last):
-    """For each station the number of ends before round `first`, and the rounds of those up to round `last`.
+def in_part(n, log, first, last, stations):
+    """The number of each station's ends before round `first`, and, by station, the rounds of those up to round `last`.
 
     The log is one that the library accepts, and the part lies in it.
     """
     before, starts = library.forecast(n, log[:n * (first - 1)])[1]
     until, latest = library.forecast(n, log[:n * last])[1]
-    found = [of_station(n, log[:n * last], station, starts[station], until[station] - before[station])
-             for station in range(n)]
-    for station, rounds in enumerate(found):
+    found = {station: of_station(n, log[:n * last], station, starts[station], until[station] - before[station])
+             for station in stations}
+    for station, rounds in found.items():
         if rounds and rounds[-1] != latest[station]:
             raise Wrong(f"the ends of station {station} were found up to round {rounds[-1]}, "
                         f"but the library's last is in round {latest[station]}")
@@ -32,8 +32,8 @@ def of_station(n, log, station, start, count):
     page = [(station, station, 2 + at) for at in range(library.MOST_QUESTIONS)]
     while len(found) < count:
         asked = page[:count - len(found)]
-        # A page of ends should come in these rounds; where one does not, what came of it is taken.
-        step = 1 + (rounds - start) * 5 * len(asked) // (4 * (count - len(found)))
+        # As many ends should come in these rounds; where fewer do, these are taken.
+        step = -(-(rounds - start) * len(asked) // (count - len(found)))
         more = ends_after(n, log, start, step, asked) or ends_after(n, log, start, rounds, asked)
         if not more:
             raise Wrong(f"{len(found)} ends of station {station} were found where the library counts {count}")

@@ -9,6 +9,7 @@ import binascii
 import io
 import sys
 from array import array
+from typing import NamedTuple
 
 from .. import ask, delta, ends, forecast, forecast_picture, hops, library, merge, plans
 from ..faults import Missing, Wrong
@@ -167,14 +168,30 @@ def forecast_of(plan):
     return {"ends": counts[:plan.n], "last": last[:plan.n]}
 
 
+class View(NamedTuple):
+    """The part of a plan that is looked at."""
+    first: int      # round
+    last: int
+    stations: set
+
+
+def view_of(given, n):
+    """The rounds of the view, and the stations: all where none are named."""
+    rounds = [number_of(one, "view") for one in list_of(given, "view")]
+    if len(rounds) != 2:
+        raise Wrong("'view' is a first and a last round")
+    named = list_of(given, "stations") if "stations" in given else range(n)
+    return View(*rounds, {number_of(one, "stations") for one in named} & set(range(n)))
+
+
 def part_of(plan, view):
-    """The ends in the rounds of a view."""
-    first, last = max(1, view[0]), min(plan.rounds, view[1])
+    """The ends in view, by station; None for a station that is not."""
+    first, last = max(1, view.first), min(plan.rounds, view.last)
     if first > last:
-        before, found = [0] * plan.n, [[] for _ in range(plan.n)]
+        before, found = [0] * plan.n, {station: [] for station in view.stations}
     else:
-        before, found = ends.in_part(plan.n, plan.log, first, last)
-    return {"first": first, "last": last, "before": before, "ends": found}
+        before, found = ends.in_part(plan.n, plan.log, first, last, view.stations)
+    return {"first": first, "last": last, "before": before, "ends": list(map(found.get, range(plan.n)))}
 
 
 def answers_of(plan, asked):
@@ -196,11 +213,10 @@ def answers_of(plan, asked):
 def look(given):
     """What the page shows of one plan, or of two: forecasts, the ends in view, and answers."""
     began = library.clock.seconds
-    carriers, view = carriers_of(given), [number_of(one, "view") for one in list_of(given, "view")]
-    if len(view) != 2:
-        raise Wrong("'view' is a first and a last round")
+    carriers = carriers_of(given)
     alone = [forecast_of(plan) for plan in carriers]
     plan = chosen(given, carriers)
+    view = view_of(given, plan.n)
     both = given.get("show") == BOTH
     found = {
         "rounds": plan.rounds,
@@ -244,7 +260,8 @@ def picture(given):
     plan, asked = plan_shown(given), questions_of(given)[:1]
     relays = [(one.numbers[0], answer["start"], answer["hops"])
               for one, answer in zip(asked, answers_of(plan, asked)) if answer["start"] is not None]
-    return forecast_picture.draw(plan, part_of(plan, (1, plan.rounds))["ends"], *relays)
+    whole = View(1, plan.rounds, set(range(plan.n)))
+    return forecast_picture.draw(plan, part_of(plan, whole)["ends"], *relays)
 
 
 def forecast_values(given):

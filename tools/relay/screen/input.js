@@ -1,7 +1,8 @@
 // Mouse and keys on the picture.
 
-// `page` has what they do: shown() is the plan; act(place) is a click; put(hearer, heard, from, to, on) sets or clears a
-// window; pick(null) drops what was picked; describe(place) is words, which say(words) shows; zoomBy(steps, where) zooms.
+// `page` has what they do: shown() is the plan; act(place) is a click; put(hearer, heard, from, to, on) sets or clears
+// a window; pick(null) drops what was picked; describe(place) is words, which say(words) shows; zoomBy(steps, where)
+// zooms.
 export function listen(picture, page) {
   const { canvas, scroller } = picture;
   let pressed = null; // where the mouse went down

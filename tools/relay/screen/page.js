@@ -56,11 +56,23 @@ function given(more = {}) {
   return { plans: state.plans.map((plan) => plan.forCall()), show: state.show, ...more };
 }
 
-// The rounds to ask for: those in view, and some on both sides.
+// What to ask for: the rounds in view and some on both sides, the stations in view, and that of the table.
 function wanted() {
   const [first, last] = picture.view();
   const more = Math.ceil((last - first) / 4) + 8;
-  return [Math.max(1, first - more), last + more];
+  return { view: [Math.max(1, first - more), last + more], stations: stationsWanted() };
+}
+
+function stationsWanted() {
+  return [...new Set([...picture.stations(), Number(at("station").value)])];
+}
+
+// Asks again where something in view is not known yet.
+function lookAround() {
+  const [first, last] = picture.view();
+  const { part } = picture;
+  const known = part && first >= part.first && last <= part.last && stationsWanted().every((one) => part.ends[one]);
+  if (part && !known) look();
 }
 
 let busy = false;
@@ -77,7 +89,7 @@ async function look() {
     const version = state.version;
     const asked = state.questions;
     await trying(async () => {
-      const found = await call("look", given({ view: wanted(), questions: asked }));
+      const found = await call("look", given({ ...wanted(), questions: asked }));
       if (version === state.version) take(found, asked);
     });
   }
@@ -90,8 +102,8 @@ function changed() {
 }
 
 function take(found, asked) {
-  showFault(at("question-fault"), found.question_fault ?? "");
-  if (found.question_fault) {
+  if (found.question_fault) { // the questions before it stay, and so do the words until the next
+    showFault(at("question-fault"), found.question_fault);
     state.questions = state.answered;
     state.chosen = null;
     changed();
@@ -245,9 +257,14 @@ function reset() {
 // Questions.
 
 function question(sender, receiver, k) {
-  state.questions = [...state.questions, [sender, receiver, k]];
-  state.chosen = state.questions.length - 1;
+  state.chosen = state.questions.length;
   pick(null);
+  return asking([...state.questions, [sender, receiver, k]]);
+}
+
+function asking(questions) {
+  showFault(at("question-fault"), "");
+  state.questions = questions;
   return changed();
 }
 
@@ -273,9 +290,8 @@ function tell({ question: asked, answer }) {
 }
 
 function removeQuestion(which) {
-  state.questions = state.questions.filter((_, other) => other !== which);
   state.chosen = null;
-  changed();
+  asking(state.questions.filter((_, other) => other !== which));
 }
 
 function pick(picked) {
@@ -304,6 +320,11 @@ function fillStation() {
   at("seen").textContent = plan.rounds ? `to ${last} of ${plan.rounds}` : "";
 }
 
+function showStation() {
+  fillStation();
+  lookAround();
+}
+
 // The picture: what is at a place, and what a click does there.
 
 function describe({ station, heard, round }) {
@@ -313,7 +334,7 @@ function describe({ station, heard, round }) {
     const [first, last] = shown().windowAround(station, heard, round);
     return `Round ${round}: station ${station} hears ${heard}; the window is rounds ${first} to ${last}.`;
   }
-  const ended = picture.part?.ends[station].includes(round) ? ` It ends in this round.` : "";
+  const ended = picture.part?.ends[station]?.includes(round) ? " It ends in this round." : "";
   return `Round ${round}: broadcast ${picture.broadcastAt(station, round) ?? "?"} of station ${station}.${ended}`;
 }
 
@@ -327,7 +348,7 @@ function act(place) {
     question(picture.picked.sender, station, picture.picked.k);
   } else if (round === null) {
     at("station").value = station;
-    fillStation();
+    showStation();
     say(`Station ${station} is in the table.`);
   } else {
     const k = picture.broadcastAt(station, round);
@@ -357,11 +378,10 @@ function scrolled() {
   clearTimeout(scrolled.timer);
   scrolled.timer = setTimeout(() => {
     scrolled.timer = null;
-    const [first, last] = picture.view();
-    const { part } = picture;
+    const [first] = picture.view();
     if (document.activeElement !== at("first")) at("first").value = first;
     fillStation();
-    if (part && (first < part.first || last > part.last)) look();
+    lookAround();
   }, 30);
 }
 
@@ -413,7 +433,7 @@ at("whole").addEventListener("click", () => {
 at("undo").addEventListener("click", undo);
 at("redo").addEventListener("click", redo);
 at("reset").addEventListener("click", reset);
-at("station").addEventListener("change", fillStation);
+at("station").addEventListener("change", showStation);
 at("export-script").addEventListener("click", () => save("plan.script", "script"));
 at("export-picture").addEventListener("click", () => {
   save("plan.svg", "picture", { questions: picture.relay ? [picture.relay.question] : [] });

@@ -78,6 +78,13 @@ export class Picture {
     return [Math.max(1, Math.min(first, this.plan.rounds)), Math.max(1, Math.min(first + wide, this.plan.rounds))];
   }
 
+  // The stations in view, and one more on each side.
+  stations() {
+    const above = Math.floor(this.scroller.scrollTop / this.block) - 1;
+    const below = Math.floor((this.scroller.scrollTop + this.scroller.clientHeight - TOP) / this.block) + 1;
+    return [...Array(this.n).keys()].filter((station) => station >= above && station <= below);
+  }
+
   x(round) {
     return LEFT + this.column * (round - 1) - this.scroller.scrollLeft;
   }
@@ -139,8 +146,8 @@ export class Picture {
     return { station, heard: other < 0 ? null : other + (other >= station) };
   }
 
-  // What stands at a place of the canvas: a station; whom it hears in that row, null for its line; a round, null for the
-  // names at the left.
+  // What stands at a place of the canvas: a station; whom it hears in that row, null for its line; a round, null for
+  // the names at the left.
   hit(x, y) {
     if (!this.plan || y < TOP) return null;
     const down = y - TOP + this.scroller.scrollTop;
@@ -162,7 +169,7 @@ export class Picture {
   // The broadcast of a station that runs in a round, or null where its ends are not known yet.
   broadcastAt(station, round) {
     const { part } = this;
-    if (!part || round < part.first || round > part.last) return null;
+    if (!part?.ends[station] || round < part.first || round > part.last) return null;
     return part.before[station] + part.ends[station].filter((end) => end < round).length + 1;
   }
 
@@ -185,7 +192,7 @@ export class Picture {
     paint.fillStyle = COLOURS.paper;
     paint.fillRect(0, 0, width, height);
     if (!this.plan) return;
-    const stations = [...Array(this.n).keys()].filter((s) => this.top(s) < height && this.top(s) + this.block > TOP);
+    const stations = this.stations();
     for (const station of stations) this.drawBlock(paint, station, width);
     this.drawGrid(paint, height);
     for (const station of stations) this.drawWindows(paint, station);
@@ -266,13 +273,12 @@ export class Picture {
     paint.fillRect(done, y - 0.75, end - done, 1.5);
     paint.fillStyle = COLOURS.broadcast;
     paint.fillRect(begin, y - 2, done - begin, 4);
-    if (!this.part) return;
+    if (!this.part?.ends[station]) return;
     this.drawEnds(paint, this.part.ends[station], y - 9, 18, COLOURS.end, this.column >= 4 ? 2.4 : 1);
     this.drawNumbers(paint, station, y);
-    if (this.partAlone.length === 2) {
-      this.drawEnds(paint, this.partAlone[0].ends[station], y - 18, 7, COLOURS.firstEnd, 2);
-      this.drawEnds(paint, this.partAlone[1].ends[station], y + 11, 7, COLOURS.secondEnd, 2);
-    }
+    const [one, two] = this.partAlone;
+    if (one?.ends[station]) this.drawEnds(paint, one.ends[station], y - 18, 7, COLOURS.firstEnd, 2);
+    if (two?.ends[station]) this.drawEnds(paint, two.ends[station], y + 11, 7, COLOURS.secondEnd, 2);
   }
 
   drawEnds(paint, ends, y, tall, colour, wide) {

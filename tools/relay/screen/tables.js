@@ -108,11 +108,12 @@ export function fillWindows(body, plan, station, from, to, remove) {
 // The ends of a station in view in words; with two plans the k-th end under each alone beside it.
 export function endWords(station, part, partAlone) {
   const ends = part.ends[station];
+  if (!ends) return "";
   const where = `rounds ${part.first} to ${part.last}`;
   if (ends.length === 0) return `Station ${station} ends no broadcast in ${where}.`;
   const number = (at) => part.before[station] + at + 1;
   const alone = (at) => partAlone.map((one, which) => {
-    const round = one.ends[station][number(at) - one.before[station] - 1];
+    const round = one.ends[station]?.[number(at) - one.before[station] - 1];
     return `${which ? "second" : "first"} alone ${round ?? "not in view"}`;
   });
   const words = (round, at) => (partAlone.length ? `${round} (${alone(at).join(", ")})` : String(round));
