@@ -38,10 +38,10 @@ class Hops(unittest.TestCase):
         for n, log in drawn(rng, 60):
             links, heard = Links(n, rounds_of(log, n)), hearings(n, log)
             sender, start = rng.randrange(n), rng.randint(0, len(links.log))
-            came, first = hops.arrivals(heard, sender, start), links.arrivals(sender, start)
-            self.assertEqual(hops.relay(came, sender), [])
+            first = links.arrivals(sender, start)
+            self.assertEqual(hops.relay(heard, sender, sender, start), [])
             for receiver in set(range(n)) - {sender}:
-                found = hops.relay(came, receiver)
+                found = hops.relay(heard, sender, receiver, start)
                 met.add(found and len(found))
                 self.assertEqual(found is None, receiver not in first)
                 if found:

@@ -13,15 +13,16 @@ class Hop(NamedTuple):
     hearer: int
 
 
-def arrivals(heard, sender, start):
-    """For each station that a relay from the sender after this round reaches, the last hop of one that arrives first.
+def relay(heard, sender, receiver, start):
+    """The hops of a relay after the start that arrives at the receiver first; none to the sender itself, None for never.
 
-    `heard` is what `hearings` gives. The sender itself is there in the round of the start, by no hop. Stations are
-    gone through in the order in which they are reached.
+    `heard` is what `hearings` gives. Stations are gone through in the order in which relays from the sender reach them.
     """
     came, left = {sender: Hop(start, None, sender)}, set(range(len(heard)))
     while reached := left & came.keys():
         station = min(reached, key=lambda one: (came[one].round, one))
+        if station == receiver:
+            return way(came, receiver)
         left.remove(station)
         since = came[station].round
         for hearer in left:
@@ -29,13 +30,11 @@ def arrivals(heard, sender, start):
             number = since + (later & -later).bit_length()
             if later and (hearer not in came or number < came[hearer].round):
                 came[hearer] = Hop(number, station, hearer)
-    return came
+    return None
 
 
-def relay(came, receiver):
-    """The hops to the receiver, none to the sender itself; None where no relay arrives."""
-    if receiver not in came:
-        return None
+def way(came, receiver):
+    """The hops to the receiver, from the last hop to each station; the sender has one that nobody is heard in."""
     hops, hop = [], came[receiver]
     while hop.heard is not None:
         hops.append(hop)

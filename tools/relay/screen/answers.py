@@ -201,11 +201,9 @@ def answers_of(plan, asked):
     if refusal:
         raise Wrong(ask.refused(plan, asked))
     _, starts = library.questions(plan.n, plan.log, [(s, s, k) for s, _, k in numbers])
-    heard, came, found = hearings(plan.n, plan.log) if asked else [], {}, []
+    heard, found = hearings(plan.n, plan.log) if asked else [], []
     for (sender, receiver, _), start, number in zip(numbers, starts, rounds):
-        if start is not None and (sender, start) not in came:
-            came[sender, start] = hops.arrivals(heard, sender, start)
-        relay = None if start is None else hops.relay(came[sender, start], receiver)
+        relay = None if start is None else hops.relay(heard, sender, receiver, start)
         found.append({"round": number, "start": start, "hops": relay or [], "error": hops.fault(number, start, relay)})
     return found
 

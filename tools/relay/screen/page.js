@@ -118,18 +118,21 @@ function take(found, asked) {
     plan: shown(), carriers: state.show === BOTH ? state.plans : null, last: found.forecast.last, part: found.part,
     partAlone: found.part_alone,
   });
+  picture.relay = relayOf(state.chosen);
+  picture.fit();
+  picture.draw(); // before the tables, whose layout it would have to wait for
   choose(state.chosen, fresh);
   fillForecast(at("forecast"), found, state.show === BOTH);
-  picture.resize();
-  picture.draw();
   took(found.library_ms);
   scrolled(); // the table of one station comes a little later
   clearTimeout(take.delta);
   take.delta = setTimeout(findDelta, 150);
 }
 
+// Says how long an edit took, until all is in its place on the page.
 function took(library) {
   if (state.editedAt === null) return;
+  at("took").getBoundingClientRect();
   const all = performance.now() - state.editedAt;
   state.editedAt = null;
   const [whole, part] = [all, library].map((one) => one.toFixed(1));
@@ -268,14 +271,19 @@ function asking(questions) {
   return changed();
 }
 
+// A question and its answer, or null.
+function relayOf(which) {
+  const answer = which === null ? undefined : state.answers[which];
+  return answer ? { question: state.answered[which], answer } : null;
+}
+
 // Shows a question on the picture, or none.
 function choose(which, go = true) {
-  state.chosen = which !== null && which < state.answers.length ? which : null;
-  const answer = state.chosen === null ? null : state.answers[state.chosen];
-  picture.relay = answer && { question: state.answered[state.chosen], answer };
+  picture.relay = relayOf(which);
+  state.chosen = picture.relay ? which : null;
   fillQuestions(at("questions").tBodies[0], state.answered, state.answers, state.chosen, choose, removeQuestion);
-  if (answer && go) tell(picture.relay);
-  picture.later();
+  if (picture.relay && go) tell(picture.relay);
+  if (go) picture.later();
 }
 
 function tell({ question: asked, answer }) {

@@ -31,6 +31,7 @@ export class Picture {
     this.cursor = { row: 0, round: 1 };
     this.pull = null; // a window that is being pulled open
     this.waiting = false;
+    this.fitted = null;
     scroller.addEventListener("scroll", () => this.later());
   }
 
@@ -50,6 +51,13 @@ export class Picture {
 
   get block() {
     return this.lane + this.row * (this.n - 1) + 8;
+  }
+
+  // Fits what can be scrolled to the plan, where it has changed.
+  fit() {
+    const fitted = [this.n, this.plan.rounds, this.block].join();
+    if (fitted !== this.fitted) this.resize();
+    this.fitted = fitted;
   }
 
   // Fits the canvas into the view, and what can be scrolled to the plan.
@@ -297,11 +305,13 @@ export class Picture {
     paint.font = `10px ${FONT}`;
     paint.fillStyle = COLOURS.faint;
     paint.textAlign = "center";
-    let since = before[station] ? first - 1 : 0;
-    const roomy = this.column * (this.part.last - first + 1) > 24 * ends[station].length;
-    (roomy ? ends[station] : []).forEach((round, at) => {
-      const x = (this.middle(since) + this.middle(round)) / 2;
-      if (this.middle(round) - this.middle(since) > 24 && x > LEFT) paint.fillText(before[station] + at + 1, x, y - 4);
+    const origin = this.x(1) - this.column / 2; // the middle of round 0, if it was drawn like the others
+    const right = this.scroller.clientWidth;
+    let since = before[station] ? first - 1 : 0.5;
+    ends[station].forEach((round, at) => {
+      const x = origin + (this.column * (since + round)) / 2;
+      const roomy = this.column * (round - since) > 24;
+      if (roomy && x > LEFT && x < right) paint.fillText(before[station] + at + 1, x, y - 4);
       since = round;
     });
     if (this.picked?.sender === station) {

@@ -20,14 +20,33 @@ function row(...cells) {
   return element;
 }
 
-function heading(words, across = 1) {
+// Fills a table's body: rows that are as they were stay, by their keys. Where a row goes that has the focus, the one in
+// its place gets it.
+function refill(body, keys, make) {
+  const active = document.activeElement;
+  const held = active?.closest("tr");
+  const index = [...body.rows].indexOf(held);
+  const which = index < 0 ? 0 : [...held.querySelectorAll("button")].indexOf(active);
+  keys.forEach((key, at) => {
+    const old = body.rows[at];
+    if (old?.key === key) return;
+    const fresh = make(at);
+    fresh.key = key;
+    if (old) old.replaceWith(fresh);
+    else body.append(fresh);
+  });
+  while (body.rows.length > keys.length) body.rows[keys.length].remove();
+  if (index < 0 || active.isConnected) return;
+  body.rows[Math.min(index, keys.length - 1)]?.querySelectorAll("button")[which]?.focus();
+}
+
+function heading(words) {
   const element = cell("th", words);
-  element.scope = across > 1 ? "colgroup" : "col";
-  element.colSpan = across;
+  element.scope = "col";
   return element;
 }
 
-export function button(words, label, act) {
+function button(words, label, act) {
   const element = document.createElement("button");
   element.type = "button";
   element.textContent = words;
@@ -45,64 +64,59 @@ export function relayWords([sender], answer) {
 }
 
 export function fillQuestions(body, questions, answers, chosen, show, remove) {
-  body.replaceChildren(...questions.map((question, at) => {
+  const keys = questions.map((question, at) => JSON.stringify([question, answers[at], at === chosen]));
+  refill(body, keys, (at) => {
+    const question = questions[at];
     const answer = answers[at];
     const name = `sender ${question[0]}, receiver ${question[1]}, k ${question[2]}`;
     const showing = button("Show", `Show ${name}`, () => show(at));
     showing.setAttribute("aria-pressed", at === chosen);
     const acts = cell("td", showing);
     acts.append(" ", button("Remove", `Remove ${name}`, () => remove(at)));
-    const number = answer ? answer.round ?? "never" : "…";
-    const words = cell("td", answer ? relayWords(question, answer) : "", "words");
-    if (answer?.error) words.append(" ", cell("strong", `Error: ${answer.error}.`, "error"));
-    const numbers = question.map((one) => cell("td", String(one)));
-    const element = row(...numbers, cell("td", String(number), "answer"), words, acts);
+    const words = cell("td", relayWords(question, answer), "words");
+    if (answer.error) words.append(" ", cell("strong", `Error: ${answer.error}.`, "error"));
+    const numbers = [...question, answer.round ?? "never"].map((one) => cell("td", String(one)));
+    const element = row(...numbers, words, acts);
     if (at === chosen) element.className = "picked";
     return element;
-  }));
+  });
 }
 
 // The forecast; with two plans also that of each alone, and how many ends more both together bring.
 export function fillForecast(table, found, both) {
-  const heads = ["Station", "Ends", "Last in round"].map((words) => heading(words));
+  const heads = ["Station", "Ends", "Last in round"];
   if (both) {
-    for (const name of ["First alone", "Second alone"]) {
-      heads.push(heading(`${name}: ends`), heading("last in round"), heading("gained"));
-    }
+    heads.push("First alone: ends", "last in round", "gained", "Second alone: ends", "last in round", "gained");
   }
-  table.tHead.replaceChildren(row(...heads));
   const { ends, last } = found.forecast;
-  table.tBodies[0].replaceChildren(...ends.map((count, station) => {
+  const rows = ends.map((count, station) => [station, count, last[station] || "-", ...(both ? found.alone : []).flatMap(
+    (alone) => [alone.ends[station], alone.last[station] || "-", gained(count - alone.ends[station])])]);
+  refill(table.tHead, [String(both)], () => row(...heads.map(heading)));
+  refill(table.tBodies[0], rows.map(String), (station) => {
     const name = cell("th", String(station));
     name.scope = "row";
-    const cells = [name, cell("td", String(count)), cell("td", String(last[station] || "-"))];
-    for (const alone of both ? found.alone : []) {
-      const gained = count - alone.ends[station];
-      cells.push(cell("td", String(alone.ends[station])), cell("td", String(alone.last[station] || "-")),
-        cell("td", gained > 0 ? `+${gained}` : String(gained)));
-    }
-    return row(...cells);
-  }));
+    return row(name, ...rows[station].slice(1).map((one) => cell("td", String(one))));
+  });
+}
+
+function gained(count) {
+  return count > 0 ? `+${count}` : String(count);
 }
 
 // The windows of a station in some rounds, with a button each that takes it away. Gives how many were left out.
 export function fillWindows(body, plan, station, from, to, remove) {
-  const rows = [];
-  let left = 0;
+  const found = [];
   for (let heard = 0; heard < plan.n; heard++) {
-    if (heard === station) continue;
-    for (const [first, last] of plan.windows(station, heard, from, to)) {
-      if (rows.length === MOST_WINDOWS) {
-        left++;
-        continue;
-      }
-      const label = `Take away: station ${station} hears ${heard}, rounds ${first} to ${last}`;
-      const act = button("Take away", label, () => remove(station, heard, first, last));
-      rows.push(row(...[heard, first, last].map((one) => cell("td", String(one))), cell("td", act)));
-    }
+    if (heard !== station) found.push(...plan.windows(station, heard, from, to).map((one) => [heard, ...one]));
   }
-  body.replaceChildren(...rows);
-  return left;
+  const shown = found.slice(0, MOST_WINDOWS);
+  refill(body, shown.map((one) => String([station, ...one])), (at) => {
+    const [heard, first, last] = shown[at];
+    const label = `Take away: station ${station} hears ${heard}, rounds ${first} to ${last}`;
+    const act = button("Take away", label, () => remove(station, heard, first, last));
+    return row(...shown[at].map((one) => cell("td", String(one))), cell("td", act));
+  });
+  return found.length - shown.length;
 }
 
 // The ends of a station in view in words; with two plans the k-th end under each alone beside it.
