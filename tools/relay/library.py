@@ -81,7 +81,7 @@ def exported(name):
 # The calls. Each gives its refusal, 0 where it is done, and what it answers.
 
 class Clock(threading.local):
-    """How long the library has worked for this thread."""
+    """The processor time that the library has taken in this thread."""
     seconds = 0.0
 
 
@@ -97,9 +97,9 @@ def call(name, *arguments):
         else:
             address, length = argument.buffer_info() if isinstance(argument, array) else argument
             values += ctypes.c_void_p(address), ctypes.c_size_t(length)
-    function, began = exported(name), time.perf_counter()
+    function, began = exported(name), time.thread_time()
     refusal = function(*values)
-    clock.seconds += time.perf_counter() - began
+    clock.seconds += time.thread_time() - began
     return refusal
 
 

@@ -15,7 +15,6 @@ const state = {
   plans: [], // of the carriers, as edited
   show: 0, // a carrier, or both
   edits: new Edits(),
-  merged: null, // both carriers' plan
   questions: [],
   answered: [], // the questions of the last answers
   answers: [],
@@ -23,10 +22,12 @@ const state = {
   found: null, // the last answer of the server
   version: 0, // of plans and questions: an answer to an older one is dropped
   editedAt: null,
+  lost: false, // the last call was refused, or not answered
 };
 
+// The plan that the picture has; while both carriers' plan is merged anew that is the one before.
 function shown() {
-  return state.show === BOTH ? state.merged : state.plans[state.show];
+  return picture.plan;
 }
 
 function say(words) {
@@ -84,16 +85,24 @@ async function look() {
   again = true;
   if (busy) return;
   busy = true;
-  while (again) {
-    again = false;
-    const version = state.version;
-    const asked = state.questions;
-    await trying(async () => {
-      const found = await call("look", given({ ...wanted(), questions: asked }));
-      if (version === state.version) take(found, asked);
-    });
+  try {
+    while (again) {
+      again = false;
+      await lookOnce();
+    }
+  } finally {
+    busy = false;
   }
-  busy = false;
+}
+
+async function lookOnce() {
+  const { version, questions } = state;
+  const answered = await trying(async () => {
+    const found = await call("look", given({ ...wanted(), questions }));
+    if (version === state.version) take(found, questions);
+  });
+  if (answered && state.lost) showFault(at("fault"), "");
+  state.lost = !answered;
 }
 
 function changed() {
@@ -113,16 +122,19 @@ function take(found, asked) {
   state.found = found;
   state.answered = asked;
   state.answers = found.answers;
-  if (found.log !== null) state.merged = new Plan("both plans", state.plans[0].n, decode(found.log));
+  const both = state.show === BOTH;
   Object.assign(picture, {
-    plan: shown(), carriers: state.show === BOTH ? state.plans : null, last: found.forecast.last, part: found.part,
+    plan: both ? new Plan("both plans", state.plans[0].n, decode(found.log)) : state.plans[state.show],
+    carriers: both ? state.plans : null,
+    last: found.forecast.last,
+    part: found.part,
     partAlone: found.part_alone,
+    relay: relayOf(state.chosen),
   });
-  picture.relay = relayOf(state.chosen);
   picture.fit();
   picture.draw(); // before the tables, whose layout it would have to wait for
   choose(state.chosen, fresh);
-  fillForecast(at("forecast"), found, state.show === BOTH);
+  fillForecast(at("forecast"), found, both);
   took(found.library_ms);
   scrolled(); // the table of one station comes a little later
   clearTimeout(take.delta);
@@ -170,7 +182,8 @@ async function open(which, plan) {
   const show = plans.length === 2 ? BOTH : 0;
   await call("look", { plans: plans.map((one) => one.forCall()), show, view: [1, 1], questions: [] });
   if (state.plans.length && plans[0].n !== state.plans[0].n) state.questions = [];
-  Object.assign(state, { plans, show, edits: new Edits(), merged: null, chosen: null });
+  Object.assign(state, { plans, show, edits: new Edits(), chosen: null });
+  at("now").value = 0;
   // Until the server has merged them, the picture of both is that of the longer.
   picture.plan = show === BOTH && plans[1].rounds > plans[0].rounds ? plans[1] : plans[0];
   picture.carriers = show === BOTH ? plans : null;
@@ -206,9 +219,8 @@ function showEdits() {
 
 function setShow(value) {
   state.show = value === BOTH ? BOTH : Number(value);
-  state.merged = state.show === BOTH ? state.merged : null;
   picture.carriers = state.show === BOTH ? state.plans : null;
-  if (state.show !== BOTH) picture.plan = shown();
+  if (state.show !== BOTH) picture.plan = state.plans[state.show];
   at("legend").replaceChildren(...legend(state.show === BOTH));
   say(`Shown: ${value === BOTH ? "both carriers together" : state.plans[state.show].name}.`);
   changed();

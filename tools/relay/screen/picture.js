@@ -80,7 +80,7 @@ export class Picture {
 
   // The rounds in view.
   view() {
-    if (!this.plan) return [1, 1];
+    if (!this.plan?.rounds) return [1, 0];
     const first = Math.floor(this.scroller.scrollLeft / this.column) + 1;
     const wide = Math.ceil((this.scroller.clientWidth - LEFT) / this.column);
     return [Math.max(1, Math.min(first, this.plan.rounds)), Math.max(1, Math.min(first + wide, this.plan.rounds))];
