@@ -86,6 +86,8 @@ class Files(Served):
             self.assertEqual(self.fault("GET", path), (404, "there is no such page"))
         for path in ("/", "/plans", "/nothing"):
             self.assertEqual(self.fault("POST", path, b"{}"), (404, "there is no such call"))
+        for request in (("GET", "http://[/"), ("POST", "http://[/read", b"{}")):
+            self.assertEqual(self.fault(*request), (400, "the request's address is malformed"))
         self.assertEqual(self.request("PUT", "/", b"x")[0], 501)
         self.assert_serves()
 

@@ -153,10 +153,10 @@ function took(library) {
 }
 
 async function findDelta() {
-  const now = Number(at("now").value);
+  const [from, waiting] = numbers("now", "waiting");
   const version = state.version;
   await trying(async () => {
-    const found = await call("delta", given({ from: now, waiting: 0 }));
+    const found = await call("delta", given({ from, waiting }));
     if (version !== state.version) return;
     at("delta").textContent = found.delta === null
       ? `From round ${found.from} on there is no Δ: the plan does not have relays between every two stations.`
@@ -167,11 +167,13 @@ async function findDelta() {
 
 // The bound, where the server gives one.
 function showBound(found) {
-  const when = (round) => (round === null ? "past the end of the plan" : `by round ${round}`);
-  const [one, two] = (found.on_air_by ?? []).map(when);
-  at("bound").hidden = one === undefined;
-  at("bound").textContent = "An edit posted then, with none of its desk before it, is on air everywhere "
-    + `${one} where one desk is in use, and ${two} where both are.`;
+  at("before-it").hidden = !found.on_air_by;
+  at("bound").hidden = !found.on_air_by;
+  if (!found.on_air_by) return;
+  const when = (round) => (round === null ? "perhaps only after the plan's last round" : `by round ${round}`);
+  const [one, two] = found.on_air_by.map(when);
+  at("bound").textContent = `An edit posted then is on air everywhere ${one} where its desk alone is in use, `
+    + `and ${two} where both desks are.`;
 }
 
 // Plans.

@@ -122,8 +122,15 @@ class Handler(http.server.BaseHTTPRequestHandler):
             self.close_connection = True
         self.left = 0
 
+    def place(self):
+        """What is asked for."""
+        try:
+            return urllib.parse.urlsplit(self.path)
+        except ValueError:
+            raise Refusal(400, "the request's address is malformed") from None
+
     def got(self):
-        path = urllib.parse.urlsplit(self.path).path
+        path = self.place().path
         if path == "/plans":
             return JSON, encoded(self.server.named.shown())
         if path in FILES:
@@ -132,7 +139,7 @@ class Handler(http.server.BaseHTTPRequestHandler):
         raise Refusal(404, "there is no such page")
 
     def posted(self):
-        place = urllib.parse.urlsplit(self.path)
+        place = self.place()
         if place.path == "/read":
             name = urllib.parse.parse_qs(place.query).get("name", ["the plan"])[0][:answers.LONGEST_NAME]
             return JSON, encoded(answers.plan_for_page(answers.read(name, [self.body()])))
