@@ -32,13 +32,13 @@ class Browser:
     """A browser without a window. It has a folder of its own and is ended with it."""
 
     def __init__(self):
-        self.folder = tempfile.TemporaryDirectory()
+        self.folder = tempfile.mkdtemp()
         theirs_in, self.out = os.pipe()
         self.into, theirs_out = os.pipe()
         kept = [fcntl.fcntl(pipe, fcntl.F_DUPFD, FIRST_FREE) for pipe in (theirs_in, theirs_out)]
         sandbox = ("--no-sandbox",) if os.getuid() == 0 else ()
         self.process = subprocess.Popen(
-            [program(), *OPTIONS, *sandbox, f"--user-data-dir={self.folder.name}", "about:blank"],
+            [program(), *OPTIONS, *sandbox, f"--user-data-dir={self.folder}", "about:blank"],
             stdin=subprocess.DEVNULL, stdout=subprocess.DEVNULL, stderr=subprocess.DEVNULL, pass_fds=(3, 4),
             preexec_fn=lambda: [os.dup2(pipe, number) for number, pipe in enumerate(kept, 3)])
         for pipe in (theirs_in, theirs_out, *kept):
@@ -54,11 +54,10 @@ class Browser:
         os.close(self.into)
         os.close(self.out)
         for _ in range(50):     # its last children may still write there
-            shutil.rmtree(self.folder.name, ignore_errors=True)
-            if not os.path.exists(self.folder.name):
+            shutil.rmtree(self.folder, ignore_errors=True)
+            if not os.path.exists(self.folder):
                 break
             time.sleep(0.1)
-        self.folder._finalizer.detach()
 
     def send(self, method, session=None, **given):
         """Sends a command and gives its answer; events that come before it are kept."""
