@@ -206,6 +206,7 @@ function showPlans() {
   at("what").textContent = `${counted(n, "station")}: ${names}`;
   document.title = `${plans.map((plan) => plan.name).join(" + ")} - planning screen`;
   at("shown").hidden = plans.length < 2;
+  at("close-second").hidden = plans.length < 2;
   for (const one of document.getElementsByName("show")) one.checked = one.value === String(state.show);
   const stations = Array.from({ length: n }, (_, station) => new Option(String(station), String(station)));
   at("station").replaceChildren(...stations);
@@ -469,6 +470,11 @@ for (const [name, which] of [["open-first", 0], ["open-second", 1]]) {
     at(name).value = "";
   });
 }
+at("close-second").addEventListener("click", () => {
+  const [first] = state.plans;
+  state.plans = [];
+  trying(() => open(0, first));
+});
 at("scroll").addEventListener("scroll", scrolled);
 listen(picture, { shown, act, describe, put, pick, say, zoomBy });
 document.addEventListener("keydown", (event) => {
@@ -477,7 +483,10 @@ document.addEventListener("keydown", (event) => {
   event.preventDefault();
   (event.shiftKey ? redo : undo)();
 });
-new ResizeObserver(() => picture.resize()).observe(at("scroll"));
+new ResizeObserver(() => {
+  picture.resize();
+  scrolled();
+}).observe(at("scroll"));
 
 await trying(async () => {
   const faults = [];
