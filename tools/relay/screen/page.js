@@ -1,61 +1,16 @@
 // The page: what is shown, what is picked and edited, and the calls that follow. Every round that it shows comes from
 // the server; the page has no rule of its own.
 
-import { call, Fault, namedPlans, readPlan, text } from "./calls.js";
+import { call, namedPlans, readPlan } from "./calls.js";
+import { findDelta } from "./delta.js";
+import "./exports.js";
 import { listen } from "./input.js";
+import { legend } from "./legend.js";
 import { Edits, Plan, decode } from "./plan.js";
-import { legend, Picture } from "./picture.js";
+import { at, BOTH, given, numbers, picture, say, showFault, shown, state, trying } from "./state.js";
 import { counted, endWords, fillForecast, fillQuestions, fillWindows, relayWords } from "./tables.js";
 
-const BOTH = "both";
-const at = (name) => document.getElementById(name);
-const picture = new Picture(at("picture"), at("scroll"), at("size"));
-
-const state = {
-  plans: [], // of the carriers, as edited
-  show: 0, // a carrier, or both
-  edits: new Edits(),
-  questions: [],
-  answered: [], // the questions of the last answers
-  answers: [],
-  chosen: null, // the question that is shown
-  found: null, // the last answer of the server
-  version: 0, // of plans and questions: an answer to an older one is dropped
-  editedAt: null,
-  lost: false, // the last call was refused, or not answered
-};
-
-// The plan that the picture has; while both carriers' plan is merged anew that is the one before.
-function shown() {
-  return picture.plan;
-}
-
-function say(words) {
-  at("said").textContent = words;
-}
-
-function showFault(place, words) {
-  place.textContent = words;
-  place.hidden = !words;
-}
-
-// Runs what may be refused, and shows the words.
-async function trying(act) {
-  try {
-    await act();
-    return true;
-  } catch (wrong) {
-    if (!(wrong instanceof Fault)) throw wrong;
-    showFault(at("fault"), wrong.message);
-    return false;
-  }
-}
-
 // Asking the server.
-
-function given(more = {}) {
-  return { plans: state.plans.map((plan) => plan.forCall()), show: state.show, ...more };
-}
 
 // What to ask for: the rounds in view and some on both sides, the stations in view, and that of the table.
 function wanted() {
@@ -150,30 +105,6 @@ function took(library) {
   const [whole, part] = [all, library].map((one) => one.toFixed(1));
   at("took").textContent = `The last edit was answered in ${whole} ms, of which the library took ${part} ms.`;
   Object.assign(at("took").dataset, { all, library });
-}
-
-async function findDelta() {
-  const [from, waiting] = numbers("now", "waiting");
-  const version = state.version;
-  await trying(async () => {
-    const found = await call("delta", given({ from, waiting }));
-    if (version !== state.version) return;
-    at("delta").textContent = found.delta === null
-      ? `From round ${found.from} on there is no Δ: the plan does not have relays between every two stations.`
-      : `Δ from round ${found.from} on is ${counted(found.delta, "round")}.`;
-    showBound(found);
-  });
-}
-
-// The bound, where the server gives one.
-function showBound(found) {
-  at("before-it").hidden = !found.on_air_by;
-  at("bound").hidden = !found.on_air_by;
-  if (!found.on_air_by) return;
-  const when = (round) => (round === null ? "perhaps only after the plan's last round" : `by round ${round}`);
-  const [one, two] = found.on_air_by.map(when);
-  at("bound").textContent = `An edit posted then is on air everywhere ${one} where its desk alone is in use, `
-    + `and ${two} where both desks are.`;
 }
 
 // Plans.
@@ -410,25 +341,7 @@ function scrolled() {
 
 scrolled.timer = null;
 
-// Exports.
-
-async function save(name, path, more) {
-  await trying(async () => {
-    const content = new Blob([await text(path, given(more))]);
-    const link = document.createElement("a");
-    link.href = URL.createObjectURL(content);
-    link.download = name;
-    link.click();
-    setTimeout(() => URL.revokeObjectURL(link.href), 10_000);
-    say(`Saved ${name}.`);
-  });
-}
-
 // What the page listens to.
-
-function numbers(...names) {
-  return names.map((name) => Number(at(name).value));
-}
 
 function submitted(name, act) {
   at(name).addEventListener("submit", (event) => {
@@ -457,12 +370,6 @@ at("undo").addEventListener("click", undo);
 at("redo").addEventListener("click", redo);
 at("reset").addEventListener("click", reset);
 at("station").addEventListener("change", showStation);
-at("export-script").addEventListener("click", () => save("plan.script", "script"));
-at("export-picture").addEventListener("click", () => {
-  save("plan.svg", "picture", { questions: picture.relay ? [picture.relay.question] : [] });
-});
-at("export-forecast").addEventListener("click", () => save("ends.csv", "forecast.csv"));
-at("export-answers").addEventListener("click", () => save("answers.csv", "answers.csv", { questions: state.answered }));
 for (const [name, which] of [["open-first", 0], ["open-second", 1]]) {
   at(name).addEventListener("change", async () => {
     const [file] = at(name).files;

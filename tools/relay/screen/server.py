@@ -26,7 +26,7 @@ FILES = {
     "/": ("page.html", "text/html; charset=utf-8"),
     "/style.css": ("style.css", "text/css; charset=utf-8"),
     **{f"/{name}.js": (f"{name}.js", "text/javascript; charset=utf-8")
-       for name in ("calls", "input", "page", "picture", "plan", "tables")},
+       for name in ("calls", "delta", "exports", "input", "legend", "page", "picture", "plan", "state", "tables")},
 }
 CALLS = {"/look": answers.look, "/delta": answers.delta_of}
 EXPORTS = {
