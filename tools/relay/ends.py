@@ -10,13 +10,14 @@ from . import library
 from .faults import Wrong
 
 
-def in_part(n, log, first, last, stations):
+def in_part(n, log, first, last, stations, forecast=library.forecast):
     """The number of each station's ends before round `first`, and, by station, the rounds of those up to round `last`.
 
-    The log is one that the library accepts, and the part lies in it.
+    The log is one that the library accepts, and the part lies in it. `forecast` is the library's, or one that keeps
+    what the library answered.
     """
-    before, starts = library.forecast(n, log[:n * (first - 1)])[1]
-    until, latest = library.forecast(n, log[:n * last])[1]
+    before, starts = forecast(n, log[:n * (first - 1)])[1]
+    until, latest = forecast(n, log[:n * last])[1]
     found = {station: of_station(n, log[:n * last], station, starts[station], until[station] - before[station])
              for station in stations}
     for station, rounds in found.items():

@@ -6,6 +6,7 @@ answer judges, and Delta.
 
 import base64
 import binascii
+import functools
 import io
 import sys
 from array import array
@@ -18,6 +19,7 @@ from ..hearings import hearings
 LARGEST = 2 ** 32 - 1       # that the library can be asked
 LARGEST_TEXT = 4 << 20      # bytes of a plan; one of 2,048 rounds has 0.3 MB, and its posts come on top
 LONGEST_NAME = 200
+KEPT = 32                   # answers of the library, of each kind
 BOTH = "both"
 
 
@@ -156,11 +158,26 @@ def questions_of(given):
     return asked
 
 
-# The calls.
+# The calls. Of two carriers an edit changes one, and so the last answers of the library are kept.
+
+@functools.lru_cache(KEPT)
+def kept_forecast(n, masks):
+    return library.forecast(n, array("H", masks))
+
+
+@functools.lru_cache(KEPT)
+def kept_part(n, masks, first, last, stations):
+    return ends.in_part(n, array("H", masks), first, last, stations, forecast_numbers)
+
+
+def forecast_numbers(n, log):
+    """What the library's forecast gives."""
+    return kept_forecast(n, log.tobytes())
+
 
 def forecast_of(plan):
     """The library's forecast, or its refusal in words."""
-    refusal, (counts, last) = library.forecast(plan.n, plan.log)
+    refusal, (counts, last) = forecast_numbers(plan.n, plan.log)
     if refusal == 1:
         raise Wrong(f"{plans.shown(plan.name)}: refused with 1: a plan has 1 to 16 stations, not {plan.n}")
     if refusal:
@@ -172,7 +189,7 @@ class View(NamedTuple):
     """The part of a plan that is looked at."""
     first: int      # round
     last: int
-    stations: set
+    stations: frozenset
 
 
 def view_of(given, n):
@@ -181,7 +198,7 @@ def view_of(given, n):
     if len(rounds) != 2:
         raise Wrong("'view' is a first and a last round")
     named = list_of(given, "stations") if "stations" in given else range(n)
-    return View(*rounds, {number_of(one, "stations") for one in named} & set(range(n)))
+    return View(*rounds, frozenset(number_of(one, "stations") for one in named) & frozenset(range(n)))
 
 
 def part_of(plan, view):
@@ -190,7 +207,7 @@ def part_of(plan, view):
     if first > last:
         before, found = [0] * plan.n, {station: [] for station in view.stations}
     else:
-        before, found = ends.in_part(plan.n, plan.log, first, last, view.stations)
+        before, found = kept_part(plan.n, plan.log.tobytes(), first, last, view.stations)
     return {"first": first, "last": last, "before": before, "ends": list(map(found.get, range(plan.n)))}
 
 
@@ -258,7 +275,7 @@ def picture(given):
     plan, asked = plan_shown(given), questions_of(given)[:1]
     relays = [(one.numbers[0], answer["start"], answer["hops"])
               for one, answer in zip(asked, answers_of(plan, asked)) if answer["start"] is not None]
-    whole = View(1, plan.rounds, set(range(plan.n)))
+    whole = View(1, plan.rounds, frozenset(range(plan.n)))
     return forecast_picture.draw(plan, part_of(plan, whole)["ends"], *relays)
 
 

@@ -237,16 +237,18 @@ export class Picture {
   // Who has a hearing: 1 for the first carrier, 2 for the second, 3 for both; of one plan alone 1.
   carrying(hearer, heard, round) {
     if (!this.carriers) return this.plan.hears(hearer, heard, round);
-    const [one, two] = this.carriers; // past its end a plan has no mask, and nobody hears
-    return one.hears(hearer, heard, round) + 2 * two.hears(hearer, heard, round);
+    const { carriers } = this; // past its end a plan has no mask, and nobody hears
+    return carriers[0].hears(hearer, heard, round) + 2 * carriers[1].hears(hearer, heard, round);
   }
 
-  // Where several rounds share a pixel, what is heard in one of them is shown.
+  // Where several rounds share a pixel, what is heard in one of them is shown. Bars are drawn kind by kind: a change of
+  // colour takes longer than a bar.
   drawWindows(paint, station) {
     const [first, last] = this.view();
     const shared = Math.max(1, Math.floor(1 / this.column));
     const begin = first - ((first - 1) % shared);
     const origin = this.x(1);
+    const bars = [null, [], [], []]; // by kind: the left, the width and the top of each
     for (let heard = 0; heard < this.n; heard++) {
       const y = this.rowTop(station, heard);
       if (heard === station || y > this.scroller.clientHeight || y + this.row < TOP) continue;
@@ -256,20 +258,23 @@ export class Picture {
         let next = 0;
         for (let one = round; one < round + shared && one <= last; one++) next |= this.carrying(station, heard, one);
         if (next === kind) continue;
-        if (kind) this.drawBar(paint, kind, origin + this.column * (since - 1), this.column * (round - since), y);
+        if (kind) bars[kind].push(origin + this.column * (since - 1), this.column * (round - since), y + 1);
         kind = next;
         since = round;
       }
     }
+    for (const kind of [1, 2, 3]) this.drawBars(paint, kind, bars[kind]);
   }
 
-  drawBar(paint, kind, x, wide, y) {
-    const high = this.row - 3;
+  drawBars(paint, kind, bars) {
     const half = this.carriers && kind !== 3;
-    const colour = this.carriers ? CARRIER[kind] : COLOURS.window;
-    if (paint.fillStyle !== colour) paint.fillStyle = colour;
+    const high = (this.row - 3) / (half ? 2 : 1);
+    const down = half && kind === 2 ? high : 0;
     const gap = this.column >= 6 ? 1 : 0;
-    paint.fillRect(x, y + 1 + (half && kind === 2 ? high / 2 : 0), Math.max(0.8, wide - gap), half ? high / 2 : high);
+    paint.fillStyle = this.carriers ? CARRIER[kind] : COLOURS.window;
+    for (let at = 0; at < bars.length; at += 3) {
+      paint.fillRect(bars[at], bars[at + 2] + down, Math.max(0.8, bars[at + 1] - gap), high);
+    }
   }
 
   drawLane(paint, station, width) {

@@ -2,9 +2,9 @@
 // stands at place n (u - 1) + i.
 
 export function decode(text) {
-  const bytes = Uint8Array.from(atob(text), (letter) => letter.charCodeAt(0));
+  const bytes = atob(text);
   const log = new Uint16Array(bytes.length / 2);
-  for (let at = 0; at < log.length; at++) log[at] = bytes[2 * at] | (bytes[2 * at + 1] << 8);
+  for (let at = 0; at < log.length; at++) log[at] = bytes.charCodeAt(2 * at) | (bytes.charCodeAt(2 * at + 1) << 8);
   return log;
 }
 
