@@ -154,6 +154,8 @@ class Look(Calls):
             alone = [self.look((n, log), asked=asked) for log in (first, second, both)]
             self.assertEqual(found["alone"], [one["forecast"] for one in alone[:2]])
             self.assertEqual(found["part_alone"], [one["part"] for one in alone[:2]])
+            short = self.look((n, first), (n, second), show="both", asked=asked, alone=False)
+            self.assertEqual(short | {"library_ms": 0}, found | {"library_ms": 0, "part_alone": []})
             self.assertEqual(found["forecast"], alone[2]["forecast"])
             self.assertEqual((found["part"], found["answers"]), (alone[2]["part"], alone[2]["answers"]))
             for which, log in enumerate((first, second)):

@@ -14,8 +14,9 @@ class Hop(NamedTuple):
 
 
 def relay(heard, sender, receiver, start):
-    """The hops of a relay after the start that arrives at the receiver first; none to the sender itself, None for never.
+    """The hops of a relay after the start that arrives at the receiver first; None where there is no relay.
 
+    To the sender itself there are no hops.
     `heard` is what `hearings` gives. Stations are gone through in the order in which relays from the sender reach them.
     """
     came, left = {sender: Hop(start, None, sender)}, set(range(len(heard)))

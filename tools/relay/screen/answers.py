@@ -239,7 +239,7 @@ def look(given):
         "forecast": forecast_of(plan) if both else alone[given["show"]],
         "alone": alone,
         "part": part_of(plan, view),
-        "part_alone": [part_of(one, view) for one in carriers] if both else [],
+        "part_alone": [part_of(one, view) for one in carriers] if both and given.get("alone") is not False else [],
         "answers": [], "question_fault": None,
     }
     try:

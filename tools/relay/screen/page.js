@@ -10,13 +10,17 @@ import { Edits, Plan, decode } from "./plan.js";
 import { at, BOTH, given, numbers, picture, say, showFault, shown, state, trying } from "./state.js";
 import { counted, endWords, fillForecast, fillQuestions, fillWindows, relayWords } from "./tables.js";
 
+const ROOMY = 2; // pixels a round
+
 // Asking the server.
 
-// What to ask for: the rounds in view and some on both sides, the stations in view, and that of the table.
+// What to ask for: the rounds in view and some on both sides, the stations in view, and that of the table. The ends
+// under each carrier alone are asked for where there is room for their marks.
 function wanted() {
   const [first, last] = picture.view();
   const more = Math.ceil((last - first) / 4) + 8;
-  return { view: [Math.max(1, first - more), last + more], stations: stationsWanted() };
+  const view = [Math.max(1, first - more), last + more];
+  return { view, stations: stationsWanted(), alone: picture.column >= ROOMY };
 }
 
 function stationsWanted() {
@@ -27,8 +31,9 @@ function stationsWanted() {
 function lookAround() {
   const [first, last] = picture.view();
   const { part } = picture;
+  const alone = state.show !== BOTH || picture.column < ROOMY || picture.partAlone.length > 0;
   const known = part && first >= part.first && last <= part.last && stationsWanted().every((one) => part.ends[one]);
-  if (part && !known) look();
+  if (part && !(known && alone)) look();
 }
 
 let busy = false;

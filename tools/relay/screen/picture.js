@@ -14,6 +14,15 @@ export const COLOURS = {
   paper: "#ffffff", even: "#f3f4f6", grid: "#dfe2e6", text: "#222222", faint: "#444444",
 };
 const CARRIER = [null, COLOURS.first, COLOURS.second, COLOURS.both]; // by who has the hearing, 1 and 2 added up
+const NARROW = 3; // pixels a round, below which a row is drawn as a strip
+
+// A colour as a pixel of an image has it, and none.
+const pixel = (colour) => {
+  const [red, green, blue] = [1, 3, 5].map((at) => parseInt(colour.slice(at, at + 2), 16));
+  return new Uint32Array(new Uint8Array([red, green, blue, 255]).buffer)[0];
+};
+const STRIP = [0, pixel(COLOURS.window)]; // by whether it is heard
+const STRIPS = [1, 2].map((half) => CARRIER.map((colour, kind) => (kind & half ? pixel(colour) : 0))); // upper, lower
 
 export class Picture {
   constructor(canvas, scroller, size) {
@@ -32,6 +41,7 @@ export class Picture {
     this.pull = null; // a window that is being pulled open
     this.waiting = false;
     this.fitted = null;
+    this.strip = document.createElement("canvas");
     scroller.addEventListener("scroll", () => this.later());
   }
 
@@ -241,39 +251,59 @@ export class Picture {
     return carriers[0].hears(hearer, heard, round) + 2 * carriers[1].hears(hearer, heard, round);
   }
 
-  // Where several rounds share a pixel, what is heard in one of them is shown. Bars are drawn kind by kind: a change of
-  // colour takes longer than a bar.
+  // Where several rounds share a pixel, what is heard in one of them is shown.
   drawWindows(paint, station) {
     const [first, last] = this.view();
     const shared = Math.max(1, Math.floor(1 / this.column));
     const begin = first - ((first - 1) % shared);
-    const origin = this.x(1);
-    const bars = [null, [], [], []]; // by kind: the left, the width and the top of each
     for (let heard = 0; heard < this.n; heard++) {
       const y = this.rowTop(station, heard);
       if (heard === station || y > this.scroller.clientHeight || y + this.row < TOP) continue;
-      let kind = 0;
-      let since = begin;
-      for (let round = begin; round <= last + shared; round += shared) {
-        let next = 0;
-        for (let one = round; one < round + shared && one <= last; one++) next |= this.carrying(station, heard, one);
-        if (next === kind) continue;
-        if (kind) bars[kind].push(origin + this.column * (since - 1), this.column * (round - since), y + 1);
-        kind = next;
-        since = round;
+      const kinds = new Uint8Array(Math.max(0, Math.ceil((last - begin + 1) / shared)));
+      for (let round = begin; round <= last; round++) {
+        kinds[Math.floor((round - begin) / shared)] |= this.carrying(station, heard, round);
       }
+      if (this.column < NARROW) this.drawStrip(paint, kinds, this.x(begin), this.column * shared, y + 1);
+      else this.drawRow(paint, kinds, this.x(begin), y + 1);
     }
-    for (const kind of [1, 2, 3]) this.drawBars(paint, kind, bars[kind]);
   }
 
-  drawBars(paint, kind, bars) {
+  // The bars of a row, kind by kind: a change of colour takes longer than a bar.
+  drawRow(paint, kinds, x, y) {
+    const bars = [null, [], [], []]; // by kind: the left and the width of each
+    for (let at = 0; at < kinds.length; at++) {
+      const since = at;
+      while (at + 1 < kinds.length && kinds[at + 1] === kinds[since]) at++;
+      if (kinds[since]) bars[kinds[since]].push(x + this.column * since, this.column * (at + 1 - since));
+    }
+    for (const kind of [1, 2, 3]) this.drawBars(paint, kind, bars[kind], y);
+  }
+
+  // A row of narrow columns, as an image of one line for its upper half and one for its lower half: there may be a
+  // thousand bars in it.
+  drawStrip(paint, kinds, x, wide, y) {
+    if (kinds.length === 0) return;
+    const [upper, lower] = this.carriers ? STRIPS : [STRIP, STRIP];
+    const image = new ImageData(kinds.length, 2);
+    const pixels = new Uint32Array(image.data.buffer);
+    for (let at = 0; at < kinds.length; at++) {
+      pixels[at] = upper[kinds[at]];
+      pixels[kinds.length + at] = lower[kinds[at]];
+    }
+    this.strip.width = kinds.length;
+    this.strip.height = 2;
+    this.strip.getContext("2d").putImageData(image, 0, 0);
+    paint.imageSmoothingEnabled = false;
+    paint.drawImage(this.strip, x, y, wide * kinds.length, this.row - 3);
+  }
+
+  drawBars(paint, kind, bars, y) {
     const half = this.carriers && kind !== 3;
     const high = (this.row - 3) / (half ? 2 : 1);
-    const down = half && kind === 2 ? high : 0;
     const gap = this.column >= 6 ? 1 : 0;
     paint.fillStyle = this.carriers ? CARRIER[kind] : COLOURS.window;
-    for (let at = 0; at < bars.length; at += 3) {
-      paint.fillRect(bars[at], bars[at + 2] + down, Math.max(0.8, bars[at + 1] - gap), high);
+    for (let at = 0; at < bars.length; at += 2) {
+      paint.fillRect(bars[at], y + (half && kind === 2 ? high : 0), bars[at + 1] - gap, high);
     }
   }
 

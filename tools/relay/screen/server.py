@@ -1,7 +1,7 @@
 """The server of the planning screen: the page, its files and its calls, for this machine alone.
 
 It listens on 127.0.0.1 and answers only requests that name it so: a page from elsewhere that has its own name point
-here is turned away. It keeps nothing between two requests, so any number of pages can be open.
+here is turned away. It keeps no plan between two requests, so any number of pages can be open.
 """
 
 import http.server
