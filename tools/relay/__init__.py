@@ -5,6 +5,11 @@
     library.py    the C library: finds or makes it, and one function for each call
     plans.py      link plans: the N and R lines of a script
     listings.py   listings, mapped into memory, and the words for their faults
+    ends.py       the rounds of the ends in a part of a plan, asked of the library
+    hearings.py   who hears whom in which rounds, as the bits of numbers; for the next two
+    hops.py       the relay that brings a broadcast, hop by hop
+    delta.py      Delta of a plan
+    screen        the planning screen: server.py serves it, answers.py has its calls, page.html and page.js its page
 
 A subcommand is a module with `arguments(parser)` and `run(given)`. Its docstring is its help: the first line is the
 summary in the list of subcommands.

@@ -59,22 +59,31 @@ def answers(plan, asked):
 
 
 def refused(plan, asked):
-    """What refusal 18 means: the first question that is refused alone, or too many of them."""
-    for one in asked:
-        if library.questions(plan.n, plan.log, [one.numbers])[0]:
+    """What refusal 18 means: the first question that is refused alone, whatever the plan's rounds, or too many."""
+    for one in asked[:library.MOST_QUESTIONS]:
+        if library.questions(plan.n, plan.log[:0], [one.numbers])[0]:
             return (f"{one.where}: refused with 18: a station is 0 to {plan.n - 1} in this plan and k is at least 1, "
                     f"not {' '.join(map(str, one.numbers))}")
     return f"refused with 18: {len(asked)} questions, and at most {library.MOST_QUESTIONS} are answered at once"
 
 
+def rows_of(asked, rounds):
+    """The rows of the table: the numbers of each question, and its answer."""
+    return [(*one.numbers, "never" if number is None else number) for one, number in zip(asked, rounds)]
+
+
+def write_values(file, rows):
+    """The table as comma-separated values."""
+    table = csv.writer(file, lineterminator="\n")
+    table.writerow(("sender", "receiver", "k", "round"))
+    table.writerows(rows)
+
+
 def run(given):
     plan, asked = plans.read(given.plan), read(given)
-    rounds = ["never" if one is None else one for one in answers(plan, asked)]
-    rows = [(*one.numbers, number) for one, number in zip(asked, rounds)]
+    rows = rows_of(asked, answers(plan, asked))
     if given.csv:
-        table = csv.writer(sys.stdout, lineterminator="\n")
-        table.writerow(("sender", "receiver", "k", "round"))
-        table.writerows(rows)
+        write_values(sys.stdout, rows)
     else:
         print("sender  receiver           k  received in round")
         for sender, receiver, k, number in rows:

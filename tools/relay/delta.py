@@ -7,13 +7,13 @@ the masks, and by no call of the library.
 
 from .hearings import hearings
 
-# The bound below is proved (`delivery`, crates/delivery_rules/proofs/Delivery.antt), for every list of posts and rounds;
-# that Delta is right is tried against the model.
-BOUND_IS_PROVED = True
-
 
 def on_air_by(posted, waiting, delta, both_desks):
-    """The round by which an edit is aired everywhere: one posted after so many rounds behind so many of its desk."""
+    """The round by which an edit is aired everywhere: one posted after so many rounds behind so many of its desk.
+
+    That it is aired by then is proved for every list of posts and rounds (crates/delivery_rules); that Delta is right is
+    tried against the model.
+    """
     return posted + delta * (6 * waiting + 10 if both_desks else 3 * waiting + 7)
 
 

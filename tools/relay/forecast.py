@@ -50,15 +50,20 @@ def run(given):
     if given.picture:
         draw(plan, given.picture)
     if given.csv:
-        table = csv.writer(sys.stdout, lineterminator="\n")
-        table.writerow(("station", "ends", "last_round"))
-        table.writerows(zip(range(plan.n), ends, last))
+        write_values(sys.stdout, ends, last)
         return
     print(f"{plans.counted(plan.n, 'station')}, {plans.counted(plan.rounds, 'round')}")
     print("station  ends  last in round")
     for station in range(plan.n):
         print(f"{station:7d}{ends[station]:6d}{last[station] or '-':>15}")
     print(*bounds, sep="\n")
+
+
+def write_values(file, ends, last):
+    """The table as comma-separated values."""
+    table = csv.writer(file, lineterminator="\n")
+    table.writerow(("station", "ends", "last_round"))
+    table.writerows(zip(range(len(ends)), ends, last))
 
 
 def draw(plan, name):

@@ -13,6 +13,7 @@ WIDTH = 1400                  # of the rounds, where the columns are neither at 
 WIDEST, NARROWEST = 22, 0.7   # column, in pixels
 STEPS = (1, 2, 5, 10, 20, 50, 100, 200, 500)
 ROOM = 34                     # at least, for a number on the axis
+RELAY = "#d55e00"
 
 STYLE = """
 text{font-family:'DejaVu Sans',Verdana,Arial,sans-serif;fill:#222}
@@ -44,6 +45,14 @@ class Layout:
     def top(self, station):
         return TOP + self.block * station
 
+    def line(self, station):
+        """The height of a station's broadcasts."""
+        return self.top(station) + self.lane / 2 + 1
+
+    def heard_row(self, station, heard):
+        """The height of the row in which the station hears the other."""
+        return self.top(station) + self.lane + self.row * (heard - (heard > station) + 0.5)
+
     def over_rounds(self, y, inside):
         """What is drawn in rounds, at this height."""
         return tag("g", {"transform": f"translate({LEFT} {px(y)}) scale({self.column:.4f} 1)"}, inside=inside)
@@ -60,9 +69,9 @@ def draw_axis(layout):
 
 def draw_windows(plan, layout, station):
     others = [other for other in range(plan.n) if other != station]
-    for at, other in enumerate(others):
+    for other in others:
         found = windows(plan, station, other)
-        y = layout.top(station) + layout.lane + layout.row * (at + 0.5)
+        y = layout.heard_row(station, other)
         yield tag("text", {"cls": "heard", "x": LEFT - 6, "y": y + layout.row * 0.35,
                            "font_size": min(10, layout.row)}, f"hears {other}")
         if found:
@@ -76,7 +85,7 @@ def draw_windows(plan, layout, station):
 
 def draw_lane(layout, station, ends):
     """The broadcasts of a station: those that end, the one that doesn't, and the ends."""
-    y, high, last = layout.top(station) + layout.lane / 2 + 1, layout.lane * 0.7, ends[-1] if ends else 0
+    y, high, last = layout.line(station), layout.lane * 0.7, ends[-1] if ends else 0
     inside = [tag("path", {"cls": "broadcast open", "d": f"M{max(0, last - 0.5)} 0H{layout.rounds}"})]
     if ends:
         words = f"station {station}: {counted(len(ends), 'end')}, the last in round {last}"
@@ -88,6 +97,22 @@ def draw_lane(layout, station, ends):
     yield tag("text", {"cls": "station", "x": 6, "y": y + 4}, f"station {station}")
     count = counted(len(ends), "end") + (f", last in {last}" if ends else "")
     yield tag("text", {"cls": "count", "x": layout.right + 10, "y": y + 4}, count)
+
+
+def draw_relay(layout, sender, start, hops):
+    """A relay: from the sender's line to each row in which a station is heard, and to the line of the hearer."""
+    def x(number):
+        return LEFT + layout.column * max(0, number - 0.5)
+    points, words = [(x(start), layout.line(sender))], [f"from station {sender} in round {start}"]
+    for number, heard, hearer in hops:
+        points += [(x(number), layout.heard_row(hearer, heard)), (x(number), layout.line(hearer))]
+        words.append(f"station {hearer} hears {heard} in round {number}")
+    path = "M" + "L".join(f"{px(one)} {px(other)}" for one, other in points)
+    yield tag("path", {"cls": "relay", "fill": "none", "stroke": RELAY, "stroke_width": 2.5, "d": path},
+              inside=[tag("title", {}, "relay: " + ", ".join(words))])
+    for at, (one, other) in enumerate(points):
+        yield tag("circle", {"cx": one, "cy": other, "r": 4 if at % 2 else 5, "fill": RELAY if at % 2 == 0 else "#fff",
+                             "stroke": RELAY, "stroke_width": 2})
 
 
 def draw_legend():
@@ -105,8 +130,8 @@ def draw_legend():
         x += 7.2 * len(words) + 56
 
 
-def draw(plan, ends):
-    """The picture; ends has the rounds of all ends of each station."""
+def draw(plan, ends, relay=None):
+    """The picture; ends has the rounds of all ends of each station, relay a sender, a start and hops."""
     layout = Layout(plan)
     height = layout.bottom + 30
     head = f"A link plan: {counted(plan.n, 'station')}, {counted(plan.rounds, 'round')}"
@@ -124,4 +149,4 @@ def draw(plan, ends):
         *draw_legend(), *blocks, *draw_axis(layout),
         *(part for station in stations for part in draw_windows(plan, layout, station)),
         *(part for station in stations for part in draw_lane(layout, station, ends[station])),
-        "</svg>", ""])
+        *(draw_relay(layout, *relay) if relay else ()), "</svg>", ""])

@@ -13,6 +13,8 @@ import shutil
 import subprocess
 import sys
 import tempfile
+import threading
+import time
 from array import array
 
 from .faults import Missing
@@ -78,6 +80,14 @@ def exported(name):
 
 # The calls. Each gives its refusal, 0 where it is done, and what it answers.
 
+class Clock(threading.local):
+    """The processor time that the library has taken in this thread."""
+    seconds = 0.0
+
+
+clock = Clock()
+
+
 def call(name, *arguments):
     """Calls a function of the library. A lent buffer is an array, or the pair of an address and a length."""
     values = []
@@ -87,7 +97,10 @@ def call(name, *arguments):
         else:
             address, length = argument.buffer_info() if isinstance(argument, array) else argument
             values += ctypes.c_void_p(address), ctypes.c_size_t(length)
-    return exported(name)(*values)
+    function, began = exported(name), time.thread_time()
+    refusal = function(*values)
+    clock.seconds += time.thread_time() - began
+    return refusal
 
 
 # As include/relay.h defines them.

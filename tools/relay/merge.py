@@ -19,12 +19,17 @@ def arguments(parser):
     parser.add_argument("second", metavar="PLAN", help="the second plan's file")
 
 
-def run(given):
-    first, second = plans.read(given.first), plans.read(given.second)
+def merged(first, second):
+    """The masks of both plans together."""
     if first.n != second.n:
         raise Wrong(f"{plans.shown(second.name)} is for {plans.counted(second.n, 'station')}, "
                     f"but {plans.shown(first.name)} for {first.n}: two plans are merged for one group")
-    refusal, merged = library.merge(first.n, first.log, second.log)
+    refusal, log = library.merge(first.n, first.log, second.log)
     if refusal:
         raise plans.refused(refusal, first, second)
-    sys.stdout.write(plans.text(first.n, merged))
+    return log
+
+
+def run(given):
+    first, second = plans.read(given.first), plans.read(given.second)
+    sys.stdout.write(plans.text(first.n, merged(first, second)))

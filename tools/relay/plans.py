@@ -44,8 +44,13 @@ def parts(name):
 
 def read(name):
     """The plan of a file; '-' is standard input. It is read up to its first fault, so it may be endless."""
+    return read_parts(name, parts(name))
+
+
+def read_parts(name, text):
+    """The plan of this name, whose text comes part by part."""
     reader = PlanReader()
-    for part in parts(name):
+    for part in text:
         reader.read(part)
         if reader.fault:
             break

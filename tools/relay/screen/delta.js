@@ -1,0 +1,29 @@
+// Delta of the plan from a round on.
+
+import { call } from "./calls.js";
+import { at, given, numbers, state, trying } from "./state.js";
+import { counted } from "./tables.js";
+
+export async function findDelta() {
+  const [from, waiting] = numbers("now", "waiting");
+  const version = state.version;
+  await trying(async () => {
+    const found = await call("delta", given({ from, waiting }));
+    if (version !== state.version) return;
+    at("delta").textContent = found.delta === null
+      ? `From round ${found.from} on there is no Δ: the rest of the plan has no relay between some two stations.`
+      : `Δ from round ${found.from} on is ${counted(found.delta, "round")}.`;
+    showBound(found);
+  });
+}
+
+// The bound, where the server gives one.
+function showBound(found) {
+  at("before-it").hidden = !found.on_air_by;
+  at("bound").hidden = !found.on_air_by;
+  if (!found.on_air_by) return;
+  const when = (round) => (round === null ? "perhaps only after the plan's last round" : `by round ${round}`);
+  const [one, two] = found.on_air_by.map(when);
+  at("bound").textContent = `An edit posted then is on air everywhere ${one} where its desk alone is in use, `
+    + `and ${two} where both desks are.`;
+}
