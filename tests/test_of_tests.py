@@ -255,7 +255,7 @@ class WrongDesks(Broken):
 
     def test_desk_1_first_on_a_fresh_station(self):
         right = station.fresh_state
-        with broken("fresh_state", lambda n, own, limit: right(n, own, limit)._replace(first=1)):
+        with broken("fresh_state", lambda n, own, limit, edition=0: right(n, own, limit, edition)._replace(first=1)):
             self.assert_test_fails(test_turns.Turn, "test_desks_in_turn")
             self.assert_runs_notice("out of its turn")
 
@@ -409,8 +409,8 @@ class WrongQueueLimits(Broken):
             self.assert_test_fails(test_group.Fresh, "test_fresh", "test_every_limit", "test_refused")
 
     def test_named_limit_from_n_up(self):
-        def fresh_group_state(n, limit):
-            stations = tuple(station.fresh_state(n, own, limit) for own in range(n))
+        def fresh_group_state(n, limit, edition=0):
+            stations = tuple(station.fresh_state(n, own, limit, edition) for own in range(n))
             return stations + (station.fresh_state(1, 0, limit),) * (16 - n)
         with broken("fresh_group_state", fresh_group_state):
             self.assert_test_fails(test_group.Fresh, "test_every_limit")
