@@ -69,11 +69,12 @@ module _ (B : Bulletins) (masks : List ℕ) (long : length (B .held) ≡ 16) (hi
   -- the places are those of a set, and sixty-four
   pub places-below : (places : List ℕ) → places ≡ inOrder (tagAt B) (B .n) ++ replicate (64 - 4 * B .n) 0
       → ((t : ℕ) → t < 4 * B .n → getD places t 0 < 64) × (length places ≡ 64)
-  places-below places o =
-      (λ t l. omega (arith, ap (λ (x : List ℕ). getD x t 0) o, order-below (tagAt B) (B .n) t (replicate (64 - 4 * B .n) 0) l),
-      ap length o
-      ∙ length-append (inOrder (tagAt B) (B .n)) (replicate (64 - 4 * B .n) 0)
-      ∙ omega (arith, order-length (tagAt B) (B .n), zeros (64 - 4 * B .n)))
+  places-below places o = (
+    λ t l. omega (arith, ap (λ (x : List ℕ). getD x t 0) o, order-below (tagAt B) (B .n) t (replicate (64 - 4 * B .n) 0) l),
+    ap length o
+        ∙ length-append (inOrder (tagAt B) (B .n)) (replicate (64 - 4 * B .n) 0)
+        ∙ omega (arith, order-length (tagAt B) (B .n), zeros (64 - 4 * B .n)),
+  )
     where
       zeros : (m : ℕ) → length (replicate {A = ℕ} m 0) ≡ m
       zeros m = length-replicate m _

@@ -78,11 +78,11 @@ pub fn free_place(held: &[u64; 16], issuer: usize) -> usize
 pub fn with_bulletin(b: Bulletins, issuer: usize, s: usize, tag: u32, event: u32) -> Bulletins
     requires { ⌜ (issuer < 16) × (s < 64) ⌝ }
     ensures { λ r. ⌜ r ≡ record {
-        n = b .n;
-        tags = set (b .tags) s tag;
-        events = set (b .events) s event;
-        held = set (b .held) issuer (bitOr (getD (b .held) issuer 0) (2 ^ s));
-        } ⌝ }
+      n = b .n;
+      tags = set (b .tags) s tag;
+      events = set (b .events) s event;
+      held = set (b .held) issuer (bitOr (getD (b .held) issuer 0) (2 ^ s));
+    } ⌝ }
 {
     let mut after = b;
     let own = bulletin_limits::with_place(b.held[issuer], s);

@@ -45,11 +45,11 @@ module _ (n : ℕ) (high : n ≤ 16) (log : List (List ℕ)) (masks : List ℕ) 
   set-hearing p s lp ls =
       set-bit p s
       ∙ either-ext n (λ j. L .hears (suc u) p j) (λ j. L .hears (suc u) p j) (λ j. holds B j s)
-          (λ j. stands B s && ltb (T s) (news L u j (issuerOf s)))
-          (holds B p s) (stands B s && ltb (T s) (news L u p (issuerOf s)))
-          (λ j l. refl)
-          (λ j l. k .held j s l ls)
-          (k .held p s lp ls)
+      (λ j. stands B s && ltb (T s) (news L u j (issuerOf s)))
+      (holds B p s) (stands B s && ltb (T s) (news L u p (issuerOf s)))
+      (λ j l. refl)
+      (λ j l. k .held j s l ls)
+      (k .held p s lp ls)
       ∙ either-clock (T s) (stands B s) (λ j. L .hears (suc u) p j) (λ j. news L u j (issuerOf s)) (news L u p (issuerOf s)) n
 
   -- and so by the clock after it
@@ -57,9 +57,9 @@ module _ (n : ℕ) (high : n ≤ 16) (log : List (List ℕ)) (masks : List ℕ) 
   set-clock p s lp ls =
       set-hearing p s lp ls
       ∙ elim (ℕ-discrete p (issuerOf s)) [
-          | no d ↦ ap (λ (v : ℕ). stands B s && ltb (T s) v) (hearing-all L u p (issuerOf s) d)
-          | yes e ↦ itself e (stands B s) refl
-        ]
+        | no d ↦ ap (λ (v : ℕ). stands B s && ltb (T s) v) (hearing-all L u p (issuerOf s) d)
+        | yes e ↦ itself e (stands B s) refl
+      ]
     where
       itself : p ≡ issuerOf s → (b : Bool) → stands B s ≡ b
           → (stands B s && ltb (T s) (hearing L u p (issuerOf s) n)) ≡ (stands B s && ltb (T s) (news L (suc u) p (issuerOf s)))

@@ -95,10 +95,12 @@ module _ (n : ℕ) (high : n ≤ 16) (log : List (List ℕ)) (B : Bulletins) (is
               (let z = t .listed y o in
               let d = not-there (z .0) (z .2) in
               (z .0, z .1, stands-other (z .0) d ∙ z .2, z .3 ∙ sym (standing-other (z .0) d)))
-          | inr o ↦
-              (P, issuing.place-below n high L (length log) (t .time) B (t .kept) i tag event a,
-              issuing.stands-new n high L (length log) (t .time) B (t .kept) i tag event a,
-              List·Memᴰ·eq-of-singleton o ∙ sym standing-new)
+          | inr o ↦ (
+            P,
+            issuing.place-below n high L (length log) (t .time) B (t .kept) i tag event a,
+            issuing.stands-new n high L (length log) (t .time) B (t .kept) i tag event a,
+            List·Memᴰ·eq-of-singleton o ∙ sym standing-new,
+          )
         ]
 
     every : (s : ℕ) → s < 4 * n → stands B′ s ≡ true → List·Memᴰ (standing B′ time s) (issues ++ (x ∷ []))
@@ -110,10 +112,12 @@ module _ (n : ℕ) (high : n ≤ 16) (log : List (List ℕ)) (B : Bulletins) (is
 
     -- no round has shown it
     shows : (p u : ℕ) → p < n → u < length log → (b : Notice) → List·Memᴰ b (shownIn rounds p (suc u)) ↔ Fresh L (issues ++ (x ∷ [])) p u b
-    shows p u lp lu b =
-        (λ m.
-        let f = t .shows p u lp lu b .0 m in
-        record { after = f .after; accepted = Memᴰ·append-left (x ∷ []) (f .accepted); other = f .other; now = f .now; before = f .before }, back)
+    shows p u lp lu b = (
+      λ m.
+          let f = t .shows p u lp lu b .0 m in
+          record { after = f .after; accepted = Memᴰ·append-left (x ∷ []) (f .accepted); other = f .other; now = f .now; before = f .before },
+      back,
+    )
       where
         back : Fresh L (issues ++ (x ∷ [])) p u b → List·Memᴰ b (shownIn rounds p (suc u))
         back f =

@@ -200,22 +200,24 @@ module _ (L : Links) (issues : List Issued) (p u : ℕ) (b : Notice) where
         after = f .after;
         accepted = f .accepted;
         when =
-            inr (f .other,
-            record {
-              reached = news-relay L (suc u) (b .issuer) (f .after) p (f .other) (f .now);
-              first =
-                  λ v r.
-                  elim (decLe (suc u) v) [
-                    | yes l ↦ l
-                    | no l ↦
-                        absurd (omega (
-                          arith,
-                          relayBy-news L v (b .issuer) (f .after) p r,
-                          news-mono L v u p (b .issuer) (omega arith),
-                          f .before,
-                        ))
-                  ];
-            });
+            inr (
+              f .other,
+              record {
+                reached = news-relay L (suc u) (b .issuer) (f .after) p (f .other) (f .now);
+                first =
+                    λ v r.
+                    elim (decLe (suc u) v) [
+                      | yes l ↦ l
+                      | no l ↦
+                          absurd (omega (
+                            arith,
+                            relayBy-news L v (b .issuer) (f .after) p r,
+                            news-mono L v u p (b .issuer) (omega arith),
+                            f .before,
+                          ))
+                    ];
+              },
+            );
       }
 
   fresh : (after : ℕ) → List·Memᴰ (record { notice = b; after = after }) issues → (p ≡ b .issuer → ⊥) → FirstBy L (b .issuer) after p (suc u) → Fresh L issues p u b
@@ -354,7 +356,7 @@ module _ (setup : Setup) (ok : groupFreshRefusal setup ≡ done) (entries : List
       let G = historyOf setup (callsOf entries) in
       ap (λ (r : RoundDone). r .refusal) (known .parts u l ∙ ap (λ (X : group.History). getD (X .rounds) u noRound) calls-are)
       ∙ demand-three setup ok (callsOf entries) .no-round-refused u
-          (omega (arith, known .as-many, ap (λ (X : group.History). length (X .rounds)) calls-are))
+      (omega (arith, known .as-many, ap (λ (X : group.History). length (X .rounds)) calls-are))
 
   claim : Claim (setup .n) H
   claim =

@@ -26,9 +26,11 @@ loop-again : tie.Need-loop-again Inv-loop μ-loop
 loop-again c =
     let z = c .before .before in
     let l = z .before .before .before .before .loop in
-    let s = z .before .before .before .before .before .before .args in
-    (omega arith, z .put-shown .kept .0 ∙ l .inv .1,
-    part-at-front _ (l .bytes) _ shownWidth (l .p) (λ k. encodeShown (getD (s .t2) k absentShown)) (λ j. length-shown _) (l .inv .2) (z .put-shown .ensures))
+    let s = z .before .before .before .before .before .before .args in (
+      omega arith,
+      z .put-shown .kept .0 ∙ l .inv .1,
+      part-at-front _ (l .bytes) _ shownWidth (l .p) (λ k. encodeShown (getD (s .t2) k absentShown)) (λ j. length-shown _) (l .inv .2) (z .put-shown .ensures),
+    )
 
 same-length : tie.Need-same-length Inv-loop μ-loop
 same-length c = c .before .loop .inv .1

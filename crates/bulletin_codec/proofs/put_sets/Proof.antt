@@ -25,9 +25,11 @@ loop-again : tie.Need-loop-again Inv-loop μ-loop
 loop-again c =
     let z = c .before .before in
     let l = z .before .before .before .loop in
-    let s = z .before .before .before .before .before .args in
-    (omega arith, z .put-set .kept .0 ∙ l .inv .1,
-    part-written _ (l .bytes) _ (s .at) 8 (l .p) (λ j. setBytes (getD (s .t3) j 0)) (λ j. length-set-bytes _) (l .inv .2) (z .put-set .ensures))
+    let s = z .before .before .before .before .before .args in (
+      omega arith,
+      z .put-set .kept .0 ∙ l .inv .1,
+      part-written _ (l .bytes) _ (s .at) 8 (l .p) (λ j. setBytes (getD (s .t3) j 0)) (λ j. length-set-bytes _) (l .inv .2) (z .put-set .ensures),
+    )
 
 same-length : tie.Need-same-length Inv-loop μ-loop
 same-length c = c .before .loop .inv .1

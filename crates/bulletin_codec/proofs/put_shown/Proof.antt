@@ -27,9 +27,11 @@ loop-again : tie.Need-loop-again Inv-loop μ-loop
 loop-again c =
     let z = c .before .before in
     let l = z .before .before .before .before .loop in
-    let s = z .before .before .before .before .before .before .before .before .before .before .before .before .args in
-    (omega arith, z .put-notice .kept .0 ∙ l .inv .1,
-    part-written _ (l .bytes) _ (s .at + 4) noticeWidth (l .i) (λ j. encodeNotice (getD (s .x .notices) j noNotice)) (λ j. length-notice _) (l .inv .2) (z .put-notice .ensures))
+    let s = z .before .before .before .before .before .before .before .before .before .before .before .before .args in (
+      omega arith,
+      z .put-notice .kept .0 ∙ l .inv .1,
+      part-written _ (l .bytes) _ (s .at + 4) noticeWidth (l .i) (λ j. encodeNotice (getD (s .x .notices) j noNotice)) (λ j. length-notice _) (l .inv .2) (z .put-notice .ensures),
+    )
 
 same-length : tie.Need-same-length Inv-loop μ-loop
 same-length c = c .before .loop .inv .1 ∙ c .before .before .before .before .put-word .kept .0

@@ -11,13 +11,13 @@ returns : tie.Need-returns
 returns c = rw (eq-eqb (c .before .args .r) (c .before .args .s) (c .if1 .taken))
 
 returns-2 : tie.Need-returns-2
-returns-2 c = 
+returns-2 c =
     let a = c .before .before .before .args in
     let e : standsIn (a .held .now) (a .r) ≡ false = sym (c .before .stands .ensures) ∙ not-true (c .before .stands .result) (c .if2 .taken) in
     rw (ne-eqb (a .r) (a .s) (c .before .before .if1 .left), e)
 
 returns-3 : tie.Need-returns-3
-returns-3 c = 
+returns-3 c =
     let z = c .before .before .before .before in
     let a = z .before .args in
     let e : standsIn (a .held .now) (a .r) ≡ true = sym (c .before .before .before .stands .ensures) ∙ not-false (c .before .before .before .stands .result) (c .before .before .if2 .left) in

@@ -97,11 +97,13 @@ with-bulletin-requires c κs =
 
 cast-t17 : tie.Need-cast-t17
 cast-t17 c =
-    record { fits = omega (
-      arith,
-      inside-high (c .before .before .before .before .before .before .before .before .before .before .before .before .before .before .before .before .args .b) (sym (c .before .before .before .before .before .before .before .before .before .before .before .before .before .before .before .inside .ensures) ∙ not-false (c .before .before .before .before .before .before .before .before .before .before .before .before .before .before .before .inside .result) (c .before .before .before .before .before .before .before .before .before .before .before .before .before .before .if1 .left)),
-      c .before .before .before .before .before .before .before .before .before .before .before .before .if2 .left,
-    ) }
+    record {
+      fits = omega (
+        arith,
+        inside-high (c .before .before .before .before .before .before .before .before .before .before .before .before .before .before .before .before .args .b) (sym (c .before .before .before .before .before .before .before .before .before .before .before .before .before .before .before .inside .ensures) ∙ not-false (c .before .before .before .before .before .before .before .before .before .before .before .before .before .before .before .inside .result) (c .before .before .before .before .before .before .before .before .before .before .before .before .before .before .if1 .left)),
+        c .before .before .before .before .before .before .before .before .before .before .before .before .if2 .left,
+      );
+    }
 
 returns-6 : tie.Need-returns-6
 returns-6 c =

@@ -38,7 +38,7 @@ loop-again c =
       omega arith,
       l .inv .2
           ∙ free-next (a .held .now) (4 * a .issuer + 4 - l .s) (l .s) (4 * a .issuer + 4 - (l .s + 1)) (omega arith)
-              (sym (c .before .stands .ensures) ∙ not-false (c .before .stands .result) (c .if1 .left)),
+          (sym (c .before .stands .ensures) ∙ not-false (c .before .stands .result) (c .if1 .left)),
     )
 
 returns-2 : tie.Need-returns-2 Inv-loop μ-loop

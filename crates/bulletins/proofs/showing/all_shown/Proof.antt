@@ -37,8 +37,8 @@ loop-again c =
       omega arith,
       ap₂ (λ (x : List Shown) (y : Shown). set x (l .p) y) (l .inv .1) (c .shown-by .ensures)
           ∙ fill-more (l .p)
-              (λ q. shownOf (picked (newIn (getD (a .before .now) q 0) (getD (a .after .now) q 0)) (noticeIn (a .tags .now) (a .events .now)) (take (4 * a .n) (a .places .now))))
-              noneShown,
+          (λ q. shownOf (picked (newIn (getD (a .before .now) q 0) (getD (a .after .now) q 0)) (noticeIn (a .tags .now) (a .events .now)) (take (4 * a .n) (a .places .now))))
+          noneShown,
     )
 
 returns : tie.Need-returns Inv-loop μ-loop

@@ -71,7 +71,7 @@ loop-again c =
           ∙ ap length (sym more),
       ap₂ (λ (x : List Notice) (y : ℕ). set x y (c .before .notice-if .result)) (l .inv .4) (l .inv .3)
           ∙ ap (λ (x : Notice). set (padded done) (length done) x)
-              (c .before .notice-if .ensures ∙ ap (λ (b : Bool). cond b (show s) noNotice) (c .before .before .gained .ensures))
+          (c .before .notice-if .ensures ∙ ap (λ (b : Bool). cond b (show s) noNotice) (c .before .before .gained .ensures))
           ∙ pushed done (test s) (show s) (omega (arith, l .inv .3, l .inv .1, z .pre .0, c .before .before .before .before .loop-test .taken))
           ∙ ap padded (sym more),
     )
