@@ -9,6 +9,7 @@ import unittest
 
 from library.formats import SIZES
 from model import listing, malformed, scripts
+from model.bulletins import Bulletin
 from model.extended import extended_listing
 from model.malformed import GOOD_POST, GOOD_ROUND, N2
 from program.damaged import damaged
@@ -129,8 +130,8 @@ class Extended(unittest.TestCase):
 
     def test_sizes(self):
         """The bytes that the command lends are as many as the header says."""
-        for name in ("GROUP_BYTES", "REPORT_BYTES", "ROUND_BYTES", "BULLETINS_BYTES", "SHOWN_BYTES", "ROUND_SHOWN_BYTES"):
-            self.assertEqual(getattr(library, name), SIZES[name], name)
+        for name in ("GROUP", "REPORT", "ROUND", "BULLETINS", "SHOWN", "ROUND_SHOWN"):
+            self.assertEqual(getattr(library, f"{name}_BYTES"), SIZES[f"{name}_BYTES"], name)
 
 
 SHOWN = re.compile(rb"(?m)^([ \d]{6}) B([ \d]{3})([ \d]{3})([ \d]{11})([ \d]{9})$")
@@ -139,6 +140,11 @@ SHOWN = re.compile(rb"(?m)^([ \d]{6}) B([ \d]{3})([ \d]{3})([ \d]{11})([ \d]{9})
 def shown(printed):
     """The lines of bulletins: round, station, issuer, tag and event."""
     return [tuple(map(int, found)) for found in SHOWN.findall(printed)]
+
+
+def edits(printed):
+    """The lines that are neither of bulletins nor refusals."""
+    return [line for line in printed.splitlines() if line[7:8] not in (b"B", b"X")]
 
 
 def refusals_after(script, printed):
@@ -164,23 +170,23 @@ class Bulletins(unittest.TestCase):
                 self.assertEqual(printed, extended_listing(script, edition=edition), (seed, edition))
             refused += refusals_after(script, listed(script))
             met += shown(printed)
-            most = max(most, *collections.Counter((u, p) for u, p, issuer, *_ in shown(printed) if p != issuer).values(), 0)
+            at_once = collections.Counter((u, p) for u, p, issuer, *_ in shown(printed) if p != issuer)
+            most = max(most, *at_once.values(), 0)
         self.assertEqual(set(refused), {1, 4, 19})
         self.assertGreaterEqual({tag for *_, tag, _ in met}, {0, 999_999_999})
         self.assertGreaterEqual({event for *_, event in met}, {1, 99_999_999})
         self.assertGreater(most, 20)
 
     def test_nothing_else_changes(self):
-        """Without the lines of bulletins and of their refusals the listing is that of the script without them."""
+        """What is taken, aired, ended and started is that of the script without bulletins."""
         for seed in range(30):
-            script = b"".join(line for line in scripts.script_of(*scripts.seeded_bulletins(seed)).splitlines(keepends=True)
-                              if line[:1] != b"P")
-            without = b"".join(line for line in script.splitlines(keepends=True) if line[:1] != b"B")
-            printed = [line for line in listed(script).splitlines(keepends=True) if line[7:8] not in (b"B", b"X")]
-            self.assertEqual(b"".join(printed), listed(without), seed)
+            n, calls = scripts.seeded_bulletins(seed)
+            script = scripts.script_of(n, calls)
+            without = scripts.script_of(n, [call for call in calls if not isinstance(call, Bulletin)])
+            self.assertEqual(edits(listed(script, edition=1)), edits(listed(without, edition=1)), seed)
 
     def test_by_hand(self):
-        """The issuer shows at once, the other in the next round that it hears, by issuer and then tag; no station is 0."""
+        """The issuer shows at once, the other in the next round that it hears, by issuer and then tag."""
         script = of_two("R 0 0", "B 0 10 7", "B 0 9 8", "B 1 10 5", "R 0 1", "R 2 1", "B 0 9 7", "B 2 1 7", "B 1 1 0")
         self.assertEqual(shown(listed(script)), [(1, 0, 0, 10, 7), (1, 0, 0, 9, 8), (1, 1, 1, 10, 5), (2, 1, 0, 9, 8),
                                                  (2, 1, 0, 10, 7), (3, 0, 1, 10, 5)])
@@ -196,9 +202,10 @@ class Bulletins(unittest.TestCase):
 
     def test_after_other_lines(self):
         """A station's bulletins come after what else it did in the round, and before the next station."""
-        printed = listed(of_two("B 1 1 7", "P 0 2 7 100", "R 0 1", "R 2 1", "R 2 1")).splitlines()
+        printed = listed(of_two("P 0 2 7 100", "R 2 1", "B 1 1 7", "R 2 1")).splitlines()
         at = printed.index(b"     2 B  0  1          1        7")
-        self.assertEqual([line[:10] for line in printed[at - 1:at + 2]], [b"     2 D  0", b"     2 B  0", b"     2 E  1"])
+        near = [line[:11] for line in printed[at - 1:at + 2]]
+        self.assertEqual(near, [b"     2 D  0", b"     2 B  0", b"     2 E  1"])
 
     def test_no_column_runs_over(self):
         """Any tag of 32 bits would fit."""
@@ -221,7 +228,8 @@ class Bulletins(unittest.TestCase):
         script = of_two("B 0 7 7")
         self.assertEqual(listing.listing(script), MALFORMED)
         status, _, words = run("forecast", "-", given=script)
-        self.assertEqual((status, words), (1, "relay forecast: standard input, line 2: the line begins with 'B'; its letter is N, P or R\n"))
+        said = "the line begins with 'B'; its letter is N, P or R"
+        self.assertEqual((status, words), (1, f"relay forecast: standard input, line 2: {said}\n"))
 
     def test_a_file(self):
         example = ROOT / "examples" / "bulletins.script"
