@@ -66,9 +66,11 @@ def numbers_of(line):
 def well_formed(letter, numbers, n, counts=COUNTS):
     if n is None:
         return letter == b"N" and len(numbers) in counts[letter] and 1 <= numbers[0] <= PLACES
+    if letter == b"N" or letter not in counts or len(numbers) not in (counts[letter] or (n,)):
+        return False
     if letter == b"P":
-        return len(numbers) in counts[letter] and min(numbers[:3] + numbers[4:]) >= 0
-    return letter == b"R" and len(numbers) == n and min(numbers) >= 0 and max(numbers) <= LARGEST_MASK
+        return min(numbers[:3] + numbers[4:]) >= 0
+    return min(numbers) >= 0 and (letter != b"R" or max(numbers) <= LARGEST_MASK)
 
 
 # In words.

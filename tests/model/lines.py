@@ -64,7 +64,7 @@ def listing_line(rounds, letter, station, source, body):
     return b"%6d %s%3d%3d%2d%9d%9d%s\n" % (rounds, letter, station, source, *body[:3], channel)
 
 
-def refused_post_line(rounds, station, n, refusal):
+def refused_line(rounds, station, n, refusal):
     """A station that is not below N is printed as 0."""
     return listing_line(rounds, b"X", station if station < n else 0, refusal, EMPTY)
 

@@ -2,8 +2,7 @@
 
 from . import group as groups
 from .bodies import EMPTY_KIND, edit_kind
-from .lines import (END_LINE, PostLine, SizeLine, listing_line, malformed_line, read_line,
-                    refused_post_line)
+from .lines import END_LINE, PostLine, RoundLine, SizeLine, listing_line, malformed_line, read_line, refused_line
 from .refusals import DONE
 
 LAST_ROUND = 999_999
@@ -32,30 +31,51 @@ def station_lines(rounds, place, report):
         yield listing_line(rounds, b"D", place, place, report.started_body)
 
 
-def listing_lines(script, read=None, limit=None, edition=0):
-    """Lines are read as document 01 has them, and the limit is the listing's, unless others are named."""
-    group, n, rounds = None, None, 0
-    for line in split_lines(script):
-        command = None if line is None else (read or read_line)(line, n)
+class Run:
+    """A group and the number of its rounds so far. Each command of a script gives the lines that it prints."""
+
+    def __init__(self, limit, edition=0):
+        self.limit, self.edition = limit, edition
+        self.n, self.group, self.rounds = None, None, 0
+
+    def read(self, line):
+        return read_line(line, self.n)
+
+    def lines_of(self, command):
         if isinstance(command, SizeLine):
-            n = command.n
-            group = groups.fresh(n, LIMIT if limit is None else limit, edition).group
+            self.begin(command.n)
         elif isinstance(command, PostLine):
-            refusal, group = groups.post(group, command.station, command.body, command.desk)
-            if refusal != DONE:
-                yield refused_post_line(rounds, command.station, n, refusal)
-        elif command is not None and rounds < LAST_ROUND:
-            rounds += 1
-            result = groups.round_of(group, command.masks)
-            group = result.group
-            for place in range(n):
-                yield from station_lines(rounds, place, result.reports[place])
+            yield from self.post(command)
         else:
-            yield malformed_line(rounds)
+            self.rounds += 1
+            yield from self.round(command.masks)
+
+    def begin(self, n):
+        self.n, self.group = n, groups.fresh(n, self.limit, self.edition).group
+
+    def post(self, command):
+        refusal, self.group = groups.post(self.group, command.station, command.body, command.desk)
+        if refusal != DONE:
+            yield refused_line(self.rounds, command.station, self.n, refusal)
+
+    def round(self, masks):
+        done = groups.round_of(self.group, masks)
+        self.group = done.group
+        for place in range(self.n):
+            yield from station_lines(self.rounds, place, done.reports[place])
+
+
+def listing_lines(script, run):
+    """A script's lines are read up to the first one that is malformed or is a round too many."""
+    for line in split_lines(script):
+        command = None if line is None else run.read(line)
+        if command is None or isinstance(command, RoundLine) and run.rounds == LAST_ROUND:
+            yield malformed_line(run.rounds)
             break
+        yield from run.lines_of(command)
     yield END_LINE
 
 
 def listing(script):
     """The listing of a script; both are bytes, and the script may be any bytes."""
-    return b"".join(listing_lines(script))
+    return b"".join(listing_lines(script, Run(LIMIT)))

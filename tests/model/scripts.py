@@ -4,6 +4,7 @@ import random
 from typing import NamedTuple
 
 from .bodies import DROP, EMPTY, INSERT, KINDS, NEUTRAL, SHIFT, Body
+from .bulletins import Bulletin
 from .lines import FIELD_WIDTH, PostLine, RoundLine
 from .queues import CAPACITY, DEFAULT_LIMIT
 from .records import PLACES
@@ -24,6 +25,8 @@ def call_line(call):
     if isinstance(call, PostLine):
         channel = [call.body.channel] * (call.body.channel != 0)
         return script_line(b"P", (call.station, *call.body[:3], *[call.desk] * (call.desk != 0 or bool(channel)), *channel))
+    if isinstance(call, Bulletin):
+        return script_line(b"B", call)
     return script_line(b"R", call.masks)
 
 
@@ -161,6 +164,27 @@ def seeded_channels(seed, shape=None):
         channel = rng.choice((1, 200, rng.randint(1, 200))) if rng.random() < 0.95 else rng.choice((0, 201, 255, 256, 257, 999_999_999))
         return call._replace(body=call.body._replace(channel=channel))
     return n, [with_channel(call) for call in calls]
+
+
+def random_bulletin(rng, n):
+    """Of few tags, so that an issuer comes to one again; now and then without a station or an event that there is."""
+    row = KINDS[INSERT]
+    issuer = rng.randrange(n) if rng.random() < 0.95 else max(n, rng.choice((0, 16, 255, 256, 999_999_999)))
+    good = rng.choice((row.event_least, row.event_most, rng.randint(row.event_least, row.event_most)))
+    event = good if rng.random() < 0.9 else rng.choice((row.event_least - 1, row.event_most + 1, 999_999_999))
+    return Bulletin(issuer, rng.choice((0, 1, 2, 8, 10, 999_999_998, 999_999_999)), event)
+
+
+def seeded_bulletins(seed, shape=None):
+    """Desks and channels as above, and bulletins before some of the calls."""
+    n, calls = seeded_channels(seed, shape)
+    rng = random.Random(f"bulletins {seed}")
+    rate = rng.choice((0.1, 0.4, 0.8))
+    mixed = []
+    for call in calls:
+        mixed += [random_bulletin(rng, n) for _ in range(rng.choice((1, 1, 6)) if rng.random() < rate else 0)]
+        mixed.append(call)
+    return n, mixed
 
 
 def seeded_limit(seed):

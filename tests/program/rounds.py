@@ -37,9 +37,9 @@ def expected_parts():
     again = [line[6:] for line in begun.splitlines(keepends=True) if line[:6] == b"%6d" % MODELLED]
     for first in range(MODELLED + 1, LAST, 1_000):
         yield b"".join(b"%6d" % number + line for number in range(first, min(first + 1_000, LAST)) for line in again)
-    yield lines.refused_post_line(LAST - 1, 0, 1, 4)
+    yield lines.refused_line(LAST - 1, 0, 1, 4)
     yield b"".join(b"%6d" % LAST + line for line in again)
-    yield lines.refused_post_line(LAST, 0, 1, 4) * 2 + lines.malformed_line(LAST) + lines.END_LINE
+    yield lines.refused_line(LAST, 0, 1, 4) * 2 + lines.malformed_line(LAST) + lines.END_LINE
 
 
 def repeats():

@@ -13,7 +13,6 @@ from . import faults
 DESCRIPTION = "The edit relay on the command line: what its proved library and programs answer."
 EPILOG = """example:
     ./relay listing examples/two-stations.script
-
 ./relay SUBCOMMAND --help tells more of a subcommand, with an example.
 exit status: 0 done; 1 the input is malformed or refused, which standard error
 explains; 2 wrong use, or a file or a program is missing; 128 + s by signal s"""

@@ -1,6 +1,6 @@
-"""A group of the proved library, held as bytes: posts, rounds, and the listing lines of what a round reports.
+"""A group of the proved library and its bulletins, held as bytes: posts, issues, rounds, and the lines of what a round brings.
 
-include/relay.h gives the places in a report.
+include/relay.h gives the places in a report and in what is shown.
 """
 
 import struct
@@ -11,6 +11,7 @@ BODY = struct.Struct("<BBxxIi")       # kind, channel, event, argument
 TAKINGS_AT, TAKING = 4, 4 + BODY.size
 TURN_AT = 484
 ENDED_BODY_AT, STARTED_BODY_AT, ROW_AT = TURN_AT + 4, TURN_AT + 16, TURN_AT + 28
+SHOWN_AT, BULLETIN = 4, struct.Struct("<III")   # issuer, tag, event
 EDIT_KINDS = 2, 3, 4
 ZEROS = 0, 0, 0, 0
 
@@ -19,17 +20,23 @@ class Group:
     def __init__(self, n, limit, edition=0):
         self.n = n
         self.refusal, self.state = library.group_fresh(n, limit, edition)
+        _, self.bulletins = library.bulletins_fresh(n)
 
     def post(self, station, desk, kind, event, argument, channel=0):
         """The refusal, 0 where the edit waits now."""
         return library.group_post(self.state, station, desk, kind, event, argument, channel)
 
+    def issue(self, issuer, tag, event):
+        """The refusal, 0 where the issuer shows the bulletin now."""
+        return library.bulletins_issue(self.bulletins, issuer, tag, event)
+
     def round(self, number, masks):
         """The lines of a round, its number being told. From fresh no round is refused."""
-        refusal, reports = library.group_round(self.state, masks)
+        refusal, (reports, shown) = library.bulletins_round(self.state, self.bulletins, masks)
         if refusal:
             raise ValueError(f"a round from fresh is refused with {refusal}")
-        return [line for place in range(self.n) for line in station_lines(number, place, reports)]
+        return [line for place in range(self.n)
+                for line in (*station_lines(number, place, reports), *shown_lines(number, place, shown))]
 
 
 def body_at(reports, at):
@@ -51,6 +58,18 @@ def station_lines(number, place, reports):
         started = body_at(reports, at + STARTED_BODY_AT)
         if started != ZEROS:
             yield line(number, "D", place, place, started)
+
+
+def shown_lines(number, place, shown):
+    """The bulletins that one station shows in one round."""
+    at = place * library.SHOWN_BYTES
+    count = int.from_bytes(shown[at:at + SHOWN_AT], "little")
+    for i in range(count):
+        yield shown_line(number, place, *BULLETIN.unpack_from(shown, at + SHOWN_AT + BULLETIN.size * i))
+
+
+def shown_line(number, station, issuer, tag, event):
+    return "%6d B%3d%3d%11d%9d\n" % (number, station, issuer, tag, event)
 
 
 def line(number, letter, station, source, body=ZEROS):

@@ -105,6 +105,7 @@ def call(name, *arguments):
 
 # As include/relay.h defines them.
 GROUP_BYTES, REPORT_BYTES, ROUND_BYTES = 23_872, 704, 11_264
+BULLETINS_BYTES, SHOWN_BYTES, ROUND_SHOWN_BYTES = 644, 772, 12_352
 
 
 def group_fresh(n, limit, edition):
@@ -118,11 +119,25 @@ def group_post(state, station, desk, kind, event, argument, channel):
     return call("relay_group_post", state, station, desk, kind, event, argument, channel)
 
 
-def group_round(state, masks):
-    """Runs a round with a mask for each station; the state becomes the group after it. Gives the reports as bytes."""
-    reports = array("B", bytes(ROUND_BYTES))
+def bulletins_fresh(n):
+    """The bulletins of a fresh group as bytes: none."""
+    state = array("B", bytes(BULLETINS_BYTES))
+    return call("relay_bulletins_fresh", state, n), state
+
+
+def bulletins_issue(state, issuer, tag, event):
+    """Issues a bulletin; the state becomes the bulletins with it, unless the issue is refused."""
+    return call("relay_bulletins_issue", state, issuer, tag, event)
+
+
+def bulletins_round(group, state, masks):
+    """Runs a round of a group and its bulletins with a mask for each station; both states become those after it.
+
+    Gives the reports and what is shown, as bytes.
+    """
+    reports, shown = array("B", bytes(ROUND_BYTES)), array("B", bytes(ROUND_SHOWN_BYTES))
     sixteen = array("H", [*masks, *[0] * (PLACES - len(masks))])
-    return call("relay_group_round", state, sixteen, reports), reports
+    return call("relay_bulletins_round", group, state, sixteen, reports, shown), (reports, shown)
 
 
 def forecast(n, log):

@@ -1,15 +1,15 @@
-"""The listing of a script in which a post may name its desk and its channel.
+"""The listing of a script with two desks, channels and bulletins.
 
-An extended script has the lines of a script (docs/SCRIPTS.md), and a P line
-may have a fifth number, the desk that posts, 0 or 1, and a sixth, the channel.
-Without them desk 0 posts, with channel 0. What is printed are the lines of a
-listing, in edition 1 with the channel after an edit; of a script in edition 0
-that names neither it is just its listing. docs/EXTENDED-SCRIPTS.md tells more.
+An extended script has the lines of a script (docs/SCRIPTS.md). A P line may
+have a fifth number, the desk, 0 or 1, and a sixth, the channel; else they are
+0. A B line, issuer, tag and event, issues a bulletin, and what is shown is
+printed with the letter B. The other lines are those of a listing, in edition 1
+with the channel of an edit after it. docs/EXTENDED-SCRIPTS.md tells more.
 
 exit status: 1 also where a line is malformed, after the listing up to there
 
 example:
-    ./relay run examples/two-desks.script
+    ./relay run examples/bulletins.script
 """
 
 import sys
@@ -43,7 +43,7 @@ def arguments(parser):
 class RunReader(ScriptReader):
     """Does the calls of an extended script line by line, and keeps what they print until it is taken."""
 
-    counts = {**COUNTS, b"P": (4, 5, 6)}
+    counts = {**COUNTS, b"P": (4, 5, 6), b"B": (3,)}
 
     def __init__(self, limit, edition=0):
         super().__init__()
@@ -56,6 +56,8 @@ class RunReader(ScriptReader):
                 raise Wrong(f"refused with {self.group.refusal}: {self.fault_of_fresh()}")
         elif letter == b"P":
             self.post(*numbers)
+        elif letter == b"B":
+            self.issue(*numbers)
         else:
             self.printed += self.group.round(self.rounds, numbers)
 
@@ -66,10 +68,21 @@ class RunReader(ScriptReader):
         return f"an edition is 0 or 1, not {self.edition}"
 
     def post(self, station, kind, event, argument, desk=0, channel=0):
-        """A station that there is not is printed as 0."""
         refusal = self.group.post(station, desk, kind, event, argument, channel)
         if refusal:
-            self.printed.append(groups.line(self.rounds, "X", station if station < self.n else 0, refusal))
+            self.refuse(station, refusal)
+
+    def issue(self, issuer, tag, event):
+        """The issuer shows the bulletin at once."""
+        refusal = self.group.issue(issuer, tag, event)
+        if refusal:
+            self.refuse(issuer, refusal)
+        else:
+            self.printed.append(groups.shown_line(self.rounds, issuer, issuer, tag, event))
+
+    def refuse(self, station, refusal):
+        """A station that there is not is printed as 0."""
+        self.printed.append(groups.line(self.rounds, "X", station if station < self.n else 0, refusal))
 
     def taken(self):
         printed, self.printed = "".join(self.printed), []
