@@ -81,11 +81,11 @@ static size_t make_frame(uint8_t *frame, int sender, int round)
 
 /* Mishaps: what happens to the frame of one sender to one receiver in one round. */
 
-enum what { NOTHING, CUT, LAST_BYTE_LOST, RESERVED_BYTE, OTHER_GROUP, HEARER_AS_SENDER, LABEL_THREE, COUNT_SEVEN, SAME_STATION_TWICE, KIND_FIVE,
+enum what { NOTHING, CUT, LAST_BYTE_LOST, NO_EDITION, OTHER_GROUP, HEARER_AS_SENDER, LABEL_THREE, COUNT_SEVEN, SAME_STATION_TWICE, KIND_FIVE,
             ANOTHERS_NAME, NO_ROUND, LATE, EARLY, LOST };
 
 static const struct { int round, sender, receiver; enum what what; } mishaps[] = {
-    {2, 0, 1, CUT}, {2, 1, 2, RESERVED_BYTE}, {2, 3, 0, LAST_BYTE_LOST},
+    {2, 0, 1, CUT}, {2, 1, 2, NO_EDITION}, {2, 3, 0, LAST_BYTE_LOST},
     {3, 0, 3, OTHER_GROUP}, {3, 2, 1, HEARER_AS_SENDER}, {3, 3, 2, LATE},
     {4, 1, 0, LABEL_THREE}, {4, 0, 2, SAME_STATION_TWICE}, {4, 2, 3, COUNT_SEVEN}, {4, 3, 1, KIND_FIVE},
     {5, 1, 3, LATE}, {5, 0, 1, LOST}, {5, 2, 0, NO_ROUND}, {5, 3, 1, EARLY}, {5, 0, 3, ANOTHERS_NAME},
@@ -106,7 +106,7 @@ static size_t damage(uint8_t *datagram, size_t len, enum what what, int round, i
     switch (what) {
     case CUT: return STAMP + 3;
     case LAST_BYTE_LOST: return len - 1;
-    case RESERVED_BYTE: frame[3] = 1; return len;
+    case NO_EDITION: frame[3] = 2; return len;
     case OTHER_GROUP: frame[0] = N + 1; return len;
     case HEARER_AS_SENDER: frame[1] = (uint8_t)receiver; return len;
     case LABEL_THREE: record[12] |= 3; return len;
@@ -190,7 +190,7 @@ static const char *reason(uint32_t refusal)
     switch (refusal) {
     case RELAY_BAD_NUMBER: return "this host's own N or number is wrong";
     case RELAY_BAD_SHAPE: return "its length, byte 2 or byte 3 is wrong";
-    case RELAY_BAD_ADDRESS: return "another group's, or not from another station";
+    case RELAY_BAD_ADDRESS: return "another group's or edition's, or not from another station";
     case RELAY_BAD_RECORD: return "a record is outside its limits";
     default: return "unknown";
     }
