@@ -25,8 +25,8 @@ ALLOWED = {
     },
 }
 
-# The crates in which successors and the packing of labels are worked out. No list can allow an array here.
-WORKED_OUT = ("crates/labels/", "crates/label_words/")
+# The crate in which successors and the packing of labels are worked out. No list can allow an array here.
+WORKED_OUT = ("crates/labels/",)
 
 
 def faults(root, allowed):
@@ -150,7 +150,7 @@ class TheTestCanFail(unittest.TestCase):
     def test_planted_for_labels(self):
         """The successor and the weights of the labels in a word, looked up in arrays."""
         successor = ROOT / "crates" / "labels" / "src" / "lib.rt"
-        packing = ROOT / "crates" / "label_words" / "src" / "lib.rt"
+        packing = ROOT / "crates" / "labels" / "src" / "words.rt"
         for path, right, wrong, array in (
                 (successor, "(((label as u32) + 1) % 3) as u8", "[1u8, 2, 0][label as usize]", "[1u8, 2, 0]"),
                 (packing, "word * 4 +", "word * [4u32, 4][0] +", "[4u32, 4]"),

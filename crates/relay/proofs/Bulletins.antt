@@ -99,14 +99,24 @@ module _ (b : List ℕ) (h : isBulletins b ≡ true) (B : Bulletins) (read : B �
 
 -- ---- round
 
+-- the round of what is read is that of the bytes
+pub both-read :
+    (group state masks : List ℕ) (g : List Station) → g ≡ decodeGroup group → (B : Bulletins) → B ≡ decodeBulletins state →
+    (sixteen : List ℕ) → sixteen ≡ sixteenMasks masks → (k : BulletinsRound) → k ≡ bulletinsRoundCall g B sixteen → k ≡ bothAnswer group state masks
+both-read group state masks g read B read₂ sixteen all k call = call ∙ (λ i. bulletinsRoundCall (read i) (read₂ i) (all i))
+
 -- what refuses it is a small number
-pub both-small : (g : List Station) (B : Bulletins) (masks : List ℕ) → (bulletinsRoundCall g B masks) .round .refusal < 256
+round-refusal-small : (g : List Station) (B : Bulletins) (masks : List ℕ) → (bulletinsRoundCall g B masks) .round .refusal < 256
 unfolding bulletinsRoundCall roundPart
-both-small g B masks = go (fits g B)
+round-refusal-small g B masks = go (fits g B)
   where
     go : (t : Bool) → (cond t (roundCall g masks) (record { refusal = outsideLimits; group = g; reports = replicate 16 noReport })) .refusal < 256
     go true = round-small g masks
     go false = omega arith
+
+pub both-small : (group state masks : List ℕ) (k : BulletinsRound) → k ≡ bothAnswer group state masks → k .round .refusal < 256
+both-small group state masks k is =
+    omega (arith, round-refusal-small (decodeGroup group) (decodeBulletins state) (sixteenMasks masks), ap (λ (x : BulletinsRound). x .round .refusal) is)
 
 -- the four buffers afterwards
 abbrev pub Left : List ℕ → List ℕ → List ℕ → List ℕ → List ℕ → ℕ → List ℕ → List ℕ → List ℕ → List ℕ → Type 0
@@ -131,11 +141,7 @@ module _ (group state masks reports shown : List ℕ) where
     unfolding bothReturned
     both-no-state q = refused-all outsideLimits refused-is-2 (state-refused (isBulletins state) _ q ∙ state-taken (isGroup group) _ h)
 
-    module _ (q : isBulletins state ≡ true) (g : List Station) (read : g ≡ decodeGroup group) (B : Bulletins) (read₂ : B ≡ decodeBulletins state)
-        (sixteen : List ℕ) (all : sixteen ≡ sixteenMasks masks) (k : BulletinsRound) (call : k ≡ bulletinsRoundCall g B sixteen) where
-      is : k ≡ bothAnswer group state masks
-      is = call ∙ (λ i. bulletinsRoundCall (read i) (read₂ i) (all i))
-
+    module _ (q : isBulletins state ≡ true) (k : BulletinsRound) (is : k ≡ bothAnswer group state masks) where
       pub both-refused : (k .round .refusal ≡ done → ⊥) → Left group state masks reports shown (k .round .refusal) group state reports shown
       unfolding bothReturned
       both-refused d =

@@ -1,17 +1,21 @@
 // The calls on bulletins that lie as bytes in the host's memory, beside their group: document 02, A12.
 
 ghost use mathlib.Core.Path.{_≡_};
+ghost use Prim.Native.Nat.{_≤_};
+ghost use lib.ListN.{length};
+ghost use lib.Seq.{sets};
 ghost use Rattle.planning_spec.specs.Merge.{frontWritten};
-ghost use Rattle.station_bytes_spec.specs.Group.{encodeGroup};
-ghost use Rattle.station_bytes_spec.specs.Reports.{encodeReports};
+ghost use Rattle.station_bytes_spec.specs.Group.{groupWidth, encodeGroup};
+ghost use Rattle.station_bytes_spec.specs.Reports.{reportsWidth, encodeReports};
 ghost use Rattle.bulletins_spec.specs.Calls.{bulletinsFreshCall};
-ghost use Rattle.bulletin_bytes_spec.specs.Bulletins.{encodeBulletins};
-ghost use Rattle.bulletin_bytes_spec.specs.Shown.{encodeAllShown};
+ghost use Rattle.bulletin_bytes_spec.specs.Bulletins.{bulletinsWidth, encodeBulletins};
+ghost use Rattle.bulletin_bytes_spec.specs.Shown.{allShownWidth, encodeAllShown};
 ghost use Rattle.relay.specs.Bulletins.{bulletinsFreshReturned, issueAnswer, issueReturned};
 ghost use Rattle.relay.specs.Bulletins.{bothAnswer, bothReturned};
 use bodies::refusals::DONE;
 use bodies::refusals::OUTSIDE_LIMITS;
 use bodies::refusals::SHORT_BUFFER;
+use bulletins_spec::BulletinsRound;
 
 const BULLETINS_WIDTH: usize = 644;
 
@@ -56,6 +60,43 @@ pub extern "C" fn relay_bulletins_issue(state: &mut [u8], issuer: u32, tag: u32,
     DONE
 }
 
+// The round of the group and of the bulletins that lie in the bytes.
+fn both_round(group: &[u8], state: &[u8], masks: &[u16]) -> BulletinsRound
+    requires { ⌜ (groupWidth ≤ length (now group)) × (bulletinsWidth ≤ length (now state)) ⌝ }
+    ensures { λ r. ⌜ r ≡ bothAnswer (now (group .entry)) (now (state .entry)) (now (masks .entry)) ⌝ }
+{
+    let stations = station_decoder::read_group(group);
+    let before = bulletin_codec::read_bulletins(state);
+    let sixteen = super::relay_group::sixteen_masks(masks);
+    bulletins::round(stations, before, sixteen)
+}
+
+// Puts what a round gave to the front of the four buffers.
+fn put_both(
+    group: &mut [u8],
+    state: &mut [u8],
+    reports: &mut [u8],
+    shown: &mut [u8],
+    done: BulletinsRound,
+)
+    requires { ⌜ (groupWidth ≤ length (now group)) × (bulletinsWidth ≤ length (now state))
+        × (reportsWidth ≤ length (now reports)) × (allShownWidth ≤ length (now shown)) ⌝ }
+    ensures { λ _. ⌜ (now (group .exit) ≡ sets (now (group .entry)) 0 (encodeGroup (done .round .group)))
+        × (now (state .exit) ≡ sets (now (state .entry)) 0 (encodeBulletins (done .bulletins)))
+        × (now (reports .exit) ≡ sets (now (reports .entry)) 0 (encodeReports (done .round .reports)))
+        × (now (shown .exit) ≡ sets (now (shown .entry)) 0 (encodeAllShown (done .shown))) ⌝ }
+{
+    let part = done.round;
+    let after = part.group;
+    let told = part.reports;
+    let kept = done.bulletins;
+    let notices = done.shown;
+    station_encoder::put_group(group, after);
+    bulletin_codec::put_bulletins(state, kept);
+    report_encoder::put_reports(reports, told);
+    bulletin_codec::put_all_shown(shown, notices);
+}
+
 // Round: the group's round, and on the same masks everyone takes over the bulletins of those that it hears.
 #[no_mangle]
 pub extern "C" fn relay_bulletins_round(
@@ -86,10 +127,7 @@ pub extern "C" fn relay_bulletins_round(
     if !bulletin_codec::is_bulletins(state) {
         return OUTSIDE_LIMITS;
     }
-    let stations = station_decoder::read_group(group);
-    let before = bulletin_codec::read_bulletins(state);
-    let sixteen = super::relay_group::sixteen_masks(masks);
-    let done = bulletins::round(stations, before, sixteen);
+    let done = both_round(group, state, masks);
     let part = done.round;
     let refusal = part.refusal as u32;
     if refusal != DONE {
@@ -104,13 +142,6 @@ pub extern "C" fn relay_bulletins_round(
     if shown.len() < SHOWN_WIDTH {
         return SHORT_BUFFER;
     }
-    let after = part.group;
-    let told = part.reports;
-    let kept = done.bulletins;
-    let notices = done.shown;
-    station_encoder::put_group(group, after);
-    bulletin_codec::put_bulletins(state, kept);
-    report_encoder::put_reports(reports, told);
-    bulletin_codec::put_all_shown(shown, notices);
+    put_both(group, state, reports, shown, done);
     DONE
 }
