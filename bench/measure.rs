@@ -26,41 +26,41 @@ type Questions = unsafe extern "C" fn(*const u16, usize, u32, *const u32, usize,
 /// The comparison of air logs: two listings with their stations in, the answer and its position into a buffer.
 type Compare = unsafe extern "C" fn(*const u8, usize, u32, *const u8, usize, u32, *mut u64, usize) -> u32;
 
-/// The comparison of air logs of crate relay_host.
-#[cfg(relay_host)]
+/// The comparison of air logs of crate relay.
+#[cfg(relay)]
 const PROJECT_COMPARE: Option<Compare> = Some(relay_compare);
-#[cfg(not(relay_host))]
+#[cfg(not(relay))]
 const PROJECT_COMPARE: Option<Compare> = None;
 
 /// A station's rounds beside recorded frames, and N: a checksum.
 type StationRounds = fn(&[Vec<Vec<u8>>], usize) -> u32;
 
 /// The codec of a station: bytes, how often they are read and written, and whether they are judged before.
-#[cfg(all(relay_host, relay_bench))]
+#[cfg(all(relay, relay_bench))]
 type Codec = unsafe extern "C" fn(*mut u8, usize, u32, u32) -> u32;
 
-/// The frame check of crate relay_host.
-#[cfg(relay_host)]
+/// The frame check of crate relay.
+#[cfg(relay)]
 const PROJECT_CHECK: Option<Check> = Some(relay_frame_check);
-#[cfg(not(relay_host))]
+#[cfg(not(relay))]
 const PROJECT_CHECK: Option<Check> = None;
 
-/// The forecast of crate relay_host.
-#[cfg(relay_host)]
+/// The forecast of crate relay.
+#[cfg(relay)]
 const PROJECT_FORECAST: Option<Forecast> = Some(relay_forecast);
-#[cfg(not(relay_host))]
+#[cfg(not(relay))]
 const PROJECT_FORECAST: Option<Forecast> = None;
 
-/// The merge of crate relay_host.
-#[cfg(relay_host)]
+/// The merge of crate relay.
+#[cfg(relay)]
 const PROJECT_MERGE: Option<Merge> = Some(relay_merge);
-#[cfg(not(relay_host))]
+#[cfg(not(relay))]
 const PROJECT_MERGE: Option<Merge> = None;
 
-/// The questions of crate relay_host.
-#[cfg(relay_host)]
+/// The questions of crate relay.
+#[cfg(relay)]
 const PROJECT_QUESTIONS: Option<Questions> = Some(relay_questions);
-#[cfg(not(relay_host))]
+#[cfg(not(relay))]
 const PROJECT_QUESTIONS: Option<Questions> = None;
 
 /// The rounds of crate relay_bench.
@@ -75,16 +75,16 @@ const PROJECT_BULLETINS: Option<Function> = Some(relay_bench_bulletins);
 #[cfg(not(relay_bench))]
 const PROJECT_BULLETINS: Option<Function> = None;
 
-/// A station's rounds through the calls of crate relay_host.
-#[cfg(relay_host)]
+/// A station's rounds through the calls of crate relay.
+#[cfg(relay)]
 const PROJECT_STATION: Option<StationRounds> = Some(station_project);
-#[cfg(not(relay_host))]
+#[cfg(not(relay))]
 const PROJECT_STATION: Option<StationRounds> = None;
 
-/// The load generator of crate relay_host.
-#[cfg(relay_host)]
+/// The load generator of crate relay.
+#[cfg(relay)]
 const PROJECT_LOAD: Option<Function> = Some(load_project);
-#[cfg(not(relay_host))]
+#[cfg(not(relay))]
 const PROJECT_LOAD: Option<Function> = None;
 
 const CHECK_PEERS: &[(&str, Check)] = &[
@@ -97,13 +97,13 @@ const CHECK_PEERS: &[(&str, Check)] = &[
 
 unsafe extern "C" {
     fn clock() -> c_long;
-    #[cfg(relay_host)]
+    #[cfg(relay)]
     fn relay_frame_check(bytes: *const u8, len: usize, n: u32, own: u32, edition: u32) -> u32;
-    #[cfg(relay_host)]
+    #[cfg(relay)]
     fn relay_forecast(log: *const u16, len: usize, n: u32, ends: *mut u16, ends_len: usize, last: *mut u16, last_len: usize) -> u32;
-    #[cfg(relay_host)]
+    #[cfg(relay)]
     fn relay_load(state: u32, n: u32, due: u32, head: u32, buffer: *mut u8, len: usize, next: *mut u32, places: usize) -> u32;
-    #[cfg(relay_host)]
+    #[cfg(relay)]
     fn relay_merge(
         first: *const u16,
         first_len: usize,
@@ -115,7 +115,7 @@ unsafe extern "C" {
         masks: *mut u32,
         masks_len: usize,
     ) -> u32;
-    #[cfg(relay_host)]
+    #[cfg(relay)]
     fn relay_questions(
         log: *const u16,
         len: usize,
@@ -125,7 +125,7 @@ unsafe extern "C" {
         answers: *mut u32,
         answers_len: usize,
     ) -> u32;
-    #[cfg(relay_host)]
+    #[cfg(relay)]
     fn relay_compare(
         first: *const u8,
         first_len: usize,
@@ -136,17 +136,17 @@ unsafe extern "C" {
         answer: *mut u64,
         answer_len: usize,
     ) -> u32;
-    #[cfg(relay_host)]
+    #[cfg(relay)]
     fn relay_station_fresh(state: *mut u8, state_len: usize, n: u32, own: u32) -> u32;
-    #[cfg(relay_host)]
+    #[cfg(relay)]
     fn relay_station_post(state: *mut u8, state_len: usize, desk: u32, kind: u32, event: u32, argument: i32, channel: u32) -> u32;
-    #[cfg(relay_host)]
+    #[cfg(relay)]
     fn relay_station_write(state: *const u8, state_len: usize, frame: *mut u8, frame_len: usize, length: *mut u32, length_len: usize) -> u32;
-    #[cfg(relay_host)]
+    #[cfg(relay)]
     fn relay_station_hear(state: *mut u8, state_len: usize, frame: *const u8, frame_len: usize, taken: *mut u8, taken_len: usize) -> u32;
-    #[cfg(relay_host)]
+    #[cfg(relay)]
     fn relay_station_turn(state: *mut u8, state_len: usize, report: *mut u8, report_len: usize) -> u32;
-    #[cfg(all(relay_host, relay_bench))]
+    #[cfg(all(relay, relay_bench))]
     fn relay_bench_codec(state: *mut u8, state_len: usize, times: u32, judged: u32) -> u32;
     #[cfg(relay_bench)]
     fn relay_bench_rounds(schedule: *const u8, len: usize, n: u32, rounds: u32) -> u32;
@@ -207,7 +207,7 @@ extern "C" fn load_rust(_bytes: *const u8, _len: usize, n: u32, rounds: u32) -> 
     load_rounds(rounds, |state, due, buffer, next| load::call(black_box(state), n, due, black_box(0), buffer, next))
 }
 
-#[cfg(relay_host)]
+#[cfg(relay)]
 extern "C" fn load_project(_bytes: *const u8, _len: usize, n: u32, rounds: u32) -> u32 {
     load_rounds(rounds, |state, due, buffer, next| {
         // SAFETY: pointers and lengths are those of slices that live through the call.
@@ -216,13 +216,13 @@ extern "C" fn load_project(_bytes: *const u8, _len: usize, n: u32, rounds: u32) 
 }
 
 /// The bytes of a station's state and of a turn's report: RELAY_STATION_BYTES and RELAY_TURN_BYTES of include/relay.h.
-#[cfg(relay_host)]
+#[cfg(relay)]
 const STATION_BYTES: usize = 1492;
-#[cfg(relay_host)]
+#[cfg(relay)]
 const TURN_BYTES: usize = 220;
 
 /// What `recorded::rounds` does, through the calls for C: the state after it, and the sum; nothing where a call is refused.
-#[cfg(relay_host)]
+#[cfg(relay)]
 fn play(recorded: &[Vec<Vec<u8>>], n: usize) -> Option<([u8; STATION_BYTES], u32)> {
     use recorded::{OWN, mix};
     let (mut state, mut frame, mut taken, mut report) = ([0u8; STATION_BYTES], [0u8; frames::LARGEST_FRAME], [0u8; 16], [0u8; TURN_BYTES]);
@@ -253,7 +253,7 @@ fn play(recorded: &[Vec<Vec<u8>>], n: usize) -> Option<([u8; STATION_BYTES], u32
     Some((state, sum))
 }
 
-#[cfg(relay_host)]
+#[cfg(relay)]
 fn station_project(recorded: &[Vec<Vec<u8>>], n: usize) -> u32 {
     play(recorded, n).map_or(0, |(_, sum)| sum)
 }
@@ -336,7 +336,7 @@ const CHECKS: u32 = 25_600;
 const STATION_ROUNDS: u32 = 2_048;
 const LOAD_STATIONS: u32 = 65_536;
 const RECORDED_ROUNDS: usize = 64;
-#[cfg(all(relay_host, relay_bench))]
+#[cfg(all(relay, relay_bench))]
 const CODED: u32 = 2_048;
 
 fn call(function: Function, bytes: &[u8], first: u32, second: u32) -> u32 {
@@ -485,7 +485,7 @@ impl<F: Copy> Measure<'_, F> {
 }
 
 /// Prints the time of reading a station's bytes and writing them again, which the project alone does; false if the bytes change.
-#[cfg(all(relay_host, relay_bench))]
+#[cfg(all(relay, relay_bench))]
 fn print_codec(name: &str, codec: Codec, state: &[u8], judged: u32, span: Duration) -> bool {
     let mut bytes = state.to_vec();
     let mut best = Duration::MAX;
@@ -643,7 +643,7 @@ fn main() -> ExitCode {
         let units = (times * RECORDED_ROUNDS) as u32;
         agree &= Measure { name, units, work: &work }.print(PROJECT_STATION, recorded::rounds as StationRounds, span);
     }
-    #[cfg(all(relay_host, relay_bench))]
+    #[cfg(all(relay, relay_bench))]
     if let Some((state, _)) = play(&recorded::record(16, RECORDED_ROUNDS), 16) {
         for (judged, name) in [(0, "a station read and written, N = 16"), (1, "a station judged, read and written, N = 16")] {
             agree &= print_codec(name, relay_bench_codec, &state, judged, span);

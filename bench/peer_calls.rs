@@ -195,7 +195,7 @@ pub unsafe extern "C" fn frame_check_peer_rust(bytes: *const u8, len: usize, n: 
     number(&frames::check(frame, n as usize, own as usize, edition))
 }
 
-/// The load generator, as relay_load of relay_host.
+/// The load generator, as relay_load of relay.
 ///
 /// # Safety
 /// Both pointers are those of slices of the lengths given.
@@ -206,7 +206,7 @@ pub unsafe extern "C" fn peer_load(state: u32, n: u32, due: u32, head: u32, out:
     load::call(state, n, due, head, out, next)
 }
 
-/// The comparison of two air logs, as relay_compare of relay_host; the answer has two places.
+/// The comparison of two air logs, as relay_compare of relay; the answer has two places.
 ///
 /// # Safety
 /// The pointers are those of slices of the lengths given, and of two places.

@@ -1,4 +1,4 @@
-"""docs/ARCHITECTURE.md against the repository: every crate has its place in the picture, its arrows and its paragraph, and arrows go down."""
+"""docs/ARCHITECTURE.md against the repository: every crate has its row, with what it stands on, rows come lowest first, and named files are there."""
 
 import pathlib
 import re
@@ -30,10 +30,11 @@ def direct():
     return {name: sorted(set(names).difference(*(found.get(other, set()) for other in names))) for name, names in below.items()}
 
 
-def paragraphs():
-    """Name -> what it stands on, from the document's paragraphs in their order."""
-    found = re.findall(r"^\*\*(\w+)\*\* (?:\(on ([^)]*)\) )?", DOCUMENT, re.MULTILINE)
-    return {name: re.findall(r"\w+", rest) for name, rest in found}
+def rows():
+    """Name -> what it stands on, from the document's table of crates in its order."""
+    table = DOCUMENT.split("## The crates")[1].split("\n## ")[0]
+    found = re.findall(r"^\| (\w+) \| ([\w, ]*?) ?\|", table, re.MULTILINE)
+    return {name: re.findall(r"\w+", rest) for name, rest in found if name != "Crate"}
 
 
 def read_first():
@@ -41,7 +42,7 @@ def read_first():
     section = DOCUMENT.split("## What to read first")[1].split("\n## ")[0]
     marked = {ROOT / "crates" / "links" / "specs" / f"{name}.antt" for name in ("Clock", "Number", "Examples", "Log/Inside")}
     count = 0
-    for folder in re.findall(r"`(\w+/specs)`", section.split("The listing has its own")[0]):
+    for folder in re.findall(r"`(\w+/specs)`", section.split("Text has its own")[0]):
         for path in (ROOT / "crates" / folder).rglob("*.antt"):
             if path not in marked and "Inner" not in path.parts:
                 lines = (line.strip() for line in path.read_text(encoding="utf-8").splitlines())
@@ -56,25 +57,18 @@ class Architecture(unittest.TestCase):
         self.assertGreater(read_first(), 500)
         self.assertLessEqual(read_first(), int(most[1].replace(",", "")))
 
-    def test_paragraphs(self):
-        self.assertEqual({name: sorted(below) for name, below in paragraphs().items()}, direct())
+    def test_short(self):
+        """The map stays short enough to be read at once."""
+        self.assertLessEqual(len(DOCUMENT.splitlines()), 100)
 
-    def test_arrows_go_down(self):
+    def test_rows(self):
+        self.assertEqual({name: sorted(below) for name, below in rows().items()}, direct())
+
+    def test_lowest_first(self):
         seen = {"io", "libc"}  # the toolchain's
-        for name, below in paragraphs().items():
+        for name, below in rows().items():
             self.assertLessEqual(set(below), seen, name)
             seen.add(name)
-
-    def test_picture(self):
-        """Every crate stands in the picture once, before what it stands on."""
-        places = {}
-        for name in crates():
-            found = [match.start() for match in re.finditer(rf"\b{name}\b", "\n".join(re.findall(r"(?m)^    .*$", DOCUMENT)))]
-            self.assertEqual(len(found), 1, name)
-            places[name] = found[0]
-        for name, below in direct().items():
-            for other in set(below) & set(places):
-                self.assertLess(places[name], places[other], f"{name} and {other}")
 
     def test_named_files(self):
         """Every file that is named is there: in the repository, in a crate, or in some crate where the name begins with src, specs or proofs."""

@@ -15,7 +15,7 @@ ROOT = pathlib.Path(__file__).resolve().parent.parent
 # Source -> the constant arrays it may have, each with what it serves.
 ALLOWED = {
     "crates/air_logs/src/lib.rt": {r'b"END\n"': "the last line of a listing, as the log reader compares it"},
-    "crates/kind_limits/src/lib.rt": {
+    "crates/bodies/src/limits.rt": {
         "KINDS": "the table of kinds: the least and the most of each kind's event and argument",
     },
     "crates/lines/src/lib.rt": {r'b"END\n"': "the last line of a listing"},
@@ -25,8 +25,8 @@ ALLOWED = {
     },
 }
 
-# The crates in which successors and the packing of labels are worked out. No list can allow an array here.
-WORKED_OUT = ("crates/labels/", "crates/label_words/")
+# The crate in which successors and the packing of labels are worked out. No list can allow an array here.
+WORKED_OUT = ("crates/labels/",)
 
 
 def faults(root, allowed):
@@ -60,7 +60,7 @@ class Sources(unittest.TestCase):
             if any((ROOT / "crates" / crate / "src").glob("*")):
                 self.assertTrue(any(source.startswith(f"crates/{crate}/src/") for source in read), crate)
         self.assertIn("crates/labels/src/lib.rt", read)
-        self.assertIn("crates/label_words/src/lib.rt", read)
+        self.assertIn("crates/labels/src/words.rt", read)
 
 
 PLANTED = {
@@ -82,7 +82,7 @@ PLANTED = {
     "one over several lines": ("fn f() -> [u32; 3] {\n    [\n        1,\n        4,\n        16,\n    ]\n}",
                                "[ 1, 4, 16, ]"),
     "negative numbers": ("fn f() { let a = [-1, -4]; }", "[-1, -4]"),
-    "named constants": ("fn f() { let a = [kinds::DONE, BAD_NUMBER]; }", "[kinds::DONE, BAD_NUMBER]"),
+    "named constants": ("fn f() { let a = [bodies::DONE, BAD_NUMBER]; }", "[bodies::DONE, BAD_NUMBER]"),
     "constants worked with": ("fn f() { let a = [1 << 2, (4 * 4) as u8]; }", "[1 << 2, (4 * 4) as u8]"),
     "two truth values": ("fn f() { let a = [true, false]; }", "[true, false]"),
     "two letters": ("fn f() { let a = [b'a', b']']; }", "[b'a', b']']"),
@@ -150,7 +150,7 @@ class TheTestCanFail(unittest.TestCase):
     def test_planted_for_labels(self):
         """The successor and the weights of the labels in a word, looked up in arrays."""
         successor = ROOT / "crates" / "labels" / "src" / "lib.rt"
-        packing = ROOT / "crates" / "label_words" / "src" / "lib.rt"
+        packing = ROOT / "crates" / "labels" / "src" / "words.rt"
         for path, right, wrong, array in (
                 (successor, "(((label as u32) + 1) % 3) as u8", "[1u8, 2, 0][label as usize]", "[1u8, 2, 0]"),
                 (packing, "word * 4 +", "word * [4u32, 4][0] +", "[4u32, 4]"),

@@ -19,7 +19,7 @@ PROGRAM = '#include <stdio.h>\n#include "%s"\nint main(void)\n{\n%s\n    return 
 def archive():
     """The archive, built where it is missing."""
     library.shared_object()
-    return pathlib.Path(os.environ.get("RELAY_HOST_ARCHIVE") or ROOT / library.ARCHIVE)
+    return pathlib.Path(os.environ.get("RELAY_ARCHIVE") or ROOT / library.ARCHIVE)
 
 
 def examples(text):

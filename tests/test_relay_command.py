@@ -110,7 +110,7 @@ class Library(unittest.TestCase):
         self.root = pathlib.Path(self.folder.name)
         shutil.copytree(ROOT / "tools", self.root / "tools", ignore=shutil.ignore_patterns("__pycache__"))
         (self.root / "bin").mkdir()
-        self.archive = self.root / "target" / "staticlib" / "librelay_host.a"
+        self.archive = self.root / "target" / "staticlib" / "librelay.a"
         self.environment = {name: value for name, value in os.environ.items() if not name.startswith("RELAY_")}
 
     def tearDown(self):
@@ -145,9 +145,9 @@ class Library(unittest.TestCase):
         self.build(1)
         other = self.root / "other.a"
         self.archive.rename(other)
-        self.assertEqual(self.call(RELAY_HOST_ARCHIVE=str(other)), ("7", ""))
+        self.assertEqual(self.call(RELAY_ARCHIVE=str(other)), ("7", ""))
         self.assertEqual(self.call(RELAY_LIBRARY=str(other.with_suffix(".so"))), ("7", ""))
-        self.assertEqual(self.call(RELAY_HOST_ARCHIVE="/nowhere.a")[0], "there is no archive /nowhere.a")
+        self.assertEqual(self.call(RELAY_ARCHIVE="/nowhere.a")[0], "there is no archive /nowhere.a")
         self.assertIn("cannot load the library", self.call(RELAY_LIBRARY="/nowhere.so")[0])
 
     def test_what_is_missing(self):
@@ -155,7 +155,7 @@ class Library(unittest.TestCase):
         self.assertEqual(self.call(PATH=empty)[0], "this machine lacks 'rt', the command of the Rattle toolchain")
         self.build(1)
         self.assertEqual(self.call(PATH=empty)[0], "this machine lacks 'gcc': install Debian's package gcc")
-        self.assertIn("has no relay_product: 'rt staticlib relay_host' builds it anew", self.call("relay_product")[0])
+        self.assertIn("has no relay_product: 'rt staticlib relay' builds it anew", self.call("relay_product")[0])
         self.archive.write_text("no archive")
         self.assertIn("gcc cannot make a shared object of", self.call()[0])
 
@@ -169,8 +169,8 @@ class Library(unittest.TestCase):
         answer, words = self.call(PATH=f"{rt.parent}:{os.environ['PATH']}")
         self.assertEqual(answer, "7")
         self.assertEqual(words.splitlines(), [
-            "relay: target/staticlib/librelay_host.a is missing; "
-            "'rt staticlib relay_host' proves and builds it, which takes some minutes", "rt staticlib relay_host"])
+            "relay: target/staticlib/librelay.a is missing; "
+            "'rt staticlib relay' proves and builds it, which takes some minutes", "rt staticlib relay"])
 
 
 if __name__ == "__main__":

@@ -1,6 +1,6 @@
 """The relay's C library from Python: finds or makes the shared object, and one function for each call.
 
-The shared object stands beside the archive target/staticlib/librelay_host.a and is made of it. RELAY_HOST_ARCHIVE names
+The shared object stands beside the archive target/staticlib/librelay.a and is made of it. RELAY_ARCHIVE names
 another archive, RELAY_LIBRARY another shared object.
 """
 
@@ -20,7 +20,7 @@ from array import array
 from .faults import Missing
 
 ROOT = pathlib.Path(__file__).resolve().parents[2]
-ARCHIVE = pathlib.Path("target", "staticlib", "librelay_host.a")
+ARCHIVE = pathlib.Path("target", "staticlib", "librelay.a")
 PLACES = 16
 
 
@@ -30,7 +30,7 @@ def shared_object():
     """The shared object's file, made anew where its archive is newer."""
     if os.environ.get("RELAY_LIBRARY"):
         return pathlib.Path(os.environ["RELAY_LIBRARY"])
-    named = os.environ.get("RELAY_HOST_ARCHIVE")
+    named = os.environ.get("RELAY_ARCHIVE")
     archive = pathlib.Path(named) if named else ROOT / ARCHIVE
     if not archive.exists() and not named:
         build_archive()
@@ -45,9 +45,9 @@ def shared_object():
 def build_archive():
     if not shutil.which("rt"):
         raise Missing("this machine lacks 'rt', the command of the Rattle toolchain")
-    print(f"relay: {ARCHIVE} is missing; 'rt staticlib relay_host' proves and builds it, which takes some minutes",
+    print(f"relay: {ARCHIVE} is missing; 'rt staticlib relay' proves and builds it, which takes some minutes",
           file=sys.stderr)
-    subprocess.run(["rt", "staticlib", "relay_host"], cwd=ROOT, stdin=subprocess.DEVNULL, stdout=2, check=False)
+    subprocess.run(["rt", "staticlib", "relay"], cwd=ROOT, stdin=subprocess.DEVNULL, stdout=2, check=False)
 
 
 def link(archive, made):
@@ -73,7 +73,7 @@ def exported(name):
     except OSError as wrong:
         raise Missing(f"cannot load the library: {wrong}") from None
     except AttributeError:
-        raise Missing(f"{file} has no {name}: 'rt staticlib relay_host' builds it anew") from None
+        raise Missing(f"{file} has no {name}: 'rt staticlib relay' builds it anew") from None
     function.restype = ctypes.c_uint32
     return function
 

@@ -9,8 +9,8 @@ use lib.Dec.{leb, ltb, eqb}
 use lib.ListN.{length, drop, getD, length-drop}
 use lib.Seq.{drop-cons, drop-length}
 use borrow.Author.Tests.{lt-leb, le-leb, lt-ltb, le-ltb, eqb-true, eqb-false, eq-eqb, ne-eqb}
-use Rattle.column_reader.specs.declared.Reading.the-variants.{Blank}
-use Rattle.column_reader.specs.Reading.{next, readFrom}
+use Rattle.columns.specs.declared.reader.Reading.the-variants.{Blank}
+use Rattle.columns.specs.Reading.{next, readFrom}
 use Rattle.air_logs_spec.specs.Form.{sameBytes}
 use Rattle.air_logs_spec.proofs.Fields.{same-only}
 use Rattle.air_logs.specs.Inner.{isDigit, allDigits, isPositive, isUnsigned, isSigned}

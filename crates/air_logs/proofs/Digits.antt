@@ -11,10 +11,10 @@ use lib.Dec.{leb, ltb, eqb}
 use lib.ListN.{length, drop, getD, length-drop}
 use lib.Seq.{getD-drop}
 use borrow.Author.Tests.{leb-true, leb-false, ltb-true, ltb-false, eqb-true, eqb-false, ne-eqb, lt-ltb, le-ltb, le-leb, lt-leb}
-use Rattle.places.proofs.Laws.{and-left, and-right}
-use Rattle.column_reader.specs.declared.Reading.{Reading}
-use Rattle.column_reader.specs.declared.Reading.the-variants.{Blank, Minus, Number, Malformed}
-use Rattle.column_reader.specs.Reading.{digitOf, started, grown, next, readFrom, readColumns}
+use Rattle.lists.proofs.Laws.{and-left, and-right}
+use Rattle.columns.specs.declared.reader.Reading.{Reading}
+use Rattle.columns.specs.declared.reader.Reading.the-variants.{Blank, Minus, Number, Malformed}
+use Rattle.columns.specs.Reading.{digitOf, started, grown, next, readFrom, readColumns}
 use Rattle.script.specs.Line.{isNatural, isWhole}
 use Rattle.air_logs.specs.Inner.{isDigit, allDigits, isPositive, isUnsigned, isSigned, Unpadded}
 

@@ -9,7 +9,7 @@ use lib.Dec.{ltb, eqb}
 use lib.ListN.{length, take, drop, getD, length-drop}
 use lib.Seq.{length-take-le, take-add, drop-drop, drop-cons, getD-drop}
 use borrow.Author.Tests.{eq-eqb, ne-eqb, ltb-false, not-true, not-false}
-use Rattle.column_writer.specs.Writing.{lead, columns, natColumns}
+use Rattle.columns.specs.Writing.{lead, columns, natColumns}
 use Rattle.script.specs.Line.{isNatural, isWhole}
 use Rattle.lines.specs.Lines.{endLine}
 use Rattle.air_logs_spec.specs.Form.{field, isLetter, isLine, sameBytes, isListing}

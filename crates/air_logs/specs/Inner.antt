@@ -5,8 +5,8 @@ use mathlib.Core.List.{List, [], _∷_}
 use mathlib.Core.Path.{_≡_}
 use lib.Dec.{leb, ltb, eqb}
 use lib.ListN.{length, take, drop, getD}
-use Rattle.column_reader.specs.declared.Reading.the-variants.{Blank}
-use Rattle.column_reader.specs.Reading.{readFrom, readColumns}
+use Rattle.columns.specs.declared.reader.Reading.the-variants.{Blank}
+use Rattle.columns.specs.Reading.{readFrom, readColumns}
 use Rattle.air_logs_spec.specs.Form.{isListing}
 use Rattle.air_logs_spec.specs.Logs.{isKept, logOf}
 

@@ -3,13 +3,13 @@
 // their bytes are.
 
 use air_logs_spec::Compared;
-use kinds::refusals::BAD_LISTING;
-use kinds::refusals::BAD_NUMBER;
+use bodies::refusals::BAD_LISTING;
+use bodies::refusals::BAD_NUMBER;
 ghost use mathlib.Core.Bool.{true};
 ghost use mathlib.Core.Path.{_≡_};
 ghost use Prim.Native.Nat.{_+_, _%_, _≤_, _<_};
 ghost use lib.ListN.{length, drop};
-ghost use Rattle.column_reader.specs.Reading.{readColumns};
+ghost use Rattle.columns.specs.Reading.{readColumns};
 ghost use Rattle.script.specs.Line.{isNatural, isWhole};
 ghost use Rattle.lines.specs.Lines.{endLine};
 ghost use Rattle.air_logs_spec.specs.Form.{isLetter, isLine, sameBytes, isListing};

@@ -8,24 +8,24 @@ use native.Mathlib.Omega.{arith}
 use lib.Dec.{ltb, eqb}
 use lib.ListN.{length, length-append}
 use borrow.Author.Tests.{ltb-true}
-use Rattle.kinds.specs.declared.Body.the-variants.{Empty}
-use Rattle.kinds.specs.Refusals.{done}
-use Rattle.kind_limits.specs.Limits.{postable, onChannel}
-use Rattle.lanes.specs.Waiting.{isDesk, hasRoom}
-use Rattle.station_rules.specs.declared.Station.{Station}
-use Rattle.station_rules.specs.declared.Taking.{Taking}
-use Rattle.group_rules.specs.declared.Post as group
-use Rattle.group_rules.specs.declared.RoundDone.{RoundDone}
-use Rattle.group_rules.specs.State.{stationAt, sizeOf, groupInside}
-use Rattle.group_rules.specs.Calls.{groupPostRefusal, groupPostCall, roundCall}
-use Rattle.group_rules.specs.History.{Call, post, round, History, next, continued, collect, reportIn}
-use Rattle.group_rules.proofs.Members.{Members}
-use Rattle.group_rules.proofs.MembersPost.{post-members, post-refusal}
-use Rattle.group_rules.proofs.MembersRound.{round-members}
-use Rattle.group_rules.proofs.PostsAccounted.{collect-last}
+use Rattle.bodies.specs.declared.Body.the-variants.{Empty}
+use Rattle.bodies.specs.Refusals.{done}
+use Rattle.bodies.specs.Limits.{postable, onChannel}
+use Rattle.queues.specs.Waiting.{isDesk, hasRoom}
+use Rattle.station_spec.specs.declared.Station.{Station}
+use Rattle.station_spec.specs.declared.Taking.{Taking}
+use Rattle.group_spec.specs.declared.Post as group
+use Rattle.group_spec.specs.declared.RoundDone.{RoundDone}
+use Rattle.group_spec.specs.State.{stationAt, sizeOf, groupInside}
+use Rattle.group_spec.specs.Calls.{groupPostRefusal, groupPostCall, roundCall}
+use Rattle.group_spec.specs.History.{Call, post, round, History, next, continued, collect, reportIn}
+use Rattle.group_spec.proofs.Members.{Members}
+use Rattle.group_spec.proofs.MembersPost.{post-members, post-refusal}
+use Rattle.group_spec.proofs.MembersRound.{round-members}
+use Rattle.group_spec.proofs.PostsAccounted.{collect-last}
 use Rattle.lines.specs.Lines.{turnedDown}
-use Rattle.listing_rules.specs.Listing.{refusalText, refusedText}
-use Rattle.listing_rules.specs.Calls.{callText, callsText}
+use Rattle.listing_spec.specs.Listing.{refusalText, refusedText}
+use Rattle.listing_spec.specs.Calls.{callText, callsText}
 use Rattle.air_logs_spec.proofs.Carried.{empty-kind}
 use Rattle.air_logs_spec.proofs.ReadBack.{in-columns}
 use Rattle.air_logs_spec.proofs.Prints.{Prints, prints-none, prints-as, prints-both}

@@ -8,37 +8,37 @@ use mathlib.Core.List.{List, [], _∷_, _++_}
 use native.Mathlib.Omega.{arith}
 use lib.Dec.{ltb, eqb}
 use lib.ListN.{length, getD, replicate, List·getD-append, getD-replicate}
-use Rattle.kinds.specs.declared.Body.{Body}
-use Rattle.kinds.specs.declared.Body.the-variants.{Empty}
-use Rattle.kinds.specs.Refusals.{done}
-use Rattle.kind_limits.specs.Limits.{numbersInside, insideKind}
-use Rattle.kind_limits.proofs.Laws.{inside-kind}
+use Rattle.bodies.specs.declared.Body.{Body}
+use Rattle.bodies.specs.declared.Body.the-variants.{Empty}
+use Rattle.bodies.specs.Refusals.{done}
+use Rattle.bodies.specs.Limits.{numbersInside, insideKind}
+use Rattle.bodies.proofs.LimitLaws.{inside-kind}
 use Rattle.links.specs.Log.{hearsIn}
-use Rattle.places.proofs.Keeps.{cond-keeps}
-use Rattle.places.proofs.Laws.{allBelow-at, fill-below}
-use Rattle.frame_rules.specs.declared.Record.{Record}
-use Rattle.lanes.specs.Queue.{noSlot}
-use Rattle.station_rules.specs.declared.Station.{Station}
-use Rattle.station_rules.specs.declared.Taking.{Taking}
-use Rattle.station_rules.specs.State.{sentRecords, laneAt}
-use Rattle.station_rules.specs.Hearing.{Hearing, takes, hearRecord, hearRecords, hearFrame}
-use Rattle.station_rules.specs.Turn.{airs, rowOf, broadcastEnds, turnReport}
-use Rattle.station_rules.specs.Calls.{noTurn}
-use Rattle.station_rules.proofs.HearRecord.{heardOne, hearRecord-cases}
-use Rattle.station_rules.proofs.BodyLaws.{takeable-inside}
-use Rattle.station_rules.proofs.LimitsHear.{Carried}
-use Rattle.station_rules.proofs.LimitsHearing.{AllCarried}
-use Rattle.station_rules.proofs.LimitsSent.{sent-carried}
-use Rattle.station_rules.specs.Limits.{takeable}
-use Rattle.station_rules.proofs.LimitsTurn.{started-cases}
-use Rattle.station_rules.proofs.LimitsLane.{lane-first}
-use Rattle.station_rules.proofs.Setters.{Shaped}
-use Rattle.station_rules.proofs.StationLimits.{Inside}
-use Rattle.group_rules.specs.declared.Report.{Report}
-use Rattle.group_rules.specs.State.{stationAt, sizeOf}
-use Rattle.group_rules.specs.Calls.{noTaking, heardBelow, heard, noReport, reportOf, roundRefusal, roundCall}
-use Rattle.group_rules.proofs.Members.{Members}
-use Rattle.group_rules.proofs.MembersRound.{Runs, runs, run-hears, run-room}
+use Rattle.lists.proofs.Keeps.{cond-keeps}
+use Rattle.lists.proofs.Laws.{allBelow-at, setBelow-inside}
+use Rattle.frame_spec.specs.declared.Record.{Record}
+use Rattle.queues.specs.Queue.{noSlot}
+use Rattle.station_spec.specs.declared.Station.{Station}
+use Rattle.station_spec.specs.declared.Taking.{Taking}
+use Rattle.station_spec.specs.State.{sentRecords, laneAt}
+use Rattle.station_spec.specs.Hearing.{Hearing, takes, hearRecord, hearRecords, hearFrame}
+use Rattle.station_spec.specs.Turn.{airs, rowOf, broadcastEnds, turnReport}
+use Rattle.station_spec.specs.Calls.{noTurn}
+use Rattle.station_spec.proofs.HearRecord.{heardOne, hearRecord-cases}
+use Rattle.station_spec.proofs.BodyLaws.{takeable-inside}
+use Rattle.station_spec.proofs.LimitsHear.{Carried}
+use Rattle.station_spec.proofs.LimitsHearing.{AllCarried}
+use Rattle.station_spec.proofs.LimitsSent.{sent-carried}
+use Rattle.station_spec.specs.Limits.{takeable}
+use Rattle.station_spec.proofs.LimitsTurn.{started-cases}
+use Rattle.station_spec.proofs.LimitsLane.{lane-first}
+use Rattle.station_spec.proofs.Setters.{Shaped}
+use Rattle.station_spec.proofs.StationLimits.{Inside}
+use Rattle.group_spec.specs.declared.Report.{Report}
+use Rattle.group_spec.specs.State.{stationAt, sizeOf}
+use Rattle.group_spec.specs.Calls.{noTaking, heardBelow, heard, noReport, reportOf, roundRefusal, roundCall}
+use Rattle.group_spec.proofs.Members.{Members}
+use Rattle.group_spec.proofs.MembersRound.{Runs, runs, run-hears, run-room}
 
 -- a body that a lane may hold is inside the limits of its kind, and so is Empty
 takeable-kind : (edition : ℕ) (b : Body) → takeable edition b ≡ true → insideKind b ≡ true
@@ -120,7 +120,7 @@ module _ (n : ℕ) (g : List Station) (c : Members n g) (masks : List ℕ) where
       insideKind (getD ((turnReport s) .row) k noSlot .body) ≡ true
   unfolding turnReport airs rowOf
   turn-aired s h e k l =
-      rw (e, fill-below (s .n) (λ j. record { body = (laneAt s j) .first }) (replicate 16 noSlot) k noSlot l (omega (arith, h .high)))
+      rw (e, setBelow-inside (s .n) (λ j. record { body = (laneAt s j) .first }) (replicate 16 noSlot) k noSlot l (omega (arith, h .high)))
       (takeable-kind (s .edition) ((laneAt s k) .first)
       (lane-first (s .edition) (cond (eqb k (s .own)) 1 2) (laneAt s k) (h .places k l .lane)
       (ltb-true 0 ((laneAt s k) .len) (allBelow-at (s .n) (λ j. ltb 0 ((laneAt s j) .len)) e k l))))
@@ -161,7 +161,7 @@ module _ (n : ℕ) (g : List Station) (c : Members n g) (masks : List ℕ) where
           (x : Report) × ((d : Report) → getD ((roundCall g masks) .reports) i d ≡ x) × Sound n x
       go true e = (
         reportOf g masks i,
-        (λ d. rw e (fill-below (sizeOf g) (reportOf g masks) (replicate 16 noReport) i d (omega (arith, c .size)) (omega (arith, c .high)))),
+        (λ d. rw e (setBelow-inside (sizeOf g) (reportOf g masks) (replicate 16 noReport) i d (omega (arith, c .size)) (omega (arith, c .high)))),
         report-sound (runs g masks e) i l,
       )
       go false e = (noReport, (λ d. rw e (getD-replicate 16 i noReport d (omega (arith, c .high)))), none-sound n)

@@ -4,12 +4,12 @@ use mathlib.Core.List.{List, [], _∷_, _++_}
 use Prim.Native.Nat.{ℕ}
 use mathlib.Core.Bool.{true, false}
 use lib.IntN.{negsuc}
-use Rattle.kinds.specs.declared.Body.{Body}
-use Rattle.kinds.specs.declared.Body.the-variants.{Neutral, Drop, Shift}
-use Rattle.column_reader.specs.Reading.{started, grown, next, readFrom}
-use Rattle.column_writer.specs.Writing.{lead, columns, natColumns}
+use Rattle.bodies.specs.declared.Body.{Body}
+use Rattle.bodies.specs.declared.Body.the-variants.{Neutral, Drop, Shift}
+use Rattle.columns.specs.Reading.{started, grown, next, readFrom}
+use Rattle.columns.specs.Writing.{lead, columns, natColumns}
 use Rattle.lines.specs.Lines.{airing, delivered, headBytes, bodyBytes, lineBytes, endLine}
-use Rattle.listing_rules.specs.Listing.{linesOf}
+use Rattle.listing_spec.specs.Listing.{linesOf}
 use Rattle.air_logs_spec.specs.declared.Compared.{Compared}
 use Rattle.air_logs_spec.specs.declared.Compared.the-variants.{Equal, FirstBegins, SecondBegins, Different, Refused}
 use Rattle.air_logs_spec.specs.Form.{isLine, sameBytes, areListing}

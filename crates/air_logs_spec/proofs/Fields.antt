@@ -9,15 +9,15 @@ use lib.Dec.{leb, eqb}
 use lib.IntN.{ℤ, pos, negsuc, natAbs}
 use lib.ListN.{length}
 use borrow.Author.Tests.{eqb-true, eq-eqb, leb-true, le-leb}
-use Rattle.places.proofs.Laws.{and-both, and-left, and-right}
-use Rattle.column_reader.specs.declared.Reading.{Reading}
-use Rattle.column_reader.specs.declared.Reading.the-variants.{Blank, Minus, Number, Malformed}
-use Rattle.column_reader.specs.Reading.{readColumns}
-use Rattle.column_reader.proofs.Only.{reads-exactly}
-use Rattle.column_reader.proofs.RoundTrip.{read-written}
-use Rattle.column_writer.specs.Writing.{Fits, columns, natColumns}
+use Rattle.lists.proofs.Laws.{and-both, and-left, and-right}
+use Rattle.columns.specs.declared.reader.Reading.{Reading}
+use Rattle.columns.specs.declared.reader.Reading.the-variants.{Blank, Minus, Number, Malformed}
+use Rattle.columns.specs.Reading.{readColumns}
+use Rattle.columns.proofs.Only.{reads-exactly}
+use Rattle.columns.proofs.RoundTrip.{read-written}
+use Rattle.columns.specs.Writing.{Fits, columns, natColumns}
 use Rattle.script.specs.Line.{isNatural, naturalOf, isWhole, wholeOf, signedOf}
-use Rattle.listing_rules.proofs.LineEnds.{noEnd, noEnd-columns}
+use Rattle.listing_spec.proofs.LineEnds.{noEnd, noEnd-columns}
 use Rattle.air_logs_spec.specs.Form.{sameBytes}
 use Rattle.air_logs_spec.specs.Compare.{sameWhole}
 

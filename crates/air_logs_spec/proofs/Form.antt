@@ -10,11 +10,11 @@ use lib.Dec.{eqb}
 use lib.ListN.{length, take, drop, getD, length-append, length-drop, take-append-drop}
 use lib.Seq.{take-at, getD-at, drop-cons, drop-drop, drop-append-add}
 use borrow.Author.Tests.{eqb-true, ne-eqb}
-use Rattle.places.proofs.Laws.{and-left, and-right}
+use Rattle.lists.proofs.Laws.{and-left, and-right}
 use Rattle.script.specs.Line.{isNatural, isWhole}
 use Rattle.lines.specs.Lines.{endLine}
-use Rattle.listing_rules.specs.Listing.{Lines, rest, line, linesOf}
-use Rattle.listing_rules.proofs.LineEnds.{noEnd, noEnd-append, line-first, linesText, lines-text}
+use Rattle.listing_spec.specs.Listing.{Lines, rest, line, linesOf}
+use Rattle.listing_spec.proofs.LineEnds.{noEnd, noEnd-append, line-first, linesText, lines-text}
 use Rattle.air_logs_spec.specs.Form.{field, isLetter, isLine, sameBytes, isEnd, noneLeft, areListing, isListing}
 use Rattle.air_logs_spec.specs.Logs.{editIn, isKept, keptIn, logOf}
 use Rattle.air_logs_spec.proofs.Fields.{together, same-self, same-only, natural-plain, whole-plain}

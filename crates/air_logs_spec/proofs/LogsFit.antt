@@ -7,13 +7,13 @@ use mathlib.Core.Logic.{_⊎_, ⊎-elim}
 use native.Mathlib.Omega.{arith}
 use native.Mathlib.Decide.{decLe}
 use borrow.Author.Tests.{le-ltb}
-use Rattle.station_rules.specs.declared.Taking.{Taking}
-use Rattle.group_rules.specs.History.{airedList}
-use Rattle.group_rules.specs.Demand.{Begins}
-use Rattle.group_rules.proofs.Setups.{accepted}
-use Rattle.group_rules.proofs.DemandThree.{demand-three}
-use Rattle.listing_rules.specs.Listing.{setupOf, listingOf}
-use Rattle.listing_rules.specs.Calls.{callsOf}
+use Rattle.station_spec.specs.declared.Taking.{Taking}
+use Rattle.group_spec.specs.History.{airedList}
+use Rattle.group_spec.specs.Demand.{Begins}
+use Rattle.group_spec.proofs.Setups.{accepted}
+use Rattle.group_spec.proofs.DemandThree.{demand-three}
+use Rattle.listing_spec.specs.Listing.{setupOf, listingOf}
+use Rattle.listing_spec.specs.Calls.{callsOf}
 use Rattle.air_logs_spec.specs.Logs.{Edit, logOf}
 use Rattle.air_logs_spec.specs.Compare.{comparedFrom, compareRefusal, compareCall, Agrees, LogsFit}
 use Rattle.air_logs_spec.proofs.Meaning.{same-edit}

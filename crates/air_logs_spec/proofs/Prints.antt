@@ -6,8 +6,8 @@ use mathlib.Core.Bool.{true, cond, _&&_}
 use mathlib.Core.List.{List, [], _∷_, _++_, append-assoc, append-nil}
 use native.Mathlib.Omega.{arith}
 use lib.Dec.{eqb}
-use Rattle.kinds.specs.declared.Body.{Body}
-use Rattle.kinds.specs.Body.{kindOf, eventOf, argumentOf}
+use Rattle.bodies.specs.declared.Body.{Body}
+use Rattle.bodies.specs.Body.{kindOf, eventOf, argumentOf}
 use Rattle.lines.specs.Lines.{airing, lineBytes, endLine}
 use Rattle.round_lines.specs.Reports.{joined}
 use Rattle.air_logs_spec.specs.Form.{isListing}

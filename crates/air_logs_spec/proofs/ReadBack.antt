@@ -10,15 +10,15 @@ use lib.Signed.{ltZ}
 use lib.ListN.{length, take, drop, getD, length-append}
 use lib.Seq.{take-at, drop-at, getD-at}
 use borrow.Author.Tests.{lt-ltb, le-ltb}
-use Rattle.kinds.specs.declared.Body.{Body}
-use Rattle.kinds.specs.Body.{kindOf, eventOf, argumentOf}
-use Rattle.kind_limits.specs.Limits.{insideKind}
-use Rattle.kind_limits.proofs.Laws.{body-kind-short, body-event-short, body-argument-short}
-use Rattle.column_reader.specs.declared.Reading.the-variants.{Number}
-use Rattle.column_reader.specs.Reading.{readColumns}
-use Rattle.column_reader.proofs.RoundTrip.{read-written}
-use Rattle.column_writer.specs.Writing.{Fits, columns, natColumns, intColumns}
-use Rattle.column_writer.proofs.Fields.{length-columns}
+use Rattle.bodies.specs.declared.Body.{Body}
+use Rattle.bodies.specs.Body.{kindOf, eventOf, argumentOf}
+use Rattle.bodies.specs.Limits.{insideKind}
+use Rattle.bodies.proofs.LimitLaws.{body-kind-short, body-event-short, body-argument-short}
+use Rattle.columns.specs.declared.reader.Reading.the-variants.{Number}
+use Rattle.columns.specs.Reading.{readColumns}
+use Rattle.columns.proofs.RoundTrip.{read-written}
+use Rattle.columns.specs.Writing.{Fits, columns, natColumns, intColumns}
+use Rattle.columns.proofs.Fields.{length-columns}
 use Rattle.script.specs.Line.{signedOf}
 use Rattle.lines.specs.Lines.{headBytes, bodyBytes, lineBytes}
 use Rattle.air_logs_spec.specs.Form.{field, isLetter, isLine}

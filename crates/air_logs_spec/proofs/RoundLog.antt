@@ -8,19 +8,19 @@ use native.Mathlib.Decide.{ℕ-discrete, decLe}
 use lib.Dec.{ltb, eqb}
 use lib.ListN.{getD}
 use borrow.Author.Tests.{ltb-true, lt-ltb, le-ltb, eq-eqb, ne-eqb}
-use Rattle.kinds.specs.declared.Body.{Body}
-use Rattle.kinds.specs.Body.{isEmpty, isEdit}
-use Rattle.kind_limits.specs.Limits.{insideKind}
-use Rattle.places.specs.Places.{gather}
-use Rattle.places.proofs.Laws.{and-left, map-gather}
-use Rattle.lanes.specs.declared.Slot.{Slot}
-use Rattle.lanes.specs.Queue.{noSlot}
-use Rattle.station_rules.specs.declared.Station.{Station}
-use Rattle.station_rules.specs.declared.Taking.{Taking}
-use Rattle.group_rules.specs.declared.Report.{Report}
-use Rattle.group_rules.specs.Calls.{noReport, roundCall}
-use Rattle.group_rules.specs.History.{reportIn, editsOf}
-use Rattle.group_rules.proofs.Members.{Members}
+use Rattle.bodies.specs.declared.Body.{Body}
+use Rattle.bodies.specs.Body.{isEmpty, isEdit}
+use Rattle.bodies.specs.Limits.{insideKind}
+use Rattle.lists.specs.Below.{filterMap}
+use Rattle.lists.proofs.Laws.{and-left, map-filterMap}
+use Rattle.queues.specs.declared.Slot.{Slot}
+use Rattle.queues.specs.Queue.{noSlot}
+use Rattle.station_spec.specs.declared.Station.{Station}
+use Rattle.station_spec.specs.declared.Taking.{Taking}
+use Rattle.group_spec.specs.declared.Report.{Report}
+use Rattle.group_spec.specs.Calls.{noReport, roundCall}
+use Rattle.group_spec.specs.History.{reportIn, editsOf}
+use Rattle.group_spec.proofs.Members.{Members}
 use Rattle.lines.specs.Lines.{delivered, airing, ending}
 use Rattle.round_lines.specs.Reports.{joined, lineIf, takingText, takenText, editText, airedText, turnText, reportText, absent, roundText}
 use Rattle.air_logs_spec.specs.Form.{isLetter}
@@ -51,10 +51,10 @@ flat-chosen : (n : ℕ) (t : Bool) (g : ℕ → List Edit) → flat n (λ k. con
 flat-chosen n true g = refl
 flat-chosen n false g = flat-none n
 
-flat-gather : (n : ℕ) (test : ℕ → Bool) (f : ℕ → Edit) → flat n (λ k. cond (test k) (f k ∷ []) []) ≡ gather n test f
-unfolding flat gather
-flat-gather zero test f = refl
-flat-gather (suc n) test f = rw (flat-gather n test f)
+flat-filterMap : (n : ℕ) (test : ℕ → Bool) (f : ℕ → Edit) → flat n (λ k. cond (test k) (f k ∷ []) []) ≡ filterMap n test f
+unfolding flat filterMap
+flat-filterMap zero test f = refl
+flat-filterMap (suc n) test f = rw (flat-filterMap n test f)
 
 -- the edits of a row, where it is aired
 flat-row : (n : ℕ) (aired : Bool) (row : List Slot) →
@@ -62,8 +62,8 @@ flat-row : (n : ℕ) (aired : Bool) (row : List Slot) →
     ≡ map logged (cond aired (editsOf n row) [])
 unfolding editsOf
 flat-row n true row =
-    flat-gather n (λ k. isEdit (getD row k noSlot .body)) (λ k. editOf k (getD row k noSlot .body))
-    ∙ sym (map-gather logged n (λ k. isEdit (getD row k noSlot .body)) (λ k. record { source = k; body = getD row k noSlot .body }))
+    flat-filterMap n (λ k. isEdit (getD row k noSlot .body)) (λ k. editOf k (getD row k noSlot .body))
+    ∙ sym (map-filterMap logged n (λ k. isEdit (getD row k noSlot .body)) (λ k. record { source = k; body = getD row k noSlot .body }))
 flat-row n false row = flat-none n
 
 -- what station p airs in a report

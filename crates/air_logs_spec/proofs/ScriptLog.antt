@@ -9,19 +9,19 @@ use native.Mathlib.Decide.{decLe}
 use lib.Dec.{ltb}
 use lib.ListN.{length}
 use borrow.Author.Tests.{lt-ltb, le-ltb, ltb-true}
-use Rattle.kinds.specs.Refusals.{malformedLine}
-use Rattle.station_rules.specs.declared.Taking.{Taking}
-use Rattle.group_rules.specs.declared.RoundDone.{RoundDone}
-use Rattle.group_rules.specs.History.{Call, round, History, begun, collect, historyOf, reportIn, airedList}
-use Rattle.group_rules.proofs.Members.{Members, fresh-members}
+use Rattle.bodies.specs.Refusals.{malformedLine}
+use Rattle.station_spec.specs.declared.Taking.{Taking}
+use Rattle.group_spec.specs.declared.RoundDone.{RoundDone}
+use Rattle.group_spec.specs.History.{Call, round, History, begun, collect, historyOf, reportIn, airedList}
+use Rattle.group_spec.proofs.Members.{Members, fresh-members}
 use Rattle.script.specs.declared.Command.{Command}
 use Rattle.script.specs.declared.Command.the-variants.{Size, Post, Round, Malformed}
 use Rattle.script.specs.Line.{commandOf, masksOf}
 use Rattle.lines.specs.Lines.{endLine}
-use Rattle.listing_rules.specs.Listing.{setupOf, lastRound, refusalText, Lines, rest, line, linesOf, listingOf}
-use Rattle.listing_rules.specs.Calls.{called, callsIn, sizeSaid, sizeIn, linesAfter, sizeOf, callsOf, stops, sessionOf, callsText, RunsCalls}
-use Rattle.listing_rules.proofs.Commands.{First, command-first}
-use Rattle.listing_rules.proofs.ScriptCalls.{scripts-run}
+use Rattle.listing_spec.specs.Listing.{setupOf, lastRound, refusalText, Lines, rest, line, linesOf, listingOf}
+use Rattle.listing_spec.specs.Calls.{called, callsIn, sizeSaid, sizeIn, linesAfter, sizeOf, callsOf, stops, sessionOf, callsText, RunsCalls}
+use Rattle.listing_spec.proofs.Commands.{First, command-first}
+use Rattle.listing_spec.proofs.ScriptCalls.{scripts-run}
 use Rattle.air_logs_spec.specs.Form.{isListing}
 use Rattle.air_logs_spec.specs.Logs.{logOf}
 use Rattle.air_logs_spec.proofs.Prints.{Prints, prints-none, prints-as, prints-both, listing-form, listing-log}

@@ -7,8 +7,8 @@ use lib.Dec.{ltb, eqb}
 use lib.IntN.{ℤ}
 use lib.ListN.{length}
 use lib.Signed.{leZ}
-use Rattle.kinds.specs.Refusals.{done, badNumber, badListing, refuse}
-use Rattle.listing_rules.specs.Listing.{listingOf}
+use Rattle.bodies.specs.Refusals.{done, badNumber, badListing, refuse}
+use Rattle.listing_spec.specs.Listing.{listingOf}
 use Rattle.air_logs_spec.specs.declared.Compared.{Compared}
 use Rattle.air_logs_spec.specs.declared.Compared.the-variants.{Equal, FirstBegins, SecondBegins, Different, Refused}
 use Rattle.air_logs_spec.specs.Form.{isListing}

@@ -5,11 +5,11 @@ use mathlib.Core.Bool.{Bool, true, false, cond, _&&_, _||_}
 use mathlib.Core.List.{List, [], _∷_, _++_}
 use lib.Dec.{eqb}
 use lib.ListN.{getD, take, drop, length}
-use Rattle.column_reader.specs.declared.Reading.{Reading}
-use Rattle.column_reader.specs.Reading.{readColumns}
+use Rattle.columns.specs.declared.reader.Reading.{Reading}
+use Rattle.columns.specs.Reading.{readColumns}
 use Rattle.script.specs.Line.{isNatural, isWhole}
 use Rattle.lines.specs.Lines.{delivered, airing, ending, turnedDown, endLine}
-use Rattle.listing_rules.specs.Listing.{Lines, rest, line, linesOf}
+use Rattle.listing_spec.specs.Listing.{Lines, rest, line, linesOf}
 
 -- the number in the w columns from a place of a line
 abbrev pub field : List ℕ → ℕ → ℕ → Reading

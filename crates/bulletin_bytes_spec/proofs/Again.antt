@@ -11,16 +11,16 @@ use lib.Bits.{bitOr, or-lt}
 use lib.Dec.{eqb, ltb, leb}
 use lib.ListN.{length-set, getD-replicate, List·getD-eq-default}
 use lib.Pow.{pow-lt}
-use Rattle.kinds.specs.Refusals.{done, badNumber, outsideLimits, notAnEdit, alreadyIssued, refuse}
-use Rattle.places.proofs.Keeps.{cond-keeps, set-keeps}
-use Rattle.places.proofs.Laws.{and-left, and-right, fill-below, fill-above, length-fill}
+use Rattle.bodies.specs.Refusals.{done, badNumber, outsideLimits, notAnEdit, alreadyIssued, refuse}
+use Rattle.lists.proofs.Keeps.{cond-keeps, set-keeps}
+use Rattle.lists.proofs.Laws.{and-left, and-right, setBelow-inside, setBelow-above, length-setBelow}
 use Rattle.links.specs.Log.{hearsIn}
-use Rattle.broadcast_sets.specs.Sets.{united}
-use Rattle.station_rules.specs.declared.Setup.{Setup}
-use Rattle.station_rules.specs.declared.Station.{Station}
-use Rattle.group_rules.specs.Calls.{groupFreshRefusal}
-use Rattle.group_rules.specs.History.{Call, Call.post, Call.round}
-use Rattle.group_rules.proofs.Setups.{accepts}
+use Rattle.link_logs.specs.Sets.{united}
+use Rattle.station_spec.specs.declared.Setup.{Setup}
+use Rattle.station_spec.specs.declared.Station.{Station}
+use Rattle.group_spec.specs.Calls.{groupFreshRefusal}
+use Rattle.group_spec.specs.History.{Call, Call.post, Call.round}
+use Rattle.group_spec.proofs.Setups.{accepts}
 use Rattle.bulletins_spec.specs.declared.Bulletins.{Bulletins}
 use Rattle.bulletins_spec.specs.State.{setOf, eventInside, bulletinsInside, freshBulletins}
 use Rattle.bulletins_spec.specs.Calls.{freePlace, hasTag, hasFour, issueRefusal, issued, issueCall, setAfter, bulletinsAfter, roundPart, bulletinsRoundCall}
@@ -130,7 +130,7 @@ module _ (B : Bulletins) (f : Fits B) where
             record {
               tags = f .shape .tags;
               events = f .shape .events;
-              held = length-fill (B .n) after (B .held) ∙ f .shape .held;
+              held = length-setBelow (B .n) after (B .held) ∙ f .shape .held;
             };
         size = f .size;
         tags = f .tags;
@@ -139,9 +139,9 @@ module _ (B : Bulletins) (f : Fits B) where
             λ p l.
             elim (decLe (suc p) (B .n)) [
               | yes m ↦
-                  subst Set64 (sym (fill-below (B .n) after (B .held) p 0 m (omega (arith, f .shape .held))))
+                  subst Set64 (sym (setBelow-inside (B .n) after (B .held) p 0 m (omega (arith, f .shape .held))))
                   (united-small (B .n) (λ j. hearsIn (B .n) masks p j) (setOf B) (setOf B p) any-set (any-set p))
-              | no m ↦ subst Set64 (sym (fill-above (B .n) after (B .held) p 0 (omega arith))) (f .held p l)
+              | no m ↦ subst Set64 (sym (setBelow-above (B .n) after (B .held) p 0 (omega arith))) (f .held p l)
             ];
       }
 

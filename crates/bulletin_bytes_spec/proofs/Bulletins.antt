@@ -8,9 +8,9 @@ use borrow.Author.Tests.{eqb-true, ltb-true, eq-eqb, lt-ltb}
 use lib.Dec.{eqb, ltb}
 use lib.ListN.{getD, length, length-append}
 use lib.Seq.{take-all}
-use Rattle.places.specs.Places.{tabulate}
-use Rattle.places.proofs.Laws.{and-both, both, tabulate-at}
-use Rattle.frame_rules.specs.Words.{wordAt, wordBytes}
+use Rattle.lists.specs.Below.{tabulate}
+use Rattle.lists.proofs.Laws.{and-both, both, tabulate-at}
+use Rattle.frame_spec.specs.Words.{wordAt, wordBytes}
 use Rattle.station_bytes_spec.specs.Bytes.{asByte, span, joinedBelow}
 use Rattle.station_bytes_spec.proofs.Bytes.{Stands, AllBytes, stands-whole, stands-left, stands-right, stands-word, joined-long, joined-ext, stands-joined, span-join, spans-joined, word-span, word-small, length-word, byte-same, byte-small, tabulate-is}
 use Rattle.bulletins_spec.specs.declared.Bulletins.{Bulletins}

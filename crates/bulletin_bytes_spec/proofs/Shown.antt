@@ -3,7 +3,7 @@ use mathlib.Core.List.{List, _++_}
 use mathlib.Core.Path.{_≡_, ap₂, _∙_}
 use Prim.Native.Nat.{_+_}
 use lib.ListN.{getD, length, length-append}
-use Rattle.frame_rules.specs.Words.{wordBytes}
+use Rattle.frame_spec.specs.Words.{wordBytes}
 use Rattle.station_bytes_spec.specs.Bytes.{asByte, joinedBelow}
 use Rattle.station_bytes_spec.proofs.Bytes.{joined-long, length-word}
 use Rattle.bulletins_spec.specs.declared.Notice.{Notice}

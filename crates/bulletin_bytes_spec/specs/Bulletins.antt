@@ -5,8 +5,8 @@ use mathlib.Core.Bool.{Bool, _&&_}
 use mathlib.Core.List.{List, _++_}
 use lib.Dec.{eqb, ltb}
 use lib.ListN.{length}
-use Rattle.places.specs.Places.{tabulate}
-use Rattle.frame_rules.specs.Words.{wordAt, wordBytes}
+use Rattle.lists.specs.Below.{tabulate}
+use Rattle.frame_spec.specs.Words.{wordAt, wordBytes}
 use Rattle.station_bytes_spec.specs.Bytes.{asByte, joinedBelow}
 use Rattle.bulletins_spec.specs.declared.Bulletins.{Bulletins}
 use Rattle.bulletins_spec.specs.State.{setOf, tagAt, eventAt}

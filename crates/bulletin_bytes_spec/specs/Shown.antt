@@ -2,7 +2,7 @@
 use Prim.Native.Nat.{ℕ, _+_, _*_}
 use mathlib.Core.List.{List, [], _++_}
 use lib.ListN.{getD}
-use Rattle.frame_rules.specs.Words.{wordBytes}
+use Rattle.frame_spec.specs.Words.{wordBytes}
 use Rattle.station_bytes_spec.specs.Bytes.{asByte, joinedBelow}
 use Rattle.bulletins_spec.specs.declared.Notice.{Notice}
 use Rattle.bulletins_spec.specs.declared.Shown.{Shown}

@@ -5,7 +5,7 @@ use Prim.Native.Nat.{ℕ, _+_, _*_, _/_, _%_}
 use native.Mathlib.Omega.{arith}
 use lib.ListN.{getD, length, length-append}
 use lib.Seq.{sets}
-use Rattle.frame_rules.specs.Words.{wordAt, wordBytes}
+use Rattle.frame_spec.specs.Words.{wordAt, wordBytes}
 use Rattle.station_bytes_spec.specs.Bytes.{asByte, joinedBelow}
 use Rattle.station_bytes_spec.proofs.Bytes.{length-word, joined-long}
 use Rattle.station_encoder.proofs.Writing.{written-more, four-written, all-written}

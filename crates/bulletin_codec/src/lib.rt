@@ -4,8 +4,8 @@ ghost use mathlib.Core.Path.{_≡_};
 ghost use Prim.Native.Nat.{_+_, _*_, _≤_};
 ghost use lib.ListN.{getD, length};
 ghost use lib.Seq.{sets};
-ghost use Rattle.places.specs.Places.{tabulate};
-ghost use Rattle.frame_rules.specs.Words.{wordAt, wordBytes};
+ghost use Rattle.lists.specs.Below.{tabulate};
+ghost use Rattle.frame_spec.specs.Words.{wordAt, wordBytes};
 ghost use Rattle.station_bytes_spec.specs.Bytes.{joinedBelow};
 ghost use Rattle.bulletin_bytes_spec.specs.Bulletins.{setBytes, setAt, setsPlace, bulletinsWidth};
 ghost use Rattle.bulletin_bytes_spec.specs.Bulletins.{encodeBulletins, decodeBulletins, isBulletins};
@@ -14,8 +14,8 @@ ghost use Rattle.bulletin_bytes_spec.specs.Shown.{allShownWidth, encodeAllShown
 use bulletins_spec::Bulletins;
 use bulletins_spec::Notice;
 use bulletins_spec::Shown;
-use record_reader::word_at;
-use record_writer::put_word;
+use records::reader::word_at;
+use records::writer::put_word;
 use station_encoder::as_byte;
 
 const EVENTS_PLACE: usize = 260;

@@ -3,7 +3,7 @@ use Prim.Native.Nat.{_*_, _<_, _≤_}
 use mathlib.Core.Bool.{true, false}
 use mathlib.Core.Path.{_≡_}
 use borrow.Author.Tests.{le-leb, lt-leb}
-use Rattle.places.specs.Places.{allBelow}
+use Rattle.lists.specs.Below.{allBelow}
 use Rattle.bulletins_spec.specs.declared.Bulletins.{Bulletins}
 use Rattle.bulletins_spec.specs.State.{heldInside, ownInside, bulletinsInside}
 

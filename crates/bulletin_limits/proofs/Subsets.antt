@@ -12,12 +12,12 @@ use borrow.Author.Tests.{eq-eqb, ne-eqb, eqb-true, lt-ltb, le-ltb}
 use lib.Bits.{bitAnd, bitOr, and-le-l}
 use lib.Dec.{eqb, ltb}
 use lib.ListN.{getD}
-use Rattle.places.specs.Places.{allBelow}
-use Rattle.places.proofs.Laws.{allBelow-at, allBelow-not, allBelow-ext}
+use Rattle.lists.specs.Below.{allBelow}
+use Rattle.lists.proofs.Laws.{allBelow-at, allBelow-not, allBelow-ext}
 use Rattle.links.specs.Log.{bit}
 use Rattle.links.proofs.Log.{bit-zero}
-use Rattle.broadcast_sets.proofs.Bits.{bit-or, bit-and, bit-pow}
-use Rattle.broadcast_sets.proofs.Lowest.{bit-first, bit-half}
+use Rattle.link_logs.proofs.Bits.{bit-or, bit-and, bit-pow}
+use Rattle.link_logs.proofs.Lowest.{bit-first, bit-half}
 use Rattle.bulletins_spec.specs.State.{issuerOf}
 use Rattle.bulletin_limits.specs.Lent.{standsIn, heldIn, standingBelow}
 

@@ -6,7 +6,7 @@ use lib.Bits.{bitOr}
 use lib.Dec.{ltb, eqb}
 use lib.ListN.{getD}
 use Rattle.links.specs.Log.{bit}
-use Rattle.places.specs.Places.{allBelow}
+use Rattle.lists.specs.Below.{allBelow}
 use Rattle.bulletins_spec.specs.State.{issuerOf, eventInside}
 
 abbrev pub standsIn : List ℕ → ℕ → Bool

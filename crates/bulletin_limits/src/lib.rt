@@ -7,7 +7,7 @@ ghost use Prim.Native.Nat.{_*_, _^_, _≤_, _<_};
 ghost use lib.Bits.{bitOr};
 ghost use lib.ListN.{getD};
 ghost use Rattle.links.specs.Log.{bit};
-ghost use Rattle.places.specs.Places.{allBelow};
+ghost use Rattle.lists.specs.Below.{allBelow};
 ghost use Rattle.bulletins_spec.specs.State.{issuerOf, eventInside, bulletinsInside};
 ghost use Rattle.bulletin_limits.specs.Lent.{standsIn, otherTagIn, aloneIn, ownIn, heldIn, standingBelow};
 use bulletins_spec::Bulletins;
@@ -54,7 +54,7 @@ pub fn stands(held: &[u64; 16], s: usize) -> bool
 pub fn event_inside(event: u32) -> bool
     ensures { λ r. ⌜ r ≡ eventInside event ⌝ }
 {
-    let row = kind_limits::KINDS[INSERT];
+    let row = bodies::limits::KINDS[INSERT];
     if event < row.least_event {
         return false;
     }

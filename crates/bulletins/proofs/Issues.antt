@@ -6,9 +6,9 @@ use borrow.Author.Tests.{lt-ltb, le-ltb, eq-eqb, ne-eqb, leb-true}
 use lib.Bits.{bitOr}
 use lib.Dec.{leb, eqb}
 use lib.ListN.{getD, set}
-use Rattle.kinds.specs.Refusals.{done, badNumber, outsideLimits, notAnEdit, alreadyIssued}
-use Rattle.places.specs.Places.{anyBelow}
-use Rattle.places.proofs.Laws.{and-left, and-right}
+use Rattle.bodies.specs.Refusals.{done, badNumber, outsideLimits, notAnEdit, alreadyIssued}
+use Rattle.lists.specs.Below.{anyBelow}
+use Rattle.lists.proofs.Laws.{and-left, and-right}
 use Rattle.bulletins_spec.specs.declared.Bulletins.{Bulletins}
 use Rattle.bulletins_spec.specs.declared.IssueDone.{IssueDone}
 use Rattle.bulletins_spec.specs.State.{eventInside, bulletinsInside}

@@ -7,16 +7,16 @@ use native.Mathlib.Omega.{arith}
 use borrow.Author.Tests.{eq-eqb, ne-eqb}
 use lib.Dec.{eqb}
 use lib.ListN.{getD, length, length-append, length-replicate, replicate, take}
-use Rattle.kinds.specs.Refusals.{done, outsideLimits}
+use Rattle.bodies.specs.Refusals.{done, outsideLimits}
 use Rattle.links.specs.Log.{hearsIn}
-use Rattle.places.specs.Places.{fill}
-use Rattle.places.proofs.Laws.{fill-below, fill-ext, and-left}
-use Rattle.broadcast_sets.specs.Sets.{united}
-use Rattle.station_rules.specs.declared.Station.{Station}
-use Rattle.group_rules.specs.declared.Report.{Report}
-use Rattle.group_rules.specs.declared.RoundDone.{RoundDone}
-use Rattle.group_rules.specs.State.{sizeOf}
-use Rattle.group_rules.specs.Calls.{noReport, roundCall}
+use Rattle.lists.specs.Below.{setBelow}
+use Rattle.lists.proofs.Laws.{setBelow-inside, setBelow-ext, and-left}
+use Rattle.link_logs.specs.Sets.{united}
+use Rattle.station_spec.specs.declared.Station.{Station}
+use Rattle.group_spec.specs.declared.Report.{Report}
+use Rattle.group_spec.specs.declared.RoundDone.{RoundDone}
+use Rattle.group_spec.specs.State.{sizeOf}
+use Rattle.group_spec.specs.Calls.{noReport, roundCall}
 use Rattle.bulletins_spec.specs.declared.Bulletins.{Bulletins}
 use Rattle.bulletins_spec.specs.declared.Shown.{Shown}
 use Rattle.bulletins_spec.specs.declared.BulletinsRound.{BulletinsRound}
@@ -35,7 +35,7 @@ module _ (B : Bulletins) (masks : List ℕ) (long : length (B .held) ≡ 16) (hi
   unfolding setAfter
   set-is p = refl
 
-  pub held-is : (after : List ℕ) → after ≡ fill (B .n) united-at (B .held)
+  pub held-is : (after : List ℕ) → after ≡ setBelow (B .n) united-at (B .held)
       → _≡_ {A = Bulletins} (record { n = B .n; tags = B .tags; events = B .events; held = after }) (bulletinsAfter B masks)
   unfolding bulletinsAfter setAfter
   held-is after e = ap (λ (x : List ℕ). record { n = B .n; tags = B .tags; events = B .events; held = x }) e
@@ -44,14 +44,14 @@ module _ (B : Bulletins) (masks : List ℕ) (long : length (B .held) ≡ 16) (hi
   unfolding newIn gains
   new-is p = refl
 
-  shown-at : (after places : List ℕ) → after ≡ fill (B .n) united-at (B .held) → places ≡ inOrder (tagAt B) (B .n) ++ replicate (64 - 4 * B .n) 0
+  shown-at : (after places : List ℕ) → after ≡ setBelow (B .n) united-at (B .held) → places ≡ inOrder (tagAt B) (B .n) ++ replicate (64 - 4 * B .n) 0
       → (p : ℕ) → p < B .n
       → shownOf (picked (newIn (getD (B .held) p 0) (getD after p 0)) (noticeIn (B .tags) (B .events)) (take (4 * B .n) places))
       ≡ shownOf (shownBy B masks p)
   unfolding shownBy
   shown-at after places e o p l =
       let x : getD after p 0 ≡ setAfter B masks p =
-      ap (λ (t : List ℕ). getD t p 0) e ∙ fill-below (B .n) united-at (B .held) p 0 l (omega (arith, long)) ∙ set-is p in
+      ap (λ (t : List ℕ). getD t p 0) e ∙ setBelow-inside (B .n) united-at (B .held) p 0 l (omega (arith, long)) ∙ set-is p in
       let y : take (4 * B .n) places ≡ inOrder (tagAt B) (B .n) =
       ap (take (4 * B .n)) o ∙ order-front (tagAt B) (B .n) (replicate (64 - 4 * B .n) 0) in
       ap (λ (z : ℕ). shownOf (picked (newIn (getD (B .held) p 0) z) (noticeIn (B .tags) (B .events)) (take (4 * B .n) places))) x
@@ -59,12 +59,12 @@ module _ (B : Bulletins) (masks : List ℕ) (long : length (B .held) ≡ 16) (hi
       ∙ ap (λ (f : ℕ → Bool). shownOf (picked f (noticeAt B) (inOrder (tagAt B) (B .n)))) (new-is p)
 
   pub shown-is : (after places : List ℕ) (shown : List Shown)
-      → after ≡ fill (B .n) united-at (B .held) → places ≡ inOrder (tagAt B) (B .n) ++ replicate (64 - 4 * B .n) 0
-      → shown ≡ fill (B .n) (λ p. shownOf
+      → after ≡ setBelow (B .n) united-at (B .held) → places ≡ inOrder (tagAt B) (B .n) ++ replicate (64 - 4 * B .n) 0
+      → shown ≡ setBelow (B .n) (λ p. shownOf
       (picked (newIn (getD (B .held) p 0) (getD after p 0)) (noticeIn (B .tags) (B .events)) (take (4 * B .n) places))) noneShown
       → shown ≡ allShown B masks
   unfolding allShown
-  shown-is after places shown e o s = s ∙ fill-ext (B .n) _ _ noneShown (shown-at after places e o)
+  shown-is after places shown e o s = s ∙ setBelow-ext (B .n) _ _ noneShown (shown-at after places e o)
 
   -- the places are those of a set, and sixty-four
   pub places-below : (places : List ℕ) → places ≡ inOrder (tagAt B) (B .n) ++ replicate (64 - 4 * B .n) 0

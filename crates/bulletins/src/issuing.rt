@@ -6,7 +6,7 @@ ghost use Prim.Native.Nat.{_+_, _*_, _^_, _≤_, _<_};
 ghost use lib.Bits.{bitOr};
 ghost use lib.Dec.{eqb};
 ghost use lib.ListN.{getD, set};
-ghost use Rattle.places.specs.Places.{anyBelow};
+ghost use Rattle.lists.specs.Below.{anyBelow};
 ghost use Rattle.bulletins_spec.specs.Calls.{noNotice};
 ghost use Rattle.bulletin_limits.specs.Lent.{standsIn};
 ghost use Rattle.bulletins.specs.Lent.{freeIn};

@@ -11,22 +11,22 @@ ghost use lib.Bits.{bitOr};
 ghost use lib.Dec.{eqb};
 ghost use lib.ListN.{getD};
 ghost use Rattle.links.specs.Log.{hearsIn};
-ghost use Rattle.places.specs.Places.{fill};
-ghost use Rattle.broadcast_sets.specs.Sets.{united};
+ghost use Rattle.lists.specs.Below.{setBelow};
+ghost use Rattle.link_logs.specs.Sets.{united};
 ghost use Rattle.bulletins_spec.specs.State.{freshBulletins, bulletinsInside};
 ghost use Rattle.bulletins_spec.specs.Calls.{bulletinsFreshCall, issueCall, bulletinsRoundCall};
+use bodies::refusals::ALREADY_ISSUED;
+use bodies::refusals::BAD_NUMBER;
+use bodies::refusals::DONE;
+use bodies::refusals::NOT_AN_EDIT;
+use bodies::refusals::OUTSIDE_LIMITS;
 use bulletins_spec::Bulletins;
+use bulletins_spec::BulletinsAnswer;
 use bulletins_spec::BulletinsRound;
 use bulletins_spec::IssueDone;
-use bulletins_spec::KeptBulletins;
 use bulletins_spec::Notice;
-use group_rules::RoundDone;
-use kinds::refusals::ALREADY_ISSUED;
-use kinds::refusals::BAD_NUMBER;
-use kinds::refusals::DONE;
-use kinds::refusals::NOT_AN_EDIT;
-use kinds::refusals::OUTSIDE_LIMITS;
-use station_rules::Station;
+use group_spec::RoundDone;
+use station_spec::Station;
 
 // No group has more stations.
 const STATIONS: usize = 16;
@@ -47,25 +47,25 @@ fn fresh_bulletins(n: usize) -> Bulletins
 }
 
 // Fresh: the bulletins of a group of n, as they begin.
-pub fn fresh(n: usize) -> KeptBulletins
+pub fn fresh(n: usize) -> BulletinsAnswer
     ensures { λ r. ⌜ r ≡ bulletinsFreshCall n ⌝ }
 {
     if n < 1 {
         let alone = fresh_bulletins(1);
-        return KeptBulletins {
+        return BulletinsAnswer {
             refusal: BAD_NUMBER,
             bulletins: alone,
         };
     }
     if n > STATIONS {
         let alone = fresh_bulletins(1);
-        return KeptBulletins {
+        return BulletinsAnswer {
             refusal: BAD_NUMBER,
             bulletins: alone,
         };
     }
     let made = fresh_bulletins(n);
-    KeptBulletins {
+    BulletinsAnswer {
         refusal: DONE,
         bulletins: made,
     }
@@ -133,7 +133,7 @@ fn set_after(held: &[u64; 16], masks: [u16; 16], n: usize, p: usize) -> u64
 // What all stations below n hold after a round.
 fn held_after(held: &[u64; 16], masks: [u16; 16], n: usize) -> [u64; 16]
     requires { ⌜ n ≤ 16 ⌝ }
-    ensures { λ r. ⌜ r ≡ fill n
+    ensures { λ r. ⌜ r ≡ setBelow n
         (λ p. united n (λ j. hearsIn n masks p j) (λ j. getD (now (held .entry)) j 0) (getD (now (held .entry)) p 0))
         (now (held .entry)) ⌝ }
 {

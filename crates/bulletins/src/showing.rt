@@ -6,7 +6,7 @@ ghost use mathlib.Core.List.{[]};
 ghost use Prim.Native.Nat.{ℕ, _*_, _≤_, _<_};
 ghost use lib.ListN.{getD, length, take};
 ghost use Rattle.links.specs.Log.{bit};
-ghost use Rattle.places.specs.Places.{fill};
+ghost use Rattle.lists.specs.Below.{setBelow};
 ghost use Rattle.bulletins_spec.specs.Order.{picked};
 ghost use Rattle.bulletins_spec.specs.Calls.{noNotice, shownOf, noneShown};
 ghost use Rattle.bulletins.specs.Lent.{noticeIn, newIn};
@@ -120,7 +120,7 @@ pub fn all_shown(
 ) -> [Shown; 16]
     requires { ⌜ (n ≤ 16) × ((t : ℕ) → t < 4 * n → getD (now places) t 0 < 64)
         × (length (now places) ≡ 64) ⌝ }
-    ensures { λ r. ⌜ r ≡ fill n (λ p. shownOf
+    ensures { λ r. ⌜ r ≡ setBelow n (λ p. shownOf
         (picked (newIn (getD (now (before .entry)) p 0) (getD (now (after .entry)) p 0))
         (noticeIn (now (tags .entry)) (now (events .entry))) (take (4 * n) (now (places .entry))))) noneShown ⌝ }
 {

@@ -9,8 +9,8 @@ use native.Mathlib.Omega.{arith}
 use borrow.Author.Tests.{le-leb, lt-ltb, eq-eqb, ne-eqb}
 use lib.Dec.{ltb, eqb}
 use lib.ListN.{length, getD-replicate}
-use Rattle.places.specs.Places.{allBelow}
-use Rattle.places.proofs.Laws.{allBelow-make, and-both, and-left}
+use Rattle.lists.specs.Below.{allBelow}
+use Rattle.lists.proofs.Laws.{allBelow-make, and-both, and-left}
 use Rattle.links.specs.Log.{bit}
 use Rattle.links.specs.Relay.{Links, ofLog}
 use Rattle.links.specs.Clock.{news}

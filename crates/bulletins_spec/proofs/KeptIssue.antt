@@ -10,13 +10,13 @@ use lib.Bits.{bitOr}
 use lib.Dec.{eqb, ltb}
 use lib.ListN.{length, length-set}
 use lib.Seq.{getD-set-same, getD-set-other}
-use Rattle.kinds.specs.Refusals.{done, badNumber, outsideLimits, notAnEdit, alreadyIssued, refuse}
-use Rattle.places.proofs.Laws.{anyBelow-at, and-both}
+use Rattle.bodies.specs.Refusals.{done, badNumber, outsideLimits, notAnEdit, alreadyIssued, refuse}
+use Rattle.lists.proofs.Laws.{anyBelow-at, and-both}
 use Rattle.links.specs.Log.{bit}
 use Rattle.links.specs.Relay.{Links}
 use Rattle.links.specs.Clock.{news}
 use Rattle.links.proofs.Clock.{news-own, news-other}
-use Rattle.broadcast_sets.proofs.Bits.{bit-or, bit-pow}
+use Rattle.link_logs.proofs.Bits.{bit-or, bit-pow}
 use Rattle.bulletins_spec.specs.declared.Bulletins.{Bulletins}
 use Rattle.bulletins_spec.specs.State.{issuerOf, setOf, holds, stands, tagAt, eventAt, eventInside, bulletinsInside}
 use Rattle.bulletins_spec.specs.Calls.{freeFrom, freePlace, hasTag, hasFour, issueRefusal, issued}

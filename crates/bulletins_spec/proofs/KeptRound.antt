@@ -9,14 +9,14 @@ use native.Mathlib.Omega.{arith}
 use borrow.Author.Tests.{lt-ltb}
 use lib.Dec.{ltb}
 use lib.ListN.{length}
-use Rattle.places.proofs.Laws.{fill-below, length-fill}
+use Rattle.lists.proofs.Laws.{setBelow-inside, length-setBelow}
 use Rattle.links.specs.Log.{bit, masksIn, hearsIn}
 use Rattle.links.specs.Relay.{Links, ofLog}
 use Rattle.links.specs.Clock.{news, hearing}
 use Rattle.links.specs.Know.{either}
 use Rattle.links.proofs.Clock.{news-own}
 use Rattle.links.proofs.Hearing.{hearing-all, hearing-own}
-use Rattle.broadcast_sets.proofs.Stands.{united-bit, either-ext}
+use Rattle.link_logs.proofs.Stands.{united-bit, either-ext}
 use Rattle.bulletins_spec.specs.declared.Bulletins.{Bulletins}
 use Rattle.bulletins_spec.specs.State.{issuerOf, setOf, holds, stands, tagAt, eventAt, eventInside}
 use Rattle.bulletins_spec.specs.Calls.{setAfter, bulletinsAfter}
@@ -79,7 +79,7 @@ module _ (n : ℕ) (high : n ≤ 16) (log : List (List ℕ)) (masks : List ℕ) 
 
   set-now : (p : ℕ) → p < n → setOf B′ p ≡ setAfter B masks p
   unfolding bulletinsAfter
-  set-now p l = fill-below (B .n) (setAfter B masks) (B .held) p 0 (omega (arith, k .size)) (omega (arith, k .held-size))
+  set-now p l = setBelow-inside (B .n) (setAfter B masks) (B .held) p 0 (omega (arith, k .size)) (omega (arith, k .held-size))
 
   -- what p holds in the state after the round
   pub holds-after : (p s : ℕ) → p < n → holds B′ p s ≡ bit (setAfter B masks p) s
@@ -124,7 +124,7 @@ module _ (n : ℕ) (high : n ≤ 16) (log : List (List ℕ)) (masks : List ℕ) 
 
   after-held : length (B′ .held) ≡ 16
   unfolding bulletinsAfter
-  after-held = length-fill (B .n) (setAfter B masks) (B .held) ∙ k .held-size
+  after-held = length-setBelow (B .n) (setAfter B masks) (B .held) ∙ k .held-size
 
   pub kept-round : Kept n L (suc u) T B′
   kept-round =

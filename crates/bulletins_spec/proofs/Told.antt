@@ -11,16 +11,16 @@ use borrow.Author.Tests.{eq-eqb, lt-ltb, ltb-true, not-true}
 use lib.Dec.{eqb, ltb}
 use lib.ListN.{length, getD, length-append, List·getD-append}
 use lib.Seq.{getD-at}
-use Rattle.kinds.specs.Refusals.{done}
-use Rattle.places.proofs.Laws.{fill-below, and-both, and-left, and-right}
+use Rattle.bodies.specs.Refusals.{done}
+use Rattle.lists.proofs.Laws.{setBelow-inside, and-both, and-left, and-right}
 use Rattle.links.specs.Log.{bit, masksIn}
 use Rattle.links.specs.Relay.{Links, ofLog}
 use Rattle.links.specs.Clock.{news}
 use Rattle.links.proofs.Facts.{P-news}
-use Rattle.station_rules.specs.declared.Station.{Station}
-use Rattle.group_rules.specs.declared.RoundDone.{RoundDone}
-use Rattle.group_rules.specs.State.{sizeOf}
-use Rattle.group_rules.specs.Calls.{roundCall}
+use Rattle.station_spec.specs.declared.Station.{Station}
+use Rattle.group_spec.specs.declared.RoundDone.{RoundDone}
+use Rattle.group_spec.specs.State.{sizeOf}
+use Rattle.group_spec.specs.Calls.{roundCall}
 use Rattle.bulletins_spec.specs.declared.Bulletins.{Bulletins}
 use Rattle.bulletins_spec.specs.declared.Notice.{Notice}
 use Rattle.bulletins_spec.specs.declared.Shown.{Shown}
@@ -202,7 +202,7 @@ module _ (n : ℕ) (low : 1 ≤ n) (high : n ≤ 16) (log : List (List ℕ)) (ma
   all-shown : (p : ℕ) → p < n → notices (getD (allShown B masks) p (shownOf [])) ≡ shownBy B masks p
   unfolding allShown noneShown
   all-shown p lp =
-      ap notices (fill-below (B .n) (λ q. shownOf (shownBy B masks q)) noneShown p (shownOf []) (omega (arith, k .size)) (omega arith))
+      ap notices (setBelow-inside (B .n) (λ q. shownOf (shownBy B masks q)) noneShown p (shownOf []) (omega (arith, k .size)) (omega arith))
       ∙ notices-shown (shownBy B masks p)
 
   abbrev rounds′ : List BulletinsRound

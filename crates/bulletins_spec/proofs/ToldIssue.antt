@@ -10,7 +10,7 @@ use native.Mathlib.Omega.{arith}
 use borrow.Author.Tests.{eqb-true}
 use lib.Dec.{eqb}
 use lib.ListN.{length}
-use Rattle.kinds.specs.Refusals.{done}
+use Rattle.bodies.specs.Refusals.{done}
 use Rattle.links.specs.Relay.{Links, ofLog}
 use Rattle.links.proofs.Clock.{news-other}
 use Rattle.bulletins_spec.specs.declared.Bulletins.{Bulletins}

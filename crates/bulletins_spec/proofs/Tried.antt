@@ -4,8 +4,8 @@ use Prim.Native.Nat.{ℕ}
 use mathlib.Core.List.{List, [], _∷_}
 use mathlib.Core.Path.{_≡_, refl}
 use Rattle.links.specs.Log.{bit, hearsIn}
-use Rattle.places.specs.Places.{allBelow, anyBelow, fill}
-use Rattle.broadcast_sets.specs.Sets.{united}
+use Rattle.lists.specs.Below.{allBelow, anyBelow, setBelow}
+use Rattle.link_logs.specs.Sets.{united}
 use Rattle.bulletins_spec.specs.declared.Bulletins.{Bulletins}
 use Rattle.bulletins_spec.specs.declared.Notice.{Notice}
 use Rattle.bulletins_spec.specs.State.{bulletinsInside, freshBulletins}
@@ -39,7 +39,7 @@ pub record Tried : Type 0 where
   pub not-at-its-issuer : shownBy third (7 ∷ 7 ∷ 7 ∷ []) 0 ≡ []
 
 pub tried : Tried
-unfolding bit hearsIn allBelow anyBelow fill united bulletinsInside freshBulletins lower higher inserted byTag inOrder picked freeFrom hasTag issueRefusal issued issueCall setAfter bulletinsAfter gains shownBy
+unfolding bit hearsIn allBelow anyBelow setBelow united bulletinsInside freshBulletins lower higher inserted byTag inOrder picked freeFrom hasTag issueRefusal issued issueCall setAfter bulletinsAfter gains shownBy
 tried =
     record {
       shown-when-issued = refl;

@@ -10,21 +10,21 @@ use borrow.Author.Tests.{ne-eqb}
 use lib.Dec.{ltb}
 use lib.ListN.{length, getD, length-append, List·getD-append}
 use lib.Seq.{getD-at}
-use Rattle.kinds.specs.Refusals.{done, outsideLimits, badNumber, notAnEdit, alreadyIssued, refuse}
+use Rattle.bodies.specs.Refusals.{done, outsideLimits, badNumber, notAnEdit, alreadyIssued, refuse}
 use Rattle.links.specs.Relay.{Links, ofLog}
 use Rattle.links.specs.EndRule.{RelayBy}
 use Rattle.links.specs.Clock.{news}
 use Rattle.links.proofs.Clock.{news-mono, news-relay, relayBy-news}
-use Rattle.station_rules.specs.declared.Setup.{Setup}
-use Rattle.station_rules.specs.declared.Station.{Station}
-use Rattle.group_rules.specs.declared.RoundDone.{RoundDone}
-use Rattle.group_rules.specs.State.{sizeOf}
-use Rattle.group_rules.specs.Calls.{groupFreshRefusal, roundCall}
-use Rattle.group_rules.specs.History as group
-use Rattle.group_rules.specs.History.{Call, Call.post, Call.round, begun, historyOf, noRound}
-use Rattle.group_rules.proofs.Setups.{accepts}
-use Rattle.group_rules.proofs.HistoryInside.{history-members}
-use Rattle.group_rules.proofs.DemandThree.{demand-three}
+use Rattle.station_spec.specs.declared.Setup.{Setup}
+use Rattle.station_spec.specs.declared.Station.{Station}
+use Rattle.group_spec.specs.declared.RoundDone.{RoundDone}
+use Rattle.group_spec.specs.State.{sizeOf}
+use Rattle.group_spec.specs.Calls.{groupFreshRefusal, roundCall}
+use Rattle.group_spec.specs.History as group
+use Rattle.group_spec.specs.History.{Call, Call.post, Call.round, begun, historyOf, noRound}
+use Rattle.group_spec.proofs.Setups.{accepts}
+use Rattle.group_spec.proofs.HistoryInside.{history-members}
+use Rattle.group_spec.proofs.DemandThree.{demand-three}
 use Rattle.bulletins_spec.specs.declared.Notice.{Notice}
 use Rattle.bulletins_spec.specs.declared.BulletinsRound.{BulletinsRound}
 use Rattle.bulletins_spec.specs.State.{eventInside, bulletinsInside}

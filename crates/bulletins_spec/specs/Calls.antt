@@ -5,18 +5,18 @@ use mathlib.Core.List.{List, [], _++_}
 use lib.Bits.{bitOr}
 use lib.Dec.{leb, ltb, eqb}
 use lib.ListN.{length, replicate, set, take}
-use Rattle.kinds.specs.Refusals.{done, badNumber, outsideLimits, notAnEdit, alreadyIssued, refuse}
+use Rattle.bodies.specs.Refusals.{done, badNumber, outsideLimits, notAnEdit, alreadyIssued, refuse}
 use Rattle.links.specs.Log.{bit, hearsIn}
-use Rattle.places.specs.Places.{anyBelow, fill}
-use Rattle.broadcast_sets.specs.Sets.{united}
-use Rattle.station_rules.specs.declared.Station.{Station}
-use Rattle.group_rules.specs.declared.RoundDone.{RoundDone}
-use Rattle.group_rules.specs.State.{sizeOf}
-use Rattle.group_rules.specs.Calls.{noReport, roundCall}
+use Rattle.lists.specs.Below.{anyBelow, setBelow}
+use Rattle.link_logs.specs.Sets.{united}
+use Rattle.station_spec.specs.declared.Station.{Station}
+use Rattle.group_spec.specs.declared.RoundDone.{RoundDone}
+use Rattle.group_spec.specs.State.{sizeOf}
+use Rattle.group_spec.specs.Calls.{noReport, roundCall}
 use Rattle.bulletins_spec.specs.declared.Bulletins.{Bulletins}
 use Rattle.bulletins_spec.specs.declared.Notice.{Notice}
 use Rattle.bulletins_spec.specs.declared.Shown.{Shown}
-use Rattle.bulletins_spec.specs.declared.KeptBulletins.{KeptBulletins}
+use Rattle.bulletins_spec.specs.declared.BulletinsAnswer.{BulletinsAnswer}
 use Rattle.bulletins_spec.specs.declared.IssueDone.{IssueDone}
 use Rattle.bulletins_spec.specs.declared.BulletinsRound.{BulletinsRound}
 use Rattle.bulletins_spec.specs.State.{setOf, holds, stands, tagAt, noticeAt, eventInside, bulletinsInside, freshBulletins}
@@ -26,7 +26,7 @@ use Rattle.bulletins_spec.specs.Order.{inOrder, picked}
 unfoldable pub bulletinsFreshRefusal : ℕ → ℕ
 bulletinsFreshRefusal n = refuse (not (leb 1 n && leb n 16)) badNumber done
 
-unfoldable pub bulletinsFreshCall : ℕ → KeptBulletins
+unfoldable pub bulletinsFreshCall : ℕ → BulletinsAnswer
 bulletinsFreshCall n =
     record {
       refusal = bulletinsFreshRefusal n;
@@ -86,7 +86,7 @@ setAfter B masks p = united (B .n) (λ j. hearsIn (B .n) masks p j) (setOf B) (s
 
 unfoldable pub bulletinsAfter : Bulletins → List ℕ → Bulletins
 bulletinsAfter B masks =
-    record { n = B .n; tags = B .tags; events = B .events; held = fill (B .n) (setAfter B masks) (B .held) }
+    record { n = B .n; tags = B .tags; events = B .events; held = setBelow (B .n) (setAfter B masks) (B .held) }
 
 -- p holds the bulletin at place s after the round, and did not before
 unfoldable pub gains : Bulletins → List ℕ → ℕ → ℕ → Bool
@@ -106,7 +106,7 @@ unfoldable pub noneShown : List Shown
 noneShown = replicate 16 (shownOf [])
 
 unfoldable pub allShown : Bulletins → List ℕ → List Shown
-allShown B masks = fill (B .n) (λ p. shownOf (shownBy B masks p)) noneShown
+allShown B masks = setBelow (B .n) (λ p. shownOf (shownBy B masks p)) noneShown
 
 -- the bulletins are inside their limits and of this group: they have its N
 abbrev pub fits : List Station → Bulletins → Bool

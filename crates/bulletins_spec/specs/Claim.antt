@@ -4,12 +4,12 @@ use mathlib.Core.List.{List, [], _∷_, List·Memᴰ}
 use mathlib.Core.Logic.{_⊎_, _↔_}
 use mathlib.Core.Path.{_≡_}
 use lib.ListN.{getD, length}
-use Rattle.kinds.specs.Refusals.{done, outsideLimits}
+use Rattle.bodies.specs.Refusals.{done, outsideLimits}
 use Rattle.links.specs.Relay.{Links, ofLog}
 use Rattle.links.specs.EndRule.{RelayBy}
-use Rattle.station_rules.specs.declared.Setup.{Setup}
-use Rattle.group_rules.specs.Calls.{groupFreshRefusal}
-use Rattle.group_rules.specs.History.{historyOf, noRound}
+use Rattle.station_spec.specs.declared.Setup.{Setup}
+use Rattle.group_spec.specs.Calls.{groupFreshRefusal}
+use Rattle.group_spec.specs.History.{historyOf, noRound}
 use Rattle.bulletins_spec.specs.declared.Notice.{Notice}
 use Rattle.bulletins_spec.specs.Calls.{issueCall}
 use Rattle.bulletins_spec.specs.History.{Entry, callsOf, Issued, History, runOf, noBulletinsRound, shownIn}

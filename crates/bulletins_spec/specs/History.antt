@@ -4,10 +4,10 @@ use mathlib.Core.Bool.{cond}
 use mathlib.Core.List.{List, [], _∷_, _++_}
 use lib.Dec.{eqb}
 use lib.ListN.{getD, length}
-use Rattle.kinds.specs.Refusals.{done}
-use Rattle.station_rules.specs.declared.Setup.{Setup}
-use Rattle.group_rules.specs.History as group
-use Rattle.group_rules.specs.History.{Call, Call.post, Call.round, begun, noRound}
+use Rattle.bodies.specs.Refusals.{done}
+use Rattle.station_spec.specs.declared.Setup.{Setup}
+use Rattle.group_spec.specs.History as group
+use Rattle.group_spec.specs.History.{Call, Call.post, Call.round, begun, noRound}
 use Rattle.bulletins_spec.specs.declared.Bulletins.{Bulletins}
 use Rattle.bulletins_spec.specs.declared.Notice.{Notice}
 use Rattle.bulletins_spec.specs.declared.BulletinsRound.{BulletinsRound}

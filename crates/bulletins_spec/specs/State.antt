@@ -3,9 +3,9 @@ use Prim.Native.Nat.{ℕ, _+_, _*_, _/_}
 use mathlib.Core.Bool.{Bool, not, _&&_, _||_}
 use lib.Dec.{leb, ltb, eqb}
 use lib.ListN.{getD, replicate}
-use Rattle.kind_limits.specs.Limits.{limitsOf}
+use Rattle.bodies.specs.Limits.{limitsOf}
 use Rattle.links.specs.Log.{bit}
-use Rattle.places.specs.Places.{allBelow}
+use Rattle.lists.specs.Below.{allBelow}
 use Rattle.bulletins_spec.specs.declared.Bulletins.{Bulletins}
 use Rattle.bulletins_spec.specs.declared.Notice.{Notice}
 

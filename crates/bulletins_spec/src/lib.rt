@@ -1,7 +1,7 @@
 // Bulletins (document 02, A12): the state beside a group, and the answers of its calls. The definitions of the calls,
 // their laws and the theorem stand beside; there is no code.
 
-use group_rules::RoundDone;
+use group_spec::RoundDone;
 
 // The bulletins of a group, and who holds them. An issuer has four places, issuer i those from 4 * i on, each with a
 // tag and an event. Bit s of a station's set says that the station holds the bulletin at place s. Where the issuer does
@@ -27,7 +27,7 @@ pub struct Shown {
 }
 
 // The answer of fresh.
-pub struct KeptBulletins {
+pub struct BulletinsAnswer {
     pub refusal: u32,
     pub bulletins: Bulletins,
 }

@@ -7,7 +7,7 @@ use Prim.Native.Nat.{ℕ, _-_, _*_, _/_, _<_, _≤_}
 use native.Mathlib.Omega.{arith}
 use borrow.Author.Tests.{eq-eqb, ne-eqb}
 use lib.ListN.{length}
-use Rattle.kinds.specs.Refusals.{done}
+use Rattle.bodies.specs.Refusals.{done}
 use Rattle.contest_spec.specs.declared.ContestAnswer.the-variants.{Refused, Breaker, Keeper}
 use Rattle.contest_spec.specs.Winner.{still, lowest, won, keeperWins, firstPick}
 use Rattle.contest_spec.specs.Answer.{contestRefusal, setsOf, contestCall}

@@ -10,8 +10,8 @@ use borrow.Author.Tests.{eq-eqb, ne-eqb, lt-ltb, le-ltb, ltb-true, ltb-false}
 use lib.Dec.{eqb, ltb}
 use lib.ListN.{length, getD, set, replicate, length-append, length-set}
 use lib.Seq.{getD-append-add, getD-set-same, getD-set-other}
-use Rattle.places.specs.Places.{allBelow, anyBelow, fill}
-use Rattle.places.proofs.Laws.{allBelow-ext, fill-below, length-fill}
+use Rattle.lists.specs.Below.{allBelow, anyBelow, setBelow}
+use Rattle.lists.proofs.Laws.{allBelow-ext, setBelow-inside, length-setBelow}
 use Rattle.links.specs.Log.{bit, hearsIn, masksIn, cut}
 use Rattle.links.specs.Relay.{Links, ofLog}
 use Rattle.links.specs.Clock.{news}
@@ -23,9 +23,9 @@ use Rattle.links.proofs.Number.{step, num-mono, num-positive, num-zero}
 use Rattle.links.proofs.Prefix.{Same, news-same, answers-same, start-same, num-same, same-append}
 use Rattle.links.proofs.Know.{knows-zero, knows-step, ends-learnt}
 use Rattle.planning_spec.specs.LinkLog.{maskHears}
-use Rattle.broadcast_sets.specs.Sets.{united, withReceiver, firstSet, isFull}
-use Rattle.broadcast_sets.proofs.Bits.{isFull-bits}
-use Rattle.broadcast_sets.proofs.Stands.{united-bit, either-ext, withReceiver-bit, firstSet-bit}
+use Rattle.link_logs.specs.Sets.{united, withReceiver, firstSet, isFull}
+use Rattle.link_logs.proofs.Bits.{isFull-bits}
+use Rattle.link_logs.proofs.Stands.{united-bit, either-ext, withReceiver-bit, firstSet-bit}
 use Rattle.contest_spec.specs.Contest.{logOf, keeper's}
 use Rattle.contest_spec.specs.Winner.{decided, still, won}
 use Rattle.contest_spec.proofs.Forcing.{still-step, still-end}
@@ -154,11 +154,11 @@ module _ (n s count : ℕ) (masks : List ℕ) (few : n ≤ 4) (own : s < n) wher
 
         next-at : (p : ℕ) → p < n → getD next p 0 ≡ learntOne n s (maskOf masks (i * n) p) know p
         unfolding after
-        next-at p l = fill-below n (λ p. learntOne n s (maskOf masks (i * n) p) know p) know p 0 l (omega (arith, k .size))
+        next-at p l = setBelow-inside n (λ p. learntOne n s (maskOf masks (i * n) p) know p) know p 0 l (omega (arith, k .size))
 
         next-size : length next ≡ 4
         unfolding after
-        next-size = length-fill n (λ p. learntOne n s (maskOf masks (i * n) p) know p) know ∙ k .size
+        next-size = length-setBelow n (λ p. learntOne n s (maskOf masks (i * n) p) know p) know ∙ k .size
 
         next-bit : (p r : ℕ) → p < n → r < n → bit (getD next p 0) r ≡ learnt M u s p r
         unfolding learntOne learnt brought

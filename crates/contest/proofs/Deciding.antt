@@ -5,9 +5,9 @@ use mathlib.Core.Path.{_≡_, refl, sym, ap, _∙_}
 use Prim.Native.Nat.{ℕ, zero, suc, _+_, _-_, _*_, _<_, _≤_}
 use native.Mathlib.Omega.{arith}
 use lib.ListN.{getD}
-use Rattle.places.specs.Places.{allBelow, anyBelow}
-use Rattle.places.proofs.Laws.{allBelow-make, allBelow-fails, anyBelow-hit, anyBelow-none, allBelow-ext, anyBelow-ext}
-use Rattle.broadcast_sets.specs.Sets.{isFull}
+use Rattle.lists.specs.Below.{allBelow, anyBelow}
+use Rattle.lists.proofs.Laws.{allBelow-make, allBelow-fails, anyBelow-hit, anyBelow-none, allBelow-ext, anyBelow-ext}
+use Rattle.link_logs.specs.Sets.{isFull}
 use Rattle.contest_spec.specs.Winner.{decided}
 use Rattle.contest.specs.KnownSets.{after, maskOf, begun, winsFrom, opening}
 

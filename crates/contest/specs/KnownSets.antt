@@ -4,9 +4,9 @@ use mathlib.Core.Bool.{Bool, false, not, _||_}
 use mathlib.Core.List.{List}
 use Prim.Native.Nat.{ℕ, zero, suc, _+_, _*_}
 use lib.ListN.{getD, set, replicate}
-use Rattle.places.specs.Places.{fill}
+use Rattle.lists.specs.Below.{setBelow}
 use Rattle.planning_spec.specs.LinkLog.{maskHears}
-use Rattle.broadcast_sets.specs.Sets.{united, withReceiver, firstSet, isFull}
+use Rattle.link_logs.specs.Sets.{united, withReceiver, firstSet, isFull}
 use Rattle.contest_spec.specs.Winner.{decided}
 
 -- the mask of station p in the set that begins at `at`
@@ -19,7 +19,7 @@ learntOne n s mask know p = withReceiver p s (united n (maskHears mask p) (λ j.
 
 -- the sets after a round
 unfoldable pub after : ℕ → ℕ → (ℕ → ℕ) → List ℕ → List ℕ
-after n s mask know = fill n (λ p. learntOne n s (mask p) know p) know
+after n s mask know = setBelow n (λ p. learntOne n s (mask p) know p) know
 
 -- the sets before round 1
 unfoldable pub begun : ℕ → List ℕ

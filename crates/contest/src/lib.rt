@@ -7,10 +7,10 @@ ghost use lib.Bits.{bitOr};
 ghost use Rattle.contest_spec.specs.Winner.{lowest};
 ghost use Rattle.contest_spec.specs.Answer.{contestRefusal, contestCall};
 ghost use Rattle.contest.specs.KnownSets.{learntOne, after, maskOf, begun, winsFrom, opening};
+use bodies::refusals::BAD_CONTEST;
+use bodies::refusals::BAD_NUMBER;
+use bodies::refusals::DONE;
 use contest_spec::ContestAnswer;
-use kinds::refusals::BAD_CONTEST;
-use kinds::refusals::BAD_NUMBER;
-use kinds::refusals::DONE;
 
 // No group has more stations.
 const PLACES: usize = 16;
@@ -43,7 +43,7 @@ fn learn_one(know: &[u16; 4], mask: u16, n: usize, p: usize, s: usize) -> u16
         set = joined(set, know[j], link_logs::mask_hears(mask, p, j));
         j += 1;
     }
-    broadcast_sets::with_receiver(set, s, p)
+    link_logs::sets::with_receiver(set, s, p)
 }
 
 // The sets after a round whose masks stand from `at` on.
@@ -73,7 +73,7 @@ fn wins(
     requires { ⌜ (n ≤ 4) × (s < n) × (length (now masks) ≡ count * n) ⌝ }
     ensures { λ r. ⌜ r ≡ winsFrom n s count (now (masks .entry)) left keeper know ⌝ }
 {
-    if broadcast_sets::is_full(know[s], n) {
+    if link_logs::sets::is_full(know[s], n) {
         return true;
     }
     if left == 0 {
@@ -96,7 +96,7 @@ fn first_pick(masks: &[u16], n: usize, s: usize, count: usize, left: usize) -> u
     ensures { λ r. ⌜ r ≡ lowest count 0 (opening n s count (now (masks .entry)) left) ⌝ }
 {
     let mut know = [0u16; 4];
-    know[s] = broadcast_sets::first_set(s, s);
+    know[s] = link_logs::sets::first_set(s, s);
     let mut i: usize = 0;
     while i < count {
         let next = learn(know, masks, i * n, n, s);

@@ -1,7 +1,7 @@
 -- Worked examples, computed from the definition by plays.
 use mathlib.Core.List.{List, [], _∷_}
 use mathlib.Core.Path.{_≡_, refl}
-use Rattle.places.specs.Places.{allBelow, anyBelow}
+use Rattle.lists.specs.Below.{allBelow, anyBelow}
 use Rattle.links.specs.Log.{bit, hearsIn, masksIn, cut}
 use Rattle.links.specs.Clock.{latest, news}
 use Rattle.links.specs.Number.{answers, full, start, ends, num}

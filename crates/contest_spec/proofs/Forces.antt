@@ -10,8 +10,8 @@ use native.Mathlib.Omega.{arith}
 use borrow.Author.Tests.{lt-ltb, le-ltb, ltb-true, eq-eqb, ne-eqb}
 use lib.Dec.{eqb, ltb}
 use lib.ListN.{length}
-use Rattle.places.specs.Places.{allBelow, anyBelow}
-use Rattle.places.proofs.Laws.{anyBelow-hit, anyBelow-none, anyBelow-at}
+use Rattle.lists.specs.Below.{allBelow, anyBelow}
+use Rattle.lists.proofs.Laws.{anyBelow-hit, anyBelow-none, anyBelow-at}
 use Rattle.links.specs.Relay.{Links, ofLog}
 use Rattle.links.specs.EndRule.{EndsIn, Starts, at-first, after}
 use Rattle.links.specs.Number.{start, ends, num}

@@ -7,9 +7,9 @@ use native.Mathlib.Omega.{arith}
 use borrow.Author.Tests.{eq-eqb, ne-eqb}
 use lib.Dec.{eqb}
 use lib.ListN.{length, length-append}
-use Rattle.places.specs.Places.{allBelow, anyBelow}
-use Rattle.places.proofs.Laws.{allBelow-at, anyBelow-at}
-use Rattle.places.proofs.Later.{from-on}
+use Rattle.lists.specs.Below.{allBelow, anyBelow}
+use Rattle.lists.proofs.Laws.{allBelow-at, anyBelow-at}
+use Rattle.lists.proofs.Later.{from-on}
 use Rattle.contest_spec.specs.Contest.{Strategy, keeper's, play}
 use Rattle.contest_spec.specs.Winner.{decided, still}
 use Rattle.contest_spec.proofs.Lowest.{chosen, chosen-below, chosen-hit, chosen-miss}

@@ -6,8 +6,8 @@ use native.Mathlib.Decide.{ℕ-discrete, decLe}
 use native.Mathlib.Omega.{arith}
 use borrow.Author.Tests.{lt-ltb, le-ltb}
 use lib.Dec.{ltb}
-use Rattle.places.specs.Places.{allBelow, anyBelow}
-use Rattle.places.proofs.Laws.{allBelow-at, allBelow-make, allBelow-fails, allBelow-not, anyBelow-none, anyBelow-at, anyBelow-hit}
+use Rattle.lists.specs.Below.{allBelow, anyBelow}
+use Rattle.lists.proofs.Laws.{allBelow-at, allBelow-make, allBelow-fails, allBelow-not, anyBelow-none, anyBelow-at, anyBelow-hit}
 use Rattle.contest_spec.specs.Winner.{decided, lowest}
 
 pub record Lowest (n at : ℕ) (test : ℕ → Bool) (i : ℕ) : Type 0 where

@@ -10,8 +10,8 @@ use native.Mathlib.Omega.{arith}
 use borrow.Author.Tests.{eq-eqb, ne-eqb, eqb-true, ltb-false, leb-true, leb-false}
 use lib.Dec.{eqb, ltb, leb}
 use lib.ListN.{length}
-use Rattle.places.proofs.Laws.{both}
-use Rattle.kinds.specs.Refusals.{done, badNumber, badContest}
+use Rattle.lists.proofs.Laws.{both}
+use Rattle.bodies.specs.Refusals.{done, badNumber, badContest}
 use Rattle.links.proofs.Log.{cut-length}
 use Rattle.contest_spec.specs.declared.ContestAnswer.the-variants.{Refused, Breaker, Keeper}
 use Rattle.contest_spec.specs.Winner.{keeperWins, firstPick}

@@ -5,7 +5,7 @@ use mathlib.Core.Path.{_≡_}
 use Prim.Native.Nat.{ℕ, _/_, _%_, _≤_}
 use lib.Dec.{eqb, leb, ltb}
 use lib.ListN.{length}
-use Rattle.kinds.specs.Refusals.{done, badNumber, badContest, refuse}
+use Rattle.bodies.specs.Refusals.{done, badNumber, badContest, refuse}
 use Rattle.links.specs.Log.{cut}
 use Rattle.contest_spec.specs.declared.ContestAnswer.{ContestAnswer}
 use Rattle.contest_spec.specs.declared.ContestAnswer.the-variants.{Refused, Breaker, Keeper}

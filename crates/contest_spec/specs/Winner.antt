@@ -5,7 +5,7 @@ use mathlib.Core.List.{List, [], _∷_, _++_}
 use Prim.Native.Nat.{ℕ, zero, suc, _-_}
 use lib.Dec.{ltb}
 use lib.ListN.{length}
-use Rattle.places.specs.Places.{allBelow, anyBelow}
+use Rattle.lists.specs.Below.{allBelow, anyBelow}
 use Rattle.links.specs.Relay.{ofLog}
 use Rattle.links.specs.Number.{num}
 use Rattle.contest_spec.specs.Contest.{logOf, keeper's}

@@ -9,7 +9,7 @@ use Rattle.planning_spec.specs.LinkLog.{roundsOf, linksOf, logRefusal}
 use Rattle.planning_spec.specs.Forecast.{forecastCall}
 use Rattle.planning_spec.proofs.LinkLog.{accepted}
 use Rattle.planning_spec.proofs.Forecast.{forecast-done, perStation-is}
-use Rattle.broadcast_sets.specs.Stands.{Stands}
+use Rattle.link_logs.specs.Stands.{Stands}
 
 pub answered : (n : ℕ) (log sets ends last : List ℕ) → logRefusal n (length log) ≡ 0 → Stands (linksOf n log) (roundsOf n log) sets ends last
     → _≡_ {A = ForecastAnswer} (record { refusal = 0; ends = ends; last = last }) (forecastCall n log)

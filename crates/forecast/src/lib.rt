@@ -4,10 +4,10 @@ ghost use Prim.Native.Nat.{_≤_};
 ghost use lib.ListN.{length};
 ghost use Rattle.planning_spec.specs.LinkLog.{roundsOf, logRefusal};
 ghost use Rattle.planning_spec.specs.Forecast.{forecastCall};
-use broadcast_sets::begin_all;
-use broadcast_sets::close;
-use broadcast_sets::learn;
-use kinds::refusals::DONE;
+use bodies::refusals::DONE;
+use link_logs::sets::begin_all;
+use link_logs::sets::close;
+use link_logs::sets::learn;
 use planning_spec::ForecastAnswer;
 
 // The forecast of a log that is not refused: the sets before round 1, and round after round what is learnt and what

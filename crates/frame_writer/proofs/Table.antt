@@ -11,15 +11,15 @@ use lib.ListN.{getD, set, take, drop, length, length-append}
 use lib.Seq.{sets-eq, take-at, drop-at, drop-drop, drop-set-lt}
 use lib.Dec.{ltb}
 use borrow.Author.Tests.{lt-ltb, le-ltb}
-use Rattle.kinds.specs.Refusals.{done, shortBuffer}
-use Rattle.places.specs.Places.{gather}
-use Rattle.frame_rules.specs.declared.Record.{Record}
-use Rattle.frame_rules.specs.declared.Written.{Written}
-use Rattle.frame_rules.specs.Record.{recordBytes, framed, noRecord}
-use Rattle.frame_rules.specs.Frame.{recordsBytes, frameBytes}
-use Rattle.frame_rules.specs.Calls.{tableRecords, written, bufferWith}
-use Rattle.frame_rules.specs.Inner.Writing.{heldCount}
-use Rattle.frame_rules.proofs.Bytes.{length-records, length-frame, records-append, framed-bytes}
+use Rattle.bodies.specs.Refusals.{done, shortBuffer}
+use Rattle.lists.specs.Below.{filterMap}
+use Rattle.frame_spec.specs.declared.Record.{Record}
+use Rattle.frame_spec.specs.declared.Written.{Written}
+use Rattle.frame_spec.specs.Record.{recordBytes, framed, noRecord}
+use Rattle.frame_spec.specs.Frame.{recordsBytes, frameBytes}
+use Rattle.frame_spec.specs.Calls.{tableRecords, written, bufferWith}
+use Rattle.frame_spec.specs.Inner.Writing.{heldCount}
+use Rattle.frame_spec.proofs.Bytes.{length-records, length-frame, records-append, framed-bytes}
 
 pub at-most-one : (b : Bool) → cond b 1 0 ≤ 1
 at-most-one true = omega arith
@@ -61,10 +61,10 @@ count-room n held k h e =
 module _ (edition n sender count : ℕ) (held : List Bool) (table : List Record) where
   -- the records at the held places below k
   abbrev recordsBelow : ℕ → List Record
-  recordsBelow k = gather k (λ j. getD held j false) (λ j. framed n (getD table j noRecord))
+  recordsBelow k = filterMap k (λ j. getD held j false) (λ j. framed n (getD table j noRecord))
 
   count-is : (k : ℕ) → length (recordsBelow k) ≡ heldCount k held
-  unfolding gather heldCount
+  unfolding filterMap heldCount
   count-is zero = refl
   count-is (suc k) =
       length-append (recordsBelow k) (cond (getD held k false) (framed n (getD table k noRecord) ∷ []) [])
@@ -97,7 +97,7 @@ module _ (edition n sender count : ℕ) (held : List Bool) (table : List Record)
       ∙ drop-set-lt m l 0 n (omega arith)
 
   pub filled-none : (l : List ℕ) → 4 ≤ length l → Filled (headed l) 0 (headed l)
-  unfolding heldCount gather recordsBytes
+  unfolding heldCount filterMap recordsBytes
   filled-none l h =
       record {
         is = sets-eq (n ∷ sender ∷ count ∷ edition ∷ []) l 0 h ∙ rw (headed-drop l 4 (omega arith));
@@ -110,7 +110,7 @@ module _ (edition n sender count : ℕ) (held : List Bool) (table : List Record)
     at-same e = rw (add-one k, e, add-zero)
 
     pub filled-same : getD held k false ≡ false → Filled old (k + 1) buffer
-    unfolding gather
+    unfolding filterMap
     filled-same e =
         let rs : recordsBelow (k + 1) ≡ recordsBelow k = rw (add-one k, e) (append-nil (recordsBelow k)) in
         record { is = rw (rs, at-same e) (f .is) }
@@ -124,7 +124,7 @@ module _ (edition n sender count : ℕ) (held : List Bool) (table : List Record)
     records-more :
         getD held k false ≡ true →
         recordsBytes n (recordsBelow (k + 1)) ≡ recordsBytes n (recordsBelow k) ++ recordBytes n (getD table k noRecord)
-    unfolding gather recordsBytes
+    unfolding filterMap recordsBytes
     records-more e =
         rw (add-one k, e)
         (records-append n (recordsBelow k) (framed n (getD table k noRecord) ∷ [])

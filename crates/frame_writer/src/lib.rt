@@ -1,16 +1,18 @@
 // The frame of a table of records, written into a lent buffer.
 
+pub mod maker;
+
 ghost use mathlib.Core.Path.{_≡_};
 ghost use mathlib.Core.Bool.{cond};
 ghost use Prim.Native.Nat.{_≤_, _<_};
 ghost use lib.ListN.{length};
-ghost use Rattle.frame_rules.specs.Frame.{frameBytes};
-ghost use Rattle.frame_rules.specs.Calls.{tableRecords, written, bufferWith};
-ghost use Rattle.frame_rules.specs.Inner.Writing.{heldCount};
-use frame_rules::Record;
-use frame_rules::Written;
-use kinds::refusals::DONE;
-use kinds::refusals::SHORT_BUFFER;
+ghost use Rattle.frame_spec.specs.Frame.{frameBytes};
+ghost use Rattle.frame_spec.specs.Calls.{tableRecords, written, bufferWith};
+ghost use Rattle.frame_spec.specs.Inner.Writing.{heldCount};
+use bodies::refusals::DONE;
+use bodies::refusals::SHORT_BUFFER;
+use frame_spec::Record;
+use frame_spec::Written;
 
 // 1 where a place is held, else 0.
 fn one_if(held: bool) -> usize
@@ -66,7 +68,7 @@ pub fn write_table(
             k += 1;
             continue;
         }
-        record_writer::write_record(&mut buffer[at..at + 16], n, table[k]);
+        records::writer::write_record(&mut buffer[at..at + 16], n, table[k]);
         at += 16;
         k += 1;
     }

@@ -8,13 +8,13 @@ use lib.Dec.{eqb}
 use lib.ListN.{getD, set}
 use lib.Seq.{set-getD}
 use borrow.Author.Tests.{eq-eqb, ne-eqb, le-leb, lt-leb}
-use Rattle.kinds.specs.Body.{isEmpty}
-use Rattle.kinds.specs.Refusals.{laneFull}
+use Rattle.bodies.specs.Body.{isEmpty}
+use Rattle.bodies.specs.Refusals.{laneFull}
 use Rattle.labels.specs.Label.{successor}
-use Rattle.label_words.specs.Packing.{labelIn}
-use Rattle.frame_rules.specs.declared.Record.{Record}
-use Rattle.frame_rules.specs.Record.{recordLabel}
-use Rattle.station_rules.specs.Hearing.{raised}
+use Rattle.labels.specs.Packing.{labelIn}
+use Rattle.frame_spec.specs.declared.Record.{Record}
+use Rattle.frame_spec.specs.Record.{recordLabel}
+use Rattle.station_spec.specs.Hearing.{saturatingSuc}
 use Rattle.hearing_spec.specs.declared.Ear.{Ear}
 use Rattle.hearing_spec.specs.Heeding.{earAdvances, laneHasTwo, earAfter, lensAfter, takenAfter}
 
@@ -50,7 +50,7 @@ module _ (own : ℕ) (lens taken : List ℕ) (e : Ear) (r : Record) (at k : ℕ)
   module _ (advances : recordLabel r k ≡ next) where
     pub case-empty :
         isEmpty (r .body) ≡ true →
-        Heeded (record { refusal = e .refusal; count = raised (e .count); acked = acks; labels = set (e .labels) k next; len = e .len }) lens taken
+        Heeded (record { refusal = e .refusal; count = saturatingSuc (e .count); acked = acks; labels = set (e .labels) k next; len = e .len }) lens taken
     unfolding earAfter lensAfter takenAfter
     case-empty none = (rw (fresh advances, none, k-is), rw (fresh advances, none), rw (fresh advances, none))
 
@@ -63,7 +63,7 @@ module _ (own : ℕ) (lens taken : List ℕ) (e : Ear) (r : Record) (at k : ℕ)
 
       pub case-full :
           2 ≤ getD lens k 0 →
-          Heeded (record { refusal = laneFull; count = raised (e .count); acked = acks; labels = set (e .labels) k next; len = e .len }) lens taken
+          Heeded (record { refusal = laneFull; count = saturatingSuc (e .count); acked = acks; labels = set (e .labels) k next; len = e .len }) lens taken
       unfolding earAfter lensAfter takenAfter
       case-full b =
           (rw (fresh advances, some, full b, k-is), rw (fresh advances, some, full b), rw (fresh advances, some, full b))
@@ -71,7 +71,7 @@ module _ (own : ℕ) (lens taken : List ℕ) (e : Ear) (r : Record) (at k : ℕ)
       pub case-taken :
           getD lens k 0 < 2 →
           Heeded
-          (record { refusal = e .refusal; count = raised (e .count); acked = acks; labels = set (e .labels) k next; len = e .len + 1 })
+          (record { refusal = e .refusal; count = saturatingSuc (e .count); acked = acks; labels = set (e .labels) k next; len = e .len + 1 })
           (set lens k (getD lens k 0 + 1)) (set taken (e .len) at)
       unfolding earAfter lensAfter takenAfter
       case-taken b =

@@ -7,8 +7,8 @@ use native.Mathlib.Omega.{arith}
 use lib.ListN.{getD, set, take, drop, length, length-drop}
 use lib.Seq.{length-take-le}
 use Rattle.labels.specs.declared.Age.the-variants.{Newer}
-use Rattle.frame_rules.specs.declared.Record.{Record}
-use Rattle.frame_rules.specs.Record.{recordFrom}
+use Rattle.frame_spec.specs.declared.Record.{Record}
+use Rattle.frame_spec.specs.Record.{recordFrom}
 use Rattle.hearing_spec.specs.declared.Ear.{Ear}
 use Rattle.hearing_spec.specs.Buffer.{recordAt}
 use Rattle.hearing_spec.specs.StandsFor.{notes}

@@ -11,8 +11,8 @@ use lib.Dec.{eqb}
 use lib.ListN.{getD, length}
 use lib.Seq.{ext-getD}
 use borrow.Author.Tests.{eqb-true, eq-eqb}
-use Rattle.places.proofs.Laws.{both, and-both}
-use Rattle.frame_rules.specs.Words.{wordAt}
+use Rattle.lists.proofs.Laws.{both, and-both}
+use Rattle.frame_spec.specs.Words.{wordAt}
 use Rattle.hearing_spec.specs.Heeding.{sameBytes}
 use Rattle.hearing_spec.proofs.EqualRecords.{same-make, same-open}
 

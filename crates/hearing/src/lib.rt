@@ -9,20 +9,20 @@
 ghost use mathlib.Core.Path.{_≡_};
 ghost use Prim.Native.Nat.{ℕ, _+_, _*_, _≤_, _<_};
 ghost use lib.ListN.{getD, length};
-ghost use Rattle.kinds.specs.Refusals.{done};
-ghost use Rattle.frame_rules.specs.Words.{wordAt};
-ghost use Rattle.station_rules.specs.Hearing.{raised};
+ghost use Rattle.bodies.specs.Refusals.{done};
+ghost use Rattle.frame_spec.specs.Words.{wordAt};
+ghost use Rattle.station_spec.specs.Hearing.{saturatingSuc};
 ghost use Rattle.hearing_spec.specs.Buffer.{sizeIn, frameStart, hearsSender};
 ghost use Rattle.hearing_spec.specs.StandsFor.{notes};
 ghost use Rattle.hearing_spec.specs.Heeding.{sameBytes, ageBeside, ageAt, earAfter, lensAfter, takenAfter};
 ghost use Rattle.hearing_spec.specs.Room.{takingsRoom, mostBytes, Room, LastRoom, FrameRoom};
 ghost use Rattle.hearing_spec.specs.Promises.{HearsFrame, HearsMask};
-use frame_rules::Record;
+use bodies::refusals::CONFLICT;
+use bodies::refusals::DONE;
+use bodies::refusals::LANE_FULL;
+use frame_spec::Record;
 use hearing_spec::Ear;
 use hearing_spec::FRAME_ROOM;
-use kinds::refusals::CONFLICT;
-use kinds::refusals::DONE;
-use kinds::refusals::LANE_FULL;
 use labels::Age;
 
 // The number of eight bytes from a place on.
@@ -30,8 +30,8 @@ fn long_at(part: &[u8], at: usize) -> u64
     requires { ⌜ at + 8 ≤ length (now part) ⌝ }
     ensures { λ r. ⌜ r ≡ wordAt (now (part .entry)) at + 4_294_967_296 * wordAt (now (part .entry)) (at + 4) ⌝ }
 {
-    (record_reader::word_at(part, at) as u64)
-        + 4_294_967_296 * (record_reader::word_at(part, at + 4) as u64)
+    (records::reader::word_at(part, at) as u64)
+        + 4_294_967_296 * (records::reader::word_at(part, at + 4) as u64)
 }
 
 // Have two records the same sixteen bytes? They are compared as two numbers of eight.
@@ -50,14 +50,14 @@ fn age_of(held: bool, old: Record, seen: Record, k: usize, equal: bool) -> Age
     requires { ⌜ k < 16 ⌝ }
     ensures { λ r. ⌜ r ≡ ageBeside held old seen k equal ⌝ }
 {
-    let old_label = label_words::label_in(old.labels, k);
-    let seen_label = label_words::label_in(seen.labels, k);
+    let old_label = labels::words::label_in(old.labels, k);
+    let seen_label = labels::words::label_in(seen.labels, k);
     labels::age_beside(held, old_label, old.count, seen_label, seen.count, equal)
 }
 
 // One more, and 255 stays 255.
-fn raised(count: u8) -> u8
-    ensures { λ r. ⌜ r ≡ raised count ⌝ }
+fn saturating_suc(count: u8) -> u8
+    ensures { λ r. ⌜ r ≡ saturatingSuc count ⌝ }
 {
     if count < 255 {
         return count + 1;
@@ -85,16 +85,16 @@ fn heed(
         × (now (taken .exit) ≡ takenAfter (now (lens .entry)) (now (taken .entry)) e seen at) ⌝ }
 {
     let mut ear = e;
-    let acknowledges = label_words::label_in(seen.labels, own) == ear.labels[own];
+    let acknowledges = labels::words::label_in(seen.labels, own) == ear.labels[own];
     ear.acked[k] = ear.acked[k] | acknowledges;
     let next = labels::successor(ear.labels[k]);
-    if label_words::label_in(seen.labels, k) != next {
+    if labels::words::label_in(seen.labels, k) != next {
         return ear;
     }
     ear.labels[k] = next;
-    ear.count = raised(ear.count);
+    ear.count = saturating_suc(ear.count);
     let body = seen.body;
-    if kinds::is_empty(body) {
+    if bodies::is_empty(body) {
         return ear;
     }
     if 2 <= lens[k] {
@@ -118,8 +118,8 @@ fn age_at(bytes: &[u8], held: usize, at: usize, k: usize, own: usize) -> Age
     if k == own {
         return Age::Same;
     }
-    let old = record_reader::read_record(&bytes[held..held + 16]);
-    let seen = record_reader::read_record(&bytes[at..at + 16]);
+    let old = records::reader::read_record(&bytes[held..held + 16]);
+    let seen = records::reader::read_record(&bytes[at..at + 16]);
     let equal = same(&bytes[held..held + 16], &bytes[at..at + 16]);
     age_of(held != 0, old, seen, k, equal)
 }
@@ -163,7 +163,7 @@ pub fn hear_frame(
         match found {
             Age::Newer => {
                 places[k] = at as u16;
-                let seen = record_reader::read_record(&bytes[at..at + 16]);
+                let seen = records::reader::read_record(&bytes[at..at + 16]);
                 ear = heed(ear, seen, at, k, own, lens, taken);
                 at += 16;
                 continue;

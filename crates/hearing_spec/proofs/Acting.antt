@@ -8,12 +8,12 @@ use native.Mathlib.Omega.{arith}
 use lib.Dec.{eqb}
 use lib.ListN.{getD}
 use borrow.Author.Tests.{eqb-true, not-false}
-use Rattle.kinds.specs.Refusals.{done}
-use Rattle.frame_rules.specs.Record.{framed}
-use Rattle.station_rules.specs.declared.Station.{Station}
-use Rattle.station_rules.specs.State.{heldOf, recordOf}
-use Rattle.station_rules.specs.Hearing.{Hearing, silent}
-use Rattle.station_rules.proofs.Setters.{Shaped}
+use Rattle.bodies.specs.Refusals.{done}
+use Rattle.frame_spec.specs.Record.{framed}
+use Rattle.station_spec.specs.declared.Station.{Station}
+use Rattle.station_spec.specs.State.{heldOf, recordOf}
+use Rattle.station_spec.specs.Hearing.{Hearing, initialHearing}
+use Rattle.station_spec.proofs.Setters.{Shaped}
 use Rattle.hearing_spec.specs.Buffer.{sizeIn, recordAt}
 use Rattle.hearing_spec.specs.Settled.{Settled, AllSettled}
 use Rattle.hearing_spec.specs.StandsFor.{Notes, holdsAt, topAt, StandsFor, Stands, actsOn}
@@ -59,16 +59,16 @@ pub heard-and-acted :
     ((k : ℕ) → k < s .n → heldOf s k ≡ holdsAt (x .places) k) →
     ((k : ℕ) → k < s .n → topAt s bytes (x .places) k ≡ framed (s .n) (recordOf s k)) →
     ((k : ℕ) → k < s .n → heldOf s k ≡ true → (recordOf s k) .station ≡ k) →
-    StandsFor s bytes x (silent s) → Hears (s .own) bytes f (x .places) x last y →
-    (y .ear .refusal ≡ (f (silent s)) .refusal) × (y .ear .refusal ≡ done → StandsFor s bytes y (f (silent s)))
-    × (y .ear .refusal ≡ done → actsOn s bytes y ≡ (f (silent s)) .station)
+    StandsFor s bytes x (initialHearing s) → Hears (s .own) bytes f (x .places) x last y →
+    (y .ear .refusal ≡ (f (initialHearing s)) .refusal) × (y .ear .refusal ≡ done → StandsFor s bytes y (f (initialHearing s)))
+    × (y .ear .refusal ≡ done → actsOn s bytes y ≡ (f (initialHearing s)) .station)
 heard-and-acted s bytes f x y last most size shape held tops stations begins does =
     let named : Named s (sizeIn bytes) (s .own) = record { n-is = size; own-is = refl } in
-    let first : Stands s bytes (x .places) x (silent s) =
+    let first : Stands s bytes (x .places) x (initialHearing s) =
     record { numbers = begins; settled = settled-first s bytes (x .places) most size held tops stations; shaped = shape } in (
-      does .refusal s (silent s) named first refl,
-      λ fine. does .stands s (silent s) named first refl fine .numbers,
+      does .refusal s (initialHearing s) named first refl,
+      λ fine. does .stands s (initialHearing s) named first refl fine .numbers,
       λ fine.
-          let now = does .stands s (silent s) named first refl fine in
-          acted-stands s bytes y (f (silent s)) (now .numbers) shape (now .shaped) (sym (now .numbers .refusal) ∙ fine),
+          let now = does .stands s (initialHearing s) named first refl fine in
+          acted-stands s bytes y (f (initialHearing s)) (now .numbers) shape (now .shaped) (sym (now .numbers .refusal) ∙ fine),
     )

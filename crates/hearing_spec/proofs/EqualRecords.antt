@@ -9,16 +9,16 @@ use lib.Dec.{eqb}
 use lib.ListN.{getD, length}
 use lib.Seq.{ext-getD}
 use borrow.Author.Tests.{eqb-true, eq-eqb}
-use Rattle.kinds.specs.declared.Body.{Body}
-use Rattle.kinds.specs.Body.{kindOf, eventOf, argumentOf, channelOf}
-use Rattle.places.proofs.Laws.{allBelow-at, allBelow-make}
-use Rattle.label_words.specs.Packing.{labelsOver}
-use Rattle.label_words.proofs.Laws.{over-ext}
-use Rattle.frame_rules.specs.declared.Record.{Record}
-use Rattle.frame_rules.specs.Words.{wordBytes, unsigned}
-use Rattle.frame_rules.specs.Record.{recordLabel, recordFrom, recordBytes}
-use Rattle.station_rules.specs.Hearing.{agree}
-use Rattle.station_rules.proofs.Agree.{agree-make, agree-body, agree-labels}
+use Rattle.bodies.specs.declared.Body.{Body}
+use Rattle.bodies.specs.Body.{kindOf, eventOf, argumentOf, channelOf}
+use Rattle.lists.proofs.Laws.{allBelow-at, allBelow-make}
+use Rattle.labels.specs.Packing.{labelsOver}
+use Rattle.labels.proofs.PackingLaws.{over-ext}
+use Rattle.frame_spec.specs.declared.Record.{Record}
+use Rattle.frame_spec.specs.Words.{wordBytes, unsigned}
+use Rattle.frame_spec.specs.Record.{recordLabel, recordFrom, recordBytes}
+use Rattle.station_spec.specs.Hearing.{agree}
+use Rattle.station_spec.proofs.Agree.{agree-make, agree-body, agree-labels}
 use Rattle.hearing_spec.specs.Heeding.{sameBytes}
 
 module _ (p q : List ℕ) where

@@ -11,17 +11,17 @@ use lib.ListN.{getD, set, take, drop, length, length-set}
 use lib.Seq.{getD-take, getD-drop, getD-set-same, getD-set-other, drop-drop}
 use borrow.Author.Tests.{eq-eqb}
 use native.Mathlib.Nat.{zero-add, suc-add}
-use Rattle.kinds.specs.Refusals.{done, laneFull, conflict}
-use Rattle.places.specs.Places.{tabulate}
-use Rattle.places.proofs.Laws.{tabulate-ext}
-use Rattle.frame_rules.specs.declared.Record.{Record}
-use Rattle.frame_rules.specs.Record.{recordFrom}
-use Rattle.frame_rules.specs.Frame.{recordsOf, part}
-use Rattle.station_rules.specs.declared.Station.{Station}
-use Rattle.station_rules.specs.Hearing.{Hearing, hearRecord, hearRecords, hearFrame}
-use Rattle.station_rules.proofs.Cells.{hearRecords-append, hearRecords-one, hearRecords-none}
-use Rattle.station_rules.proofs.LimitsHearing.{hearRecord-shaped}
-use Rattle.station_rules.proofs.FrameConflicts.{conflict-stays}
+use Rattle.bodies.specs.Refusals.{done, laneFull, conflict}
+use Rattle.lists.specs.Below.{tabulate}
+use Rattle.lists.proofs.Laws.{tabulate-ext}
+use Rattle.frame_spec.specs.declared.Record.{Record}
+use Rattle.frame_spec.specs.Record.{recordFrom}
+use Rattle.frame_spec.specs.Frame.{recordsOf, part}
+use Rattle.station_spec.specs.declared.Station.{Station}
+use Rattle.station_spec.specs.Hearing.{Hearing, hearRecord, hearRecords, hearFrame}
+use Rattle.station_spec.proofs.Cells.{hearRecords-append, hearRecords-one, hearRecords-none}
+use Rattle.station_spec.proofs.LimitsHearing.{hearRecord-shaped}
+use Rattle.station_spec.proofs.FrameConflicts.{conflict-stays}
 use Rattle.hearing_spec.specs.Buffer.{sizeIn, recordAt, recordsAt, firstRecords}
 use Rattle.hearing_spec.specs.StandsFor.{Notes, StandsFor, Stands}
 use Rattle.hearing_spec.specs.Room.{mostBytes, Written, RecordRoom, Room, LastRoom, FrameRoom}

@@ -11,17 +11,17 @@ use lib.Dec.{eqb}
 use lib.ListN.{getD, set}
 use lib.Seq.{set-getD}
 use borrow.Author.Tests.{eq-eqb, ne-eqb}
-use Rattle.places.specs.Places.{fill}
-use Rattle.frame_rules.specs.declared.Record.{Record}
-use Rattle.frame_rules.specs.Record.{framed}
-use Rattle.lanes.specs.declared.Lane.{Lane}
-use Rattle.lanes.specs.Lane.{noLane, pushed}
-use Rattle.station_rules.specs.declared.Station.{Station}
-use Rattle.station_rules.specs.declared.Taking.{Taking}
-use Rattle.station_rules.specs.State.{Cell, heldOf, recordOf}
-use Rattle.station_rules.specs.Hearing.{takes, replaced, heardNewer}
-use Rattle.station_rules.proofs.Setters.{Shaped, lane-at, table-made, held-made, station-made}
-use Rattle.station_rules.proofs.Cells.{heard-n, heard-own, heard-edition, heard-waiting, heard-body, heard-here, heard-other, heard-lanes, replaced-twice, replaced-framed}
+use Rattle.lists.specs.Below.{setBelow}
+use Rattle.frame_spec.specs.declared.Record.{Record}
+use Rattle.frame_spec.specs.Record.{framed}
+use Rattle.queues.specs.declared.Lane.{Lane}
+use Rattle.queues.specs.Lane.{noLane, pushed}
+use Rattle.station_spec.specs.declared.Station.{Station}
+use Rattle.station_spec.specs.declared.Taking.{Taking}
+use Rattle.station_spec.specs.State.{Cell, heldOf, recordOf}
+use Rattle.station_spec.specs.Hearing.{takes, replaced, heardNewer}
+use Rattle.station_spec.proofs.Setters.{Shaped, lane-at, table-made, held-made, station-made}
+use Rattle.station_spec.proofs.Cells.{heard-n, heard-own, heard-edition, heard-waiting, heard-body, heard-here, heard-other, heard-lanes, replaced-twice, replaced-framed}
 use Rattle.hearing_spec.specs.Gathered.{pushedAll, actedOn, Gathered}
 
 pub pushedAll-append : (l : List Lane) (xs ys : List Taking) → pushedAll l (xs ++ ys) ≡ pushedAll (pushedAll l xs) ys
@@ -118,7 +118,7 @@ pub acted-is :
     ((k : ℕ) → k < s .n → heldOf st k ≡ holds k) → st ≡ actedOn s tops holds ts (st .count) (st .acked) (st .labels)
 unfolding actedOn
 acted-is s st ts tops holds shape₀ shape c held =
-    station-made s st (fill (s .n) holds (s .held)) (fill (s .n) (λ k. replaced (s .n) (recordOf s k) (tops k)) (s .table))
+    station-made s st (setBelow (s .n) holds (s .held)) (setBelow (s .n) (λ k. replaced (s .n) (recordOf s k) (tops k)) (s .table))
     (pushedAll (s .lanes) ts)
     (record { n = c .n; own = c .own; edition = c .edition; waiting = c .waiting; body = c .body; count = refl })
     (held-made s st shape₀ shape (s .n) holds held (c .held-above))

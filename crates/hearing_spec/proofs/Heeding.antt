@@ -12,24 +12,24 @@ use lib.Dec.{eqb, leb}
 use lib.ListN.{getD, set, take, length, length-set}
 use lib.Seq.{getD-set-same, getD-set-other, take-suc-set}
 use borrow.Author.Tests.{eq-eqb, ne-eqb, leb-true, leb-false}
-use Rattle.kinds.specs.Refusals.{done, laneFull, refuse}
+use Rattle.bodies.specs.Refusals.{done, laneFull, refuse}
 use Rattle.labels.specs.Label.{successor}
-use Rattle.places.specs.Places.{total}
-use Rattle.places.proofs.Total.{total-gap, total-raised}
-use Rattle.frame_rules.specs.declared.Record.{Record}
-use Rattle.lanes.specs.declared.Lane.{Lane}
-use Rattle.lanes.specs.Lane.{pushed}
-use Rattle.lanes.proofs.LaneLaws.{len-pushed}
-use Rattle.lanes.proofs.LaneSteps.{push-two}
-use Rattle.station_rules.specs.declared.Station.{Station}
-use Rattle.station_rules.specs.declared.Taking.{Taking}
-use Rattle.station_rules.specs.State.{Cell, labelOf, ackedOf, heldOf, laneAt}
-use Rattle.frame_rules.specs.Record.{recordLabel}
+use Rattle.lists.specs.Below.{total}
+use Rattle.lists.proofs.Total.{total-gap, total-raised}
+use Rattle.frame_spec.specs.declared.Record.{Record}
+use Rattle.queues.specs.declared.Lane.{Lane}
+use Rattle.queues.specs.Lane.{pushed}
+use Rattle.queues.proofs.LaneLaws.{len-pushed}
+use Rattle.queues.proofs.LaneSteps.{push-two}
+use Rattle.station_spec.specs.declared.Station.{Station}
+use Rattle.station_spec.specs.declared.Taking.{Taking}
+use Rattle.station_spec.specs.State.{Cell, labelOf, ackedOf, heldOf, laneAt}
+use Rattle.frame_spec.specs.Record.{recordLabel}
 use Rattle.labels.specs.declared.Age.the-variants.{Newer}
-use Rattle.station_rules.specs.Hearing.{Hearing, ageIn, advances, takes, overfills, raised, heardNewer, hearRecord}
-use Rattle.station_rules.proofs.HearRecord.{heardOne, hear-newer, not-refused}
-use Rattle.station_rules.proofs.Setters.{Shaped, acked-at, label-at}
-use Rattle.station_rules.proofs.Cells.{heard-count, heard-here, heard-other, heard-acked, heard-labels}
+use Rattle.station_spec.specs.Hearing.{Hearing, ageIn, advances, takes, overfills, saturatingSuc, heardNewer, hearRecord}
+use Rattle.station_spec.proofs.HearRecord.{heardOne, hear-newer, not-refused}
+use Rattle.station_spec.proofs.Setters.{Shaped, acked-at, label-at}
+use Rattle.station_spec.proofs.Cells.{heard-count, heard-here, heard-other, heard-acked, heard-labels}
 use Rattle.hearing_spec.specs.declared.Ear.{Ear}
 use Rattle.hearing_spec.specs.Buffer.{sizeIn, recordAt, takingAt}
 use Rattle.hearing_spec.specs.Gathered.{Gathered}
@@ -177,7 +177,7 @@ module _ (s : Station) (most : s .n ≤ 16) (own : ℕ) (mine : s .own ≡ own) 
 
   count' : (y .ear) .count ≡ (heardNewer st r) .count
   unfolding earAfter
-  count' = (λ i. cond (advances-is i) (raised (c .count i)) (c .count i)) ∙ sym (heard-count st r)
+  count' = (λ i. cond (advances-is i) (saturatingSuc (c .count i)) (c .count i)) ∙ sym (heard-count st r)
 
   own-is : own ≡ st .own
   own-is = sym (c .gathered .own ∙ mine)

@@ -7,12 +7,12 @@ use mathlib.Core.Path.{_≡_, sym, ap, subst, _∙_}
 use native.Mathlib.Nat.{zero-add, suc-add}
 use native.Mathlib.Omega.{arith}
 use borrow.Author.Tests.{lt-ltb}
-use Rattle.kinds.specs.Refusals.{done}
+use Rattle.bodies.specs.Refusals.{done}
 use Rattle.links.specs.Log.{hearsIn}
 use lib.ListN.{getD}
-use Rattle.station_rules.specs.declared.Station.{Station}
-use Rattle.station_rules.specs.Hearing.{Hearing, hearFrame}
-use Rattle.station_rules.proofs.FrameConflicts.{refused-stays}
+use Rattle.station_spec.specs.declared.Station.{Station}
+use Rattle.station_spec.specs.Hearing.{Hearing, hearFrame}
+use Rattle.station_spec.proofs.FrameConflicts.{refused-stays}
 use Rattle.hearing_spec.specs.Buffer.{sizeIn, frameStart, recordsAt, hearsSender, hearSenders}
 use Rattle.hearing_spec.specs.StandsFor.{Notes, Stands}
 use Rattle.hearing_spec.specs.Room.{Room, LastRoom}

@@ -13,11 +13,11 @@ use lib.Seq.{length-take-le}
 use Rattle.labels.specs.declared.Age.{Age}
 use Rattle.labels.specs.declared.Age.the-variants.{Newer, Same, Conflicting, Older}
 use Rattle.labels.proofs.NewerLaws.{age-none, age-level}
-use Rattle.frame_rules.specs.declared.Record.{Record}
-use Rattle.station_rules.specs.declared.Station.{Station}
-use Rattle.frame_rules.specs.Record.{recordLabel}
-use Rattle.station_rules.specs.Hearing.{Hearing, agree, ageIn}
-use Rattle.station_rules.proofs.Setters.{Shaped}
+use Rattle.frame_spec.specs.declared.Record.{Record}
+use Rattle.station_spec.specs.declared.Station.{Station}
+use Rattle.frame_spec.specs.Record.{recordLabel}
+use Rattle.station_spec.specs.Hearing.{Hearing, agree, ageIn}
+use Rattle.station_spec.proofs.Setters.{Shaped}
 use Rattle.hearing_spec.specs.Buffer.{sizeIn, bytesAt, recordAt}
 use Rattle.hearing_spec.specs.StandsFor.{Notes, holdsAt, StandsFor}
 use Rattle.hearing_spec.specs.Heeding.{sameBytes, ageBeside, ageAt}

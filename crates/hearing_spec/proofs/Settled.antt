@@ -8,20 +8,20 @@ use mathlib.Core.Path.{_≡_, refl, sym, ap, subst, _∙_}
 use native.Mathlib.Decide.{ℕ-discrete}
 use native.Mathlib.Omega.{arith}
 use lib.Dec.{eqb}
-use Rattle.kinds.specs.Refusals.{conflict}
+use Rattle.bodies.specs.Refusals.{conflict}
 use Rattle.labels.proofs.NewerLaws.{newer-self}
 use Rattle.labels.specs.Newer.{isNewer}
-use Rattle.frame_rules.specs.declared.Record.{Record}
-use Rattle.frame_rules.specs.Record.{framed, recordLabel}
-use Rattle.station_rules.specs.declared.Station.{Station}
-use Rattle.station_rules.specs.State.{Cell, heldOf, recordOf, ownLabel}
-use Rattle.station_rules.specs.Hearing.{Hearing, agree, heardNewer, hearRecord}
-use Rattle.station_rules.proofs.HearRecord.{conflicts, level, heardOne, hearRecord-cases, hearRecord-skips}
-use Rattle.station_rules.proofs.FrameConflicts.{newer-leaves}
-use Rattle.station_rules.proofs.Agree.{agree-make, agree-replaced}
-use Rattle.station_rules.proofs.Setters.{Shaped}
-use Rattle.station_rules.proofs.Cells.{heard-n, heard-own, heard-here, heard-other, replaced-label, replaced-count, framed-station, framed-count, framed-body}
-use Rattle.frame_rules.proofs.Labels.{framed-label}
+use Rattle.frame_spec.specs.declared.Record.{Record}
+use Rattle.frame_spec.specs.Record.{framed, recordLabel}
+use Rattle.station_spec.specs.declared.Station.{Station}
+use Rattle.station_spec.specs.State.{Cell, heldOf, recordOf, ownLabel}
+use Rattle.station_spec.specs.Hearing.{Hearing, agree, heardNewer, hearRecord}
+use Rattle.station_spec.proofs.HearRecord.{conflicts, level, heardOne, hearRecord-cases, hearRecord-skips}
+use Rattle.station_spec.proofs.FrameConflicts.{newer-leaves}
+use Rattle.station_spec.proofs.Agree.{agree-make, agree-replaced}
+use Rattle.station_spec.proofs.Setters.{Shaped}
+use Rattle.station_spec.proofs.Cells.{heard-n, heard-own, heard-here, heard-other, replaced-label, replaced-count, framed-station, framed-count, framed-body}
+use Rattle.frame_spec.proofs.Labels.{framed-label}
 use Rattle.hearing_spec.specs.Settled.{Settled, AllSettled}
 
 none : (a b c : Bool) → (a && (b && (c && false))) ≡ false

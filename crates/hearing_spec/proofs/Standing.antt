@@ -7,19 +7,19 @@ use mathlib.Core.List.{List, []}
 use mathlib.Core.Path.{_≡_, refl, sym, ap, _∙_}
 use native.Mathlib.Omega.{arith}
 use lib.ListN.{getD}
-use Rattle.kinds.specs.Refusals.{done, conflict}
+use Rattle.bodies.specs.Refusals.{done, conflict}
 use Rattle.labels.specs.declared.Age.the-variants.{Same, Conflicting, Older}
 use Rattle.labels.specs.Newer.{ageOf}
 use Rattle.labels.proofs.NewerLaws.{age-none}
-use Rattle.frame_rules.specs.declared.Record.{Record}
-use Rattle.frame_rules.specs.Record.{framed, recordLabel}
-use Rattle.station_rules.specs.declared.Station.{Station}
-use Rattle.station_rules.specs.State.{heldOf, recordOf, laneAt, ownLabel}
-use Rattle.station_rules.specs.Hearing.{Hearing, silent, agree, ageIn, replaced, hearRecord}
-use Rattle.station_rules.proofs.HearRecord.{hear-own, hear-same, hear-older, hear-conflicting}
-use Rattle.station_rules.proofs.Agree.{agree-replaced}
-use Rattle.station_rules.proofs.Setters.{Shaped}
-use Rattle.station_rules.proofs.Cells.{replaced-label, replaced-count}
+use Rattle.frame_spec.specs.declared.Record.{Record}
+use Rattle.frame_spec.specs.Record.{framed, recordLabel}
+use Rattle.station_spec.specs.declared.Station.{Station}
+use Rattle.station_spec.specs.State.{heldOf, recordOf, laneAt, ownLabel}
+use Rattle.station_spec.specs.Hearing.{Hearing, initialHearing, agree, ageIn, replaced, hearRecord}
+use Rattle.station_spec.proofs.HearRecord.{hear-own, hear-same, hear-older, hear-conflicting}
+use Rattle.station_spec.proofs.Agree.{agree-replaced}
+use Rattle.station_spec.proofs.Setters.{Shaped}
+use Rattle.station_spec.proofs.Cells.{replaced-label, replaced-count}
 use Rattle.hearing_spec.specs.declared.Ear.{Ear}
 use Rattle.hearing_spec.specs.Buffer.{recordAt}
 use Rattle.hearing_spec.specs.StandsFor.{Notes, notes, holdsAt, topAt, StandsFor}
@@ -40,7 +40,7 @@ pub stands-first :
     ((k : ℕ) → k < s .n → topAt s bytes (x .places) k ≡ framed (s .n) (recordOf s k)) →
     ((k : ℕ) → k < s .n → getD (x .lens) k 0 ≡ (laneAt s k) .len) →
     x .ear .refusal ≡ done → x .ear .count ≡ s .count → x .ear .acked ≡ s .acked → x .ear .labels ≡ s .labels → x .ear .len ≡ 0 →
-    StandsFor s bytes x (silent s)
+    StandsFor s bytes x (initialHearing s)
 stands-first s bytes x most held tops lanes e₁ e₂ e₃ e₄ e₅ =
     record {
       gathered =

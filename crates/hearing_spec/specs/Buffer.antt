@@ -7,12 +7,12 @@ use mathlib.Core.List.{List}
 use lib.ListN.{getD, take, drop}
 use lib.Dec.{eqb}
 use Rattle.links.specs.Log.{bit}
-use Rattle.places.specs.Places.{tabulate}
-use Rattle.frame_rules.specs.declared.Record.{Record}
-use Rattle.frame_rules.specs.Record.{recordFrom}
-use Rattle.frame_rules.specs.Frame.{recordsOf}
-use Rattle.station_rules.specs.declared.Taking.{Taking}
-use Rattle.station_rules.specs.Hearing.{Hearing, hearFrame}
+use Rattle.lists.specs.Below.{tabulate}
+use Rattle.frame_spec.specs.declared.Record.{Record}
+use Rattle.frame_spec.specs.Record.{recordFrom}
+use Rattle.frame_spec.specs.Frame.{recordsOf}
+use Rattle.station_spec.specs.declared.Taking.{Taking}
+use Rattle.station_spec.specs.Hearing.{Hearing, hearFrame}
 
 -- the room of a frame: four bytes, and sixteen records of sixteen bytes (M8)
 abbrev pub frameRoom : ℕ

@@ -5,14 +5,14 @@ use mathlib.Core.Path.{_≡_}
 use mathlib.Core.Bool.{Bool}
 use mathlib.Core.List.{List, [], _∷_}
 use lib.ListN.{getD, set}
-use Rattle.places.specs.Places.{fill}
-use Rattle.frame_rules.specs.declared.Record.{Record}
-use Rattle.lanes.specs.declared.Lane.{Lane}
-use Rattle.lanes.specs.Lane.{noLane, pushed}
-use Rattle.station_rules.specs.declared.Station.{Station}
-use Rattle.station_rules.specs.declared.Taking.{Taking}
-use Rattle.station_rules.specs.State.{heldOf, recordOf, withBroadcast, withArrays}
-use Rattle.station_rules.specs.Hearing.{replaced}
+use Rattle.lists.specs.Below.{setBelow}
+use Rattle.frame_spec.specs.declared.Record.{Record}
+use Rattle.queues.specs.declared.Lane.{Lane}
+use Rattle.queues.specs.Lane.{noLane, pushed}
+use Rattle.station_spec.specs.declared.Station.{Station}
+use Rattle.station_spec.specs.declared.Taking.{Taking}
+use Rattle.station_spec.specs.State.{heldOf, recordOf, withBroadcast, withArrays}
+use Rattle.station_spec.specs.Hearing.{replaced}
 
 -- the bodies of takings, each put last into the lane of its source, in order
 unfoldable pub pushedAll : List Lane → List Taking → List Lane
@@ -23,8 +23,8 @@ pushedAll lanes (t ∷ ts) = pushedAll (set lanes (t .source) (pushed (getD lane
 -- their lanes, and other numbers
 unfoldable pub actedOn : Station → (ℕ → Record) → (ℕ → Bool) → List Taking → ℕ → List Bool → List ℕ → Station
 actedOn s tops holds takings count acked labels =
-    withArrays (withBroadcast s (s .body) count) acked labels (fill (s .n) holds (s .held))
-    (fill (s .n) (λ k. replaced (s .n) (recordOf s k) (tops k)) (s .table))
+    withArrays (withBroadcast s (s .body) count) acked labels (setBelow (s .n) holds (s .held))
+    (setBelow (s .n) (λ k. replaced (s .n) (recordOf s k) (tops k)) (s .table))
     (pushedAll (s .lanes) takings)
 
 -- st is what a station that began as s has become, `tops k` being the newest record heard of k,

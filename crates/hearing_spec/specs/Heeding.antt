@@ -5,16 +5,16 @@ use mathlib.Core.Bool.{Bool, false, cond, not, _&&_, _||_}
 use mathlib.Core.List.{List}
 use lib.ListN.{getD, set}
 use lib.Dec.{leb, eqb}
-use Rattle.kinds.specs.Body.{isEmpty}
-use Rattle.kinds.specs.Refusals.{laneFull, refuse}
+use Rattle.bodies.specs.Body.{isEmpty}
+use Rattle.bodies.specs.Refusals.{laneFull, refuse}
 use Rattle.labels.specs.Label.{successor}
 use Rattle.labels.specs.declared.Age.{Age}
 use Rattle.labels.specs.declared.Age.the-variants.{Same}
 use Rattle.labels.specs.Newer.{ageOf}
-use Rattle.places.specs.Places.{allBelow}
-use Rattle.frame_rules.specs.declared.Record.{Record}
-use Rattle.frame_rules.specs.Record.{recordLabel}
-use Rattle.station_rules.specs.Hearing.{follows, raised}
+use Rattle.lists.specs.Below.{allBelow}
+use Rattle.frame_spec.specs.declared.Record.{Record}
+use Rattle.frame_spec.specs.Record.{recordLabel}
+use Rattle.station_spec.specs.Hearing.{follows, saturatingSuc}
 use Rattle.hearing_spec.specs.declared.Ear.{Ear}
 use Rattle.hearing_spec.specs.Buffer.{bytesAt, recordAt}
 
@@ -58,7 +58,7 @@ earAfter own lens e r =
     let k = r .station in
     record {
       refusal = refuse (earTakes e r && laneHasTwo lens r) laneFull (e .refusal);
-      count = cond (earAdvances e r) (raised (e .count)) (e .count);
+      count = cond (earAdvances e r) (saturatingSuc (e .count)) (e .count);
       acked = set (e .acked) k (getD (e .acked) k false || eqb (recordLabel r own) (getD (e .labels) own 0));
       labels = set (e .labels) k (cond (earAdvances e r) (successor (getD (e .labels) k 0)) (getD (e .labels) k 0));
       len = cond (earPuts lens e r) (e .len + 1) (e .len);

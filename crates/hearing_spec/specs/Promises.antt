@@ -3,10 +3,10 @@
 use Prim.Native.Nat.{ℕ, _≤_}
 use mathlib.Core.Path.{_≡_}
 use mathlib.Core.List.{List}
-use Rattle.kinds.specs.Refusals.{done, laneFull}
-use Rattle.station_rules.specs.declared.Station.{Station}
-use Rattle.station_rules.specs.Hearing.{Hearing, hearRecord, hearFrame}
-use Rattle.station_rules.proofs.Setters.{Shaped}
+use Rattle.bodies.specs.Refusals.{done, laneFull}
+use Rattle.station_spec.specs.declared.Station.{Station}
+use Rattle.station_spec.specs.Hearing.{Hearing, hearRecord, hearFrame}
+use Rattle.station_spec.proofs.Setters.{Shaped}
 use Rattle.hearing_spec.specs.Buffer.{sizeIn, recordAt, recordsAt, hearSenders}
 use Rattle.hearing_spec.specs.StandsFor.{Notes, StandsFor, Stands}
 

@@ -3,12 +3,12 @@
 use Prim.Native.Nat.{ℕ, _<_}
 use mathlib.Core.Path.{_≡_}
 use mathlib.Core.Bool.{false}
-use Rattle.frame_rules.specs.declared.Record.{Record}
-use Rattle.station_rules.specs.declared.Station.{Station}
-use Rattle.station_rules.proofs.HearRecord.{heeds, conflicts}
+use Rattle.frame_spec.specs.declared.Record.{Record}
+use Rattle.station_spec.specs.declared.Station.{Station}
+use Rattle.station_spec.proofs.HearRecord.{accepts, conflicts}
 
 pub record Settled (s : Station) (r : Record) : Type 0 where
-  pub passed : heeds s r ≡ false
+  pub passed : accepts s r ≡ false
   pub calm : conflicts s r ≡ false
 
 -- of each station below n a record: where it is of that station, it is settled

@@ -5,19 +5,19 @@ use mathlib.Core.Bool.{Bool, cond, not}
 use mathlib.Core.List.{List, map}
 use lib.ListN.{getD, take}
 use lib.Dec.{eqb}
-use Rattle.kinds.specs.Refusals.{done}
-use Rattle.frame_rules.specs.declared.Record.{Record}
-use Rattle.frame_rules.specs.Record.{framed}
-use Rattle.station_rules.specs.declared.Station.{Station}
-use Rattle.station_rules.specs.State.{heldOf, recordOf, laneAt}
-use Rattle.station_rules.specs.Hearing.{Hearing}
-use Rattle.station_rules.proofs.Setters.{Shaped}
+use Rattle.bodies.specs.Refusals.{done}
+use Rattle.frame_spec.specs.declared.Record.{Record}
+use Rattle.frame_spec.specs.Record.{framed}
+use Rattle.station_spec.specs.declared.Station.{Station}
+use Rattle.station_spec.specs.State.{heldOf, recordOf, laneAt}
+use Rattle.station_spec.specs.Hearing.{Hearing}
+use Rattle.station_spec.proofs.Setters.{Shaped}
 use Rattle.hearing_spec.specs.declared.Ear.{Ear}
 use Rattle.hearing_spec.specs.Buffer.{recordAt, takingAt}
 use Rattle.hearing_spec.specs.Gathered.{Gathered, actedOn}
 use Rattle.hearing_spec.specs.Settled.{AllSettled}
 
--- `places` has where the record begins that the hearer holds of k, 0 where it holds none; `lens`
+-- `lists` has where the record begins that the hearer holds of k, 0 where it holds none; `lens`
 -- how many bodies lane k has; `taken` where the records begin whose bodies are taken, as heard
 pub record Notes : Type 0 where
   pub places : List ℕ

@@ -1,3 +1,8 @@
-pub mod Laws
-pub mod Examples
+pub mod PackingLaws
+pub mod Packing
+pub mod Word
+pub mod Made
+pub mod PackingExamples
+pub mod LabelLaws
+pub mod LabelExamples
 pub mod NewerLaws

@@ -1,5 +1,7 @@
 // Labels: the successor, and what a seen record is beside the held one.
 
+pub mod words;
+
 ghost use mathlib.Core.Path.{_≡_};
 ghost use Rattle.labels.specs.Label.{successor};
 ghost use Rattle.labels.specs.Newer.{ageOf};

@@ -7,10 +7,10 @@ use native.Mathlib.Omega.{arith}
 use lib.IntN.{ℤ, pos, natAbs}
 use lib.Signed.{ltZ}
 use lib.ListN.{length, length-append}
-use Rattle.kinds.specs.declared.Body.{Body}
-use Rattle.kinds.specs.Body.{kindOf, eventOf, argumentOf}
-use Rattle.column_writer.specs.Writing.{natColumns, intColumns}
-use Rattle.column_writer.proofs.Fields.{length-columns}
+use Rattle.bodies.specs.declared.Body.{Body}
+use Rattle.bodies.specs.Body.{kindOf, eventOf, argumentOf}
+use Rattle.columns.specs.Writing.{natColumns, intColumns}
+use Rattle.columns.proofs.Fields.{length-columns}
 use Rattle.lines.specs.Lines.{headBytes, bodyBytes, lineBytes, placed}
 use Rattle.lines.proofs.Placed.{placed-then}
 

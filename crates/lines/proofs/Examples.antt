@@ -2,8 +2,8 @@
 use mathlib.Core.List.{[], _∷_}
 use mathlib.Core.Path.{_≡_, refl}
 use lib.IntN.{pos, negsuc}
-use Rattle.kinds.specs.declared.Body.the-variants.{Insert, Shift}
-use Rattle.column_writer.specs.Writing.{lead, columns}
+use Rattle.bodies.specs.declared.Body.the-variants.{Insert, Shift}
+use Rattle.columns.specs.Writing.{lead, columns}
 use Rattle.lines.specs.Lines.{delivered, airing, headBytes, bodyBytes, lineBytes}
 
 pub taken-line :

@@ -3,9 +3,9 @@ use Prim.Native.Nat.{ℕ, _+_}
 use mathlib.Core.Path.{_≡_}
 use mathlib.Core.List.{List, [], _∷_, _++_}
 use lib.ListN.{take, drop, length}
-use Rattle.kinds.specs.declared.Body.{Body}
-use Rattle.kinds.specs.Body.{kindOf, eventOf, argumentOf}
-use Rattle.column_writer.specs.Writing.{natColumns, intColumns}
+use Rattle.bodies.specs.declared.Body.{Body}
+use Rattle.bodies.specs.Body.{kindOf, eventOf, argumentOf}
+use Rattle.columns.specs.Writing.{natColumns, intColumns}
 
 -- the letters D (taken), A (aired), E (ended) and X (turned down)
 abbrev pub delivered : ℕ

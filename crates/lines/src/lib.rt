@@ -1,10 +1,10 @@
 // Listing lines, written into a lent buffer.
 
-use kinds::Body;
+use bodies::Body;
 ghost use mathlib.Core.Path.{_≡_};
 ghost use Prim.Native.Nat.{_+_, _-_, _≤_};
 ghost use lib.ListN.{length};
-ghost use Rattle.column_writer.specs.Writing.{natColumns, intColumns};
+ghost use Rattle.columns.specs.Writing.{natColumns, intColumns};
 ghost use Rattle.lines.specs.Lines.{headBytes, bodyBytes, lineBytes, endLine, placed, Put};
 
 // The letter X of document 01's listing.
@@ -22,14 +22,14 @@ pub fn put_natural(out: &mut [u8], at: usize, end: usize, value: u64)
     requires { ⌜ (at ≤ end) × (end ≤ length (now out)) ⌝ }
     ensures { λ r. ⌜ now (out .exit) ≡ placed (now (out .entry)) at (natColumns (end - at) value) ⌝ }
 {
-    column_writer::write_columns(&mut out[at..end], false, value);
+    columns::writer::write_columns(&mut out[at..end], false, value);
 }
 
 fn put_whole(out: &mut [u8], at: usize, end: usize, value: i32)
     requires { ⌜ (at ≤ end) × (end ≤ length (now out)) ⌝ }
     ensures { λ r. ⌜ now (out .exit) ≡ placed (now (out .entry)) at (intColumns (end - at) value) ⌝ }
 {
-    column_writer::write_whole(&mut out[at..end], value);
+    columns::writer::write_whole(&mut out[at..end], value);
 }
 
 // Round, letter, station and source put into their columns.
@@ -49,9 +49,9 @@ fn put_body(out: &mut [u8], at: usize, body: Body)
     requires { ⌜ at + 21 ≤ length (now out) ⌝ }
     ensures { λ r. ⌜ now (out .exit) ≡ placed (now (out .entry)) at (bodyBytes body) ⌝ }
 {
-    put_natural(out, at, at + 2, kinds::kind_of(body) as u64);
-    put_natural(out, at + 2, at + 11, kinds::event_of(body) as u64);
-    put_whole(out, at + 11, at + 20, kinds::argument_of(body));
+    put_natural(out, at, at + 2, bodies::kind_of(body) as u64);
+    put_natural(out, at + 2, at + 11, bodies::event_of(body) as u64);
+    put_whole(out, at + 11, at + 20, bodies::argument_of(body));
     out[at + 20] = LINE_END;
 }
 

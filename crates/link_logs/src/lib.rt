@@ -1,9 +1,12 @@
 // Reading a link log (document 02, A1): its refusals, and who hears whom by a mask.
+
+pub mod sets;
+
 ghost use mathlib.Core.Path.{_≡_};
 ghost use Rattle.planning_spec.specs.LinkLog.{logRefusal, maskHears};
-use kinds::refusals::BAD_LINK_LOG;
-use kinds::refusals::BAD_NUMBER;
-use kinds::refusals::DONE;
+use bodies::refusals::BAD_LINK_LOG;
+use bodies::refusals::BAD_NUMBER;
+use bodies::refusals::DONE;
 
 // No group has more stations, and no mask more bits.
 const PLACES: usize = 16;

@@ -8,7 +8,7 @@ use native.Mathlib.Decide.{ℕ-discrete, decLe}
 use native.Mathlib.Nat.{le-refl}
 use native.Mathlib.Omega.{arith}
 use borrow.Author.Tests.{eq-eqb, ne-eqb}
-use Rattle.places.proofs.Later.{from-on}
+use Rattle.lists.proofs.Later.{from-on}
 use Rattle.links.specs.Relay.{Links, Relay, direct, onward}
 use Rattle.links.specs.EndRule.{RelayBy}
 use Rattle.links.specs.Clock.{latest, news}

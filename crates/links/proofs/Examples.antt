@@ -9,7 +9,7 @@ use native.Mathlib.Nat.{le-refl}
 use native.Mathlib.Omega.{arith}
 use lib.Dec.{lit<}
 use lib.ListN.{getD}
-use Rattle.places.specs.Places.{allBelow}
+use Rattle.lists.specs.Below.{allBelow}
 use Rattle.links.specs.Log.{bit, hearsIn, masksIn, cut}
 use Rattle.links.specs.Relay.{Links, Relay, direct, onward, ofLog}
 use Rattle.links.specs.EndRule.{RelayBy, Returned, EndsIn, Starts, at-first, after}

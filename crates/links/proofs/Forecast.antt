@@ -6,7 +6,7 @@ use mathlib.Core.Path.{_≡_, refl, sym, _∙_}
 use Prim.Native.Nat.{ℕ, zero, suc, _≤_}
 use native.Mathlib.Decide.{decLe}
 use native.Mathlib.Omega.{arith}
-use Rattle.places.proofs.Later.{from-on}
+use Rattle.lists.proofs.Later.{from-on}
 use Rattle.links.specs.Relay.{Links}
 use Rattle.links.specs.EndRule.{after}
 use Rattle.links.specs.Number.{start, ends, num}

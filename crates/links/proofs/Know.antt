@@ -7,8 +7,8 @@ use native.Mathlib.Decide.{ℕ-discrete, decLe}
 use native.Mathlib.Omega.{arith}
 use borrow.Author.Tests.{eq-eqb, ne-eqb, le-leb, lt-leb, leb-true}
 use lib.Dec.{eqb, leb}
-use Rattle.places.specs.Places.{allBelow}
-use Rattle.places.proofs.Laws.{allBelow-ext}
+use Rattle.lists.specs.Below.{allBelow}
+use Rattle.lists.proofs.Laws.{allBelow-ext}
 use Rattle.links.specs.Relay.{Links}
 use Rattle.links.specs.Clock.{latest, news, hearing}
 use Rattle.links.specs.Number.{answers, full, start, ends}

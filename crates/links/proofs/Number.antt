@@ -10,8 +10,8 @@ use native.Mathlib.Nat.{le-refl}
 use native.Mathlib.Omega.{arith}
 use borrow.Author.Tests.{eq-eqb, ne-eqb, leb-true, le-leb}
 use lib.Dec.{eqb}
-use Rattle.places.proofs.Laws.{allBelow-at, allBelow-make}
-use Rattle.places.proofs.Later.{from-on}
+use Rattle.lists.proofs.Laws.{allBelow-at, allBelow-make}
+use Rattle.lists.proofs.Later.{from-on}
 use Rattle.links.specs.Relay.{Links}
 use Rattle.links.specs.Clock.{news}
 use Rattle.links.specs.Number.{answers, full, start, ends, num}

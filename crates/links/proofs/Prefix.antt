@@ -8,8 +8,8 @@ use native.Mathlib.Decide.{ℕ-discrete, decLe}
 use native.Mathlib.Omega.{arith}
 use lib.Dec.{eqb}
 use lib.ListN.{length, List·getD-append}
-use Rattle.places.specs.Places.{allBelow}
-use Rattle.places.proofs.Laws.{allBelow-ext}
+use Rattle.lists.specs.Below.{allBelow}
+use Rattle.lists.proofs.Laws.{allBelow-ext}
 use Rattle.links.specs.Log.{masksIn, hearsIn}
 use Rattle.links.specs.Relay.{Links, Relay, ofLog}
 use Rattle.links.specs.EndRule.{RelayBy, AllReturned, EndsIn, Starts, at-first, after, Ended}

@@ -12,7 +12,7 @@ use native.Mathlib.Omega.{arith}
 use lib.ListN.{length, length-append}
 use borrow.Author.Tests.{le-leb, lt-leb}
 use lib.Dec.{leb}
-use Rattle.places.proofs.Later.{from-on}
+use Rattle.lists.proofs.Later.{from-on}
 use Rattle.links.specs.Relay.{Links, ofLog}
 use Rattle.links.specs.EndRule.{RelayBy, Starts, at-first}
 use Rattle.links.specs.Number.{start, ends, num, got}

@@ -2,7 +2,7 @@
 use mathlib.Core.Bool.{Bool, false, cond, _||_}
 use Prim.Native.Nat.{ℕ, zero, suc, _-_}
 use lib.Dec.{eqb, leb}
-use Rattle.places.specs.Places.{allBelow, total}
+use Rattle.lists.specs.Below.{allBelow, total}
 use Rattle.links.specs.Relay.{Links}
 use Rattle.links.specs.Clock.{news}
 

@@ -7,15 +7,15 @@ use mathlib.Core.Path.{_≡_, refl, sym, subst, _∙_}
 use native.Mathlib.Omega.{arith}
 use lib.Dec.{eqb}
 use lib.ListN.{getD, length, replicate}
-use Rattle.places.specs.Places.{fill}
-use Rattle.places.proofs.Laws.{fill-below, length-fill}
-use Rattle.lanes.specs.Lane.{noLane}
-use Rattle.station_rules.specs.declared.Station.{Station}
-use Rattle.station_rules.specs.State.{cellOf, laneAt}
-use Rattle.station_rules.specs.Hearing.{Hearing, silent}
-use Rattle.station_rules.proofs.Setters.{Shaped}
-use Rattle.station_rules.proofs.StationLimits.{Inside, inside-open}
-use Rattle.station_rules.proofs.LimitsLane.{lane-most}
+use Rattle.lists.specs.Below.{setBelow}
+use Rattle.lists.proofs.Laws.{setBelow-inside, length-setBelow}
+use Rattle.queues.specs.Lane.{noLane}
+use Rattle.station_spec.specs.declared.Station.{Station}
+use Rattle.station_spec.specs.State.{cellOf, laneAt}
+use Rattle.station_spec.specs.Hearing.{Hearing, initialHearing}
+use Rattle.station_spec.proofs.Setters.{Shaped}
+use Rattle.station_spec.proofs.StationLimits.{Inside, inside-open}
+use Rattle.station_spec.proofs.LimitsLane.{lane-most}
 use Rattle.hearing_spec.specs.declared.Ear.{Ear}
 use Rattle.hearing_spec.specs.Buffer.{sizeIn}
 use Rattle.hearing_spec.specs.Room.{takingsRoom, Room, LastRoom}
@@ -24,9 +24,9 @@ use Rattle.hearing_spec.specs.Promises.{Hears}
 use Rattle.hearing_spec.proofs.Standing.{stands-first}
 use Rattle.hearing_spec.proofs.Heeding.{takings-most}
 use Rattle.hearing_spec.proofs.Acting.{heard-and-acted}
-use Rattle.acting.specs.Places.{placesOf}
-use Rattle.acting.specs.Listened.{Listens}
-use Rattle.acting.proofs.OwnFrame.{own-long, own-held, own-top, own-room, own-station, own-written}
+use Rattle.listening.specs.OwnPlaces.{placesOf}
+use Rattle.listening.specs.Listened.{Listens}
+use Rattle.listening.proofs.OwnFrame.{own-long, own-held, own-top, own-room, own-station, own-written}
 use Rattle.listening.specs.Listening.{MayListen}
 
 -- the numbers of a station that has heard nothing
@@ -35,7 +35,7 @@ quiet s = record { refusal = 0; count = s .count; acked = s .acked; labels = s .
 
 -- how many bodies its lanes have
 abbrev pub lensOf : Station → List ℕ
-lensOf s = fill 16 (λ k. (getD (s .lanes) k noLane) .len) (replicate 16 0)
+lensOf s = setBelow 16 (λ k. (getD (s .lanes) k noLane) .len) (replicate 16 0)
 
 -- where the records of its own frame begin
 abbrev pub ownPlaces : List ℕ → ℕ → List ℕ
@@ -54,7 +54,7 @@ module _ (s : Station) (bytes : List ℕ) (start : ℕ) (may : MayListen s bytes
 
   lens-are : (k : ℕ) → k < 16 → getD (lensOf s) k 0 ≡ (laneAt s k) .len
   unfolding cellOf
-  lens-are k l = fill-below 16 (λ j. (getD (s .lanes) j noLane) .len) (replicate 16 0) k 0 l (omega arith)
+  lens-are k l = setBelow-inside 16 (λ j. (getD (s .lanes) j noLane) .len) (replicate 16 0) k 0 l (omega arith)
 
   lane-two : (k : ℕ) → k < s .n → (laneAt s k) .len ≤ 2
   lane-two k l = go (eqb k (s .own)) (lane-most (s .edition) (cond (eqb k (s .own)) 1 2) (laneAt s k) (inside .places k l .lane))
@@ -75,7 +75,7 @@ module _ (s : Station) (bytes : List ℕ) (start : ℕ) (may : MayListen s bytes
         written = λ k l. own-written s inside bytes start (may .own-room) (may .own-frame) k (omega (arith, may .size));
         lanes =
             record {
-              lens-long = length-fill 16 (λ k. (getD (s .lanes) k noLane) .len) (replicate 16 0);
+              lens-long = length-setBelow 16 (λ k. (getD (s .lanes) k noLane) .len) (replicate 16 0);
               taken-long = taken-long;
               two = λ k l. two k (omega (arith, may .size));
               few = omega arith;
@@ -93,7 +93,7 @@ module _ (s : Station) (bytes : List ℕ) (start : ℕ) (may : MayListen s bytes
         inside = λ k l. own-room s inside bytes start (may .own-room) (may .own-frame) k (omega (arith, may .size));
       }
 
-  first-stands : StandsFor s bytes first (silent s)
+  first-stands : StandsFor s bytes first (initialHearing s)
   first-stands =
       stands-first s bytes first (inside .high)
       (own-held s inside bytes start (may .own-room) (may .own-frame))

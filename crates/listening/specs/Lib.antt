@@ -1,1 +1,3 @@
+pub mod OwnPlaces
+pub mod Listened
 pub mod Listening

@@ -4,10 +4,10 @@ use mathlib.Core.Path.{_≡_}
 use mathlib.Core.Bool.{true}
 use mathlib.Core.List.{List}
 use lib.ListN.{length}
-use Rattle.station_rules.specs.declared.Station.{Station}
-use Rattle.station_rules.specs.State.{sentRecords}
-use Rattle.station_rules.specs.Limits.{stationInside}
-use Rattle.station_rules.specs.Hearing.{Hearing, hearFrame}
+use Rattle.station_spec.specs.declared.Station.{Station}
+use Rattle.station_spec.specs.State.{sentRecords}
+use Rattle.station_spec.specs.Limits.{stationInside}
+use Rattle.station_spec.specs.Hearing.{Hearing, hearFrame}
 use Rattle.hearing_spec.specs.Buffer.{sizeIn, recordsAt, hearSenders}
 use Rattle.hearing_spec.specs.Room.{mostBytes, FrameRoom}
 

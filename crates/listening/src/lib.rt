@@ -1,16 +1,18 @@
 // A station hears: the frames of its mask in a round, or one frame beside its own.
 
+pub mod acting;
+
 ghost use Prim.Native.Nat.{ℕ, _<_};
 ghost use mathlib.Core.Path.{_≡_};
 ghost use lib.ListN.{length, replicate};
 ghost use Rattle.hearing_spec.specs.Buffer.{frameStart, sizeIn};
 ghost use Rattle.hearing_spec.specs.Room.{takingsRoom, FrameRoom};
-ghost use Rattle.acting.specs.Listened.{Listens};
+ghost use Rattle.listening.specs.Listened.{Listens};
 ghost use Rattle.listening.specs.Listening.{MayListen, maskHeard, frameHeard};
+use bodies::refusals::DONE;
 use hearing_spec::Ear;
 use hearing_spec::FRAME_ROOM;
-use kinds::refusals::DONE;
-use station_rules::Station;
+use station_spec::Station;
 
 // What a station hears of its mask. The frames of all stations stand in the bytes, its own among
 // them.

@@ -1,15 +1,15 @@
 // One script line applied to a group, and the listing that comes of it.
 
-use group_rules::Post;
-use group_rules::RoundDone;
-use listing_rules::Applied;
-use listing_rules::Session;
+use group_spec::Post;
+use group_spec::RoundDone;
+use listing_spec::Applied;
+use listing_spec::Session;
 use script::Command;
 ghost use mathlib.Core.Path.{_≡_};
 ghost use Prim.Native.Nat.{_≤_, _<_};
 ghost use lib.ListN.{length};
 ghost use Rattle.script.specs.Line.{commandOf, masksOf};
-ghost use Rattle.listing_rules.specs.Listing.{Answer, AnswersRound, obeyed, answered, after, printed};
+ghost use Rattle.listing_spec.specs.Listing.{Answer, AnswersRound, obeyed, answered, after, printed};
 
 // The most that a round's columns can number.
 const LAST_ROUND: u32 = 999_999;
@@ -38,7 +38,7 @@ fn apply_round(s: Session, line: &[u8], out: &mut [u8]) -> Applied
     ensures { λ r. ⌜ Answer (obeyed s (masksOf (s .n) (now (line .entry))) Command.Round) (answered s (masksOf (s .n) (now (line .entry))) Command.Round) (now (out .entry)) (now (out .exit)) r ⌝ }
 {
     if LAST_ROUND <= s.rounds {
-        return listing_ends::halt(s, out);
+        return sessions::ends::halt(s, out);
     }
     let group = s.group;
     let masks = script::masks(line, s.n);
@@ -52,24 +52,24 @@ fn obey(s: Session, command: Command, line: &[u8], out: &mut [u8]) -> Applied
     ensures { λ r. ⌜ Answer (obeyed s (masksOf (s .n) (now (line .entry))) command) (answered s (masksOf (s .n) (now (line .entry))) command) (now (out .entry)) (now (out .exit)) r ⌝ }
 {
     match command {
-        Command::Size { n } => commands::apply_size(s, n),
+        Command::Size { n } => sessions::commands::apply_size(s, n),
         Command::Post {
             station,
             kind,
             event,
             argument,
         } => {
-            let body = commands::posted_body(kind, event, argument);
+            let body = sessions::commands::posted_body(kind, event, argument);
             let place = station as usize;
             let post = Post {
                 station: place,
                 desk: 0,
                 body,
             };
-            commands::apply_post(s, post, out)
+            sessions::commands::apply_post(s, post, out)
         }
         Command::Round => apply_round(s, line, out),
-        Command::Malformed => listing_ends::halt(s, out),
+        Command::Malformed => sessions::ends::halt(s, out),
     }
 }
 

@@ -9,10 +9,10 @@ use lib.Dec.{leb, ltb, eqb}
 use lib.IntN.{pos}
 use lib.ListN.{length, getD}
 use borrow.Author.Tests.{eq-eqb, ne-eqb, lt-ltb, le-leb}
-use Rattle.places.specs.Places.{allBelow, tabulate}
-use Rattle.places.proofs.Laws.{allBelow-make, length-tabulate, tabulate-at}
-use Rattle.column_reader.specs.declared.Reading.{Reading}
-use Rattle.column_reader.specs.declared.Reading.the-variants.{Number}
+use Rattle.lists.specs.Below.{allBelow, tabulate}
+use Rattle.lists.proofs.Laws.{allBelow-make, length-tabulate, tabulate-at}
+use Rattle.columns.specs.declared.reader.Reading.{Reading}
+use Rattle.columns.specs.declared.reader.Reading.the-variants.{Number}
 use Rattle.script.specs.declared.Command.{Command}
 use Rattle.script.specs.declared.Command.the-variants.{Size, Post, Round, Malformed}
 use Rattle.script.specs.Line.{naturalOf, fieldOf, shaped, sizeLine as readSize, postShaped, postLine as readPost, isMask, masksInside, roundLine, commandOf}

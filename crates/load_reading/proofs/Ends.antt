@@ -4,9 +4,9 @@ use mathlib.Core.Bool.{true, false}
 use mathlib.Core.List.{List, [], _∷_, _++_}
 use Prim.Native.Nat.{ℕ}
 use borrow.Author.Tests.{ne-eqb}
-use Rattle.column_writer.specs.Writing.{natColumns}
-use Rattle.listing_rules.specs.Listing.{Lines, rest, line, linesOf}
-use Rattle.listing_rules.proofs.LineEnds.{noEnd, noEnd-append, noEnd-columns, line-first}
+use Rattle.columns.specs.Writing.{natColumns}
+use Rattle.listing_spec.specs.Listing.{Lines, rest, line, linesOf}
+use Rattle.listing_spec.proofs.LineEnds.{noEnd, noEnd-append, noEnd-columns, line-first}
 use Rattle.load_spec.specs.Script.{fields, lineOf, textOf}
 
 noEnd-fields : (numbers : List ℕ) → noEnd (fields numbers) ≡ true

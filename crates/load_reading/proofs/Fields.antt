@@ -9,11 +9,11 @@ use lib.Dec.{leb, ltb, eqb}
 use lib.ListN.{length, take, drop, getD}
 use lib.Seq.{take-at, drop-append-add}
 use borrow.Author.Tests.{lt-ltb, le-leb}
-use Rattle.column_reader.specs.declared.Reading.the-variants.{Number}
-use Rattle.column_reader.specs.Reading.{readColumns}
-use Rattle.column_reader.proofs.RoundTrip.{read-written}
-use Rattle.column_writer.specs.Writing.{Fits, natColumns}
-use Rattle.column_writer.proofs.Fields.{length-columns}
+use Rattle.columns.specs.declared.reader.Reading.the-variants.{Number}
+use Rattle.columns.specs.Reading.{readColumns}
+use Rattle.columns.proofs.RoundTrip.{read-written}
+use Rattle.columns.specs.Writing.{Fits, natColumns}
+use Rattle.columns.proofs.Fields.{length-columns}
 use Rattle.script.specs.Line.{fieldOf}
 use Rattle.load_spec.specs.Script.{fields, lineOf}
 use Rattle.load_spec.proofs.Text.{length-fields}

@@ -11,28 +11,28 @@ use lib.Dec.{leb, ltb, eqb}
 use lib.IntN.{pos}
 use lib.ListN.{length}
 use borrow.Author.Tests.{lt-ltb, le-leb}
-use Rattle.kinds.specs.declared.Body.{Body}
-use Rattle.kinds.specs.declared.Body.the-variants.{Insert}
-use Rattle.kinds.specs.Body.{bodyOf}
-use Rattle.kinds.specs.Refusals.{done, queueFull, refuse}
-use Rattle.kind_limits.specs.Limits.{numbersInside, channelInside, onChannel, insideKind, postable}
-use Rattle.kind_limits.proofs.Examples.{insert-small}
-use Rattle.places.specs.Places.{gather}
-use Rattle.station_rules.specs.declared.Station.{Station}
-use Rattle.group_rules.specs.State.{stationAt, sizeOf, editionOf, groupInside}
-use Rattle.lanes.specs.Waiting.{isDesk, hasRoom}
-use Rattle.group_rules.specs.declared.Post as group
-use Rattle.group_rules.specs.Calls.{groupFreshCall, groupFreshRefusal, groupPostRefusal, groupPostCall, roundCall}
-use Rattle.group_rules.proofs.Members.{Members, members-inside, fresh-members, fresh-edition}
-use Rattle.group_rules.proofs.MembersPost.{post-members, post-refusal}
-use Rattle.group_rules.proofs.MembersRound.{round-members}
-use Rattle.group_rules.proofs.EditionKept.{post-edition, round-edition}
+use Rattle.bodies.specs.declared.Body.{Body}
+use Rattle.bodies.specs.declared.Body.the-variants.{Insert}
+use Rattle.bodies.specs.Body.{bodyOf}
+use Rattle.bodies.specs.Refusals.{done, queueFull, refuse}
+use Rattle.bodies.specs.Limits.{numbersInside, channelInside, onChannel, insideKind, postable}
+use Rattle.bodies.proofs.Examples.{insert-small}
+use Rattle.lists.specs.Below.{filterMap}
+use Rattle.station_spec.specs.declared.Station.{Station}
+use Rattle.group_spec.specs.State.{stationAt, sizeOf, editionOf, groupInside}
+use Rattle.queues.specs.Waiting.{isDesk, hasRoom}
+use Rattle.group_spec.specs.declared.Post as group
+use Rattle.group_spec.specs.Calls.{groupFreshCall, groupFreshRefusal, groupPostRefusal, groupPostCall, roundCall}
+use Rattle.group_spec.proofs.Members.{Members, members-inside, fresh-members, fresh-edition}
+use Rattle.group_spec.proofs.MembersPost.{post-members, post-refusal}
+use Rattle.group_spec.proofs.MembersRound.{round-members}
+use Rattle.group_spec.proofs.EditionKept.{post-edition, round-edition}
 use Rattle.script.specs.declared.Command.{Command}
 use Rattle.script.specs.declared.Command.the-variants.{Size, Post, Round, Malformed}
 use Rattle.script.specs.Line.{commandOf, masksOf}
-use Rattle.listing_rules.specs.declared.Session.{Session}
-use Rattle.listing_rules.specs.Listing.{sessionBegun, setupOf, postOf, postedBody, sizedBy, postedBy, roundedBy, halted, obeyed, after, malformedText, restText, lastRound}
-use Rattle.listing_rules.proofs.LineEnds.{noEnd}
+use Rattle.listing_spec.specs.declared.Session.{Session}
+use Rattle.listing_spec.specs.Listing.{sessionBegun, setupOf, postOf, postedBody, sizedBy, postedBy, roundedBy, halted, obeyed, after, malformedText, restText, lastRound}
+use Rattle.listing_spec.proofs.LineEnds.{noEnd}
 use Rattle.load_spec.specs.Draws.{postDraw, posts, afterRound}
 use Rattle.load_spec.specs.Script.{sizeLine, postLine, maskLine, postLines, roundLines, roundsLines, scriptLines, scriptOf, lineOf}
 use Rattle.load_spec.proofs.Draws.{post-draw-small}
@@ -185,7 +185,7 @@ size-ends n = noEnd-line 78 _ (λ e. absurd (omega arith))
 
 -- the posts of the stations below k
 posts-lead : (n r seed k : ℕ) (s : Session) → At n r s → k ≤ n → Leads n r s (postLines seed k)
-unfolding postLines gather
+unfolding postLines filterMap
 posts-lead n r seed zero s a h = record { session = s; path = stays; there = a; ends = no-line }
 posts-lead n r seed (suc k) s a h =
     let before = posts-lead n r seed k s a (omega arith) in leads-append before (last (posts (postDraw seed k)) (before .session) (before .there))

@@ -5,13 +5,13 @@ use mathlib.Core.Path.{_≡_}
 use mathlib.Core.Bool.{false}
 use mathlib.Core.List.{List, []}
 use mathlib.Core.Logic.{_⊎_}
-use Rattle.kinds.specs.Refusals.{done, queueFull}
-use Rattle.group_rules.specs.Calls.{groupPostCall}
+use Rattle.bodies.specs.Refusals.{done, queueFull}
+use Rattle.group_spec.specs.Calls.{groupPostCall}
 use Rattle.script.specs.declared.Command.{Command}
 use Rattle.script.specs.declared.Command.the-variants.{Size, Post, Round, Malformed}
 use Rattle.script.specs.Line.{commandOf}
-use Rattle.listing_rules.specs.declared.Session.{Session}
-use Rattle.listing_rules.specs.Listing.{Lines, rest, line, sessionBegun, postOf, after, closed, linesOf, lastRound}
+use Rattle.listing_spec.specs.declared.Session.{Session}
+use Rattle.listing_spec.specs.Listing.{Lines, rest, line, sessionBegun, postOf, after, closed, linesOf, lastRound}
 use Rattle.load_spec.specs.Script.{scriptOf}
 
 -- what the group returns for a command that is a post

@@ -8,9 +8,9 @@ use lib.Dec.{leb, ltb, eqb}
 use lib.ListN.{length, take, drop}
 use lib.Seq.{take-at}
 use borrow.Author.Tests.{eqb-true, leb-true, lt-ltb, le-ltb}
-use Rattle.kinds.specs.Refusals.{done, badNumber, shortBuffer}
+use Rattle.bodies.specs.Refusals.{done, badNumber, shortBuffer}
 use Rattle.lines.specs.Lines.{placed}
-use Rattle.places.proofs.Laws.{and-left, and-right}
+use Rattle.lists.proofs.Laws.{and-left, and-right}
 use Rattle.load_spec.specs.declared.Generated.{Generated}
 use Rattle.load_spec.specs.Calls.{mostRounds, numbersFit, callText, callState, callRefusal, generated, bufferAfter, Writes}
 

@@ -2,7 +2,7 @@
 -- draw is 15,648, a multiple of 8.
 use mathlib.Core.Path.{_≡_, refl}
 use mathlib.Core.List.{[], _∷_}
-use Rattle.places.specs.Places.{gather, tabulate}
+use Rattle.lists.specs.Below.{filterMap, tabulate}
 use Rattle.load_spec.specs.Draws.{nextState, steps, postDraw, maskDraw, afterRound}
 use Rattle.load_spec.specs.Script.{lineOf, sizeLine, postLine, maskLine, postLines, roundLines, roundsLines, scriptLines}
 
@@ -13,5 +13,5 @@ pub example :
     ∷ lineOf 82 (59866 ∷ 60750 ∷ [])
     ∷ lineOf 82 (56084 ∷ 3480 ∷ [])
     ∷ []
-unfolding gather tabulate nextState steps postDraw maskDraw afterRound sizeLine postLine maskLine postLines roundLines roundsLines scriptLines
+unfolding filterMap tabulate nextState steps postDraw maskDraw afterRound sizeLine postLine maskLine postLines roundLines roundsLines scriptLines
 example = refl

@@ -8,7 +8,7 @@ use native.Mathlib.Omega.{arith}
 use lib.Dec.{eqb}
 use lib.ListN.{length, set}
 use borrow.Author.Tests.{eqb-true, ne-eqb, lt-ltb, le-ltb}
-use Rattle.kinds.specs.Refusals.{done, badNumber, shortBuffer}
+use Rattle.bodies.specs.Refusals.{done, badNumber, shortBuffer}
 use Rattle.load_spec.specs.declared.Generated.{Generated}
 use Rattle.load_spec.specs.Calls.{numbersFit, callText, callState, callRefusal, generated, bufferAfter, hostRefusal, hostBuffer, hostPlaces}
 use Rattle.load_spec.specs.Whole.{enough}

@@ -7,8 +7,8 @@ use native.Mathlib.Omega.{arith}
 use native.Mathlib.Numerals.{add-one}
 use native.Mathlib.Decide.{ℕ-discrete}
 use lib.ListN.{length, length-append}
-use Rattle.places.specs.Places.{gather, tabulate}
-use Rattle.column_writer.specs.Writing.{natColumns}
+use Rattle.lists.specs.Below.{filterMap, tabulate}
+use Rattle.columns.specs.Writing.{natColumns}
 use Rattle.load_spec.specs.Draws.{nextState, steps, drawOf, postDraw, maskDraw, posts}
 use Rattle.load_spec.specs.Script.{fields, textOf, postLine, postLines}
 use Rattle.load_spec.proofs.Text.{fields-append, text-append}
@@ -49,12 +49,12 @@ abbrev pub postIf : ℕ → ℕ → List ℕ
 postIf p draw = textOf (cond (posts draw) (postLine p draw ∷ []) [])
 
 pub posts-none : (s : ℕ) → textOf (postLines s 0) ≡ []
-unfolding postLines gather textOf
+unfolding postLines filterMap textOf
 posts-none s = refl
 
 pub posts-more : (s p : ℕ) → textOf (postLines s (p + 1)) ≡ textOf (postLines s p) ++ postIf p (postDraw s p)
-unfolding postLines gather
-posts-more s p = rw add-one (text-append (gather p _ _) _)
+unfolding postLines filterMap
+posts-more s p = rw add-one (text-append (filterMap p _ _) _)
 
 -- so many bytes of posts, and those of one station more
 pub length-more :

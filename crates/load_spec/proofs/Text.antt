@@ -5,10 +5,10 @@ use mathlib.Core.List.{List, [], _∷_, _++_, append-assoc}
 use Prim.Native.Nat.{ℕ, zero, suc, _+_, _*_, _≤_}
 use native.Mathlib.Omega.{arith}
 use lib.ListN.{length, length-append}
-use Rattle.column_writer.specs.Writing.{natColumns}
-use Rattle.column_writer.proofs.Fields.{length-columns}
-use Rattle.places.specs.Places.{gather, tabulate}
-use Rattle.places.proofs.Laws.{length-tabulate}
+use Rattle.columns.specs.Writing.{natColumns}
+use Rattle.columns.proofs.Fields.{length-columns}
+use Rattle.lists.specs.Below.{filterMap, tabulate}
+use Rattle.lists.proofs.Laws.{length-tabulate}
 use Rattle.load_spec.specs.Draws.{postDraw, maskDraw, posts}
 use Rattle.load_spec.specs.Script.{fields, lineOf, textOf, sizeLine, postLine, maskLine, postLines, roundLines}
 
@@ -64,7 +64,7 @@ pub post-at-most : (p draw : ℕ) (t : Bool) → length (textOf (cond t (postLin
 post-at-most p draw t = omega (arith, length-post-if p draw t, at-most t)
 
 pub posts-at-most : (s n : ℕ) → length (textOf (postLines s n)) ≤ 38 * n
-unfolding postLines gather textOf
+unfolding postLines filterMap textOf
 posts-at-most s zero = omega arith
 posts-at-most s (suc n) =
     let last = cond (posts (postDraw s n)) (postLine n (postDraw s n) ∷ []) [] in

@@ -8,7 +8,7 @@ use native.Mathlib.Omega.{arith}
 use lib.Dec.{ltb, eqb}
 use lib.ListN.{length, replicate, length-replicate}
 use borrow.Author.Tests.{le-leb, le-ltb, ne-eqb}
-use Rattle.kinds.specs.Refusals.{done}
+use Rattle.bodies.specs.Refusals.{done}
 use Rattle.load_spec.specs.Draws.{afterRound}
 use Rattle.load_spec.specs.Script.{textOf, sizeLine, roundLines, roundsLines, scriptLines, scriptOf}
 use Rattle.load_spec.specs.Calls.{numbersFit, callLines, callText, callState, callRefusal, generated}

@@ -6,7 +6,7 @@ use mathlib.Core.Bool.{Bool, cond, not, _&&_, _||_}
 use mathlib.Core.List.{List, [], _∷_}
 use lib.Dec.{leb, ltb, eqb}
 use lib.ListN.{length, set}
-use Rattle.kinds.specs.Refusals.{done, badNumber, shortBuffer, refuse}
+use Rattle.bodies.specs.Refusals.{done, badNumber, shortBuffer, refuse}
 use Rattle.lines.specs.Lines.{placed}
 use Rattle.load_spec.specs.declared.Generated.{Generated}
 use Rattle.load_spec.specs.Draws.{afterRound}

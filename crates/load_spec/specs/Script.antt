@@ -3,8 +3,8 @@
 use Prim.Native.Nat.{ℕ, zero, suc, _+_}
 use mathlib.Core.Bool.{cond}
 use mathlib.Core.List.{List, [], _∷_, _++_}
-use Rattle.places.specs.Places.{gather, tabulate}
-use Rattle.column_writer.specs.Writing.{natColumns}
+use Rattle.lists.specs.Below.{filterMap, tabulate}
+use Rattle.columns.specs.Writing.{natColumns}
 use Rattle.load_spec.specs.Draws.{postDraw, maskDraw, afterRound, posts}
 
 -- numbers, each right-justified in nine columns
@@ -35,7 +35,7 @@ maskLine s n = lineOf 82 (tabulate n (maskDraw s))
 
 -- the posts of a round among n stations that begins in state s, by station
 unfoldable pub postLines : ℕ → ℕ → List (List ℕ)
-postLines s n = gather n (λ p. posts (postDraw s p)) (λ p. postLine p (postDraw s p))
+postLines s n = filterMap n (λ p. posts (postDraw s p)) (λ p. postLine p (postDraw s p))
 
 -- the lines of that round: its posts, then its masks
 unfoldable pub roundLines : ℕ → ℕ → List (List ℕ)

@@ -4,7 +4,7 @@ use mathlib.Core.Path.{_≡_}
 use mathlib.Core.Bool.{Bool, true, false}
 use mathlib.Core.List.{List, [], _++_}
 use lib.ListN.{length, take}
-use Rattle.kinds.specs.Refusals.{done}
+use Rattle.bodies.specs.Refusals.{done}
 use Rattle.load_spec.specs.declared.Generated.{Generated}
 use Rattle.load_spec.specs.Script.{scriptOf}
 use Rattle.load_spec.specs.Calls.{mostRounds, generated, bufferAfter}

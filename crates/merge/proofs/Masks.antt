@@ -13,7 +13,7 @@ use lib.Dec.{eqb, ltb}
 use lib.ListN.{getD, length}
 use lib.Pow.{pow-lt, ones-lt}
 use Rattle.links.specs.Log.{bit}
-use Rattle.broadcast_sets.proofs.Bits.{bit-or, bit-and, bit-pow, bit-ones}
+use Rattle.link_logs.proofs.Bits.{bit-or, bit-and, bit-pow, bit-ones}
 use Rattle.planning_spec.specs.LinkLog.{linksOf}
 use Rattle.planning_spec.specs.Merge.{mergedMask}
 use Rattle.planning_spec.proofs.LinkLog.{whole-hears}

@@ -8,8 +8,8 @@ use native.Mathlib.Nat.{div-add-mod', mod-add-mod, mod-eq-of-lt, add-mod-right, 
 use native.Mathlib.Numerals.{add-one}
 use native.Mathlib.Omega.{arith}
 use lib.ListN.{length, set, length-set}
-use Rattle.places.specs.Places.{fill}
-use Rattle.places.proofs.Laws.{fill-more}
+use Rattle.lists.specs.Below.{setBelow}
+use Rattle.lists.proofs.Laws.{setBelow-more}
 use Rattle.planning_spec.proofs.LinkLog.{round-inside}
 use Rattle.merge.specs.Rounds.{fillFrom}
 
@@ -28,13 +28,13 @@ unfolding fillFrom
 from-ext at zero f g l h = refl
 from-ext at (suc p) f g l h = rw (from-ext at p f g l (λ q b. h q (omega arith)), h p (omega arith))
 
-pub from-fill : (at n : ℕ) (f : ℕ → ℕ) (l : List ℕ) → fillFrom at n (λ p. f (at + p)) (fill at f l) ≡ fill (at + n) f l
+pub from-setBelow : (at n : ℕ) (f : ℕ → ℕ) (l : List ℕ) → fillFrom at n (λ p. f (at + p)) (setBelow at f l) ≡ setBelow (at + n) f l
 unfolding fillFrom
-from-fill at zero f l = ap (λ (k : ℕ). fill k f l) (sym (add-zero at))
-from-fill at (suc p) f l =
-    ap (λ (b : List ℕ). set b (at + p) (f (at + p))) (from-fill at p f l)
-    ∙ fill-more (at + p) f l
-    ∙ ap (λ (k : ℕ). fill k f l) (let e : at + p + 1 ≡ at + suc p = omega arith in e)
+from-setBelow at zero f l = ap (λ (k : ℕ). setBelow k f l) (sym (add-zero at))
+from-setBelow at (suc p) f l =
+    ap (λ (b : List ℕ). set b (at + p) (f (at + p))) (from-setBelow at p f l)
+    ∙ setBelow-more (at + p) f l
+    ∙ ap (λ (k : ℕ). setBelow k f l) (let e : at + p + 1 ≡ at + suc p = omega arith in e)
 
 pub round-fits : (n r at len : ℕ) → at % n ≡ 0 → len ≡ r * n → at < len → at + n ≤ len
 round-fits n r at len z e h =

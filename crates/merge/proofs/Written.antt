@@ -5,8 +5,8 @@ use Prim.Native.Nat.{ℕ, max, _+_, _-_, _/_, _%_, _^_, _<_, _≤_}
 use native.Mathlib.Omega.{arith}
 use lib.Bits.{bitAnd, bitOr, bitXor, or-self, or-zero-l, or-zero-r}
 use lib.ListN.{getD, length, replicate, length-replicate, List·getD-eq-default}
-use Rattle.places.specs.Places.{fill}
-use Rattle.places.proofs.Laws.{fill-below}
+use Rattle.lists.specs.Below.{setBelow}
+use Rattle.lists.proofs.Laws.{setBelow-inside}
 use Rattle.planning_spec.specs.Merge.{mergedMask, logsRefusal}
 use Rattle.planning_spec.proofs.Merge.{BothAccepted, both-accepted, merged-length, merged-whole}
 use Rattle.merge.specs.Rounds.{fillFrom}
@@ -14,7 +14,7 @@ use Rattle.merge.proofs.Masks.{mask-is}
 use Rattle.merge.proofs.Rounds.{from-ext, round-fits, station-of}
 
 module _ (n : ℕ) (first second others : List ℕ) (at : ℕ) (taken : logsRefusal n (length first) (length second) ≡ 0) (z : at % n ≡ 0)
-    (table : others ≡ fill n (λ p. bitXor (2 ^ n - 1) (2 ^ p)) (replicate 16 0)) where
+    (table : others ≡ setBelow n (λ p. bitXor (2 ^ n - 1) (2 ^ p)) (replicate 16 0)) where
   pub logs : BothAccepted n (length first) (length second)
   logs = both-accepted n (length first) (length second) taken
 
@@ -27,7 +27,7 @@ module _ (n : ℕ) (first second others : List ℕ) (at : ℕ) (taken : logsRefu
   other : (p : ℕ) → p < n → getD others p 0 ≡ bitXor (2 ^ n - 1) (2 ^ ((at + p) % n))
   other p h =
       ap (λ (l : List ℕ). getD l p 0) table
-      ∙ fill-below n (λ q. bitXor (2 ^ n - 1) (2 ^ q)) (replicate 16 0) p 0 h (omega (arith, logs .one .few, length-replicate {A = ℕ} 16 0))
+      ∙ setBelow-inside n (λ q. bitXor (2 ^ n - 1) (2 ^ q)) (replicate 16 0) p 0 h (omega (arith, logs .one .few, length-replicate {A = ℕ} 16 0))
       ∙ ap (λ (q : ℕ). bitXor (2 ^ n - 1) (2 ^ q)) (sym (station-of n at p z h))
 
   written : (p : ℕ) → p < n

@@ -3,11 +3,11 @@ ghost use mathlib.Core.Path.{_≡_};
 ghost use Prim.Native.Nat.{max, _+_, _-_, _%_, _^_, _<_, _≤_};
 ghost use lib.Bits.{bitAnd, bitOr, bitXor};
 ghost use lib.ListN.{length, getD, replicate};
-ghost use Rattle.places.specs.Places.{fill};
+ghost use Rattle.lists.specs.Below.{setBelow};
 ghost use Rattle.merge.specs.Rounds.{fillFrom};
 ghost use Rattle.planning_spec.specs.Merge.{mergedMask, mergedLog, logsRefusal, mergeCall, frontWritten};
-use kinds::refusals::DONE;
-use kinds::refusals::SHORT_BUFFER;
+use bodies::refusals::DONE;
+use bodies::refusals::SHORT_BUFFER;
 use link_logs::log_refusal;
 use planning_spec::MergeAnswer;
 
@@ -22,7 +22,7 @@ fn others(n: usize, p: usize) -> u16
 // The same for each station below n.
 fn all_others(n: usize) -> [u16; 16]
     requires { ⌜ n ≤ 16 ⌝ }
-    ensures { λ r. ⌜ r ≡ fill n (λ p. bitXor (2 ^ n - 1) (2 ^ p)) (replicate 16 0) ⌝ }
+    ensures { λ r. ⌜ r ≡ setBelow n (λ p. bitXor (2 ^ n - 1) (2 ^ p)) (replicate 16 0) ⌝ }
 {
     let mut table = [0u16; 16];
     let mut p: usize = 0;
@@ -67,7 +67,7 @@ fn write_round(
     requires { ⌜ (logsRefusal n (length (now first)) (length (now second)) ≡ 0) × (at % n ≡ 0)
         × (at < max (length (now first)) (length (now second)))
         × (max (length (now first)) (length (now second)) ≤ length (now merged))
-        × (now others ≡ fill n (λ p. bitXor (2 ^ n - 1) (2 ^ p)) (replicate 16 0)) ⌝ }
+        × (now others ≡ setBelow n (λ p. bitXor (2 ^ n - 1) (2 ^ p)) (replicate 16 0)) ⌝ }
     ensures { λ _. ⌜ now (merged .exit) ≡ fillFrom at n (λ p.
         mergedMask n (now (first .entry)) (now (second .entry)) (at + p)) (now (merged .entry)) ⌝ }
 {
@@ -87,7 +87,7 @@ fn write_masks(first: &[u16], second: &[u16], n: usize, count: usize, merged: &m
     requires { ⌜ (logsRefusal n (length (now first)) (length (now second)) ≡ 0)
         × (count ≡ max (length (now first)) (length (now second))) × (count ≤ length (now merged)) ⌝ }
     ensures { λ _. ⌜ now (merged .exit)
-        ≡ fill count (mergedMask n (now (first .entry)) (now (second .entry))) (now (merged .entry)) ⌝ }
+        ≡ setBelow count (mergedMask n (now (first .entry)) (now (second .entry))) (now (merged .entry)) ⌝ }
 {
     let others = all_others(n);
     let mut at: usize = 0;

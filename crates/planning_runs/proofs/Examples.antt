@@ -5,10 +5,10 @@ use mathlib.Core.List.{List, [], _∷_}
 use mathlib.Core.Path.{_≡_, refl}
 use Prim.Native.Nat.{ℕ}
 use lib.ListN.{getD}
-use Rattle.places.specs.Places.{tabulate}
-use Rattle.station_rules.specs.State.{sized}
-use Rattle.group_rules.specs.History.{History, Call, Call.round, historyOf, noRound, reportIn}
-use Rattle.group_rules.proofs.Computing.{groupRuns}
+use Rattle.lists.specs.Below.{tabulate}
+use Rattle.station_spec.specs.State.{sized}
+use Rattle.group_spec.specs.History.{History, Call, Call.round, historyOf, noRound, reportIn}
+use Rattle.group_spec.proofs.Computing.{groupRuns}
 
 -- in which of the first eight rounds station p airs a row
 unfoldable pub airsIn : History → ℕ → List Bool

@@ -6,17 +6,17 @@ use Prim.Native.Nat.{ℕ, _+_, _*_, _<_, _≤_}
 use native.Mathlib.Nat.{le-refl}
 use native.Mathlib.Omega.{arith}
 use lib.ListN.{getD, length, length-append}
-use Rattle.kinds.specs.Refusals.{done}
+use Rattle.bodies.specs.Refusals.{done}
 use Rattle.links.specs.Log.{cut}
 use Rattle.links.specs.Relay.{ofLog}
 use Rattle.links.specs.Forecast.{endCount, lastEnd}
 use Rattle.links.proofs.Forecast.{endCount-same, lastEnd-same}
 use Rattle.links.proofs.Log.{cut-mask, cut-length}
-use Rattle.station_rules.specs.declared.Setup.{Setup}
-use Rattle.group_rules.specs.Calls.{groupFreshRefusal, roundCall}
-use Rattle.group_rules.specs.History.{History, Call, Call.round, next, begun, continued, historyOf}
-use Rattle.group_rules.proofs.Setups.{accepts}
-use Rattle.group_rules.proofs.DemandThree.{demand-three}
+use Rattle.station_spec.specs.declared.Setup.{Setup}
+use Rattle.group_spec.specs.Calls.{groupFreshRefusal, roundCall}
+use Rattle.group_spec.specs.History.{History, Call, Call.round, next, begun, continued, historyOf}
+use Rattle.group_spec.proofs.Setups.{accepts}
+use Rattle.group_spec.proofs.DemandThree.{demand-three}
 use Rattle.planning_spec.specs.LinkLog.{roundsOf, linksOf, logRefusal}
 use Rattle.planning_spec.specs.Forecast.{forecastCall}
 use Rattle.planning_spec.proofs.Forecast.{forecast-done, perStation-below}

@@ -8,7 +8,7 @@ use native.Mathlib.Decide.{decLe}
 use native.Mathlib.Nat.{le-refl}
 use native.Mathlib.Omega.{arith}
 use lib.ListN.{getD, length}
-use Rattle.kinds.specs.Refusals.{done}
+use Rattle.bodies.specs.Refusals.{done}
 use Rattle.links.specs.Log.{masksIn, cut}
 use Rattle.links.specs.Relay.{Links, ofLog}
 use Rattle.links.specs.Part.{Part, EndComes}
@@ -16,10 +16,10 @@ use Rattle.links.proofs.Log.{hearsIn-hearer}
 use Rattle.links.proofs.Forecast.{num-endCount}
 use Rattle.links.proofs.Part.{ends-part, comes-numbers}
 use Rattle.links.proofs.Prefix.{Same}
-use Rattle.station_rules.specs.declared.Setup.{Setup}
-use Rattle.group_rules.specs.History.{History, Call, historyOf, endsAt}
-use Rattle.group_rules.specs.Demand.{Demand}
-use Rattle.group_rules.proofs.DemandThree.{demand-three}
+use Rattle.station_spec.specs.declared.Setup.{Setup}
+use Rattle.group_spec.specs.History.{History, Call, historyOf, endsAt}
+use Rattle.group_spec.specs.Demand.{Demand}
+use Rattle.group_spec.proofs.DemandThree.{demand-three}
 use Rattle.planning_spec.specs.LinkLog.{roundsOf, linksOf}
 use Rattle.planning_spec.specs.Merge.{mergedLog, logsRefusal}
 use Rattle.planning_spec.proofs.LinkLog.{hearsIn-mask, whole-hears}

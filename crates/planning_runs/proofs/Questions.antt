@@ -11,7 +11,7 @@ use native.Mathlib.Nat.{le-refl}
 use native.Mathlib.Omega.{arith}
 use borrow.Author.Tests.{eq-eqb, ne-eqb}
 use lib.ListN.{getD, length}
-use Rattle.kinds.specs.Refusals.{done}
+use Rattle.bodies.specs.Refusals.{done}
 use Rattle.labels.specs.Label.{successor}
 use Rattle.links.specs.Relay.{Links, ofLog}
 use Rattle.links.specs.Number.{got}
@@ -19,18 +19,18 @@ use Rattle.links.specs.Question.{BroughtIn, Answered, in-round, in-none, answer
 use Rattle.links.proofs.Clock.{news-start}
 use Rattle.links.proofs.Got.{got-none, got-mono, got-step}
 use Rattle.links.proofs.Question.{has-got, answer-relays, has-later, answer-same}
-use Rattle.station_rules.specs.declared.Setup.{Setup}
-use Rattle.station_rules.specs.State.{labelOf}
-use Rattle.group_rules.specs.declared.RoundDone.{RoundDone}
-use Rattle.group_rules.specs.State.{stationAt}
-use Rattle.group_rules.specs.History.{History, Call, historyOf, noRound}
-use Rattle.group_rules.proofs.Run.{Run}
-use Rattle.group_rules.proofs.CallRun.{runOf, group-first}
-use Rattle.group_rules.proofs.HistoryRun.{roundIn, rounds-at, history-rounds, history-links}
-use Rattle.group_rules.proofs.Simulation.{labels-got}
-use Rattle.group_rules.specs.Calls.{groupFreshRefusal}
-use Rattle.group_rules.proofs.Setups.{Accepts, accepts}
-use Rattle.group_rules.proofs.DemandThree.{free}
+use Rattle.station_spec.specs.declared.Setup.{Setup}
+use Rattle.station_spec.specs.State.{labelOf}
+use Rattle.group_spec.specs.declared.RoundDone.{RoundDone}
+use Rattle.group_spec.specs.State.{stationAt}
+use Rattle.group_spec.specs.History.{History, Call, historyOf, noRound}
+use Rattle.group_spec.proofs.Run.{Run}
+use Rattle.group_spec.proofs.CallRun.{runOf, group-first}
+use Rattle.group_spec.proofs.HistoryRun.{roundIn, rounds-at, history-rounds, history-links}
+use Rattle.group_spec.proofs.Simulation.{labels-got}
+use Rattle.group_spec.specs.Calls.{groupFreshRefusal}
+use Rattle.group_spec.proofs.Setups.{Accepts, accepts}
+use Rattle.group_spec.proofs.DemandThree.{free}
 use Rattle.planning_spec.specs.LinkLog.{roundsOf, linksOf}
 use Rattle.planning_spec.specs.Questions.{questionAt, questionCount, questionsRefusal, answerTo, never, questionsCall}
 use Rattle.planning_spec.proofs.Questions.{asked, taken, call-answer}

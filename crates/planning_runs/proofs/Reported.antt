@@ -7,7 +7,7 @@ use native.Mathlib.Decide.{decLe}
 use native.Mathlib.Nat.{mul-div-cancel}
 use native.Mathlib.Omega.{arith}
 use lib.ListN.{getD, length}
-use Rattle.labels.proofs.Laws.{same-test}
+use Rattle.labels.proofs.LabelLaws.{same-test}
 use Rattle.links.specs.Log.{hearsIn, masksIn, cut}
 use Rattle.links.specs.Relay.{Links, ofLog}
 use Rattle.links.specs.Number.{start, ends}
@@ -17,8 +17,8 @@ use Rattle.links.proofs.Forecast.{endCount-zero, endCount-step, lastEnd-zero, l
 use Rattle.links.proofs.Log.{hearsIn-hearer, cut-mask}
 use Rattle.links.proofs.Number.{ends-zero}
 use Rattle.links.proofs.Prefix.{Same}
-use Rattle.group_rules.specs.History.{History, endsAt, startedIn}
-use Rattle.group_rules.specs.Demand.{Demand}
+use Rattle.group_spec.specs.History.{History, endsAt, startedIn}
+use Rattle.group_spec.specs.Demand.{Demand}
 use Rattle.planning_spec.specs.LinkLog.{roundsOf, linksOf}
 use Rattle.planning_runs.specs.Runs.{endsReported, lastReported, RoundsHave}
 

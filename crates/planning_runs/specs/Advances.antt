@@ -6,10 +6,10 @@ use Prim.Native.Nat.{ℕ, zero, suc, _≤_}
 use lib.Dec.{eqb}
 use lib.ListN.{getD, length}
 use Rattle.labels.specs.Label.{successor}
-use Rattle.station_rules.specs.declared.Setup.{Setup}
-use Rattle.station_rules.specs.State.{labelOf}
-use Rattle.group_rules.specs.State.{stationAt, freshGroup}
-use Rattle.group_rules.specs.History.{History, noRound}
+use Rattle.station_spec.specs.declared.Setup.{Setup}
+use Rattle.station_spec.specs.State.{labelOf}
+use Rattle.group_spec.specs.State.{stationAt, freshGroup}
+use Rattle.group_spec.specs.History.{History, noRound}
 use Rattle.planning_spec.specs.declared.QuestionAnswer.{QuestionAnswer}
 use Rattle.planning_spec.specs.Questions.{arrivalOf}
 

@@ -4,10 +4,10 @@ use mathlib.Core.Bool.{true, cond}
 use mathlib.Core.List.{List, []}
 use mathlib.Core.Path.{_≡_}
 use lib.ListN.{getD, length}
-use Rattle.kinds.specs.Refusals.{done}
-use Rattle.station_rules.specs.declared.Setup.{Setup}
-use Rattle.group_rules.specs.Calls.{groupFreshRefusal}
-use Rattle.group_rules.specs.History.{History, endsAt}
+use Rattle.bodies.specs.Refusals.{done}
+use Rattle.station_spec.specs.declared.Setup.{Setup}
+use Rattle.group_spec.specs.Calls.{groupFreshRefusal}
+use Rattle.group_spec.specs.History.{History, endsAt}
 
 -- what a fresh group of n stations may be given, whatever else is in it
 pub record FreshOf (n : ℕ) (setup : Setup) : Type 0 where

@@ -2,7 +2,7 @@
 use mathlib.Core.List.{[], _∷_}
 use mathlib.Core.Path.{_≡_, refl}
 use lib.ListN.{replicate}
-use Rattle.places.specs.Places.{allBelow, anyBelow, fill, tabulate}
+use Rattle.lists.specs.Below.{allBelow, anyBelow, setBelow, tabulate}
 use Rattle.links.specs.Log.{bit, hearsIn, masksIn, cut}
 use Rattle.links.specs.Clock.{latest, news}
 use Rattle.links.specs.Number.{answers, full, start, ends, num, numOf, got, gotOf}
@@ -36,7 +36,7 @@ pub record Forecasts : Type 0 where
   pub too-many : logRefusal 16 32784 ≡ 12
 
 pub forecasts : Forecasts
-unfolding forecastCall logRefusal endCount lastEnd ends start full allBelow fill answers news latest hearsIn bit masksIn cut
+unfolding forecastCall logRefusal endCount lastEnd ends start full allBelow setBelow answers news latest hearsIn bit masksIn cut
 forecasts =
     record {
       listing = refl;
@@ -106,7 +106,7 @@ pub record Questions : Type 0 where
   pub short : questionsIntoRefusal 2 [] (0 ∷ 1 ∷ 1 ∷ []) [] ≡ 9
 
 pub questions : Questions
-unfolding questionsCall questionsRefusal pageRefusal isBad questionAt arrivalOf answerTo arrivalNumber answerNumbers questionsIntoRefusal logRefusal answerIn otherwise got gotOf num numOf ends start full allBelow anyBelow fill tabulate answers news latest hearsIn bit masksIn cut
+unfolding questionsCall questionsRefusal pageRefusal isBad questionAt arrivalOf answerTo arrivalNumber answerNumbers questionsIntoRefusal logRefusal answerIn otherwise got gotOf num numOf ends start full allBelow anyBelow setBelow tabulate answers news latest hearsIn bit masksIn cut
 questions =
     record {
       page = refl;

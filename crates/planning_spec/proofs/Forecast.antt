@@ -10,8 +10,8 @@ use borrow.Author.Tests.{eq-eqb, ne-eqb, le-leb}
 use lib.ListN.{getD, length, replicate, length-replicate}
 use Rattle.links.specs.Forecast.{endCount, lastEnd}
 use Rattle.links.proofs.Forecast.{forecast-by-relays, station-only, endCount-zero, lastEnd-zero}
-use Rattle.places.specs.Places.{fill}
-use Rattle.places.proofs.Laws.{length-fill, fill-below, fill-above, fill-ext, fill-all}
+use Rattle.lists.specs.Below.{setBelow}
+use Rattle.lists.proofs.Laws.{length-setBelow, setBelow-inside, setBelow-above, setBelow-ext, setBelow-all}
 use Rattle.planning_spec.specs.declared.ForecastAnswer.{ForecastAnswer}
 use Rattle.planning_spec.specs.LinkLog.{roundsOf, linksOf, logRefusal}
 use Rattle.planning_spec.specs.Forecast.{perStation, forecastCall, RelayForecast}
@@ -23,18 +23,18 @@ zeros-at (suc k) zero = refl
 zeros-at (suc k) (suc s) = zeros-at k s
 
 pub perStation-below : (n : ℕ) (f : ℕ → ℕ) (s : ℕ) → n ≤ 16 → s < n → getD (perStation n f) s 0 ≡ f s
-perStation-below n f s few h = fill-below n f (replicate 16 0) s 0 h (omega (arith, length-replicate {A = ℕ} 16 0))
+perStation-below n f s few h = setBelow-inside n f (replicate 16 0) s 0 h (omega (arith, length-replicate {A = ℕ} 16 0))
 
 pub perStation-above : (n : ℕ) (f : ℕ → ℕ) (s : ℕ) → n ≤ s → getD (perStation n f) s 0 ≡ 0
-perStation-above n f s h = fill-above n f (replicate 16 0) s 0 h ∙ zeros-at 16 s
+perStation-above n f s h = setBelow-above n f (replicate 16 0) s 0 h ∙ zeros-at 16 s
 
 -- Sixteen entries that are right at each station, and 0 from n up, are all of it.
 pub perStation-is : (n : ℕ) (f : ℕ → ℕ) (l : List ℕ) → n ≤ 16 → length l ≡ 16 → ((s : ℕ) → s < n → getD l s 0 ≡ f s)
     → ((s : ℕ) → n ≤ s → getD l s 0 ≡ 0) → l ≡ perStation n f
 perStation-is n f l few e below above =
-    sym (fill-all 16 l (replicate 16 0) 0 e (length-replicate {A = ℕ} 16 0))
-    ∙ fill-ext 16 (λ s. getD l s 0) (λ s. getD (perStation n f) s 0) (replicate 16 0) (λ s h. at s)
-    ∙ fill-all 16 (perStation n f) (replicate 16 0) 0 (length-fill n f (replicate 16 0) ∙ length-replicate {A = ℕ} 16 0)
+    sym (setBelow-all 16 l (replicate 16 0) 0 e (length-replicate {A = ℕ} 16 0))
+    ∙ setBelow-ext 16 (λ s. getD l s 0) (λ s. getD (perStation n f) s 0) (replicate 16 0) (λ s h. at s)
+    ∙ setBelow-all 16 (perStation n f) (replicate 16 0) 0 (length-setBelow n f (replicate 16 0) ∙ length-replicate {A = ℕ} 16 0)
     (length-replicate {A = ℕ} 16 0)
   where
     at : (s : ℕ) → getD l s 0 ≡ getD (perStation n f) s 0
@@ -61,7 +61,7 @@ unfolding forecastCall
 forecast-done n log h = rw (eq-eqb (logRefusal n (length log)) 0 h)
 
 length-perStation : (n : ℕ) (f : ℕ → ℕ) → length (perStation n f) ≡ 16
-length-perStation n f = length-fill n f (replicate 16 0) ∙ length-replicate {A = ℕ} 16 0
+length-perStation n f = length-setBelow n f (replicate 16 0) ∙ length-replicate {A = ℕ} 16 0
 
 -- The answer of the call is the forecast by relays, whatever the log.
 pub forecast-relays : (n : ℕ) (log : List ℕ) → RelayForecast n log (forecastCall n log)
@@ -102,7 +102,7 @@ forecast-relays n log =
         }
 
 none : perStation 0 (λ s. 0) ≡ replicate 16 0
-unfolding fill
+unfolding setBelow
 none = refl
 
 -- And no other answer is.

@@ -6,7 +6,7 @@ use native.Mathlib.Decide.{ℕ-discrete}
 use native.Mathlib.Omega.{arith}
 use borrow.Author.Tests.{eq-eqb, ne-eqb, lt-ltb, le-ltb}
 use lib.ListN.{getD, length}
-use Rattle.places.specs.Places.{fill}
+use Rattle.lists.specs.Below.{setBelow}
 use Rattle.planning_spec.specs.declared.ForecastAnswer.{ForecastAnswer}
 use Rattle.planning_spec.specs.LinkLog.{logRefusal}
 use Rattle.planning_spec.specs.Forecast.{forecastCall, forecastIntoRefusal, writtenInto}
@@ -23,7 +23,7 @@ written-not : (refusal : ℕ) (entries buffer : List ℕ) → (refusal ≡ 0 →
 unfolding writtenInto
 written-not refusal entries buffer d = rw (ne-eqb refusal 0 d)
 
-written-done : (entries buffer : List ℕ) → fill 16 (λ k. getD entries k 0) buffer ≡ writtenInto 0 entries buffer
+written-done : (entries buffer : List ℕ) → setBelow 16 (λ k. getD entries k 0) buffer ≡ writtenInto 0 entries buffer
 unfolding writtenInto
 written-done entries buffer = refl
 
@@ -66,7 +66,7 @@ module _ (n : ℕ) (log ends last : List ℕ) (a : ForecastAnswer) (is : a ≡ f
   )
 
   pub into-done : (ends′ last′ : List ℕ) → a .refusal ≡ 0 → 16 ≤ length ends → 16 ≤ length last
-      → ends′ ≡ fill 16 (λ k. getD (a .ends) k 0) ends → last′ ≡ fill 16 (λ k. getD (a .last) k 0) last
+      → ends′ ≡ setBelow 16 (λ k. getD (a .ends) k 0) ends → last′ ≡ setBelow 16 (λ k. getD (a .last) k 0) last
       → (0 ≡ forecastIntoRefusal n log ends last)
       × (ends′ ≡ writtenInto 0 (forecastCall n log .ends) ends)
       × (last′ ≡ writtenInto 0 (forecastCall n log .last) last)

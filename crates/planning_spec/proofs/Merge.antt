@@ -12,13 +12,13 @@ use lib.Arith.{digits-div, digits-mod}
 use lib.Dec.{eqb, ltb}
 use lib.ListN.{getD, length, take, length-take, List·getD-eq-default}
 use lib.Seq.{getD-take}
-use Rattle.kinds.specs.Refusals.{done}
+use Rattle.bodies.specs.Refusals.{done}
 use Rattle.links.specs.Log.{bit}
 use Rattle.links.specs.Forecast.{endCount, lastEnd}
 use Rattle.links.specs.Part.{Part}
 use Rattle.links.proofs.Log.{bit-zero}
 use Rattle.links.proofs.Part.{count-part}
-use Rattle.places.proofs.Laws.{length-tabulate, tabulate-at}
+use Rattle.lists.proofs.Laws.{length-tabulate, tabulate-at}
 use Rattle.planning_spec.specs.LinkLog.{roundsOf, linksOf, logRefusal}
 use Rattle.planning_spec.specs.Merge.{mergedMask, mergedLog, logsRefusal, NoLater}
 use Rattle.planning_spec.proofs.LinkLog.{Accepted, accepted, no-bit, whole-hears, hears-none, hears-zero, whole-accepted}

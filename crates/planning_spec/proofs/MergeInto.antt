@@ -9,8 +9,8 @@ use native.Mathlib.Omega.{arith}
 use borrow.Author.Tests.{eq-eqb, ne-eqb, lt-ltb, le-ltb}
 use lib.ListN.{getD, length, set, drop, length-append, length-drop, List·getD-append}
 use lib.Seq.{ext-getD, getD-drop, getD-append-add}
-use Rattle.places.specs.Places.{fill, tabulate}
-use Rattle.places.proofs.Laws.{length-fill, fill-below, fill-above, length-tabulate, tabulate-at}
+use Rattle.lists.specs.Below.{setBelow, tabulate}
+use Rattle.lists.proofs.Laws.{length-setBelow, setBelow-inside, setBelow-above, length-tabulate, tabulate-at}
 use Rattle.planning_spec.specs.declared.MergeAnswer.{MergeAnswer}
 use Rattle.planning_spec.specs.LinkLog.{logRefusal}
 use Rattle.planning_spec.specs.Merge.{mergedMask, mergedLog, logsRefusal, mergeRefusal, mergeCall, frontWritten, mergeIntoRefusal}
@@ -52,15 +52,15 @@ unfolding frontWritten
 front-done entries buffer = refl
 
 -- A list filled in its first places.
-pub fill-front : (count : ℕ) (f : ℕ → ℕ) (l : List ℕ) → count ≤ length l → fill count f l ≡ tabulate count f ++ drop count l
-fill-front count f l h =
-    ext-getD 0 (fill count f l) (tabulate count f ++ drop count l) same at
+pub setBelow-front : (count : ℕ) (f : ℕ → ℕ) (l : List ℕ) → count ≤ length l → setBelow count f l ≡ tabulate count f ++ drop count l
+setBelow-front count f l h =
+    ext-getD 0 (setBelow count f l) (tabulate count f ++ drop count l) same at
   where
     lt : length (tabulate count f) ≡ count
     lt = length-tabulate count f
 
-    same : length (fill count f l) ≡ length (tabulate count f ++ drop count l)
-    same = omega (arith, length-fill count f l, length-append (tabulate count f) (drop count l), lt, length-drop count l, h)
+    same : length (setBelow count f l) ≡ length (tabulate count f ++ drop count l)
+    same = omega (arith, length-setBelow count f l, length-append (tabulate count f) (drop count l), lt, length-drop count l, h)
 
     past : (i k : ℕ) → i ≡ count + k → getD (tabulate count f ++ drop count l) i 0 ≡ getD l i 0
     past i k e =
@@ -69,21 +69,21 @@ fill-front count f l h =
         ∙ getD-drop count l k 0
         ∙ ap (λ (x : ℕ). getD l x 0) (sym e)
 
-    at : (i : ℕ) → i < length (fill count f l) → getD (fill count f l) i 0 ≡ getD (tabulate count f ++ drop count l) i 0
+    at : (i : ℕ) → i < length (setBelow count f l) → getD (setBelow count f l) i 0 ≡ getD (tabulate count f ++ drop count l) i 0
     at i b =
         elim (decLe (suc i) count) [
           | yes c ↦
-              fill-below count f l i 0 c (omega (arith, h))
+              setBelow-inside count f l i 0 c (omega (arith, h))
               ∙ sym (List·getD-append (tabulate count f) (drop count l) 0 i (omega (arith, lt)) ∙ tabulate-at count f i 0 c)
-          | no g ↦ fill-above count f l i 0 (omega arith) ∙ sym (past i (i - count) (omega arith))
+          | no g ↦ setBelow-above count f l i 0 (omega arith) ∙ sym (past i (i - count) (omega arith))
         ]
 
 pub merged-front : (n : ℕ) (first second buffer : List ℕ) → max (length first) (length second) ≤ length buffer
-    → fill (max (length first) (length second)) (mergedMask n first second) buffer ≡ frontWritten 0 (mergedLog n first second) buffer
+    → setBelow (max (length first) (length second)) (mergedMask n first second) buffer ≡ frontWritten 0 (mergedLog n first second) buffer
 unfolding mergedLog
 merged-front n first second buffer h =
     let count = max (length first) (length second) in
-    fill-front count (mergedMask n first second) buffer h
+    setBelow-front count (mergedMask n first second) buffer h
     ∙ ap (λ (k : ℕ). tabulate count (mergedMask n first second) ++ drop k buffer) (sym (length-tabulate count (mergedMask n first second)))
     ∙ front-done (tabulate count (mergedMask n first second)) buffer
 
@@ -110,14 +110,14 @@ module _ (n : ℕ) (first second buffer : List ℕ) where
 
   pub merge-done : (after : List ℕ) (count : ℕ) → logsRefusal n (length first) (length second) ≡ 0
       → count ≡ max (length first) (length second) → count ≤ length buffer
-      → after ≡ fill count (mergedMask n first second) buffer
+      → after ≡ setBelow count (mergedMask n first second) buffer
       → (_≡_ {A = MergeAnswer} (record { refusal = 0; masks = count }) (mergeCall n first second (length buffer)))
       × (after ≡ frontWritten 0 (mergedLog n first second) buffer)
   unfolding mergeCall
   merge-done after count e c h w = (
     rw (room-done n (length first) (length second) (length buffer) e (omega arith), merged-length n first second, c),
     w
-        ∙ ap (λ (k : ℕ). fill k (mergedMask n first second) buffer) c
+        ∙ ap (λ (k : ℕ). setBelow k (mergedMask n first second) buffer) c
         ∙ merged-front n first second buffer (omega arith),
   )
 

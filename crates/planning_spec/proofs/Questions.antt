@@ -16,8 +16,8 @@ use Rattle.links.specs.Log.{bit}
 use Rattle.links.specs.Question.{Answered, Extends, answerIn}
 use Rattle.links.proofs.Prefix.{Same}
 use Rattle.links.proofs.Question.{answer-relays, answer-only, answer-extends}
-use Rattle.places.specs.Places.{anyBelow, fill}
-use Rattle.places.proofs.Laws.{anyBelow-at, anyBelow-none, length-fill, fill-below, fill-above}
+use Rattle.lists.specs.Below.{anyBelow, setBelow}
+use Rattle.lists.proofs.Laws.{anyBelow-at, anyBelow-none, length-setBelow, setBelow-inside, setBelow-above}
 use Rattle.planning_spec.specs.declared.Arrival.the-variants.{Never}
 use Rattle.planning_spec.specs.declared.QuestionAnswer.{QuestionAnswer}
 use Rattle.planning_spec.specs.declared.PageAnswer.{PageAnswer}
@@ -131,7 +131,7 @@ module _ (n : ℕ) (log page : List ℕ) (e : questionsRefusal n log page ≡ 0)
   few : count ≤ 64
   few = asked n page (taken n log page e .1) .few
 
-  pub call-done : questionsCall n log page ≡ record { refusal = 0; answers = fill count answer (replicate 64 never) }
+  pub call-done : questionsCall n log page ≡ record { refusal = 0; answers = setBelow count answer (replicate 64 never) }
   unfolding questionsCall
   call-done = rw (eq-eqb (questionsRefusal n log page) 0 e)
 
@@ -139,26 +139,26 @@ module _ (n : ℕ) (log page : List ℕ) (e : questionsRefusal n log page ≡ 0)
   pub call-answer : (i : ℕ) → i < count → getD (questionsCall n log page .answers) i never ≡ answerTo n log (questionAt page i)
   call-answer i l =
       ap (λ (a : PageAnswer). getD (a .answers) i never) call-done
-      ∙ fill-below count answer (replicate 64 never) i never l (omega (arith, few, length-replicate {A = QuestionAnswer} 64 never))
+      ∙ setBelow-inside count answer (replicate 64 never) i never l (omega (arith, few, length-replicate {A = QuestionAnswer} 64 never))
 
   -- Sixty-four answers that are right at each question, and never past the page, are all of it.
   pub call-is : (answers : List QuestionAnswer) → length answers ≡ 64 → ((i : ℕ) → i < count → getD answers i never ≡ answerTo n log (questionAt page i))
       → ((i : ℕ) → count ≤ i → i < 64 → getD answers i never ≡ never)
       → _≡_ {A = PageAnswer} (record { refusal = 0; answers = answers }) (questionsCall n log page)
   call-is answers size each rest =
-      ap (λ (l : List QuestionAnswer). record { refusal = 0; answers = l }) (ext-getD never answers (fill count answer (replicate 64 never)) same at)
+      ap (λ (l : List QuestionAnswer). record { refusal = 0; answers = l }) (ext-getD never answers (setBelow count answer (replicate 64 never)) same at)
       ∙ sym call-done
     where
-      same : length answers ≡ length (fill count answer (replicate 64 never))
-      same = size ∙ sym (length-fill count answer (replicate 64 never) ∙ length-replicate {A = QuestionAnswer} 64 never)
+      same : length answers ≡ length (setBelow count answer (replicate 64 never))
+      same = size ∙ sym (length-setBelow count answer (replicate 64 never) ∙ length-replicate {A = QuestionAnswer} 64 never)
 
-      at : (i : ℕ) → i < length answers → getD answers i never ≡ getD (fill count answer (replicate 64 never)) i never
+      at : (i : ℕ) → i < length answers → getD answers i never ≡ getD (setBelow count answer (replicate 64 never)) i never
       at i l =
           elim (decLe (suc i) count) [
-            | yes h ↦ each i h ∙ sym (fill-below count answer (replicate 64 never) i never h (omega (arith, few, length-replicate {A = QuestionAnswer} 64 never)))
+            | yes h ↦ each i h ∙ sym (setBelow-inside count answer (replicate 64 never) i never h (omega (arith, few, length-replicate {A = QuestionAnswer} 64 never)))
             | no g ↦
                 rest i (omega arith) (omega (arith, size))
-                ∙ sym (fill-above count answer (replicate 64 never) i never (omega arith) ∙ nevers-at 64 i)
+                ∙ sym (setBelow-above count answer (replicate 64 never) i never (omega arith) ∙ nevers-at 64 i)
           ]
 
 -- Each answer is the answer by relays alone.

@@ -6,14 +6,14 @@ use native.Mathlib.Decide.{ℕ-discrete}
 use native.Mathlib.Omega.{arith}
 use borrow.Author.Tests.{eq-eqb, ne-eqb, lt-ltb, le-ltb}
 use lib.ListN.{getD, length, drop}
-use Rattle.places.specs.Places.{fill, tabulate}
-use Rattle.places.proofs.Laws.{length-tabulate, fill-ext}
+use Rattle.lists.specs.Below.{setBelow, tabulate}
+use Rattle.lists.proofs.Laws.{length-tabulate, setBelow-ext}
 use Rattle.planning_spec.specs.declared.QuestionAnswer.{QuestionAnswer}
 use Rattle.planning_spec.specs.declared.PageAnswer.{PageAnswer}
 use Rattle.planning_spec.specs.Merge.{frontWritten}
 use Rattle.planning_spec.specs.Questions.{questionAt, questionCount, questionsRefusal, never, answerTo, questionsCall}
 use Rattle.planning_spec.specs.Questions.{arrivalNumber, answerNumbers, questionsIntoRefusal}
-use Rattle.planning_spec.proofs.MergeInto.{fill-front, front-refused, front-done}
+use Rattle.planning_spec.proofs.MergeInto.{setBelow-front, front-refused, front-done}
 use Rattle.planning_spec.proofs.Questions.{asked, taken, call-refused, call-done, call-answer}
 
 call-refusal : (n : ℕ) (log page : List ℕ) → questionsCall n log page .refusal ≡ questionsRefusal n log page
@@ -24,12 +24,12 @@ call-refusal n log page =
     ]
 
 numbers-front : (n : ℕ) (log page buffer : List ℕ) → questionCount page ≤ length buffer
-    → fill (questionCount page) (λ i. arrivalNumber (answerTo n log (questionAt page i) .arrival)) buffer
+    → setBelow (questionCount page) (λ i. arrivalNumber (answerTo n log (questionAt page i) .arrival)) buffer
     ≡ frontWritten 0 (answerNumbers n log page) buffer
 unfolding answerNumbers
 numbers-front n log page buffer h =
     let count = questionCount page in
-    fill-front count (λ i. arrivalNumber (answerTo n log (questionAt page i) .arrival)) buffer h
+    setBelow-front count (λ i. arrivalNumber (answerTo n log (questionAt page i) .arrival)) buffer h
     ∙ ap (λ (k : ℕ). tabulate count (λ i. arrivalNumber (answerTo n log (questionAt page i) .arrival)) ++ drop k buffer)
     (sym (length-tabulate count (λ i. arrivalNumber (answerTo n log (questionAt page i) .arrival))))
     ∙ front-done (tabulate count (λ i. arrivalNumber (answerTo n log (questionAt page i) .arrival))) buffer
@@ -59,14 +59,14 @@ module _ (n : ℕ) (log page buffer : List ℕ) (a : PageAnswer) (is : a ≡ que
   into-few e = asked n page (taken n log page (sym same-refusal ∙ e) .1) .few
 
   pub into-done : (after : List ℕ) → a .refusal ≡ 0 → questionCount page ≤ length buffer
-      → after ≡ fill (questionCount page) (λ i. arrivalNumber (getD (a .answers) i never .arrival)) buffer
+      → after ≡ setBelow (questionCount page) (λ i. arrivalNumber (getD (a .answers) i never .arrival)) buffer
       → (0 ≡ questionsIntoRefusal n log page buffer) × (after ≡ frontWritten 0 (answerNumbers n log page) buffer)
   unfolding questionsIntoRefusal
   into-done after e h w =
       let z = sym same-refusal ∙ e in (
         rw (eq-eqb (questionsRefusal n log page) 0 z, le-ltb (length buffer) (questionCount page) h),
         w
-            ∙ fill-ext (questionCount page) (λ i. arrivalNumber (getD (a .answers) i never .arrival))
+            ∙ setBelow-ext (questionCount page) (λ i. arrivalNumber (getD (a .answers) i never .arrival))
             (λ i. arrivalNumber (answerTo n log (questionAt page i) .arrival)) buffer
             (λ i l.
             ap (λ (b : PageAnswer). arrivalNumber (getD (b .answers) i never .arrival)) is

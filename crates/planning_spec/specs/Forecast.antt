@@ -5,15 +5,15 @@ use mathlib.Core.Path.{_≡_}
 use Prim.Native.Nat.{ℕ, _<_, _≤_}
 use lib.Dec.{eqb, ltb}
 use lib.ListN.{getD, length, replicate}
-use Rattle.kinds.specs.Refusals.{done, shortBuffer, refuse}
+use Rattle.bodies.specs.Refusals.{done, shortBuffer, refuse}
 use Rattle.links.specs.Forecast.{endCount, lastEnd, ForecastByRelays}
-use Rattle.places.specs.Places.{fill}
+use Rattle.lists.specs.Below.{setBelow}
 use Rattle.planning_spec.specs.declared.ForecastAnswer.{ForecastAnswer}
 use Rattle.planning_spec.specs.LinkLog.{roundsOf, linksOf, logRefusal}
 
 -- sixteen entries: f of each station below n, and 0 from n up
 abbrev pub perStation : ℕ → (ℕ → ℕ) → List ℕ
-perStation n f = fill n f (replicate 16 0)
+perStation n f = setBelow n f (replicate 16 0)
 
 -- forecast: 1, 12; a refused call has zeros
 unfoldable pub forecastCall : ℕ → List ℕ → ForecastAnswer
@@ -51,4 +51,4 @@ forecastIntoRefusal n log ends last =
 -- a lent buffer afterwards: the answer's sixteen entries and then what stood there; all of it as it was where the
 -- call was refused
 unfoldable pub writtenInto : ℕ → List ℕ → List ℕ → List ℕ
-writtenInto refusal entries buffer = cond (eqb refusal done) (fill 16 (λ k. getD entries k 0) buffer) buffer
+writtenInto refusal entries buffer = cond (eqb refusal done) (setBelow 16 (λ k. getD entries k 0) buffer) buffer

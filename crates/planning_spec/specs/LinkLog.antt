@@ -4,7 +4,7 @@ use mathlib.Core.List.{List}
 use Prim.Native.Nat.{ℕ, _/_, _%_}
 use lib.Dec.{eqb, leb, ltb}
 use lib.ListN.{length}
-use Rattle.kinds.specs.Refusals.{done, badNumber, badLinkLog, refuse}
+use Rattle.bodies.specs.Refusals.{done, badNumber, badLinkLog, refuse}
 use Rattle.links.specs.Log.{bit, cut}
 use Rattle.links.specs.Relay.{Links, ofLog}
 

@@ -5,8 +5,8 @@ use mathlib.Core.Path.{_≡_}
 use Prim.Native.Nat.{ℕ, zero, suc, max, _+_, _*_, _/_, _%_, _≤_}
 use lib.Dec.{eqb, ltb}
 use lib.ListN.{getD, length, drop}
-use Rattle.kinds.specs.Refusals.{done, shortBuffer, refuse}
-use Rattle.places.specs.Places.{tabulate}
+use Rattle.bodies.specs.Refusals.{done, shortBuffer, refuse}
+use Rattle.lists.specs.Below.{tabulate}
 use Rattle.planning_spec.specs.declared.MergeAnswer.{MergeAnswer}
 use Rattle.planning_spec.specs.LinkLog.{linksOf, logRefusal}
 use Rattle.planning_spec.specs.Forecast.{forecastCall}

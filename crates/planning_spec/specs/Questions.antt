@@ -7,8 +7,8 @@ use mathlib.Core.Path.{_≡_}
 use Prim.Native.Nat.{ℕ, _+_, _*_, _/_, _%_, _<_, _≤_}
 use lib.Dec.{eqb, leb, ltb}
 use lib.ListN.{getD, length, replicate}
-use Rattle.kinds.specs.Refusals.{done, shortBuffer, badQuestion, refuse}
-use Rattle.places.specs.Places.{anyBelow, fill, tabulate}
+use Rattle.bodies.specs.Refusals.{done, shortBuffer, badQuestion, refuse}
+use Rattle.lists.specs.Below.{anyBelow, setBelow, tabulate}
 use Rattle.links.specs.Question.{answerIn, Answered, Extends}
 use Rattle.planning_spec.specs.declared.Arrival.{Arrival}
 use Rattle.planning_spec.specs.declared.Arrival.the-variants.{Never, InRound}
@@ -76,7 +76,7 @@ questionsCall n log page =
     cond (eqb (questionsRefusal n log page) done)
     (record {
       refusal = done;
-      answers = fill (questionCount page) (λ i. answerTo n log (questionAt page i)) (replicate 64 never);
+      answers = setBelow (questionCount page) (λ i. answerTo n log (questionAt page i)) (replicate 64 never);
     })
     (record { refusal = questionsRefusal n log page; answers = replicate 64 never })
 

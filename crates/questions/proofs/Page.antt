@@ -11,12 +11,12 @@ use native.Mathlib.Omega.{arith}
 use borrow.Author.Tests.{eq-eqb, ne-eqb, le-leb, lt-leb}
 use lib.ListN.{getD, length, set, length-set}
 use lib.Seq.{getD-set-same, getD-set-other}
-use Rattle.places.specs.Places.{anyBelow}
+use Rattle.lists.specs.Below.{anyBelow}
 use Rattle.links.specs.Relay.{Links}
 use Rattle.links.specs.Number.{got}
 use Rattle.links.specs.Question.{otherwise, answerIn}
 use Rattle.links.proofs.Question.{got-knows}
-use Rattle.broadcast_sets.specs.Stands.{Stands}
+use Rattle.link_logs.specs.Stands.{Stands}
 use Rattle.planning_spec.specs.Questions.{questionAt, isBad, Asked}
 use Rattle.questions.specs.Replies.{replyOf, settled, receivedIn, Settled, Replied}
 

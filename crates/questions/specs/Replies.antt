@@ -10,7 +10,7 @@ use lib.ListN.{getD, length}
 use Rattle.links.specs.Log.{bit}
 use Rattle.links.specs.Relay.{Links}
 use Rattle.links.specs.Question.{answerIn}
-use Rattle.broadcast_sets.specs.Sets.{cell}
+use Rattle.link_logs.specs.Sets.{cell}
 use Rattle.planning_spec.specs.declared.Arrival.the-variants.{InRound}
 use Rattle.planning_spec.specs.declared.QuestionAnswer.{QuestionAnswer}
 use Rattle.planning_spec.specs.Questions.{questionAt, never}

@@ -1,19 +1,21 @@
 // A script read in parts of any size, and the listing that comes of it.
 
-use listing_rules::Session;
-use reader_rules::Fed;
-use reader_rules::KEPT;
-use reader_rules::Reader;
+pub mod steps;
+
+use listing_spec::Session;
+use listing_spec::reading::FeedAnswer;
+use listing_spec::reading::KEPT;
+use listing_spec::reading::Reader;
 ghost use mathlib.Core.Path.{_≡_};
 ghost use Prim.Native.Nat.{_≤_};
 ghost use lib.ListN.{length};
-ghost use Rattle.reader_rules.specs.Remaining.{Feeds};
+ghost use Rattle.listing_spec.specs.Remaining.{Feeds};
 
-fn answer(session: Session, len: usize, line: [u8; KEPT], read: usize, put: usize) -> Fed
+fn answer(session: Session, len: usize, line: [u8; KEPT], read: usize, put: usize) -> FeedAnswer
     ensures { λ r. ⌜ r ≡ record { read = read; len = put; reader = record { session = session; len = len; line = line } } ⌝ }
 {
     let reader = Reader { session, len, line };
-    Fed {
+    FeedAnswer {
         read,
         len: put,
         reader,
@@ -21,7 +23,7 @@ fn answer(session: Session, len: usize, line: [u8; KEPT], read: usize, put: usiz
 }
 
 // A part of the script read, or as much of it as the buffer has room for: what its lines print is put at the front of the buffer.
-pub fn feed(r: Reader, part: &[u8], out: &mut [u8]) -> Fed
+pub fn feed(r: Reader, part: &[u8], out: &mut [u8]) -> FeedAnswer
     requires { ⌜ (r .len ≤ 146) × (26_880 ≤ length (now out)) ⌝ }
     ensures { λ f. ⌜ Feeds r (now (part .entry)) (now (out .entry)) (now (out .exit)) f ⌝ }
 {
@@ -31,7 +33,7 @@ pub fn feed(r: Reader, part: &[u8], out: &mut [u8]) -> Fed
     let mut read = 0;
     let mut at = 0;
     while round_lines::ROUND_ROOM <= out.len() - at {
-        let taken = reader_steps::take_line(&mut line, held, part, read);
+        let taken = steps::take_line(&mut line, held, part, read);
         held = taken.len;
         read = taken.next;
         if read == part.len() {

@@ -2,15 +2,15 @@
 
 ghost use Prim.Native.Nat.{_+_, _≤_, _<_};
 ghost use lib.ListN.{length};
+use bodies::Body;
 use bulletins_spec::Bulletins;
 use bulletins_spec::Shown;
-use group_rules::KeptGroup;
-use group_rules::Post;
-use group_rules::Report;
-use kinds::Body;
-use lanes::QUEUE_CAPACITY;
-use station_rules::Setup;
-use station_rules::Station;
+use group_spec::GroupAnswer;
+use group_spec::Post;
+use group_spec::Report;
+use queues::QUEUE_CAPACITY;
+use station_spec::Setup;
+use station_spec::Station;
 
 // The bytes of one round's masks: sixteen, two bytes each, the low byte first.
 const MASKS_SIZE: usize = 32;
@@ -67,10 +67,10 @@ fn mix_report(sum: u64, report: Report, number: u32) -> u64 {
     let started = turn.started_body;
     let mut mixed = mix(sum, flags(report.takings_len, turn.aired, turn.ended));
     mixed = mix(mixed, taking.source as u32);
-    mixed = mix(mixed, kinds::event_of(taken));
-    mixed = mix(mixed, kinds::event_of(aired));
-    mixed = mix(mixed, kinds::event_of(ended));
-    mix(mixed, kinds::kind_of(started))
+    mixed = mix(mixed, bodies::event_of(taken));
+    mixed = mix(mixed, bodies::event_of(aired));
+    mixed = mix(mixed, bodies::event_of(ended));
+    mix(mixed, bodies::kind_of(started))
 }
 
 // The number of two bytes, the lower first.
@@ -117,7 +117,7 @@ fn masks_of(schedule: &[u8], number: u32) -> [u16; 16]
 }
 
 // A post, by its number, made at its station: sixteen are desk 0's, the next sixteen desk 1's, and so on.
-fn posted(g: [Station; 16], n: usize, post: u32) -> KeptGroup
+fn posted(g: [Station; 16], n: usize, post: u32) -> GroupAnswer
     requires { ⌜ 1 ≤ n ⌝ }
 {
     let made = Post {

@@ -5,10 +5,10 @@ use mathlib.Core.List.{List, [], _++_, append-assoc, append-nil}
 use native.Mathlib.Omega.{arith}
 use lib.ListN.{length, take, drop, length-drop}
 use lib.Seq.{take-add, take-all}
-use Rattle.reader_rules.specs.declared.Reader.{Reader}
-use Rattle.reader_rules.specs.declared.Fed.{Fed}
-use Rattle.reader_rules.specs.Remaining.{Feeds}
-use Rattle.reader_rules.specs.Whole.{then-fed}
+use Rattle.listing_spec.specs.declared.reading.Reader.{Reader}
+use Rattle.listing_spec.specs.declared.reading.FeedAnswer.{FeedAnswer}
+use Rattle.listing_spec.specs.Remaining.{Feeds}
+use Rattle.listing_spec.specs.Whole.{then-fed}
 use Rattle.relay_listing.specs.Passing.{Passes}
 
 pub passes-none : (r : Reader) → Passes r [] r
@@ -16,7 +16,7 @@ passes-none r = record { text = []; reaches = λ read listed g. rw (append-nil r
 
 -- one call more, on what is left of the part
 pub passes-more :
-    (r r' : Reader) (part entry exit : List ℕ) (from : ℕ) (f : Fed) → Passes r (take from part) r' →
+    (r r' : Reader) (part entry exit : List ℕ) (from : ℕ) (f : FeedAnswer) → Passes r (take from part) r' →
     Feeds r' (take (length part - from) (drop from part)) entry exit f → Passes r (take (from + f .read) part) (f .reader)
 passes-more r r' part entry exit from f p q =
     let left = take (length part - from) (drop from part) in

@@ -2,8 +2,8 @@
 use Prim.Native.Nat.{ℕ}
 use mathlib.Core.Bool.{Bool, true, false}
 use mathlib.Core.List.{List, _++_}
-use Rattle.reader_rules.specs.declared.Reader.{Reader}
-use Rattle.reader_rules.specs.Whole.{Reached}
+use Rattle.listing_spec.specs.declared.reading.Reader.{Reader}
+use Rattle.listing_spec.specs.Whole.{Reached}
 
 -- a part was fed to the reader, from its first byte to its last, and the calls put a text into the buffer
 pub record Passes (r : Reader) (part : List ℕ) (r' : Reader) : Type 0 where

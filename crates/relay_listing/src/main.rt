@@ -6,7 +6,7 @@ ghost use Rattle.relay_listing.specs.Passing.{PassesIf};
 use libc::STDERR_FILENO;
 use libc::STDIN_FILENO;
 use libc::STDOUT_FILENO;
-use reader_rules::Reader;
+use listing_spec::reading::Reader;
 
 // A reader, and whether everything so far was read and written.
 struct Passed {
@@ -88,7 +88,7 @@ fn read_input(out: &mut [u8]) -> Passed
     requires { ⌜ 26_880 ≤ length (now out) ⌝ }
     ensures { λ p. ⌜ p .reader .len ≤ 146 ⌝ }
 {
-    let mut reader = reader_steps::begin();
+    let mut reader = reader::steps::begin();
     let mut bytes = io::large_buffer();
     let mut turns = u64::MAX;
     while turns > 0 {
@@ -118,7 +118,7 @@ fn main() {
     let mut out = io::large_buffer();
     let passed = read_input(&mut out);
     if passed.sound {
-        let len = reader_steps::finish(passed.reader, &mut out);
+        let len = reader::steps::finish(passed.reader, &mut out);
         write_front(&out, len);
     }
 }

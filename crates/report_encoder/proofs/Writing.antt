@@ -7,13 +7,13 @@ use native.Mathlib.Nat.{zero-add}
 use native.Mathlib.Omega.{arith}
 use lib.ListN.{getD, set, length, length-append}
 use lib.Seq.{sets}
-use Rattle.places.specs.Places.{tabulate}
-use Rattle.frame_rules.specs.Words.{wordBytes}
-use Rattle.lanes.specs.Queue.{noSlot}
-use Rattle.station_rules.specs.declared.Taking.{Taking}
-use Rattle.station_rules.specs.declared.TurnReport.{TurnReport}
-use Rattle.station_rules.specs.Hearing.{noTaking}
-use Rattle.group_rules.specs.declared.Report.{Report}
+use Rattle.lists.specs.Below.{tabulate}
+use Rattle.frame_spec.specs.Words.{wordBytes}
+use Rattle.queues.specs.Queue.{noSlot}
+use Rattle.station_spec.specs.declared.Taking.{Taking}
+use Rattle.station_spec.specs.declared.TurnReport.{TurnReport}
+use Rattle.station_spec.specs.Hearing.{noTaking}
+use Rattle.group_spec.specs.declared.Report.{Report}
 use Rattle.station_bytes_spec.specs.Bytes.{flagByte, asByte, joinedBelow}
 use Rattle.station_bytes_spec.specs.Body.{encodeBody}
 use Rattle.station_bytes_spec.specs.Reports.{encodeFlags, encodeTurn, encodeTaking, encodeReport}

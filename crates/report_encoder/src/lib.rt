@@ -5,15 +5,15 @@ ghost use Prim.Native.Nat.{_+_, _≤_};
 ghost use lib.ListN.{length};
 ghost use lib.Seq.{sets};
 ghost use Rattle.station_bytes_spec.specs.Reports.{encodeFlags, turnWidth, encodeTurn, takingWidth, encodeTaking, reportWidth, encodeReport, reportsWidth, encodeReports};
-use group_rules::Report;
-use lanes::Slot;
-use record_writer::put_word;
+use group_spec::Report;
+use queues::Slot;
+use records::writer::put_word;
 use station_encoder::as_byte;
 use station_encoder::flag_byte;
 use station_encoder::put_body;
 use station_encoder::put_four;
-use station_rules::Taking;
-use station_rules::TurnReport;
+use station_spec::Taking;
+use station_spec::TurnReport;
 
 const BODY_WIDTH: usize = 12;
 

@@ -1,19 +1,19 @@
 -- Document 01, "The relay listing": what a round prints, station by station, in the order in which a station does it: what it took (D), what it aired (A), what it
 -- ended (E), what it started (D again, with itself as the source).
 use Prim.Native.Nat.{ℕ, zero, suc}
-use Rattle.kinds.specs.declared.Body.the-variants.{Empty}
+use Rattle.bodies.specs.declared.Body.the-variants.{Empty}
 use mathlib.Core.Bool.{Bool, false, cond, not, _&&_}
 use mathlib.Core.List.{List, [], _++_}
 use lib.ListN.{getD}
 use lib.Dec.{ltb}
-use Rattle.kinds.specs.declared.Body.{Body}
-use Rattle.kinds.specs.Body.{isEmpty, isEdit}
-use Rattle.lanes.specs.declared.Slot.{Slot}
-use Rattle.station_rules.specs.declared.Taking.{Taking}
-use Rattle.station_rules.specs.declared.TurnReport.{TurnReport}
-use Rattle.lanes.specs.Queue.{noSlot}
-use Rattle.group_rules.specs.declared.Report.{Report}
-use Rattle.group_rules.specs.Calls.{noTaking}
+use Rattle.bodies.specs.declared.Body.{Body}
+use Rattle.bodies.specs.Body.{isEmpty, isEdit}
+use Rattle.queues.specs.declared.Slot.{Slot}
+use Rattle.station_spec.specs.declared.Taking.{Taking}
+use Rattle.station_spec.specs.declared.TurnReport.{TurnReport}
+use Rattle.queues.specs.Queue.{noSlot}
+use Rattle.group_spec.specs.declared.Report.{Report}
+use Rattle.group_spec.specs.Calls.{noTaking}
 use Rattle.lines.specs.Lines.{delivered, airing, ending, lineBytes}
 
 -- the text that f gives for each place below n, one after the other

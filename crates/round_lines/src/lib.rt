@@ -1,14 +1,14 @@
 // What a round prints, written into a lent buffer.
 
-use group_rules::Report;
-use kinds::Body;
+use bodies::Body;
+use group_spec::Report;
 use lines::LINE;
-use station_rules::TurnReport;
+use station_spec::TurnReport;
 ghost use mathlib.Core.Path.{_≡_};
 ghost use Prim.Native.Nat.{_+_, _≤_};
 ghost use lib.ListN.{length};
 ghost use mathlib.Core.Bool.{_&&_};
-ghost use Rattle.kinds.specs.Body.{isEdit};
+ghost use Rattle.bodies.specs.Body.{isEdit};
 ghost use Rattle.lines.specs.Lines.{Put};
 ghost use Rattle.round_lines.specs.Reports.{lineIf, takenText, airedText, turnText, reportText, roundText};
 
@@ -66,7 +66,7 @@ fn is_aired(aired: bool, body: Body) -> bool
     ensures { λ r. ⌜ r ≡ (aired && isEdit body) ⌝ }
 {
     if aired {
-        return kinds::is_edit(body);
+        return bodies::is_edit(body);
     }
     false
 }
@@ -97,7 +97,7 @@ fn put_turn(out: &mut [u8], at: usize, round: u32, p: usize, turn: TurnReport) -
     let over = turn.ended_body;
     let end = put_line_if(out, at, turn.ended, round, ENDED, p, p, over);
     let started = turn.started_body;
-    let shown = !kinds::is_empty(started);
+    let shown = !bodies::is_empty(started);
     put_line_if(out, end, shown, round, DELIVERED, p, p, started)
 }
 

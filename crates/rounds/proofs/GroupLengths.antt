@@ -8,11 +8,11 @@ use mir.Val.{Val}
 use denote.Shadow.{shadow}
 use denote.Array.{inArray}
 use denote.Struct as Struct
-use Rattle.station_rules.specs.declared.Station.{Station}
-use Rattle.station_rules.proofs.Station as Declared
-use Rattle.station_rules.proofs.Lengths.{each-at, lengths-at}
-use Rattle.group_rules.specs.State.{noStation, stationAt}
-use Rattle.group_rules.proofs.Members.{GroupShaped}
+use Rattle.station_spec.specs.declared.Station.{Station}
+use Rattle.station_spec.proofs.Station as Declared
+use Rattle.station_spec.proofs.Lengths.{each-at, lengths-at}
+use Rattle.group_spec.specs.State.{noStation, stationAt}
+use Rattle.group_spec.proofs.Members.{GroupShaped}
 
 -- what owning a group tells
 abbrev pub OwnedGroup : List Station → List Val → Type 0

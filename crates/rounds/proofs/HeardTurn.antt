@@ -7,28 +7,28 @@ use mathlib.Core.List.{List, _++_}
 use mathlib.Core.Path.{_≡_, sym, ap, _∙_}
 use native.Mathlib.Omega.{arith}
 use lib.ListN.{getD, length, length-map, length-take, take, replicate}
-use Rattle.kinds.specs.Refusals.{done}
-use Rattle.station_rules.specs.declared.Station.{Station}
-use Rattle.station_rules.specs.declared.Taking.{Taking}
-use Rattle.station_rules.specs.declared.Turned.{Turned}
-use Rattle.station_rules.specs.Limits.{stationInside}
-use Rattle.station_rules.specs.Hearing.{Hearing, noTaking, silent}
-use Rattle.station_rules.specs.Turn.{afterTurn, turnReport}
-use Rattle.station_rules.specs.Calls.{turnDone}
-use Rattle.station_rules.proofs.StationLimits.{inside-make}
+use Rattle.bodies.specs.Refusals.{done}
+use Rattle.station_spec.specs.declared.Station.{Station}
+use Rattle.station_spec.specs.declared.Taking.{Taking}
+use Rattle.station_spec.specs.declared.Turned.{Turned}
+use Rattle.station_spec.specs.Limits.{stationInside}
+use Rattle.station_spec.specs.Hearing.{Hearing, noTaking, initialHearing}
+use Rattle.station_spec.specs.Turn.{afterTurn, turnReport}
+use Rattle.station_spec.specs.Calls.{turnDone}
+use Rattle.station_spec.proofs.StationLimits.{inside-make}
 use Rattle.hearing_spec.specs.Buffer.{sizeIn, frameStart, takingAt, hearSenders}
 use Rattle.hearing_spec.specs.Room.{FrameRoom}
 use Rattle.hearing_spec.specs.StandsFor.{actsOn}
 use Rattle.hearing_spec.specs.declared.Ear.{Ear}
-use Rattle.acting.specs.Listened.{heardNotes, takingsAt, Listens}
+use Rattle.listening.specs.Listened.{heardNotes, takingsAt, Listens}
 use Rattle.listening.specs.Listening.{MayListen, maskHeard}
-use Rattle.group_rules.specs.State.{stationAt, sizeOf}
-use Rattle.group_rules.specs.Calls.{heard, reportOf}
-use Rattle.group_rules.proofs.Members.{Member, GroupShaped, member-at, members-open}
-use Rattle.group_rules.proofs.MembersRound.{hears-all}
-use Rattle.group_frames.specs.Frames.{FramesAt}
-use Rattle.group_frames.proofs.WrittenFrames.{AllSent}
-use Rattle.group_frames.proofs.GroupFrames.{frames-at, records-of}
+use Rattle.group_spec.specs.State.{stationAt, sizeOf}
+use Rattle.group_spec.specs.Calls.{heard, reportOf}
+use Rattle.group_spec.proofs.Members.{Member, GroupShaped, member-at, members-open}
+use Rattle.group_spec.proofs.MembersRound.{hears-all}
+use Rattle.rounds.specs.Frames.{FramesAt}
+use Rattle.rounds.proofs.WrittenFrames.{AllSent}
+use Rattle.rounds.proofs.GroupFrames.{frames-at, records-of}
 use Rattle.rounds.proofs.RoundBytes.{heard-below}
 
 -- what a station of a round has heard of its mask
@@ -65,9 +65,9 @@ module _ (g : List Station) (masks bytes : List ℕ) (sent : AllSent g bytes) (i
     λ j l. frames .frame j (omega (arith, frames .size)),
   )
 
-  heard-is : maskHeard s bytes (getD masks i 0) (silent s) ≡ heard g masks i
+  heard-is : maskHeard s bytes (getD masks i 0) (initialHearing s) ≡ heard g masks i
   heard-is =
-      (λ t. hearSenders (silent s) bytes (member .own t) (getD masks i 0) (frames .size t))
+      (λ t. hearSenders (initialHearing s) bytes (member .own t) (getD masks i 0) (frames .size t))
       ∙ heard-below g masks bytes sent i below (sizeOf g) (omega arith)
 
   module _ (places taken : List ℕ) (e : Ear) (h : HeardMask masks bytes i s places taken e) where

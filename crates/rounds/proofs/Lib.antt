@@ -1,3 +1,7 @@
+pub mod SendSteps
+pub mod SentFrame
+pub mod GroupFrames
+pub mod WrittenFrames
 pub mod GroupLengths
 pub mod RoundBytes
 pub mod Parts

@@ -6,7 +6,7 @@ use mathlib.Core.Path.{_≡_, sym, ap, _∙_}
 use native.Mathlib.Omega.{arith}
 use lib.ListN.{take, drop, length, replicate, length-append, length-drop, length-replicate, replicate-append-replicate}
 use lib.Seq.{length-take-le, take-at, drop-at, drop-drop}
-use Rattle.group_frames.proofs.WrittenFrames.{before-part}
+use Rattle.rounds.proofs.WrittenFrames.{before-part}
 
 -- the part of w entries from place a on
 abbrev pub part : ℕ → ℕ → List ℕ → List ℕ

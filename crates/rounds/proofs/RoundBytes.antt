@@ -8,13 +8,13 @@ use native.Mathlib.Omega.{arith}
 use lib.ListN.{getD}
 use borrow.Author.Tests.{lt-ltb}
 use Rattle.links.specs.Log.{hearsIn}
-use Rattle.station_rules.specs.declared.Station.{Station}
-use Rattle.station_rules.specs.Hearing.{silent, hearFrame}
-use Rattle.group_rules.specs.State.{stationAt, sizeOf}
-use Rattle.group_rules.specs.Calls.{heardBelow}
+use Rattle.station_spec.specs.declared.Station.{Station}
+use Rattle.station_spec.specs.Hearing.{initialHearing, hearFrame}
+use Rattle.group_spec.specs.State.{stationAt, sizeOf}
+use Rattle.group_spec.specs.Calls.{heardBelow}
 use Rattle.hearing_spec.specs.Buffer.{hearsSender, hearSenders}
-use Rattle.group_frames.proofs.GroupFrames.{records-of}
-use Rattle.group_frames.proofs.WrittenFrames.{AllSent}
+use Rattle.rounds.proofs.GroupFrames.{records-of}
+use Rattle.rounds.proofs.WrittenFrames.{AllSent}
 
 module _ (g : List Station) (masks bytes : List ℕ) (sent : AllSent g bytes) (i : ℕ) (below : i < sizeOf g) where
   hears-is : (j : ℕ) → j < sizeOf g → hearsIn (sizeOf g) masks i j ≡ hearsSender i (getD masks i 0) j
@@ -22,7 +22,7 @@ module _ (g : List Station) (masks bytes : List ℕ) (sent : AllSent g bytes) (i
   hears-is j l = rw (lt-ltb i (sizeOf g) below, lt-ltb j (sizeOf g) l)
 
   pub heard-below :
-      (j : ℕ) → j ≤ sizeOf g → hearSenders (silent (stationAt g i)) bytes i (getD masks i 0) j ≡ heardBelow g masks i j
+      (j : ℕ) → j ≤ sizeOf g → hearSenders (initialHearing (stationAt g i)) bytes i (getD masks i 0) j ≡ heardBelow g masks i j
   unfolding hearSenders heardBelow
   heard-below zero l = refl
   heard-below (suc j) l =

@@ -10,26 +10,26 @@ use native.Mathlib.Decide.{ℕ-discrete}
 use native.Mathlib.Omega.{arith}
 use lib.ListN.{getD, set, take, drop, length, length-set, length-take, length-drop, replicate}
 use lib.Seq.{getD-set-same, getD-set-other, drop-drop}
-use Rattle.kinds.specs.Refusals.{done}
-use Rattle.places.specs.Places.{fill}
-use Rattle.places.proofs.Laws.{fill-more, fill-above, fill-ext}
-use Rattle.station_rules.specs.declared.Station.{Station}
-use Rattle.station_rules.specs.declared.Taking.{Taking}
-use Rattle.station_rules.specs.declared.Turned.{Turned}
-use Rattle.station_rules.specs.Limits.{stationInside}
-use Rattle.station_rules.specs.Turn.{afterTurn, turnReport}
-use Rattle.station_rules.specs.Calls.{turnDone}
+use Rattle.bodies.specs.Refusals.{done}
+use Rattle.lists.specs.Below.{setBelow}
+use Rattle.lists.proofs.Laws.{setBelow-more, setBelow-above, setBelow-ext}
+use Rattle.station_spec.specs.declared.Station.{Station}
+use Rattle.station_spec.specs.declared.Taking.{Taking}
+use Rattle.station_spec.specs.declared.Turned.{Turned}
+use Rattle.station_spec.specs.Limits.{stationInside}
+use Rattle.station_spec.specs.Turn.{afterTurn, turnReport}
+use Rattle.station_spec.specs.Calls.{turnDone}
 use Rattle.hearing_spec.specs.StandsFor.{actsOn}
 use Rattle.hearing_spec.specs.declared.Ear.{Ear}
 use Rattle.hearing_spec.specs.Buffer.{sizeIn}
-use Rattle.acting.specs.Listened.{heardNotes, Readable}
-use Rattle.group_rules.specs.declared.Report.{Report}
-use Rattle.group_rules.specs.declared.RoundDone.{RoundDone}
-use Rattle.group_rules.specs.State.{noStation, stationAt, sizeOf}
-use Rattle.group_rules.specs.Calls.{heard, noReport, reportOf, afterRound, roundCall}
-use Rattle.group_rules.proofs.Members.{GroupShaped, group-high}
-use Rattle.group_rules.proofs.CallSteps.{round-stopped, round-done}
-use Rattle.group_frames.proofs.WrittenFrames.{AllSent}
+use Rattle.listening.specs.Listened.{heardNotes, Readable}
+use Rattle.group_spec.specs.declared.Report.{Report}
+use Rattle.group_spec.specs.declared.RoundDone.{RoundDone}
+use Rattle.group_spec.specs.State.{noStation, stationAt, sizeOf}
+use Rattle.group_spec.specs.Calls.{heard, noReport, reportOf, afterRound, roundCall}
+use Rattle.group_spec.proofs.Members.{GroupShaped, group-high}
+use Rattle.group_spec.proofs.CallSteps.{round-stopped, round-done}
+use Rattle.rounds.proofs.WrittenFrames.{AllSent}
 use Rattle.rounds.proofs.Parts.{zerosOf, part, withPart, part-here, part-before, part-after, part-length, zeros-front, zeros-rest}
 use Rattle.rounds.proofs.HeardTurn.{HeardMask, MayHear, takingsIn, may-hear, refusal-is, may-turn, after-is, report-is}
 
@@ -196,12 +196,12 @@ pub record MayTurn (g : List Station) (bytes : List ℕ) (ears : List Ear) (plac
 -- the group and the reports once the stations below i have taken their turn
 pub record Turning (g : List Station) (bytes : List ℕ) (ears : List Ear) (places taken : List ℕ) (blank : List Report)
     (group : List Station) (reports : List Report) (i : ℕ) : Type 0 where
-  pub group-is : group ≡ fill i (λ k. afterTurn (actedAt g bytes ears places taken k)) g
-  pub reports-are : reports ≡ fill i (reportAt g bytes ears places taken) blank
+  pub group-is : group ≡ setBelow i (λ k. afterTurn (actedAt g bytes ears places taken k)) g
+  pub reports-are : reports ≡ setBelow i (reportAt g bytes ears places taken) blank
 
 module _ (g : List Station) (bytes : List ℕ) (ears : List Ear) (places taken : List ℕ) (blank : List Report) where
   pub turning-none : Turning g bytes ears places taken blank g blank 0
-  unfolding fill
+  unfolding setBelow
   turning-none = record { group-is = refl; reports-are = refl }
 
   module _ (group : List Station) (reports : List Report) (i : ℕ) (t : Turning g bytes ears places taken blank group reports i) where
@@ -209,7 +209,7 @@ module _ (g : List Station) (bytes : List ℕ) (ears : List Ear) (places taken :
     unturned : stationAt group i ≡ stationAt g i
     unturned =
         ap (λ (y : List Station). stationAt y i) (t .group-is)
-        ∙ fill-above i (λ k. afterTurn (actedAt g bytes ears places taken k)) g i noStation (omega arith)
+        ∙ setBelow-above i (λ k. afterTurn (actedAt g bytes ears places taken k)) g i noStation (omega arith)
 
     pub turning-size : stationAt g i .n ≡ sizeIn bytes → stationAt group i .n ≡ sizeIn bytes
     turning-size e = ap (λ (y : Station). y .n) unturned ∙ e
@@ -232,10 +232,10 @@ module _ (g : List Station) (bytes : List ℕ) (ears : List Ear) (places taken :
           let is = turned ∙ ap turnDone acts in
           record {
             group-is =
-                (λ j. set (t .group-is j) i ((is j) .station)) ∙ fill-more i (λ k. afterTurn (actedAt g bytes ears places taken k)) g;
+                (λ j. set (t .group-is j) i ((is j) .station)) ∙ setBelow-more i (λ k. afterTurn (actedAt g bytes ears places taken k)) g;
             reports-are =
                 (λ j. set (t .reports-are j) i (record { «takings_len» = (getD ears i noEar) .len; takings = taken-are j; turn = (is j) .report }))
-                ∙ fill-more i (reportAt g bytes ears places taken) blank;
+                ∙ setBelow-more i (reportAt g bytes ears places taken) blank;
           }
 
 -- where all have heard, they may take their turns, and once all have done so the round is done
@@ -271,18 +271,18 @@ module _ (g : List Station) (masks : List ℕ) (none : Report) (bytes : List ℕ
       report-is g masks bytes (b .sent) k (omega arith) (part 16 (16 * k) places) (part 30 (30 * k) taken) (getD ears k noEar) (l .each k (omega arith))
       (b .shape) (l .fine k (omega arith)) (turnDone (actedAt g bytes ears places taken k)) refl
       (takingsIn bytes (part 30 (30 * k) taken) ((getD ears k noEar) .len)) refl in
-      let group-all : group ≡ fill i (λ k. afterTurn ((heard g masks k) .station)) g =
-      t .group-is ∙ fill-ext i (λ k. afterTurn (actedAt g bytes ears places taken k)) (λ k. afterTurn ((heard g masks k) .station)) g after in
-      let reports-all : reports ≡ fill i (reportOf g masks) (replicate 16 noReport) =
+      let group-all : group ≡ setBelow i (λ k. afterTurn ((heard g masks k) .station)) g =
+      t .group-is ∙ setBelow-ext i (λ k. afterTurn (actedAt g bytes ears places taken k)) (λ k. afterTurn ((heard g masks k) .station)) g after in
+      let reports-all : reports ≡ setBelow i (reportOf g masks) (replicate 16 noReport) =
       t .reports-are
-      ∙ fill-ext i (reportAt g bytes ears places taken) (reportOf g masks) (replicate 16 none) report
-      ∙ ap (λ (r : Report). fill i (reportOf g masks) (replicate 16 r)) (b .none-is) in
+      ∙ setBelow-ext i (reportAt g bytes ears places taken) (reportOf g masks) (replicate 16 none) report
+      ∙ ap (λ (r : Report). setBelow i (reportOf g masks) (replicate 16 r)) (b .none-is) in
       (λ j. record { refusal = 0; group = group-all j; reports = reports-all j })
       ∙ (λ j.
       record {
         refusal = 0;
-        group = fill (all j) (λ k. afterTurn ((heard g masks k) .station)) g;
-        reports = fill (all j) (reportOf g masks) (replicate 16 noReport);
+        group = setBelow (all j) (λ k. afterTurn ((heard g masks k) .station)) g;
+        reports = setBelow (all j) (reportOf g masks) (replicate 16 noReport);
       })
       ∙ round-done g masks (b .sent .inside) (b .sent .counts)
       (λ k m.

@@ -5,18 +5,18 @@ use mathlib.Core.List.{List}
 use mathlib.Core.Path.{_≡_, refl, sym, ap, _∙_}
 use native.Mathlib.Omega.{arith}
 use borrow.Author.Tests.{le-leb, lt-ltb}
-use Rattle.places.specs.Places.{allBelow}
-use Rattle.places.proofs.Laws.{and-both}
-use Rattle.frame_rules.specs.Frame.{validNumber}
-use Rattle.station_rules.specs.declared.Station.{Station}
-use Rattle.station_rules.specs.Calls.{ownCountInside}
-use Rattle.group_rules.specs.State.{stationAt, sizeOf, memberInside, groupInside}
-use Rattle.group_rules.specs.Calls.{roundCall}
-use Rattle.group_rules.proofs.Members.{group-low, group-high}
-use Rattle.group_rules.proofs.CallSteps.{refused, round-outside, round-count}
-use Rattle.group_frames.specs.Frames.{judgedBelow}
-use Rattle.group_limits.proofs.GroupLimits.{group-judged}
-use Rattle.group_frames.proofs.SendSteps.{judged-is}
+use Rattle.lists.specs.Below.{allBelow}
+use Rattle.lists.proofs.Laws.{and-both}
+use Rattle.frame_spec.specs.Frame.{validNumber}
+use Rattle.station_spec.specs.declared.Station.{Station}
+use Rattle.station_spec.specs.Calls.{ownCountInside}
+use Rattle.group_spec.specs.State.{stationAt, sizeOf, memberInside, groupInside}
+use Rattle.group_spec.specs.Calls.{roundCall}
+use Rattle.group_spec.proofs.Members.{group-low, group-high}
+use Rattle.group_spec.proofs.CallSteps.{refused, round-outside, round-count}
+use Rattle.rounds.specs.Frames.{judgedBelow}
+use Rattle.group.proofs.GroupLimits.{group-judged}
+use Rattle.rounds.proofs.SendSteps.{judged-is}
 
 -- a group of a number of stations that there is not
 pub size-outside : (g : List Station) → validNumber (sizeOf g) 0 ≡ false → groupInside g ≡ false

@@ -1,15 +1,17 @@
 // The rounds of a group.
 
+pub mod sending;
+
 ghost use mathlib.Core.Path.{_≡_};
-ghost use Rattle.group_rules.specs.Calls.{noReport, roundCall};
-use group_rules::Report;
-use group_rules::RoundDone;
+ghost use Rattle.group_spec.specs.Calls.{noReport, roundCall};
+use bodies::Body;
+use bodies::refusals::DONE;
+use bodies::refusals::OUTSIDE_LIMITS;
+use group_spec::Report;
+use group_spec::RoundDone;
 use hearing_spec::Ear;
-use kinds::Body;
-use kinds::refusals::DONE;
-use kinds::refusals::OUTSIDE_LIMITS;
-use station_rules::Station;
-use station_rules::Taking;
+use station_spec::Station;
+use station_spec::Taking;
 
 // What a round reports of a station that is not in it.
 pub fn no_report() -> Report
@@ -51,7 +53,7 @@ pub fn round(g: [Station; 16], masks: [u16; 16]) -> RoundDone
     let first = group[0];
     let n = first.n;
     let edition = first.edition;
-    if !numbers::valid_number(n, 0) {
+    if !records::numbers::valid_number(n, 0) {
         return RoundDone {
             refusal: OUTSIDE_LIMITS as usize,
             group: group,
@@ -61,7 +63,7 @@ pub fn round(g: [Station; 16], masks: [u16; 16]) -> RoundDone
     let mut refusal = DONE;
     let mut k: usize = 0;
     while k < n {
-        refusal = group_frames::send(&mut bytes, group[k], edition, n, k, refusal);
+        refusal = sending::send(&mut bytes, group[k], edition, n, k, refusal);
         k += 1;
     }
     if refusal != DONE {
@@ -97,10 +99,16 @@ pub fn round(g: [Station; 16], masks: [u16; 16]) -> RoundDone
         let a = 16 * i;
         let b = 30 * i;
         let heard = ears[i];
-        let takings = acting::takings_of(&bytes, &taken[b..b + 30], heard.len);
+        let takings = listening::acting::takings_of(&bytes, &taken[b..b + 30], heard.len);
         let before = group[i];
-        let acted = acting::acted(heard, &bytes, &places[a..a + 16], &taken[b..b + 30], before);
-        let turned = station_turns::take_turn(acted);
+        let acted = listening::acting::acted(
+            heard,
+            &bytes,
+            &places[a..a + 16],
+            &taken[b..b + 30],
+            before,
+        );
+        let turned = turns::take_turn(acted);
         let turn = turned.report;
         reports[i] = Report {
             takings_len: heard.len,

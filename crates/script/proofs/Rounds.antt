@@ -9,9 +9,9 @@ use lib.Dec.{leb, eqb}
 use lib.ListN.{length, take, set, getD}
 use lib.Seq.{take-suc-set}
 use borrow.Author.Tests.{ne-eqb, le-leb, lt-leb, leb-true, leb-false}
-use Rattle.places.specs.Places.{allBelow, tabulate}
-use Rattle.places.proofs.Laws.{and-both, allBelow-fails}
-use Rattle.column_reader.specs.declared.Reading.{Reading}
+use Rattle.lists.specs.Below.{allBelow, tabulate}
+use Rattle.lists.proofs.Laws.{and-both, allBelow-fails}
+use Rattle.columns.specs.declared.reader.Reading.{Reading}
 use Rattle.script.specs.declared.Command.the-variants.{Post, Round, Malformed}
 use Rattle.script.specs.Line.{naturalOf, wholeOf, isMask, fieldOf, shaped, masksInside, sizeLine, postShaped, postLine, roundLine, commandOf, maskAt}
 

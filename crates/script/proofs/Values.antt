@@ -11,9 +11,9 @@ use lib.ListN.{length, take, drop}
 use mir.Syntax.{w32}
 use mir.Val.{SFits, toZ, ofZ}
 use mir.ValLaws.{toZ-ofZ, toZ-pos}
-use Rattle.column_reader.specs.declared.Reading.the-variants.{Number, Malformed}
-use Rattle.column_reader.specs.Reading.{readColumns}
-use Rattle.column_reader.proofs.Only.{reads-exactly}
+use Rattle.columns.specs.declared.reader.Reading.the-variants.{Number, Malformed}
+use Rattle.columns.specs.Reading.{readColumns}
+use Rattle.columns.proofs.Only.{reads-exactly}
 use Rattle.script.specs.Line.{fieldOf}
 
 pub field-nine : (line : List ℕ) (k : ℕ) (minus : Bool) (v : ℕ) → fieldOf line k ≡ Number minus v → v ≤ 999_999_999

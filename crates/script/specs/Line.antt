@@ -5,10 +5,10 @@ use mathlib.Core.List.{List}
 use lib.ListN.{getD, take, drop, length}
 use lib.Dec.{leb, ltb, eqb}
 use lib.IntN.{ℤ, pos, negℤ}
-use Rattle.places.specs.Places.{allBelow, tabulate}
-use Rattle.column_reader.specs.declared.Reading.{Reading}
-use Rattle.column_reader.specs.declared.Reading.the-variants.{Blank, Minus, Number, Malformed}
-use Rattle.column_reader.specs.Reading.{readColumns}
+use Rattle.lists.specs.Below.{allBelow, tabulate}
+use Rattle.columns.specs.declared.reader.Reading.{Reading}
+use Rattle.columns.specs.declared.reader.Reading.the-variants.{Blank, Minus, Number, Malformed}
+use Rattle.columns.specs.Reading.{readColumns}
 use Rattle.script.specs.declared.Command.{Command}
 use Rattle.script.specs.declared.Command.the-variants.{Size, Post, Round, Malformed as MalformedLine}
 

@@ -1,6 +1,6 @@
 // Script lines, read into commands.
 
-use column_reader::Reading;
+use columns::reader::Reading;
 ghost use mathlib.Core.Path.{_≡_};
 ghost use Prim.Native.Nat.{_≤_};
 ghost use Rattle.script.specs.Line.{isWhole, naturalOf, signedOf, wholeOf, fieldOf, shaped, maskAt, masksInside, sizeLine, postShaped, postLine, roundLine, commandOf, masksOf};
@@ -35,7 +35,7 @@ fn field(line: &[u8], k: usize) -> Reading
     if line.len() < end {
         return Reading::Malformed;
     }
-    column_reader::read_columns(&line[start..end])
+    columns::reader::read_columns(&line[start..end])
 }
 
 // The number in field k, if it has no minus.

@@ -1,27 +1,29 @@
 // The calls of a station that need no frame: fresh, post and turn.
 
+pub mod beginning;
+
 ghost use mathlib.Core.Path.{_≡_};
-ghost use Rattle.station_rules.specs.State.{sized};
-ghost use Rattle.station_rules.specs.Calls.{freshCall, postCall, noTurn, turnCall};
-use kinds::Body;
-use kinds::refusals::BAD_DESK;
-use kinds::refusals::BAD_EDITION;
-use kinds::refusals::BAD_LIMIT;
-use kinds::refusals::BAD_NUMBER;
-use kinds::refusals::DONE;
-use kinds::refusals::NOT_AN_EDIT;
-use kinds::refusals::OUTSIDE_LIMITS;
-use kinds::refusals::QUEUE_FULL;
-use lanes::DEFAULT_LIMIT;
-use lanes::Slot;
-use station_rules::Kept;
-use station_rules::Setup;
-use station_rules::Station;
-use station_rules::TurnReport;
-use station_rules::Turned;
+ghost use Rattle.station_spec.specs.State.{sized};
+ghost use Rattle.station_spec.specs.Calls.{freshCall, postCall, noTurn, turnCall};
+use bodies::Body;
+use bodies::refusals::BAD_DESK;
+use bodies::refusals::BAD_EDITION;
+use bodies::refusals::BAD_LIMIT;
+use bodies::refusals::BAD_NUMBER;
+use bodies::refusals::DONE;
+use bodies::refusals::NOT_AN_EDIT;
+use bodies::refusals::OUTSIDE_LIMITS;
+use bodies::refusals::QUEUE_FULL;
+use queues::DEFAULT_LIMIT;
+use queues::Slot;
+use station_spec::Setup;
+use station_spec::Station;
+use station_spec::StationAnswer;
+use station_spec::TurnReport;
+use station_spec::Turned;
 
 // Fresh, with a limit and an edition named: station own, as it begins.
-pub fn fresh_limited(setup: Setup, own: usize) -> Kept
+pub fn fresh_limited(setup: Setup, own: usize) -> StationAnswer
     ensures { λ r. ⌜ r ≡ freshCall setup own ⌝ }
 {
     let alone = Setup {
@@ -29,81 +31,81 @@ pub fn fresh_limited(setup: Setup, own: usize) -> Kept
         limit: DEFAULT_LIMIT,
         edition: 0,
     };
-    if !numbers::valid_number(setup.n, own) {
-        let station = fresh_station::fresh_station(alone, 0);
-        return Kept {
+    if !records::numbers::valid_number(setup.n, own) {
+        let station = beginning::fresh_station(alone, 0);
+        return StationAnswer {
             refusal: BAD_NUMBER,
             station: station,
         };
     }
-    if !lanes::limit_inside(setup.limit) {
-        let station = fresh_station::fresh_station(alone, 0);
-        return Kept {
+    if !queues::limit_inside(setup.limit) {
+        let station = beginning::fresh_station(alone, 0);
+        return StationAnswer {
             refusal: BAD_LIMIT,
             station: station,
         };
     }
-    if !numbers::is_edition(setup.edition) {
-        let station = fresh_station::fresh_station(alone, 0);
-        return Kept {
+    if !records::numbers::is_edition(setup.edition) {
+        let station = beginning::fresh_station(alone, 0);
+        return StationAnswer {
             refusal: BAD_EDITION,
             station: station,
         };
     }
-    let station = fresh_station::fresh_station(setup, own);
-    Kept {
+    let station = beginning::fresh_station(setup, own);
+    StationAnswer {
         refusal: DONE,
         station: station,
     }
 }
 
 // Fresh, with neither named.
-pub fn fresh(n: usize, own: usize) -> Kept
+pub fn fresh(n: usize, own: usize) -> StationAnswer
     ensures { λ r. ⌜ r ≡ freshCall (sized n) own ⌝ }
 {
-    let setup = fresh_station::sized(n);
+    let setup = beginning::sized(n);
     fresh_limited(setup, own)
 }
 
 // Post: one more waiting edit of a desk.
-pub fn post(s: Station, desk: usize, body: Body) -> Kept
+pub fn post(s: Station, desk: usize, body: Body) -> StationAnswer
     ensures { λ r. ⌜ r ≡ postCall s desk body ⌝ }
 {
     if !station_limits::station_inside(s) {
-        return Kept {
+        return StationAnswer {
             refusal: OUTSIDE_LIMITS,
             station: s,
         };
     }
-    if !lanes::is_desk(desk) {
-        return Kept {
+    if !queues::is_desk(desk) {
+        return StationAnswer {
             refusal: BAD_DESK,
             station: s,
         };
     }
-    if !kind_limits::postable(body) {
-        return Kept {
+    if !bodies::limits::postable(body) {
+        return StationAnswer {
             refusal: NOT_AN_EDIT,
             station: s,
         };
     }
-    if !kind_limits::on_channel(s.edition, body) {
-        return Kept {
+    if !bodies::limits::on_channel(s.edition, body) {
+        return StationAnswer {
             refusal: BAD_EDITION,
             station: s,
         };
     }
     let waiting = s.waiting;
-    if !lanes::has_room(waiting, desk) {
-        return Kept {
+    if !queues::has_room(waiting, desk) {
+        return StationAnswer {
             refusal: QUEUE_FULL,
             station: s,
         };
     }
-    let more = lanes::with_posted(waiting, desk, body);
+    let more = queues::with_posted(waiting, desk, body);
     let mut station = s;
     station.waiting = more;
-    Kept {
+    StationAnswer {
         refusal: DONE,
         station: station,
     }
@@ -129,7 +131,7 @@ pub fn turn(s: Station) -> Turned
     ensures { λ r. ⌜ r ≡ turnCall s ⌝ }
 {
     if station_limits::station_inside(s) {
-        return station_turns::take_turn(s);
+        return turns::take_turn(s);
     }
     let report = no_turn();
     Turned {

@@ -11,13 +11,13 @@ use lib.ListN.{length, length-append}
 use mir.Syntax.{w32}
 use mir.Val.{SFits}
 use borrow.Author.Tests.{eqb-true, eq-eqb}
-use Rattle.kinds.specs.declared.Body.{Body}
-use Rattle.kinds.specs.Body.{kindOf, eventOf, argumentOf, channelOf, bodyOf}
-use Rattle.kinds.proofs.Laws.{body-back}
-use Rattle.places.proofs.Laws.{and-both, both}
-use Rattle.frame_rules.specs.Words.{wordAt, wordBytes, unsigned}
-use Rattle.frame_rules.specs.declared.Record.{Record}
-use Rattle.frame_rules.proofs.Spelled.{signed-back, unsigned-small}
+use Rattle.bodies.specs.declared.Body.{Body}
+use Rattle.bodies.specs.Body.{kindOf, eventOf, argumentOf, channelOf, bodyOf}
+use Rattle.bodies.proofs.BodyLaws.{body-back}
+use Rattle.lists.proofs.Laws.{and-both, both}
+use Rattle.frame_spec.specs.Words.{wordAt, wordBytes, unsigned}
+use Rattle.frame_spec.specs.declared.Record.{Record}
+use Rattle.frame_spec.proofs.Spelled.{signed-back, unsigned-small}
 use Rattle.station_bytes_spec.specs.Bytes.{byteAt, span}
 use Rattle.station_bytes_spec.specs.Body.{encodeBody, bodyOfWords, wordsRight, decodeBody, isBody, recordWidth, encodeRecord, decodeRecord, isRecord}
 use Rattle.station_bytes_spec.proofs.Bytes.{Stands, AllBytes, first-byte, stands-left, stands-right, stands-word, span-join, four-span, word-span, length-word}

@@ -13,10 +13,10 @@ use lib.Dec.{eqb, leb, ltb}
 use lib.ListN.{getD, set, take, drop, length, length-append, List·getD-append}
 use lib.Seq.{sets, drop-cons, drop-drop, take-add, getD-append-add, ext-getD}
 use borrow.Author.Tests.{lt-ltb, ltb-true, leb-true}
-use Rattle.places.specs.Places.{fill, tabulate}
-use Rattle.places.proofs.Laws.{fill-ext, fill-all, length-tabulate, tabulate-at}
-use Rattle.frame_rules.specs.Words.{wordAt, wordBytes}
-use Rattle.frame_rules.proofs.Spelled.{word-back, bytes-back}
+use Rattle.lists.specs.Below.{setBelow, tabulate}
+use Rattle.lists.proofs.Laws.{setBelow-ext, setBelow-all, length-tabulate, tabulate-at}
+use Rattle.frame_spec.specs.Words.{wordAt, wordBytes}
+use Rattle.frame_spec.proofs.Spelled.{word-back, bytes-back}
 use Rattle.station_bytes_spec.specs.Bytes.{byteAt, flagByte, asByte, span, joinedBelow}
 
 -- the bytes xs stand in b from a place on
@@ -168,9 +168,9 @@ module _ {A : Type 0} where
       tabulate-at n f i d below ∙ h i below)
 
   -- a loop that fills all places makes the whole list
-  pub filled : (n : ℕ) (f : ℕ → A) (l : List A) (d : A) → length l ≡ n → fill n f l ≡ tabulate n f
+  pub filled : (n : ℕ) (f : ℕ → A) (l : List A) (d : A) → length l ≡ n → setBelow n f l ≡ tabulate n f
   filled n f l d long =
-      fill-ext n f (λ k. getD (tabulate n f) k d) l (λ k m. sym (tabulate-at n f k d m)) ∙ fill-all n (tabulate n f) l d (length-tabulate n f) long
+      setBelow-ext n f (λ k. getD (tabulate n f) k d) l (λ k m. sym (tabulate-at n f k d m)) ∙ setBelow-all n (tabulate n f) l d (length-tabulate n f) long
 
 -- writes one behind the other
 pub writes-meet :

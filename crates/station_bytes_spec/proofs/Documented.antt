@@ -4,17 +4,17 @@ use mathlib.Core.List.{List, [], _∷_, _++_}
 use Prim.Native.Nat.{ℕ, _+_, _*_, _<_}
 use native.Mathlib.Omega.{arith}
 use lib.ListN.{getD, length, length-append}
-use Rattle.kinds.specs.declared.Body.{Body}
-use Rattle.kinds.specs.Body.{kindOf, eventOf, argumentOf, channelOf}
-use Rattle.frame_rules.specs.Words.{wordAt, wordBytes, unsigned}
-use Rattle.frame_rules.specs.declared.Record.{Record}
-use Rattle.lanes.specs.Queue.{noSlot}
-use Rattle.lanes.specs.Waiting.{deskCount, waitingAt}
-use Rattle.station_rules.specs.declared.Station.{Station}
-use Rattle.station_rules.specs.State.{Cell, cellOf}
-use Rattle.station_rules.specs.declared.TurnReport.{TurnReport}
-use Rattle.station_rules.specs.Hearing.{noTaking}
-use Rattle.group_rules.specs.declared.Report.{Report}
+use Rattle.bodies.specs.declared.Body.{Body}
+use Rattle.bodies.specs.Body.{kindOf, eventOf, argumentOf, channelOf}
+use Rattle.frame_spec.specs.Words.{wordAt, wordBytes, unsigned}
+use Rattle.frame_spec.specs.declared.Record.{Record}
+use Rattle.queues.specs.Queue.{noSlot}
+use Rattle.queues.specs.Waiting.{deskCount, waitingAt}
+use Rattle.station_spec.specs.declared.Station.{Station}
+use Rattle.station_spec.specs.State.{Cell, cellOf}
+use Rattle.station_spec.specs.declared.TurnReport.{TurnReport}
+use Rattle.station_spec.specs.Hearing.{noTaking}
+use Rattle.group_spec.specs.declared.Report.{Report}
 use Rattle.station_bytes_spec.specs.Bytes.{byteAt, flagByte, asByte, joinedBelow}
 use Rattle.station_bytes_spec.specs.Body.{encodeBody, encodeRecord}
 use Rattle.station_bytes_spec.specs.Station.{stationWidth, encodeCell, encodeStation}

@@ -9,11 +9,11 @@ use lib.Dec.{eqb}
 use lib.ListN.{length}
 use lib.Seq.{take-all}
 use borrow.Author.Tests.{eqb-true, eq-eqb}
-use Rattle.places.specs.Places.{allBelow, tabulate}
-use Rattle.places.proofs.Laws.{and-both, both, allBelow-at, allBelow-make, tabulate-at}
-use Rattle.station_rules.specs.declared.Station.{Station}
-use Rattle.station_rules.specs.State.{noStation}
-use Rattle.group_rules.specs.State.{stationAt}
+use Rattle.lists.specs.Below.{allBelow, tabulate}
+use Rattle.lists.proofs.Laws.{and-both, both, allBelow-at, allBelow-make, tabulate-at}
+use Rattle.station_spec.specs.declared.Station.{Station}
+use Rattle.station_spec.specs.State.{noStation}
+use Rattle.group_spec.specs.State.{stationAt}
 use Rattle.station_bytes_spec.specs.Bytes.{span}
 use Rattle.station_bytes_spec.specs.Station.{stationWidth, encodeStation, decodeStation, isStationAt}
 use Rattle.station_bytes_spec.specs.Group.{groupWidth, encodeGroup, decodeGroup, isGroup}

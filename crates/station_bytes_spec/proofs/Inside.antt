@@ -4,13 +4,13 @@ use mathlib.Core.Bool.{true}
 use Prim.Native.Nat.{ℕ, _<_}
 use native.Mathlib.Omega.{arith}
 use lib.ListN.{length}
-use Rattle.lanes.specs.Waiting.{deskCount, waitingAt}
-use Rattle.lanes.proofs.WaitingLaws.{limit-most, inside-limit, inside-most}
-use Rattle.station_rules.specs.declared.Station.{Station}
-use Rattle.station_rules.specs.State.{cellOf}
-use Rattle.station_rules.specs.Limits.{stationInside}
-use Rattle.station_rules.proofs.Setters.{Shaped}
-use Rattle.station_rules.proofs.StationLimits.{inside-open}
+use Rattle.queues.specs.Waiting.{deskCount, waitingAt}
+use Rattle.queues.proofs.WaitingLaws.{limit-most, inside-limit, inside-most}
+use Rattle.station_spec.specs.declared.Station.{Station}
+use Rattle.station_spec.specs.State.{cellOf}
+use Rattle.station_spec.specs.Limits.{stationInside}
+use Rattle.station_spec.proofs.Setters.{Shaped}
+use Rattle.station_spec.proofs.StationLimits.{inside-open}
 use Rattle.station_bytes_spec.specs.Station.{encodeStation, decodeStation, isStation}
 use Rattle.station_bytes_spec.proofs.Body.{BodyFits}
 use Rattle.station_bytes_spec.proofs.Station.{CellFits, StationFits, station-decoded, station-accepted}

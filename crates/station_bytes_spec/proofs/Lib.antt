@@ -1,3 +1,9 @@
+pub mod Bodies
+pub mod Typed
+pub mod Decoded
+pub mod Again
+pub mod Groups
+pub mod Runs
 pub mod Bytes
 pub mod Body
 pub mod Waiting

@@ -5,13 +5,13 @@ use mathlib.Core.List.{List, [], _∷_, _++_}
 use Prim.Native.Nat.{_+_, _*_}
 use native.Mathlib.Omega.{arith}
 use lib.ListN.{getD, length, length-append}
-use Rattle.places.proofs.Laws.{length-tabulate}
-use Rattle.frame_rules.specs.Words.{wordBytes}
-use Rattle.lanes.specs.Queue.{noSlot}
-use Rattle.station_rules.specs.declared.Taking.{Taking}
-use Rattle.station_rules.specs.declared.TurnReport.{TurnReport}
-use Rattle.station_rules.specs.Hearing.{noTaking}
-use Rattle.group_rules.specs.declared.Report.{Report}
+use Rattle.lists.proofs.Laws.{length-tabulate}
+use Rattle.frame_spec.specs.Words.{wordBytes}
+use Rattle.queues.specs.Queue.{noSlot}
+use Rattle.station_spec.specs.declared.Taking.{Taking}
+use Rattle.station_spec.specs.declared.TurnReport.{TurnReport}
+use Rattle.station_spec.specs.Hearing.{noTaking}
+use Rattle.group_spec.specs.declared.Report.{Report}
 use Rattle.station_bytes_spec.specs.Bytes.{flagByte, asByte, joinedBelow}
 use Rattle.station_bytes_spec.specs.Body.{encodeBody}
 use Rattle.station_bytes_spec.specs.Reports.{encodeFlags, turnWidth, encodeTurn, takingWidth, encodeTaking, reportWidth, encodeReport, absentReport, reportsWidth, encodeReports}

@@ -9,13 +9,13 @@ use lib.Dec.{eqb, leb, ltb}
 use lib.ListN.{length, length-append}
 use lib.Seq.{take-all}
 use borrow.Author.Tests.{eqb-true, eq-eqb, ltb-true, lt-ltb}
-use Rattle.places.specs.Places.{allBelow}
-use Rattle.places.proofs.Laws.{and-both, both, allBelow-at, allBelow-make, tabulate-at}
-use Rattle.frame_rules.specs.Words.{wordAt, wordBytes}
-use Rattle.frame_rules.specs.Record.{noRecord}
-use Rattle.lanes.specs.Lane.{noLane}
-use Rattle.station_rules.specs.declared.Station.{Station}
-use Rattle.station_rules.specs.State.{Cell, cellOf}
+use Rattle.lists.specs.Below.{allBelow}
+use Rattle.lists.proofs.Laws.{and-both, both, allBelow-at, allBelow-make, tabulate-at}
+use Rattle.frame_spec.specs.Words.{wordAt, wordBytes}
+use Rattle.frame_spec.specs.Record.{noRecord}
+use Rattle.queues.specs.Lane.{noLane}
+use Rattle.station_spec.specs.declared.Station.{Station}
+use Rattle.station_spec.specs.State.{Cell, cellOf}
 use Rattle.station_bytes_spec.specs.Bytes.{byteAt, flagByte, asByte, span, joinedBelow}
 use Rattle.station_bytes_spec.specs.Body.{encodeBody, decodeBody, isBody, recordWidth, encodeRecord, isRecord}
 use Rattle.station_bytes_spec.specs.Waiting.{waitingWidth, encodeWaiting, decodeWaiting, isWaiting}

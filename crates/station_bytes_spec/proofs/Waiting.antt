@@ -6,13 +6,13 @@ use Prim.Native.Nat.{ℕ, _+_, _*_, _<_, _≤_}
 use native.Mathlib.Omega.{arith}
 use lib.Dec.{eqb, leb}
 use lib.ListN.{getD, length, length-append}
-use Rattle.kinds.specs.declared.Body.{Body}
-use Rattle.places.proofs.Laws.{and-both, both, allBelow-at, allBelow-make, tabulate-at}
-use Rattle.lanes.specs.declared.Slot.{Slot}
-use Rattle.lanes.specs.declared.Waiting.{Waiting}
-use Rattle.lanes.specs.Queue.{queueCapacity, noSlot}
-use Rattle.lanes.specs.Waiting.{queueOf, deskCount, waitingAt}
-use Rattle.lanes.proofs.WaitingLaws.{WaitingSized}
+use Rattle.bodies.specs.declared.Body.{Body}
+use Rattle.lists.proofs.Laws.{and-both, both, allBelow-at, allBelow-make, tabulate-at}
+use Rattle.queues.specs.declared.Slot.{Slot}
+use Rattle.queues.specs.declared.Waiting.{Waiting}
+use Rattle.queues.specs.Queue.{queueCapacity, noSlot}
+use Rattle.queues.specs.Waiting.{queueOf, deskCount, waitingAt}
+use Rattle.queues.proofs.WaitingLaws.{WaitingSized}
 use Rattle.station_bytes_spec.specs.Bytes.{byteAt, flagByte, asByte, span}
 use Rattle.station_bytes_spec.specs.Body.{encodeBody, decodeBody, isBody}
 use Rattle.station_bytes_spec.specs.Waiting.{editsWidth, encodeEdits, decodeEdits, areEdits, secondPlace, waitingWidth, encodeWaiting, decodeWaiting, isWaiting}

@@ -5,10 +5,10 @@ use Prim.Native.Nat.{ℕ, _+_}
 use mathlib.Core.Bool.{Bool, _&&_}
 use mathlib.Core.List.{List, [], _∷_, _++_}
 use lib.Dec.{eqb}
-use Rattle.kinds.specs.declared.Body.{Body}
-use Rattle.kinds.specs.Body.{kindOf, eventOf, argumentOf, channelOf, bodyOf}
-use Rattle.frame_rules.specs.Words.{wordAt, wordBytes, signed, unsigned}
-use Rattle.frame_rules.specs.declared.Record.{Record}
+use Rattle.bodies.specs.declared.Body.{Body}
+use Rattle.bodies.specs.Body.{kindOf, eventOf, argumentOf, channelOf, bodyOf}
+use Rattle.frame_spec.specs.Words.{wordAt, wordBytes, signed, unsigned}
+use Rattle.frame_spec.specs.declared.Record.{Record}
 use Rattle.station_bytes_spec.specs.Bytes.{byteAt}
 
 abbrev pub bodyWidth : ℕ

@@ -4,9 +4,9 @@ use mathlib.Core.Bool.{Bool, _&&_}
 use mathlib.Core.List.{List}
 use lib.Dec.{eqb}
 use lib.ListN.{length}
-use Rattle.places.specs.Places.{allBelow, tabulate}
-use Rattle.station_rules.specs.declared.Station.{Station}
-use Rattle.group_rules.specs.State.{stationAt}
+use Rattle.lists.specs.Below.{allBelow, tabulate}
+use Rattle.station_spec.specs.declared.Station.{Station}
+use Rattle.group_spec.specs.State.{stationAt}
 use Rattle.station_bytes_spec.specs.Bytes.{joinedBelow}
 use Rattle.station_bytes_spec.specs.Station.{stationWidth, encodeStation, decodeStation, isStationAt}
 

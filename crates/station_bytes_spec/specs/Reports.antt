@@ -3,14 +3,14 @@ use Prim.Native.Nat.{ℕ, _+_, _*_}
 use mathlib.Core.Bool.{Bool, false}
 use mathlib.Core.List.{List, [], _∷_, _++_}
 use lib.ListN.{getD}
-use Rattle.kinds.specs.declared.Body.the-variants.{Empty}
-use Rattle.places.specs.Places.{tabulate}
-use Rattle.frame_rules.specs.Words.{wordBytes}
-use Rattle.lanes.specs.Queue.{noSlot}
-use Rattle.station_rules.specs.declared.Taking.{Taking}
-use Rattle.station_rules.specs.declared.TurnReport.{TurnReport}
-use Rattle.station_rules.specs.Hearing.{noTaking}
-use Rattle.group_rules.specs.declared.Report.{Report}
+use Rattle.bodies.specs.declared.Body.the-variants.{Empty}
+use Rattle.lists.specs.Below.{tabulate}
+use Rattle.frame_spec.specs.Words.{wordBytes}
+use Rattle.queues.specs.Queue.{noSlot}
+use Rattle.station_spec.specs.declared.Taking.{Taking}
+use Rattle.station_spec.specs.declared.TurnReport.{TurnReport}
+use Rattle.station_spec.specs.Hearing.{noTaking}
+use Rattle.group_spec.specs.declared.Report.{Report}
 use Rattle.station_bytes_spec.specs.Bytes.{flagByte, asByte, joinedBelow}
 use Rattle.station_bytes_spec.specs.Body.{bodyWidth, encodeBody}
 

@@ -5,10 +5,10 @@ use mathlib.Core.Bool.{Bool, _&&_}
 use mathlib.Core.List.{List, [], _∷_, _++_}
 use lib.Dec.{eqb, leb}
 use lib.ListN.{length}
-use Rattle.places.specs.Places.{allBelow, tabulate}
-use Rattle.lanes.specs.declared.Lane.{Lane}
-use Rattle.station_rules.specs.declared.Station.{Station}
-use Rattle.station_rules.specs.State.{Cell, cellOf}
+use Rattle.lists.specs.Below.{allBelow, tabulate}
+use Rattle.queues.specs.declared.Lane.{Lane}
+use Rattle.station_spec.specs.declared.Station.{Station}
+use Rattle.station_spec.specs.State.{Cell, cellOf}
 use Rattle.station_bytes_spec.specs.Bytes.{byteAt, flagAt, flagByte, asByte, joinedBelow}
 use Rattle.station_bytes_spec.specs.Body.{encodeBody, decodeBody, isBody, recordWidth, encodeRecord, decodeRecord, isRecord}
 use Rattle.station_bytes_spec.specs.Waiting.{waitingWidth, encodeWaiting, decodeWaiting, isWaiting}

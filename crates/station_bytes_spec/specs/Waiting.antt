@@ -5,10 +5,10 @@ use mathlib.Core.Bool.{Bool, _&&_}
 use mathlib.Core.List.{List, [], _∷_, _++_}
 use lib.Dec.{leb}
 use lib.ListN.{getD}
-use Rattle.places.specs.Places.{allBelow, tabulate}
-use Rattle.lanes.specs.declared.Slot.{Slot}
-use Rattle.lanes.specs.declared.Waiting.{Waiting}
-use Rattle.lanes.specs.Queue.{noSlot}
+use Rattle.lists.specs.Below.{allBelow, tabulate}
+use Rattle.queues.specs.declared.Slot.{Slot}
+use Rattle.queues.specs.declared.Waiting.{Waiting}
+use Rattle.queues.specs.Queue.{noSlot}
 use Rattle.station_bytes_spec.specs.Bytes.{byteAt, flagAt, flagByte, asByte, joinedBelow}
 use Rattle.station_bytes_spec.specs.Body.{bodyWidth, encodeBody, decodeBody, isBody}
 

@@ -11,21 +11,21 @@ use mir.Syntax.{w32}
 use mir.Val.{SFits, toZ, ofZ}
 use mir.ValLaws.{toZ-ofZ}
 use borrow.Author.Tests.{lt-leb, le-leb, eq-eqb, ne-eqb}
-use Rattle.kinds.specs.declared.Body.{Body}
-use Rattle.kinds.specs.Body.{kindOf, eventOf, argumentOf, channelOf, bodyOf}
-use Rattle.places.specs.Places.{allBelow, fill, tabulate}
-use Rattle.places.proofs.Laws.{allBelow-fails}
-use Rattle.frame_rules.specs.Words.{wordAt, signed, unsigned}
+use Rattle.bodies.specs.declared.Body.{Body}
+use Rattle.bodies.specs.Body.{kindOf, eventOf, argumentOf, channelOf, bodyOf}
+use Rattle.lists.specs.Below.{allBelow, setBelow, tabulate}
+use Rattle.lists.proofs.Laws.{allBelow-fails}
+use Rattle.frame_spec.specs.Words.{wordAt, signed, unsigned}
 use Rattle.station_bytes_spec.specs.Bytes.{byteAt, flagAt}
-use Rattle.frame_rules.specs.declared.Record.{Record}
-use Rattle.frame_rules.specs.Record.{noRecord}
-use Rattle.lanes.specs.declared.Lane.{Lane}
-use Rattle.lanes.specs.declared.Slot.{Slot}
-use Rattle.lanes.specs.declared.Waiting.{Waiting}
-use Rattle.lanes.specs.Lane.{noLane}
-use Rattle.lanes.specs.Queue.{noSlot}
-use Rattle.station_rules.specs.declared.Station.{Station}
-use Rattle.station_rules.specs.State.{noStation}
+use Rattle.frame_spec.specs.declared.Record.{Record}
+use Rattle.frame_spec.specs.Record.{noRecord}
+use Rattle.queues.specs.declared.Lane.{Lane}
+use Rattle.queues.specs.declared.Slot.{Slot}
+use Rattle.queues.specs.declared.Waiting.{Waiting}
+use Rattle.queues.specs.Lane.{noLane}
+use Rattle.queues.specs.Queue.{noSlot}
+use Rattle.station_spec.specs.declared.Station.{Station}
+use Rattle.station_spec.specs.State.{noStation}
 use Rattle.station_bytes_spec.specs.Body.{bodyOfWords, wordsRight, decodeBody, isBody, decodeRecord, isRecord}
 use Rattle.station_bytes_spec.specs.Waiting.{decodeEdits, areEdits, secondPlace, decodeWaiting, isWaiting}
 use Rattle.station_bytes_spec.specs.Station.{cellWidth, decodeLane, decodeCell, isCell, cellIn, waitingPlace, decodeStation, isStationAt, stationWidth, isStation}
@@ -194,17 +194,17 @@ module _ (b : List ℕ) where
 -- ---- one place more
 
 module _ {A : Type 0} where
-  pub fill-none : (f : ℕ → A) (l : List A) → l ≡ fill 0 f l
-  unfolding fill
-  fill-none f l = refl
+  pub setBelow-none : (f : ℕ → A) (l : List A) → l ≡ setBelow 0 f l
+  unfolding setBelow
+  setBelow-none f l = refl
 
-  pub fill-next : (k : ℕ) (f : ℕ → A) (l m : List A) (a : A) → m ≡ fill k f l → a ≡ f k → set m k a ≡ fill (k + 1) f l
-  unfolding fill
-  fill-next k f l m a h e = rw (add-one k, h, e)
+  pub setBelow-next : (k : ℕ) (f : ℕ → A) (l m : List A) (a : A) → m ≡ setBelow k f l → a ≡ f k → set m k a ≡ setBelow (k + 1) f l
+  unfolding setBelow
+  setBelow-next k f l m a h e = rw (add-one k, h, e)
 
   -- all places are filled
-  pub all-filled : (n k : ℕ) (f : ℕ → A) (m l : List A) (d : A) → length l ≡ n → k ≡ n → m ≡ fill k f l → m ≡ tabulate n f
-  all-filled n k f m l d long e h = h ∙ ap (λ (j : ℕ). fill j f l) e ∙ filled n f l d long
+  pub all-filled : (n k : ℕ) (f : ℕ → A) (m l : List A) (d : A) → length l ≡ n → k ≡ n → m ≡ setBelow k f l → m ≡ tabulate n f
+  all-filled n k f m l d long e h = h ∙ ap (λ (j : ℕ). setBelow j f l) e ∙ filled n f l d long
 
 -- ---- arrays that a loop has filled
 
@@ -212,7 +212,7 @@ abbrev pub editIn : List ℕ → ℕ → ℕ → Slot
 editIn b at i = record { body = decodeBody b (at + 12 * i) }
 
 pub edits-read :
-    (b : List ℕ) (at : ℕ) (slots : List Slot) (i : ℕ) → i ≡ 32 → slots ≡ fill i (editIn b at) (replicate 32 noSlot) → slots ≡ decodeEdits b at
+    (b : List ℕ) (at : ℕ) (slots : List Slot) (i : ℕ) → i ≡ 32 → slots ≡ setBelow i (editIn b at) (replicate 32 noSlot) → slots ≡ decodeEdits b at
 unfolding decodeEdits
 edits-read b at slots i e h = all-filled 32 i (editIn b at) slots (replicate 32 noSlot) noSlot refl e h
 
@@ -233,20 +233,20 @@ waiting-read b at len₀ limit len₁ slots₀ slots₁ c l o z f =
 
 -- the five arrays of a station, read cell by cell below k
 pub record CellsRead (b : List ℕ) (at k : ℕ) (acked held : List Bool) (labels : List ℕ) (table : List Record) (lanes : List Lane) : Type 0 where
-  pub acked-read : acked ≡ fill k (λ j. (cellIn b at j) .acked) (replicate 16 false)
-  pub held-read : held ≡ fill k (λ j. (cellIn b at j) .held) (replicate 16 false)
-  pub labels-are : labels ≡ fill k (λ j. (cellIn b at j) .label) (replicate 16 0)
-  pub table-read : table ≡ fill k (λ j. (cellIn b at j) .entry) (replicate 16 noRecord)
-  pub lanes-read : lanes ≡ fill k (λ j. (cellIn b at j) .lane) (replicate 16 noLane)
+  pub acked-read : acked ≡ setBelow k (λ j. (cellIn b at j) .acked) (replicate 16 false)
+  pub held-read : held ≡ setBelow k (λ j. (cellIn b at j) .held) (replicate 16 false)
+  pub labels-are : labels ≡ setBelow k (λ j. (cellIn b at j) .label) (replicate 16 0)
+  pub table-read : table ≡ setBelow k (λ j. (cellIn b at j) .entry) (replicate 16 noRecord)
+  pub lanes-read : lanes ≡ setBelow k (λ j. (cellIn b at j) .lane) (replicate 16 noLane)
 
 pub cells-none : (b : List ℕ) (at : ℕ) → CellsRead b at 0 (replicate 16 false) (replicate 16 false) (replicate 16 0) (replicate 16 noRecord) (replicate 16 noLane)
 cells-none b at =
     record {
-      acked-read = fill-none _ _;
-      held-read = fill-none _ _;
-      labels-are = fill-none _ _;
-      table-read = fill-none _ _;
-      lanes-read = fill-none _ _;
+      acked-read = setBelow-none _ _;
+      held-read = setBelow-none _ _;
+      labels-are = setBelow-none _ _;
+      table-read = setBelow-none _ _;
+      lanes-read = setBelow-none _ _;
     }
 
 module _ (b : List ℕ) (at k : ℕ) (acked held : List Bool) (labels : List ℕ) (table : List Record) (lanes : List Lane) (h : CellsRead b at k acked held labels table lanes) where
@@ -259,11 +259,11 @@ module _ (b : List ℕ) (at k : ℕ) (acked held : List Bool) (labels : List ℕ
   unfolding decodeCell
   cells-next r l er el =
       record {
-        acked-read = fill-next k (λ j. (cellIn b at j) .acked) (replicate 16 false) acked _ (h .acked-read) refl;
-        held-read = fill-next k (λ j. (cellIn b at j) .held) (replicate 16 false) held _ (h .held-read) refl;
-        labels-are = fill-next k (λ j. (cellIn b at j) .label) (replicate 16 0) labels _ (h .labels-are) refl;
-        table-read = fill-next k (λ j. (cellIn b at j) .entry) (replicate 16 noRecord) table r (h .table-read) er;
-        lanes-read = fill-next k (λ j. (cellIn b at j) .lane) (replicate 16 noLane) lanes l (h .lanes-read) el;
+        acked-read = setBelow-next k (λ j. (cellIn b at j) .acked) (replicate 16 false) acked _ (h .acked-read) refl;
+        held-read = setBelow-next k (λ j. (cellIn b at j) .held) (replicate 16 false) held _ (h .held-read) refl;
+        labels-are = setBelow-next k (λ j. (cellIn b at j) .label) (replicate 16 0) labels _ (h .labels-are) refl;
+        table-read = setBelow-next k (λ j. (cellIn b at j) .entry) (replicate 16 noRecord) table r (h .table-read) er;
+        lanes-read = setBelow-next k (λ j. (cellIn b at j) .lane) (replicate 16 noLane) lanes l (h .lanes-read) el;
       }
 
   pub station-read :
@@ -301,6 +301,6 @@ module _ (b : List ℕ) (at k : ℕ) (acked held : List Bool) (labels : List ℕ
       }
 
 pub group-read :
-    (b : List ℕ) (k : ℕ) (group l : List Station) → length l ≡ 16 → k ≡ 16 → group ≡ fill k (λ j. decodeStation b (stationWidth * j)) l → group ≡ decodeGroup b
+    (b : List ℕ) (k : ℕ) (group l : List Station) → length l ≡ 16 → k ≡ 16 → group ≡ setBelow k (λ j. decodeStation b (stationWidth * j)) l → group ≡ decodeGroup b
 unfolding decodeGroup
 group-read b k group l long e h = all-filled 16 k (λ j. decodeStation b (stationWidth * j)) group l noStation long e h

@@ -3,20 +3,20 @@
 ghost use mathlib.Core.Path.{_≡_};
 ghost use Prim.Native.Nat.{_+_, _≤_};
 ghost use lib.ListN.{length};
-ghost use Rattle.places.specs.Places.{allBelow};
+ghost use Rattle.lists.specs.Below.{allBelow};
 ghost use Rattle.station_bytes_spec.specs.Body.{bodyOfWords, wordsRight, decodeBody, isBody, recordWidth, decodeRecord, isRecord};
 ghost use Rattle.station_bytes_spec.specs.Waiting.{editsWidth, decodeEdits, areEdits, waitingWidth, decodeWaiting, isWaiting};
 ghost use Rattle.station_bytes_spec.specs.Station.{cellWidth, decodeLane, isCell, cellsWidth, stationWidth, decodeStation, isStationAt, isStation};
 ghost use Rattle.station_bytes_spec.specs.Group.{groupWidth, decodeGroup, isGroup};
 ghost use Prim.Native.Nat.{_*_};
-use frame_rules::Record;
-use kinds::Body;
-use lanes::Lane;
-use lanes::Queue;
-use lanes::Slot;
-use lanes::Waiting;
-use record_reader::word_at;
-use station_rules::Station;
+use bodies::Body;
+use frame_spec::Record;
+use queues::Lane;
+use queues::Queue;
+use queues::Slot;
+use queues::Waiting;
+use records::reader::word_at;
+use station_spec::Station;
 
 const BODY_WIDTH: usize = 12;
 
@@ -34,7 +34,7 @@ const GROUP_WIDTH: usize = 23872;
 fn body_of_words(kind: u32, channel: u8, event: u32, word: u32) -> Body
     ensures { λ r. ⌜ r ≡ bodyOfWords kind channel event word ⌝ }
 {
-    kinds::body_of(kind, event, record_reader::signed(word), channel)
+    bodies::body_of(kind, event, records::reader::signed(word), channel)
 }
 
 // Are they just the numbers of that body?
@@ -42,16 +42,16 @@ fn words_right(kind: u32, channel: u8, event: u32, word: u32) -> bool
     ensures { λ r. ⌜ r ≡ wordsRight kind channel event word ⌝ }
 {
     let body = body_of_words(kind, channel, event, word);
-    if kind != kinds::kind_of(body) {
+    if kind != bodies::kind_of(body) {
         return false;
     }
-    if channel != kinds::channel_of(body) {
+    if channel != bodies::channel_of(body) {
         return false;
     }
-    if event != kinds::event_of(body) {
+    if event != bodies::event_of(body) {
         return false;
     }
-    word == record_writer::unsigned(kinds::argument_of(body))
+    word == records::writer::unsigned(bodies::argument_of(body))
 }
 
 // The body at a place.
@@ -197,9 +197,9 @@ fn read_waiting(bytes: &[u8], at: usize) -> Waiting
 {
     let slots0 = read_edits(bytes, at + 4);
     let slots1 = read_edits(bytes, at + SECOND_PLACE);
-    let len0 = record_reader::wide(bytes[at]);
-    let limit = record_reader::wide(bytes[at + 1]);
-    let len1 = record_reader::wide(bytes[at + 2]);
+    let len0 = records::reader::wide(bytes[at]);
+    let limit = records::reader::wide(bytes[at + 1]);
+    let len1 = records::reader::wide(bytes[at + 2]);
     let queue0 = Queue {
         len: len0,
         slots: slots0,
@@ -263,10 +263,10 @@ fn station_at(bytes: &[u8], at: usize) -> Station
     }
     let body = read_body(bytes, at + 4);
     let waiting = read_waiting(bytes, at + WAITING_PLACE);
-    let n = record_reader::wide(bytes[at]);
-    let own = record_reader::wide(bytes[at + 1]);
+    let n = records::reader::wide(bytes[at]);
+    let own = records::reader::wide(bytes[at + 1]);
     let count = bytes[at + 2];
-    let edition = record_reader::wide(bytes[at + 3]);
+    let edition = records::reader::wide(bytes[at + 3]);
     Station {
         n: n,
         own: own,

@@ -11,17 +11,17 @@ use lib.Seq.{sets}
 use mir.Syntax.{w32}
 use mir.Val.{SFits, toZ, ofZ}
 use mir.ValLaws.{toZ-ofZ}
-use Rattle.kinds.specs.declared.Body.{Body}
-use Rattle.kinds.specs.Body.{kindOf, eventOf, argumentOf, channelOf}
-use Rattle.places.specs.Places.{tabulate}
-use Rattle.places.proofs.Laws.{length-tabulate}
-use Rattle.frame_rules.specs.Words.{wordBytes, unsigned}
-use Rattle.frame_rules.specs.declared.Record.{Record}
-use Rattle.lanes.specs.declared.Slot.{Slot}
-use Rattle.lanes.specs.declared.Waiting.{Waiting}
-use Rattle.lanes.specs.Queue.{noSlot}
-use Rattle.station_rules.specs.declared.Station.{Station}
-use Rattle.station_rules.specs.State.{Cell, cellOf}
+use Rattle.bodies.specs.declared.Body.{Body}
+use Rattle.bodies.specs.Body.{kindOf, eventOf, argumentOf, channelOf}
+use Rattle.lists.specs.Below.{tabulate}
+use Rattle.lists.proofs.Laws.{length-tabulate}
+use Rattle.frame_spec.specs.Words.{wordBytes, unsigned}
+use Rattle.frame_spec.specs.declared.Record.{Record}
+use Rattle.queues.specs.declared.Slot.{Slot}
+use Rattle.queues.specs.declared.Waiting.{Waiting}
+use Rattle.queues.specs.Queue.{noSlot}
+use Rattle.station_spec.specs.declared.Station.{Station}
+use Rattle.station_spec.specs.State.{Cell, cellOf}
 use Rattle.station_bytes_spec.specs.Bytes.{flagByte, asByte, joinedBelow}
 use Rattle.station_bytes_spec.specs.Body.{encodeBody, encodeRecord}
 use Rattle.station_bytes_spec.specs.Waiting.{encodeEdits, secondPlace, encodeWaiting}

@@ -5,19 +5,19 @@ ghost use mathlib.Core.List.{[], _∷_};
 ghost use Prim.Native.Nat.{_+_, _≤_};
 ghost use lib.ListN.{length};
 ghost use lib.Seq.{sets};
-ghost use Rattle.station_rules.specs.State.{cellOf};
+ghost use Rattle.station_spec.specs.State.{cellOf};
 ghost use Rattle.station_bytes_spec.specs.Bytes.{flagByte, asByte, joinedBelow};
 ghost use Rattle.station_bytes_spec.specs.Body.{encodeBody, recordWidth, encodeRecord};
 ghost use Rattle.station_bytes_spec.specs.Waiting.{editsWidth, encodeEdits, waitingWidth, encodeWaiting};
 ghost use Rattle.station_bytes_spec.specs.Station.{cellWidth, encodeCell, cellsWidth, stationWidth, encodeStation};
 ghost use Rattle.station_bytes_spec.specs.Group.{groupWidth, encodeGroup};
-use frame_rules::Record;
-use kinds::Body;
-use lanes::Lane;
-use lanes::Slot;
-use lanes::Waiting;
-use record_writer::put_word;
-use station_rules::Station;
+use bodies::Body;
+use frame_spec::Record;
+use queues::Lane;
+use queues::Slot;
+use queues::Waiting;
+use records::writer::put_word;
+use station_spec::Station;
 
 const BODY_WIDTH: usize = 12;
 
@@ -62,16 +62,16 @@ pub fn put_body(bytes: &mut [u8], at: usize, body: Body)
     put_four(
         bytes,
         at,
-        kinds::kind_of(body) as u8,
-        kinds::channel_of(body),
+        bodies::kind_of(body) as u8,
+        bodies::channel_of(body),
         0,
         0,
     );
-    put_word(bytes, at + 4, kinds::event_of(body));
+    put_word(bytes, at + 4, bodies::event_of(body));
     put_word(
         bytes,
         at + 8,
-        record_writer::unsigned(kinds::argument_of(body)),
+        records::writer::unsigned(bodies::argument_of(body)),
     );
 }
 
@@ -86,14 +86,14 @@ fn put_record(bytes: &mut [u8], at: usize, r: Record)
         at,
         r.station,
         r.count,
-        kinds::kind_of(body) as u8,
-        kinds::channel_of(body),
+        bodies::kind_of(body) as u8,
+        bodies::channel_of(body),
     );
-    put_word(bytes, at + 4, kinds::event_of(body));
+    put_word(bytes, at + 4, bodies::event_of(body));
     put_word(
         bytes,
         at + 8,
-        record_writer::unsigned(kinds::argument_of(body)),
+        records::writer::unsigned(bodies::argument_of(body)),
     );
     put_word(bytes, at + 12, r.labels);
 }

@@ -7,7 +7,7 @@ use mathlib.Core.Path.{_≡_, sym, ap, _∙_}
 use lib.ListN.{getD, set, take, drop, length, length-append, length-replicate, replicate, replicate-append-replicate}
 use lib.Seq.{take-suc, drop-cons, set-at, append-snoc, length-take-le, take-at, drop-at, take-length}
 use borrow.Author.Tests.{le-ltb}
-use Rattle.frame_rules.specs.Calls.{bufferWith}
+use Rattle.frame_spec.specs.Calls.{bufferWith}
 use Rattle.station_frames.specs.Beside.{roomed}
 
 pub copied-more :

@@ -7,17 +7,17 @@ use mathlib.Core.List.{List, _++_, append-assoc}
 use mathlib.Core.Path.{_≡_, sym, ap, subst, _∙_}
 use lib.ListN.{getD, drop, length, replicate, length-append, List·getD-append}
 use lib.Seq.{drop-at}
-use Rattle.places.proofs.Laws.{and-left, allBelow-at}
-use Rattle.frame_rules.specs.Record.{recordFrom, recordBytes, bytesInside}
-use Rattle.frame_rules.specs.Frame.{part, recordsOf, recordsInside, frameRefusal}
-use Rattle.frame_rules.proofs.Limits.{bytes-open}
-use Rattle.frame_rules.proofs.FrameTrip.{part-written}
-use Rattle.frame_rules.proofs.Check.{Shape, accepted-frame, shape}
-use Rattle.station_rules.specs.declared.Station.{Station}
-use Rattle.station_rules.specs.Limits.{stationInside}
-use Rattle.station_rules.specs.Hearing.{silent, hearFrame}
-use Rattle.station_rules.specs.Calls.{frameOf}
-use Rattle.station_rules.proofs.StationLimits.{Inside, inside-open}
+use Rattle.lists.proofs.Laws.{and-left, allBelow-at}
+use Rattle.frame_spec.specs.Record.{recordFrom, recordBytes, bytesInside}
+use Rattle.frame_spec.specs.Frame.{part, recordsOf, recordsInside, frameRefusal}
+use Rattle.frame_spec.proofs.Limits.{bytes-open}
+use Rattle.frame_spec.proofs.FrameTrip.{part-written}
+use Rattle.frame_spec.proofs.Check.{Shape, accepted-frame, shape}
+use Rattle.station_spec.specs.declared.Station.{Station}
+use Rattle.station_spec.specs.Limits.{stationInside}
+use Rattle.station_spec.specs.Hearing.{initialHearing, hearFrame}
+use Rattle.station_spec.specs.Calls.{frameOf}
+use Rattle.station_spec.proofs.StationLimits.{Inside, inside-open}
 use Rattle.hearing_spec.specs.Buffer.{sizeIn}
 use Rattle.hearing_spec.specs.Room.{FrameRoom}
 use Rattle.listening.specs.Listening.{MayListen, frameHeard}
@@ -88,8 +88,8 @@ module _ (s : Station) (inside : stationInside s ≡ true) (bytes : List ℕ) (a
       (λ r l.
       subst (λ (n : ℕ). recordBytes n (recordFrom (part bytes r)) ≡ part bytes r) size (part-written (s .edition) bytes (s .n) (s .own) accepted small r l))
 
-  pub heard-is : frameHeard both 260 (silent s) ≡ hearFrame (silent s) (recordsOf bytes)
-  heard-is = ap (hearFrame (silent s)) (frame-records bytes (replicate (260 - length bytes) 0) (form .long) both 260 heard-here)
+  pub heard-is : frameHeard both 260 (initialHearing s) ≡ hearFrame (initialHearing s) (recordsOf bytes)
+  heard-is = ap (hearFrame (initialHearing s)) (frame-records bytes (replicate (260 - length bytes) 0) (form .long) both 260 heard-here)
 
   pub heard-size : s .n ≡ sizeIn both
   heard-size = size

@@ -1,3 +1,4 @@
+pub mod SourceSteps
 pub mod OwnFrame
 pub mod Copied
 pub mod HeardBeside

@@ -10,57 +10,57 @@ use mathlib.Core.Path.{_≡_, refl, sym, ap, subst, _∙_}
 use lib.ListN.{getD, take, drop, length, length-append, length-drop, List·getD-append}
 use lib.Seq.{getD-at, getD-take, getD-drop, drop-drop, take-append-le, drop-append-le, ext-getD}
 use borrow.Author.Tests.{le-leb}
-use Rattle.kind_limits.specs.Limits.{bodyInside}
-use Rattle.places.specs.Places.{gather, tabulate}
-use Rattle.places.proofs.Laws.{tabulate-ext, tabulate-at, length-tabulate}
-use Rattle.frame_rules.specs.declared.Record.{Record}
+use Rattle.bodies.specs.Limits.{bodyInside}
+use Rattle.lists.specs.Below.{filterMap, tabulate}
+use Rattle.lists.proofs.Laws.{tabulate-ext, tabulate-at, length-tabulate}
+use Rattle.frame_spec.specs.declared.Record.{Record}
 use Rattle.labels.specs.Label.{isLabel}
-use Rattle.frame_rules.specs.Words.{wordAt}
-use Rattle.frame_rules.specs.Record.{noRecord, recordLabel, recordFrom, recordBytes, framed}
-use Rattle.frame_rules.specs.Frame.{part, recordsOf, frameBytes}
-use Rattle.frame_rules.proofs.Labels.{framed-label, framed-twice}
-use Rattle.frame_rules.proofs.Limits.{fits-make}
-use Rattle.frame_rules.proofs.RecordTrip.{record-read}
-use Rattle.frame_rules.proofs.FrameTrip.{part-of-frame}
-use Rattle.frame_rules.proofs.Bytes.{length-frame}
-use Rattle.station_rules.specs.declared.Station.{Station}
-use Rattle.station_rules.specs.State.{heldOf, recordOf, sentRecords}
-use Rattle.station_rules.specs.Calls.{frameOf}
-use Rattle.station_rules.proofs.StationLimits.{Inside}
+use Rattle.frame_spec.specs.Words.{wordAt}
+use Rattle.frame_spec.specs.Record.{noRecord, recordLabel, recordFrom, recordBytes, framed}
+use Rattle.frame_spec.specs.Frame.{part, recordsOf, frameBytes}
+use Rattle.frame_spec.proofs.Labels.{framed-label, framed-twice}
+use Rattle.frame_spec.proofs.Limits.{fits-make}
+use Rattle.frame_spec.proofs.RecordTrip.{record-read}
+use Rattle.frame_spec.proofs.FrameTrip.{part-of-frame}
+use Rattle.frame_spec.proofs.Bytes.{length-frame}
+use Rattle.station_spec.specs.declared.Station.{Station}
+use Rattle.station_spec.specs.State.{heldOf, recordOf, sentRecords}
+use Rattle.station_spec.specs.Calls.{frameOf}
+use Rattle.station_spec.proofs.StationLimits.{Inside}
 use Rattle.hearing_spec.specs.Buffer.{sizeIn, recordsAt}
 use Rattle.hearing_spec.specs.Room.{FrameRoom}
 
 -- ---- what is gathered
 
 module _ {A : Type 0} (test : ℕ → Bool) (f : ℕ → A) (d : A) where
-  pub gather-few : (n : ℕ) → length (gather n test f) ≤ n
-  unfolding gather
-  gather-few zero = omega arith
-  gather-few (suc n) = go (test n) (gather-few n)
+  pub filterMap-few : (n : ℕ) → length (filterMap n test f) ≤ n
+  unfolding filterMap
+  filterMap-few zero = omega arith
+  filterMap-few (suc n) = go (test n) (filterMap-few n)
     where
-      go : (t : Bool) → length (gather n test f) ≤ n → length (gather n test f ++ cond t (f n ∷ []) []) ≤ suc n
-      go true h = omega (arith, length-append (gather n test f) (f n ∷ []))
-      go false h = omega (arith, length-append (gather n test f) [])
+      go : (t : Bool) → length (filterMap n test f) ≤ n → length (filterMap n test f ++ cond t (f n ∷ []) []) ≤ suc n
+      go true h = omega (arith, length-append (filterMap n test f) (f n ∷ []))
+      go false h = omega (arith, length-append (filterMap n test f) [])
 
   -- what holds of each place that passes holds of each entry
-  pub gather-all : (P : A → Type 0) (n : ℕ) → ((k : ℕ) → k < n → test k ≡ true → P (f k)) → (i : ℕ) → i < length (gather n test f) → P (getD (gather n test f) i d)
-  unfolding gather
-  gather-all P zero each i l = absurd (omega arith)
-  gather-all P (suc n) each i l = go (test n) refl l (λ m. gather-all P n (λ k b. each k (omega arith)) i m)
+  pub filterMap-all : (P : A → Type 0) (n : ℕ) → ((k : ℕ) → k < n → test k ≡ true → P (f k)) → (i : ℕ) → i < length (filterMap n test f) → P (getD (filterMap n test f) i d)
+  unfolding filterMap
+  filterMap-all P zero each i l = absurd (omega arith)
+  filterMap-all P (suc n) each i l = go (test n) refl l (λ m. filterMap-all P n (λ k b. each k (omega arith)) i m)
     where
       go :
-          (t : Bool) → test n ≡ t → i < length (gather n test f ++ cond t (f n ∷ []) []) →
-          (i < length (gather n test f) → P (getD (gather n test f) i d)) → P (getD (gather n test f ++ cond t (f n ∷ []) []) i d)
+          (t : Bool) → test n ≡ t → i < length (filterMap n test f ++ cond t (f n ∷ []) []) →
+          (i < length (filterMap n test f) → P (getD (filterMap n test f) i d)) → P (getD (filterMap n test f ++ cond t (f n ∷ []) []) i d)
       go true e l before =
-          elim (ℕ-discrete i (length (gather n test f))) [
-            | yes z ↦ subst P (sym (getD-at (gather n test f) (f n) [] d i (sym z))) (each n (omega arith) e)
+          elim (ℕ-discrete i (length (filterMap n test f))) [
+            | yes z ↦ subst P (sym (getD-at (filterMap n test f) (f n) [] d i (sym z))) (each n (omega arith) e)
             | no h ↦
-                (let low : i < length (gather n test f) = omega (arith, length-append (gather n test f) (f n ∷ [])) in
-                subst P (sym (List·getD-append (gather n test f) (f n ∷ []) d i low)) (before low))
+                (let low : i < length (filterMap n test f) = omega (arith, length-append (filterMap n test f) (f n ∷ [])) in
+                subst P (sym (List·getD-append (filterMap n test f) (f n ∷ []) d i low)) (before low))
           ]
       go false e l before =
-          let low : i < length (gather n test f) = omega (arith, length-append (gather n test f) []) in
-          subst P (sym (List·getD-append (gather n test f) [] d i low)) (before low)
+          let low : i < length (filterMap n test f) = omega (arith, length-append (filterMap n test f) []) in
+          subst P (sym (List·getD-append (filterMap n test f) [] d i low)) (before low)
 
 -- a list, entry by entry
 tabulate-all : {A : Type 0} (l : List A) (d : A) → tabulate (length l) (λ k. getD l k d) ≡ l
@@ -140,12 +140,12 @@ module _ (s : Station) (c : Inside s) where
   abbrev sent : ℕ → Record
   sent k = framed (s .n) (recordOf s k)
 
-  sent-are : sentRecords s ≡ gather (s .n) (heldOf s) sent
+  sent-are : sentRecords s ≡ filterMap (s .n) (heldOf s) sent
   unfolding sentRecords
   sent-are = refl
 
   sent-few : length (sentRecords s) ≤ 16
-  sent-few = omega (arith, ap length sent-are, gather-few (heldOf s) sent noRecord (s .n), c .high)
+  sent-few = omega (arith, ap length sent-are, filterMap-few (heldOf s) sent noRecord (s .n), c .high)
 
   own-long : length (frameOf s) ≡ 4 + 16 * length (sentRecords s)
   unfolding frameOf
@@ -185,7 +185,7 @@ module _ (s : Station) (c : Inside s) where
   each-sent : (i : ℕ) → i < length (sentRecords s) → Sent (getD (sentRecords s) i noRecord)
   each-sent i l =
       subst (λ (rs : List Record). Sent (getD rs i noRecord)) (sym sent-are)
-      (gather-all (heldOf s) sent noRecord Sent (s .n) sent-back i (rw sent-are at l))
+      (filterMap-all (heldOf s) sent noRecord Sent (s .n) sent-back i (rw sent-are at l))
 
   part-own : (i : ℕ) → i < length (sentRecords s) → part (frameOf s) i ≡ recordBytes (s .n) (getD (sentRecords s) i noRecord)
   unfolding frameOf

@@ -3,8 +3,8 @@
 use Prim.Native.Nat.{ℕ, _-_}
 use mathlib.Core.List.{List, _++_}
 use lib.ListN.{length, replicate}
-use Rattle.station_rules.specs.declared.Station.{Station}
-use Rattle.station_rules.specs.Calls.{frameOf}
+use Rattle.station_spec.specs.declared.Station.{Station}
+use Rattle.station_spec.specs.Calls.{frameOf}
 use Rattle.hearing_spec.specs.Buffer.{frameRoom}
 
 -- a frame in its room

@@ -1,21 +1,23 @@
 // The calls of a station that write or hear a frame.
 
+pub mod heard;
+
 ghost use mathlib.Core.Path.{_≡_};
 ghost use mathlib.Core.Bool.{true};
 ghost use mathlib.Core.List.{_++_};
 ghost use Prim.Native.Nat.{_≤_};
 ghost use lib.ListN.{length, drop};
-ghost use Rattle.station_rules.specs.Limits.{stationInside};
-ghost use Rattle.station_rules.specs.Calls.{writeCall, bufferAfter, hearCall};
+ghost use Rattle.station_spec.specs.Limits.{stationInside};
+ghost use Rattle.station_spec.specs.Calls.{writeCall, bufferAfter, hearCall};
 ghost use Rattle.hearing_spec.specs.Buffer.{frameRoom};
 ghost use Rattle.station_frames.specs.Beside as spec;
-use frame_rules::Written;
+use bodies::refusals::COUNT_TOO_HIGH;
+use bodies::refusals::DONE;
+use bodies::refusals::OUTSIDE_LIMITS;
+use frame_spec::Written;
 use hearing_spec::FRAME_ROOM;
-use kinds::refusals::COUNT_TOO_HIGH;
-use kinds::refusals::DONE;
-use kinds::refusals::OUTSIDE_LIMITS;
-use station_rules::Heard;
-use station_rules::Station;
+use station_spec::Heard;
+use station_spec::Station;
 
 // The room of two frames.
 const BOTH_ROOM: usize = 520;
@@ -33,7 +35,7 @@ pub fn write(s: Station, buffer: &mut [u8]) -> Written
     let n = s.n;
     let own = s.own;
     let record = s.table[own];
-    if !numbers::count_fits(n, record.count) {
+    if !records::numbers::count_fits(n, record.count) {
         return Written {
             refusal: COUNT_TOO_HIGH,
             len: 0,
@@ -84,7 +86,7 @@ pub fn hear(s: Station, bytes: &[u8]) -> Heard
     }
     let n = s.n;
     let own = s.own;
-    let refusal = frames::frame_refusal(bytes, s.edition, n, own);
+    let refusal = frame_check::frame_refusal(bytes, s.edition, n, own);
     if refusal != DONE {
         return Heard {
             refusal: refusal,
@@ -103,9 +105,9 @@ pub fn hear(s: Station, bytes: &[u8]) -> Heard
             taken: none,
         };
     }
-    let takings = acting::takings_of(&both, &taken, heard.len);
-    let sources = heard_sources::sources(takings, heard.len);
-    let station = acting::acted(heard, &both, &places, &taken, s);
+    let takings = listening::acting::takings_of(&both, &taken, heard.len);
+    let sources = heard::sources(takings, heard.len);
+    let station = listening::acting::acted(heard, &both, &places, &taken, s);
     Heard {
         refusal: DONE,
         station: station,

@@ -4,21 +4,21 @@ ghost use mathlib.Core.Path.{_≡_};
 ghost use mathlib.Core.Bool.{cond, not, _||_};
 ghost use Prim.Native.Nat.{_≤_, _<_};
 ghost use lib.Dec.{eqb};
-ghost use Rattle.frame_rules.specs.Record.{countInside};
-ghost use Rattle.station_rules.specs.Limits as spec;
-use frame_rules::Record;
-use kinds::Body;
-use lanes::Lane;
-use station_rules::Station;
+ghost use Rattle.frame_spec.specs.Record.{countInside};
+ghost use Rattle.station_spec.specs.Limits as spec;
+use bodies::Body;
+use frame_spec::Record;
+use queues::Lane;
+use station_spec::Station;
 
 // May a lane hold this body in an edition?
 fn takeable(edition: usize, body: Body) -> bool
     ensures { λ r. ⌜ r ≡ spec.takeable edition body ⌝ }
 {
-    if kinds::is_empty(body) {
+    if bodies::is_empty(body) {
         return false;
     }
-    kind_limits::body_inside(edition, body)
+    bodies::limits::body_inside(edition, body)
 }
 
 // How many bodies the lane of station k may hold.
@@ -60,7 +60,7 @@ fn count_inside(n: usize, own: usize, k: usize, count: u8) -> bool
     if k == own {
         return true;
     }
-    numbers::count_fits(n, count)
+    records::numbers::count_fits(n, count)
 }
 
 // Is this a record of station k, inside its limits, in the table of station own among n?
@@ -75,10 +75,10 @@ fn record_inside(edition: usize, n: usize, own: usize, k: usize, record: Record)
         return false;
     }
     let body = record.body;
-    if !kind_limits::body_inside(edition, body) {
+    if !bodies::limits::body_inside(edition, body) {
         return false;
     }
-    label_words::labels_inside(record.labels, n)
+    labels::words::labels_inside(record.labels, n)
 }
 
 // Is the record of station k inside its limits, if one is held?
@@ -122,11 +122,11 @@ pub fn station_inside(s: Station) -> bool
 {
     let n = s.n;
     let own = s.own;
-    if !numbers::valid_number(n, own) {
+    if !records::numbers::valid_number(n, own) {
         return false;
     }
     let edition = s.edition;
-    if !numbers::is_edition(edition) {
+    if !records::numbers::is_edition(edition) {
         return false;
     }
     if !s.acked[own] {
@@ -136,11 +136,11 @@ pub fn station_inside(s: Station) -> bool
         return false;
     }
     let body = s.body;
-    if !kind_limits::body_inside(edition, body) {
+    if !bodies::limits::body_inside(edition, body) {
         return false;
     }
     let waiting = s.waiting;
-    if !lanes::waiting_inside(edition, waiting) {
+    if !queues::waiting_inside(edition, waiting) {
         return false;
     }
     let mut k: usize = 0;

@@ -4,8 +4,8 @@ use mathlib.Core.Path.{_≡_, refl, _∙_}
 use native.Mathlib.Omega.{arith}
 use borrow.Author.Needs.{needs}
 use lib.ListN.{length, drop}
-use Rattle.column_reader.specs.declared.Reading.the-variants.{Blank}
-use Rattle.column_reader.specs.Reading.{readFrom, readColumns}
+use Rattle.columns.specs.declared.reader.Reading.the-variants.{Blank}
+use Rattle.columns.specs.Reading.{readFrom, readColumns}
 use Rattle.air_logs.proofs.Bytes.{blank-read}
 use Rattle.air_logs.proofs.unpadded.Statement.{statement}
 use Rattle.air_logs.proofs.unpadded.Tie as tie

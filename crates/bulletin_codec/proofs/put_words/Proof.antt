@@ -5,7 +5,7 @@ use native.Mathlib.Omega.{arith}
 use lib.ListN.{getD, length}
 use lib.Seq.{sets}
 use borrow.Author.Needs.{needs}
-use Rattle.frame_rules.specs.Words.{wordBytes}
+use Rattle.frame_spec.specs.Words.{wordBytes}
 use Rattle.station_bytes_spec.specs.Bytes.{joinedBelow}
 use Rattle.station_bytes_spec.proofs.Bytes.{length-word}
 use Rattle.station_encoder.proofs.Writing.{none-written, part-written, all-written}

@@ -6,8 +6,8 @@ use mathlib.Core.Bool.{true}
 use mathlib.Core.Path.{_≡_, refl, sym, ap, _∙_}
 use native.Mathlib.Omega.{arith}
 use borrow.Author.Tests.{not-true, not-false}
-use Rattle.places.specs.Places.{allBelow}
-use Rattle.places.proofs.Laws.{allBelow-more, allBelow-fails}
+use Rattle.lists.specs.Below.{allBelow}
+use Rattle.lists.proofs.Laws.{allBelow-more, allBelow-fails}
 use Rattle.bulletin_limits.specs.Lent.{ownIn}
 use Rattle.bulletin_limits.proofs.all_own_inside.Statement.{statement}
 use Rattle.bulletin_limits.proofs.all_own_inside.Tie as tie

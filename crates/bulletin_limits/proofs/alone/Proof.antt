@@ -5,8 +5,8 @@ use mathlib.Core.Path.{_≡_, refl, sym, _∙_}
 use native.Mathlib.Omega.{arith}
 use borrow.Author.Needs.{needs}
 use borrow.Author.Tests.{not-true, not-false}
-use Rattle.places.specs.Places.{allBelow}
-use Rattle.places.proofs.Laws.{allBelow-more, allBelow-fails}
+use Rattle.lists.specs.Below.{allBelow}
+use Rattle.lists.proofs.Laws.{allBelow-more, allBelow-fails}
 use Rattle.bulletins_spec.specs.State.{issuerOf}
 use Rattle.bulletin_limits.specs.Lent.{otherTagIn}
 use Rattle.bulletin_limits.proofs.alone.Statement.{statement}

@@ -4,7 +4,7 @@ use mathlib.Core.Bool.{false}
 use mathlib.Core.Path.{_≡_}
 use borrow.Author.Tests.{le-leb, lt-leb}
 use lib.Dec.{leb}
-use Rattle.kind_limits.specs.Limits.{limitsOf}
+use Rattle.bodies.specs.Limits.{limitsOf}
 use Rattle.bulletins_spec.specs.State.{eventInside}
 use borrow.Author.Needs.{needs}
 use Rattle.bulletin_limits.proofs.event_inside.Statement.{statement}

@@ -6,21 +6,21 @@ use native.Mathlib.Omega.{arith}
 use lib.ListN.{getD, set}
 use borrow.Author.Needs.{needs}
 use Rattle.links.specs.Log.{hearsIn}
-use Rattle.places.specs.Places.{fill}
-use Rattle.places.proofs.Laws.{fill-more}
-use Rattle.broadcast_sets.specs.Sets.{united}
+use Rattle.lists.specs.Below.{setBelow}
+use Rattle.lists.proofs.Laws.{setBelow-more}
+use Rattle.link_logs.specs.Sets.{united}
 use Rattle.bulletins.proofs.held_after.Statement.{statement}
 use Rattle.bulletins.proofs.held_after.Tie as tie
 
 abbrev Inv-loop : tie.InvT-loop
 Inv-loop held masks n after₀ p₀ after p =
-    (p ≤ n) × (after ≡ fill p (λ q. united n (λ j. hearsIn n masks q j) (λ j. getD held j 0) (getD held q 0)) held)
+    (p ≤ n) × (after ≡ setBelow p (λ q. united n (λ j. hearsIn n masks q j) (λ j. getD held j 0) (getD held q 0)) held)
 
 abbrev μ-loop : tie.MeasureT-loop
 μ-loop held masks n after₀ p₀ after p = n - p
 
 loop-holds : tie.Need-loop-holds Inv-loop μ-loop
-unfolding fill
+unfolding setBelow
 loop-holds c = (omega arith, refl)
 
 loop-again : tie.Need-loop-again Inv-loop μ-loop
@@ -29,7 +29,7 @@ loop-again c =
     let l = c .before .before .loop in
     let f : ℕ → ℕ = λ q. united (a .n) (λ j. hearsIn (a .n) (a .masks) q j) (λ j. getD (a .held .now) j 0) (getD (a .held .now) q 0) in (
       omega arith,
-      ap₂ (λ (x : List ℕ) (y : ℕ). set x (l .p) y) (l .inv .1) (c .set-after .ensures) ∙ fill-more (l .p) f (a .held .now),
+      ap₂ (λ (x : List ℕ) (y : ℕ). set x (l .p) y) (l .inv .1) (c .set-after .ensures) ∙ setBelow-more (l .p) f (a .held .now),
     )
 
 returns : tie.Need-returns Inv-loop μ-loop

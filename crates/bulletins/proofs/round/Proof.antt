@@ -2,7 +2,7 @@
 use mathlib.Core.Bool.{true}
 use mathlib.Core.Path.{_≡_, sym, ap, _∙_}
 use lib.ListN.{replicate}
-use Rattle.group_rules.specs.declared.Report.{Report}
+use Rattle.group_spec.specs.declared.Report.{Report}
 use borrow.Author.Tests.{not-true, not-false}
 use Rattle.bulletins_spec.specs.Calls.{fits}
 use Rattle.bulletins_spec.proofs.Lengths.{lengths-at}

@@ -7,8 +7,8 @@ use lib.Bits.{bitOr}
 use lib.ListN.{getD}
 use borrow.Author.Needs.{needs}
 use Rattle.links.specs.Log.{hearsIn}
-use Rattle.broadcast_sets.specs.Sets.{united}
-use Rattle.broadcast_sets.proofs.Rows.{united-zero, united-more}
+use Rattle.link_logs.specs.Sets.{united}
+use Rattle.link_logs.proofs.Rows.{united-zero, united-more}
 use Rattle.bulletins.proofs.set_after.Statement.{statement}
 use Rattle.bulletins.proofs.set_after.Tie as tie
 

@@ -17,7 +17,7 @@ use Rattle.contest.proofs.wins.Reads as wins
 use Rattle.contest.proofs.wins.Kinds as wins-kinds
 use Rattle.contest.proofs.+wins.Lts-wins as wins-lts
 use Rattle.contest.proofs.learn.Reads as learn-reads
-use Rattle.broadcast_sets.proofs.is_full.Reads as is-full-reads
+use Rattle.link_logs.proofs.sets.is_full.Reads as is-full-reads
 use Rattle.contest.proofs.+wins.{statement}
 use Rattle.contest.proofs.+wins.Tie.{close}
 

@@ -5,27 +5,27 @@ use mathlib.Core.Path.{_≡_, refl, sym, ap, ap₂, _∙_}
 use native.Mathlib.Omega.{arith}
 use borrow.Author.Needs.{needs}
 use lib.ListN.{getD, length, set}
-use Rattle.places.specs.Places.{fill}
-use Rattle.places.proofs.Laws.{fill-more, length-fill}
+use Rattle.lists.specs.Below.{setBelow}
+use Rattle.lists.proofs.Laws.{setBelow-more, length-setBelow}
 use Rattle.contest.specs.KnownSets.{learntOne, after, maskOf}
 use Rattle.contest.proofs.learn.Statement.{statement}
 use Rattle.contest.proofs.learn.Tie as tie
 
 abbrev Inv-loop : tie.InvT-loop
-Inv-loop masks at n s know next₀ p₀ next p = (p ≤ n) × (next ≡ fill p (λ i. learntOne n s (maskOf masks at i) know i) know)
+Inv-loop masks at n s know next₀ p₀ next p = (p ≤ n) × (next ≡ setBelow p (λ i. learntOne n s (maskOf masks at i) know i) know)
 
 abbrev μ-loop : tie.MeasureT-loop
 μ-loop masks at n s know next₀ p₀ next p = n - p
 
 loop-holds : tie.Need-loop-holds Inv-loop μ-loop
-unfolding fill
+unfolding setBelow
 loop-holds c = (omega arith, refl)
 
 loop-again : tie.Need-loop-again Inv-loop μ-loop
 loop-again c =
     let l = c .before .before .before .before .loop in (
       omega arith,
-      ap₂ (λ (x : List ℕ) (y : ℕ). set x (l .p) y) (l .inv .1) (c .learn-one .ensures) ∙ fill-more (l .p) _ _,
+      ap₂ (λ (x : List ℕ) (y : ℕ). set x (l .p) y) (l .inv .1) (c .learn-one .ensures) ∙ setBelow-more (l .p) _ _,
     )
 
 returns : tie.Need-returns Inv-loop μ-loop

@@ -6,9 +6,9 @@ use native.Mathlib.Omega.{arith}
 use borrow.Author.Needs.{needs}
 use lib.Bits.{bitOr}
 use lib.ListN.{getD}
-use Rattle.broadcast_sets.specs.Sets.{united, withReceiver}
+use Rattle.link_logs.specs.Sets.{united, withReceiver}
 use Rattle.planning_spec.specs.LinkLog.{maskHears}
-use Rattle.broadcast_sets.proofs.Rows.{united-zero, united-more}
+use Rattle.link_logs.proofs.Rows.{united-zero, united-more}
 use Rattle.contest.specs.KnownSets.{learntOne}
 use Rattle.contest.proofs.learn_one.Statement.{statement}
 use Rattle.contest.proofs.learn_one.Tie as tie

@@ -6,16 +6,16 @@ use borrow.Author.Needs.{needs}
 use lib.ListN.{length-replicate}
 use Rattle.planning_spec.specs.LinkLog.{roundsOf, linksOf}
 use Rattle.planning_spec.proofs.LinkLog.{accepted, round-inside}
-use Rattle.broadcast_sets.specs.Stands.{Stands}
-use Rattle.broadcast_sets.proofs.Stands.{stands-start, stands-small, round-more, zeros-at}
+use Rattle.link_logs.specs.Stands.{Stands}
+use Rattle.link_logs.proofs.Stands.{stands-start, stands-small, round-more, zeros-at}
 use Rattle.forecast.proofs.Answer.{answered}
 use Rattle.forecast.proofs.of_rounds.Statement.{statement}
 use Rattle.forecast.proofs.of_rounds.Tie as tie
 use Rattle.forecast.proofs.of_rounds.Reads as reads
 use Rattle.forecast.proofs.of_rounds.Lts as lts
-use Rattle.broadcast_sets.proofs.begin_all.Reads as begin-all-reads
-use Rattle.broadcast_sets.proofs.close.Reads as close-reads
-use Rattle.broadcast_sets.proofs.learn.Reads as learn-reads
+use Rattle.link_logs.proofs.sets.begin_all.Reads as begin-all-reads
+use Rattle.link_logs.proofs.sets.close.Reads as close-reads
+use Rattle.link_logs.proofs.sets.learn.Reads as learn-reads
 
 abbrev Inv-loop : tie.InvT-loop
 Inv-loop log n rounds ends₀ last₀ sets₀ u₀ ends last sets u = (u ≤ rounds) × Stands (linksOf n log) u sets ends last

@@ -5,7 +5,7 @@ use native.Mathlib.Omega.{arith}
 use borrow.Author.Needs.{needs}
 use mathlib.Core.Bool.{false}
 use lib.ListN.{getD}
-use Rattle.frame_rules.specs.Inner.Writing.{heldCount}
+use Rattle.frame_spec.specs.Inner.Writing.{heldCount}
 use Rattle.frame_writer.proofs.Table.{at-most-one, counted-more}
 use Rattle.frame_writer.proofs.held_count.Statement.{statement}
 use Rattle.frame_writer.proofs.held_count.Tie as tie
@@ -21,21 +21,9 @@ unfolding heldCount
 loop-holds c =
     (omega arith, omega arith, refl)
 
-array-read-one-if : tie.Need-array-read-one-if Inv-loop μ-loop
-array-read-one-if c = omega arith
-
-one-if-requires : tie.Need-one-if-requires Inv-loop μ-loop
-one-if-requires c κs = search needs
-
 add-count : tie.Need-add-count Inv-loop μ-loop
 add-count c =
     omega (arith, c .one-if .ensures, at-most-one (getD (c .before .before .before .args .t1) (c .before .before .loop .k) false))
-
-add-k : tie.Need-add-k Inv-loop μ-loop
-add-k c = omega arith
-
-loop-less : tie.Need-loop-less Inv-loop μ-loop
-loop-less c = omega arith
 
 loop-again : tie.Need-loop-again Inv-loop μ-loop
 loop-again c =
@@ -56,10 +44,10 @@ held-count-spec =
     Inv-loop
     μ-loop
     loop-holds
-    array-read-one-if
-    one-if-requires
+    (λ c. omega arith)
+    (λ c κs. search needs)
     add-count
-    add-k
-    loop-less
+    (λ c. omega arith)
+    (λ c. omega arith)
     loop-again
     returns)

@@ -5,7 +5,7 @@ use native.Mathlib.Omega.{arith}
 use borrow.Author.Tests.{not-true, not-false}
 use borrow.Rule.Slice.PartMut.{same-len-mid}
 use lib.ListN.{length, length-set, length-take, length-drop}
-use Rattle.frame_rules.specs.Inner.Writing.{heldCount}
+use Rattle.frame_spec.specs.Inner.Writing.{heldCount}
 use Rattle.frame_writer.proofs.Table.{start, Filled, filled-none, at-same, filled-same, at-more, filled-more, count-le, count-room, short-answer, short-buffer, done-answer, done-buffer}
 use Rattle.frame_writer.proofs.write_table.Statement.{statement}
 use Rattle.frame_writer.proofs.write_table.Tie as tie
@@ -15,9 +15,6 @@ Inv-loop buffer₀ edition n sender held table count len at₀ k₀ buffer at k 
 
 abbrev μ-loop : tie.MeasureT-loop
 μ-loop buffer₀ edition n sender held table count len at₀ k₀ buffer at k = n - k
-
-held-count-requires : tie.Need-held-count-requires Inv-loop μ-loop
-held-count-requires c κs = omega arith
 
 mul-len : tie.Need-mul-len Inv-loop μ-loop
 mul-len c =
@@ -35,15 +32,6 @@ returns c =
       short-buffer (s .edition) (s .n) (s .sender) (s .t2) (s .t3) (h .result) (h .ensures) (s .buffer .now) (omega arith),
     )
 
-cast-buffer : tie.Need-cast-buffer Inv-loop μ-loop
-cast-buffer c = omega arith
-
-slice-write-buffer : tie.Need-slice-write-buffer Inv-loop μ-loop
-slice-write-buffer c = omega arith
-
-cast-buffer-2 : tie.Need-cast-buffer-2 Inv-loop μ-loop
-cast-buffer-2 c = omega arith
-
 slice-write-buffer-2 : tie.Need-slice-write-buffer-2 Inv-loop μ-loop
 slice-write-buffer-2 c = simp length-set (omega arith)
 
@@ -54,9 +42,6 @@ cast-buffer-3 c =
 slice-write-buffer-3 : tie.Need-slice-write-buffer-3 Inv-loop μ-loop
 slice-write-buffer-3 c = simp length-set (omega arith)
 
-cast-buffer-4 : tie.Need-cast-buffer-4 Inv-loop μ-loop
-cast-buffer-4 c = omega arith
-
 slice-write-buffer-4 : tie.Need-slice-write-buffer-4 Inv-loop μ-loop
 slice-write-buffer-4 c = simp length-set (omega arith)
 
@@ -64,15 +49,6 @@ loop-holds : tie.Need-loop-holds Inv-loop μ-loop
 loop-holds c =
     let s = c .before .before .before .args in
     (omega arith, start (s .t2), refl, filled-none (s .edition) (s .n) (s .sender) (c .before .held-count .result) (s .t2) (s .t3) (s .buffer .now) (omega arith))
-
-array-read-if2 : tie.Need-array-read-if2 Inv-loop μ-loop
-array-read-if2 c = omega arith
-
-add-k : tie.Need-add-k Inv-loop μ-loop
-add-k c = omega arith
-
-loop-less : tie.Need-loop-less Inv-loop μ-loop
-loop-less c = omega arith
 
 loop-again : tie.Need-loop-again Inv-loop μ-loop
 loop-again c =
@@ -95,12 +71,6 @@ add-write-record c =
       count-room (c .before .before .before .before .before .before .args .n) (c .before .before .before .before .before .before .args .t2) (c .before .before .loop .k) (omega arith) (not-false _ (c .if2 .left)),
     )
 
-sub-write-record : tie.Need-sub-write-record Inv-loop μ-loop
-sub-write-record c = omega arith
-
-part-write-record-start : tie.Need-part-write-record-start Inv-loop μ-loop
-part-write-record-start c = omega arith
-
 part-write-record-end : tie.Need-part-write-record-end Inv-loop μ-loop
 part-write-record-end c =
     omega (
@@ -109,12 +79,6 @@ part-write-record-end c =
       simp length-set at (c .before .before .loop .inv .2),
       count-room (c .before .before .before .before .before .before .args .n) (c .before .before .before .before .before .before .args .t2) (c .before .before .loop .k) (omega arith) (not-false _ (c .if2 .left)),
     )
-
-mul-write-record : tie.Need-mul-write-record Inv-loop μ-loop
-mul-write-record c = omega arith
-
-array-copy-out-write-record : tie.Need-array-copy-out-write-record Inv-loop μ-loop
-array-copy-out-write-record c = omega arith
 
 write-record-requires : tie.Need-write-record-requires Inv-loop μ-loop
 write-record-requires c κs =
@@ -135,12 +99,6 @@ add-at c =
       simp length-set at (c .before .before .before .before .before .before .before .loop .inv .2),
       count-room (c .before .before .before .before .before .before .before .before .before .before .before .args .n) (c .before .before .before .before .before .before .before .before .before .before .before .args .t2) (c .before .before .before .before .before .before .before .loop .k) (omega arith) (not-false _ (c .before .before .before .before .before .if2 .left)),
     )
-
-add-k-2 : tie.Need-add-k-2 Inv-loop μ-loop
-add-k-2 c = omega arith
-
-loop-less-2 : tie.Need-loop-less-2 Inv-loop μ-loop
-loop-less-2 c = omega arith
 
 loop-again-2 : tie.Need-loop-again-2 Inv-loop μ-loop
 loop-again-2 c =
@@ -173,33 +131,33 @@ write-table-spec =
     (tie.spec
     Inv-loop
     μ-loop
-    held-count-requires
+    (λ c κs. omega arith)
     mul-len
     add-len
     returns
-    cast-buffer
-    slice-write-buffer
-    cast-buffer-2
+    (λ c. omega arith)
+    (λ c. omega arith)
+    (λ c. omega arith)
     slice-write-buffer-2
     cast-buffer-3
     slice-write-buffer-3
-    cast-buffer-4
+    (λ c. omega arith)
     slice-write-buffer-4
     loop-holds
-    array-read-if2
-    add-k
-    loop-less
+    (λ c. omega arith)
+    (λ c. omega arith)
+    (λ c. omega arith)
     loop-again
     add-write-record
-    sub-write-record
-    part-write-record-start
+    (λ c. omega arith)
+    (λ c. omega arith)
     part-write-record-end
-    mul-write-record
-    array-copy-out-write-record
+    (λ c. omega arith)
+    (λ c. omega arith)
     write-record-requires
     add-at
-    add-k-2
-    loop-less-2
+    (λ c. omega arith)
+    (λ c. omega arith)
     loop-again-2
     same-length
     returns-2)

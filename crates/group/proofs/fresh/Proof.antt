@@ -1,7 +1,7 @@
 -- `group::fresh` names no limit.
 use mathlib.Core.Path.{ap, _∙_}
 use borrow.Author.Needs.{needs}
-use Rattle.group_rules.specs.Calls.{groupFreshCall}
+use Rattle.group_spec.specs.Calls.{groupFreshCall}
 use Rattle.group.proofs.fresh.Statement.{statement}
 use Rattle.group.proofs.fresh.Tie as tie
 

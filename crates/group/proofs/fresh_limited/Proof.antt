@@ -2,8 +2,8 @@
 use mathlib.Core.Path.{sym, _∙_}
 use borrow.Author.Needs.{needs}
 use borrow.Author.Tests.{not-true, not-false}
-use Rattle.station_rules.proofs.CallSteps.{valid-parts}
-use Rattle.group_rules.proofs.CallSteps.{fresh-done, fresh-unlimited, fresh-no-edition, fresh-refused}
+use Rattle.station_spec.proofs.CallSteps.{valid-parts}
+use Rattle.group_spec.proofs.CallSteps.{fresh-done, fresh-unlimited, fresh-no-edition, fresh-refused}
 use Rattle.group.proofs.fresh_limited.Statement.{statement}
 use Rattle.group.proofs.fresh_limited.Tie as tie
 

@@ -5,9 +5,9 @@ use mathlib.Core.Path.{_≡_, sym, _∙_}
 use mathlib.Core.Bool.{true}
 use borrow.Author.Needs.{needs}
 use borrow.Author.Tests.{not-true, not-false}
-use Rattle.group_rules.specs.State.{groupInside}
-use Rattle.group_rules.proofs.Members.{group-high}
-use Rattle.group_rules.proofs.CallSteps.{post-outside, post-nobody, post-there}
+use Rattle.group_spec.specs.State.{groupInside}
+use Rattle.group_spec.proofs.Members.{group-high}
+use Rattle.group_spec.proofs.CallSteps.{post-outside, post-nobody, post-there}
 use Rattle.group.proofs.post.Statement.{statement}
 use Rattle.group.proofs.post.Tie as tie
 
@@ -20,16 +20,10 @@ below c =
     let d = c .before .before .before in
     omega (arith, group-high (d .before .before .args .g) (inside d), c .if2 .left)
 
-group-inside-requires : tie.Need-group-inside-requires
-group-inside-requires c κs = search needs
-
 returns : tie.Need-returns
 returns c =
     let a = c .before .before .args in
     post-outside (a .g) (a .post) (sym (c .before .group-inside .ensures) ∙ not-true _ (c .if1 .taken))
-
-element-copy-out-first : tie.Need-element-copy-out-first
-element-copy-out-first c = search needs
 
 returns-2 : tie.Need-returns-2
 returns-2 c =
@@ -42,9 +36,6 @@ mul-post c = omega (arith, below c)
 
 element-copy-out-post : tie.Need-element-copy-out-post
 element-copy-out-post c = below c
-
-post-requires : tie.Need-post-requires
-post-requires c κs = search needs
 
 mul-station : tie.Need-mul-station
 mul-station c = omega (arith, below (c .before .before .before))
@@ -63,13 +54,13 @@ pub post-spec : {M : Type 1} → statement M
 post-spec =
     tie.close
     (tie.spec
-    group-inside-requires
+    (λ c κs. search needs)
     returns
-    element-copy-out-first
+    (λ c. search needs)
     returns-2
     mul-post
     element-copy-out-post
-    post-requires
+    (λ c κs. search needs)
     mul-station
     element-set-from-station
     returns-3)

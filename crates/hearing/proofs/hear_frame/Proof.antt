@@ -14,7 +14,7 @@ use Rattle.labels.specs.declared.Age.the-variants.{Newer}
 use Rattle.hearing_spec.specs.Heeding.{ageAt}
 use Rattle.hearing_spec.specs.Room.{Room}
 use Rattle.hearing_spec.proofs.FrameLoop.{FrameInv, FrameStep, frame-first, frame-end, frame-step, frame-passed, frame-last, frame-conflicts, frame-heard}
-use Rattle.kinds.specs.Refusals.{laneFull}
+use Rattle.bodies.specs.Refusals.{laneFull}
 use Rattle.hearing_spec.proofs.EqualRecords.{same-open}
 use Rattle.hearing_spec.proofs.Heeding.{after-calm}
 use Rattle.hearing_spec.proofs.RecordSteps.{passed-same, passed-older, conflicted, heeded-room}

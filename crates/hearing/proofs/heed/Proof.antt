@@ -23,7 +23,7 @@ returns-2 c =
     let acknowledging = c .before .before .before .before .before .before .before .before .before .label-in .ensures ∙ label-is (a .seen) (a .own) in
     let successor = c .before .before .before .before .before .successor .ensures in
     let label = c .before .before .before .before .label-in2 .ensures ∙ label-is (a .seen) (a .k) in
-    rw (acknowledging, successor, c .before .before .raised .ensures)
+    rw (acknowledging, successor, c .before .before .saturating-suc .ensures)
     (case-empty (a .own) (a .lens .now) (a .taken .now) (a .e) (a .seen) (a .at) (a .k) (s .pre .0 .0) (sym label ∙ c .before .before .before .if1 .left ∙ successor)
     (sym (c .before .is-empty .ensures) ∙ c .if2 .taken))
 
@@ -34,7 +34,7 @@ returns-3 c =
     let acknowledging = c .before .before .before .before .before .before .before .before .before .before .before .label-in .ensures ∙ label-is (a .seen) (a .own) in
     let successor = c .before .before .before .before .before .before .before .successor .ensures in
     let label = c .before .before .before .before .before .before .label-in2 .ensures ∙ label-is (a .seen) (a .k) in
-    rw (acknowledging, successor, c .before .before .before .before .raised .ensures)
+    rw (acknowledging, successor, c .before .before .before .before .saturating-suc .ensures)
     (case-full (a .own) (a .lens .now) (a .taken .now) (a .e) (a .seen) (a .at) (a .k) (s .pre .0 .0) (sym label ∙ c .before .before .before .before .before .if1 .left ∙ successor)
     (sym (c .before .before .before .is-empty .ensures) ∙ c .before .before .if2 .left) (c .if3 .taken))
 
@@ -45,7 +45,7 @@ returns-4 c =
     let acknowledging = c .before .before .before .before .before .before .before .before .before .before .before .before .label-in .ensures ∙ label-is (a .seen) (a .own) in
     let successor = c .before .before .before .before .before .before .before .before .successor .ensures in
     let label = c .before .before .before .before .before .before .before .label-in2 .ensures ∙ label-is (a .seen) (a .k) in
-    rw (acknowledging, successor, c .before .before .before .before .before .raised .ensures)
+    rw (acknowledging, successor, c .before .before .before .before .before .saturating-suc .ensures)
     (case-taken (a .own) (a .lens .now) (a .taken .now) (a .e) (a .seen) (a .at) (a .k) (s .pre .0 .0) (sym label ∙ c .before .before .before .before .before .before .if1 .left ∙ successor)
     (sym (c .before .before .before .before .is-empty .ensures) ∙ c .before .before .before .if2 .left) (omega (arith, c .before .if3 .left)))
 

@@ -11,51 +11,6 @@ use borrow.Author.Needs.{needs}
 use Rattle.lines.proofs.put_body.Statement.{statement}
 use Rattle.lines.proofs.put_body.Tie as tie
 
-add-put-natural : tie.Need-add-put-natural
-add-put-natural c = search needs
-
-kind-of-requires : tie.Need-kind-of-requires
-kind-of-requires c κs = search needs
-
-cast-put-natural : tie.Need-cast-put-natural
-cast-put-natural c = search needs
-
-put-natural-requires : tie.Need-put-natural-requires
-put-natural-requires c κs = search needs
-
-add-put-natural-2 : tie.Need-add-put-natural-2
-add-put-natural-2 c = search needs
-
-add-put-natural-3 : tie.Need-add-put-natural-3
-add-put-natural-3 c = search needs
-
-event-of-requires : tie.Need-event-of-requires
-event-of-requires c κs = search needs
-
-cast-put-natural-2 : tie.Need-cast-put-natural-2
-cast-put-natural-2 c = search needs
-
-put-natural-requires-2 : tie.Need-put-natural-requires-2
-put-natural-requires-2 c κs = search needs
-
-add-put-whole : tie.Need-add-put-whole
-add-put-whole c = search needs
-
-add-put-whole-2 : tie.Need-add-put-whole-2
-add-put-whole-2 c = search needs
-
-argument-of-requires : tie.Need-argument-of-requires
-argument-of-requires c κs = search needs
-
-put-whole-requires : tie.Need-put-whole-requires
-put-whole-requires c κs = search needs
-
-add-out : tie.Need-add-out
-add-out c = search needs
-
-slice-write-out : tie.Need-slice-write-out
-slice-write-out c = search needs
-
 same-length : tie.Need-same-length
 same-length c =
     simp length-set (omega (arith, c .before .before .put-whole .kept .0, c .before .before .before .before .before .before .before .put-natural2 .kept .0, c .before .before .before .before .before .before .before .before .before .before .before .before .put-natural .kept .0))
@@ -75,20 +30,20 @@ pub put-body-spec : {M : Type 1} → statement M
 put-body-spec =
     tie.close
     (tie.spec
-    add-put-natural
-    kind-of-requires
-    cast-put-natural
-    put-natural-requires
-    add-put-natural-2
-    add-put-natural-3
-    event-of-requires
-    cast-put-natural-2
-    put-natural-requires-2
-    add-put-whole
-    add-put-whole-2
-    argument-of-requires
-    put-whole-requires
-    add-out
-    slice-write-out
+    (λ c. search needs)
+    (λ c κs. search needs)
+    (λ c. search needs)
+    (λ c κs. search needs)
+    (λ c. search needs)
+    (λ c. search needs)
+    (λ c κs. search needs)
+    (λ c. search needs)
+    (λ c κs. search needs)
+    (λ c. search needs)
+    (λ c. search needs)
+    (λ c κs. search needs)
+    (λ c κs. search needs)
+    (λ c. search needs)
+    (λ c. search needs)
     same-length
     returns)

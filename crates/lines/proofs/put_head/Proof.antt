@@ -8,38 +8,11 @@ use borrow.Author.Needs.{needs}
 use Rattle.lines.proofs.put_head.Statement.{statement}
 use Rattle.lines.proofs.put_head.Tie as tie
 
-add-put-natural : tie.Need-add-put-natural
-add-put-natural c = search needs
-
-put-natural-requires : tie.Need-put-natural-requires
-put-natural-requires c κs = search needs
-
-add-out : tie.Need-add-out
-add-out c = search needs
-
-slice-write-out : tie.Need-slice-write-out
-slice-write-out c = search needs
-
-add-out-2 : tie.Need-add-out-2
-add-out-2 c = search needs
-
 slice-write-out-2 : tie.Need-slice-write-out-2
 slice-write-out-2 c = simp length-set (omega (arith, c .before .before .put-natural .kept .0))
 
-add-put-natural-2 : tie.Need-add-put-natural-2
-add-put-natural-2 c = search needs
-
-add-put-natural-3 : tie.Need-add-put-natural-3
-add-put-natural-3 c = search needs
-
 put-natural-requires-2 : tie.Need-put-natural-requires-2
 put-natural-requires-2 c κs = (omega arith, simp length-set (omega (arith, c .before .before .before .put-natural .kept .0)))
-
-add-put-natural-4 : tie.Need-add-put-natural-4
-add-put-natural-4 c = search needs
-
-add-put-natural-5 : tie.Need-add-put-natural-5
-add-put-natural-5 c = search needs
 
 put-natural-requires-3 : tie.Need-put-natural-requires-3
 put-natural-requires-3 c κs =
@@ -65,17 +38,17 @@ pub put-head-spec : {M : Type 1} → statement M
 put-head-spec =
     tie.close
     (tie.spec
-    add-put-natural
-    put-natural-requires
-    add-out
-    slice-write-out
-    add-out-2
+    (λ c. search needs)
+    (λ c κs. search needs)
+    (λ c. search needs)
+    (λ c. search needs)
+    (λ c. search needs)
     slice-write-out-2
-    add-put-natural-2
-    add-put-natural-3
+    (λ c. search needs)
+    (λ c. search needs)
     put-natural-requires-2
-    add-put-natural-4
-    add-put-natural-5
+    (λ c. search needs)
+    (λ c. search needs)
     put-natural-requires-3
     same-length
     returns)

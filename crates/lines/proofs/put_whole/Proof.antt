@@ -5,26 +5,11 @@ use mir.ValLaws.{toZ-ofZ}
 use mathlib.Core.Path.{ap, _∙_}
 use Prim.Native.Nat.{ℕ, _-_}
 use lib.ListN.{length, take, drop}
-use Rattle.column_writer.specs.Writing.{intColumns}
+use Rattle.columns.specs.Writing.{intColumns}
 use Rattle.lines.proofs.Placed.{part-length, placed-part}
 use borrow.Author.Needs.{needs}
 use Rattle.lines.proofs.put_whole.Statement.{statement}
 use Rattle.lines.proofs.put_whole.Tie as tie
-
-sub-write-whole : tie.Need-sub-write-whole
-sub-write-whole c = search needs
-
-part-write-whole-start : tie.Need-part-write-whole-start
-part-write-whole-start c = search needs
-
-part-write-whole-end : tie.Need-part-write-whole-end
-part-write-whole-end c = search needs
-
-write-whole-requires : tie.Need-write-whole-requires
-write-whole-requires c κs = search needs
-
-same-length : tie.Need-same-length
-same-length c = search needs
 
 returns : tie.Need-returns
 returns c = let a = c .before .before .before .before .before .args in
@@ -38,9 +23,9 @@ pub put-whole-spec : {M : Type 1} → statement M
 put-whole-spec =
     tie.close
     (tie.spec
-    sub-write-whole
-    part-write-whole-start
-    part-write-whole-end
-    write-whole-requires
-    same-length
+    (λ c. search needs)
+    (λ c. search needs)
+    (λ c. search needs)
+    (λ c κs. search needs)
+    (λ c. search needs)
     returns)

@@ -1,6 +1,6 @@
 -- `listing::after_round` counts the round and keeps the group that it returned.
 use mathlib.Core.Path.{refl}
-use Rattle.listing_rules.specs.Listing.{roundedBy}
+use Rattle.listing_spec.specs.Listing.{roundedBy}
 use borrow.Author.Needs.{needs}
 use Rattle.listing.proofs.after_round.Statement.{statement}
 use Rattle.listing.proofs.after_round.Tie as tie

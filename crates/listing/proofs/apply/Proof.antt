@@ -1,6 +1,6 @@
 -- `listing::apply` obeys the line unless the reading has stopped.
 use mathlib.Core.Path.{refl}
-use Rattle.listing_rules.proofs.Answers.{stays, told}
+use Rattle.listing_spec.proofs.Answers.{stays, told}
 use borrow.Author.Needs.{needs}
 use Rattle.listing.proofs.apply.Statement.{statement}
 use Rattle.listing.proofs.apply.Tie as tie

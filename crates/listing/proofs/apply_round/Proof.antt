@@ -1,5 +1,5 @@
 -- `listing::apply_round` goes by whether the round can be numbered.
-use Rattle.listing_rules.proofs.Answers.{rounded, past-last}
+use Rattle.listing_spec.proofs.Answers.{rounded, past-last}
 use borrow.Author.Needs.{needs}
 use Rattle.listing.proofs.apply_round.Statement.{statement}
 use Rattle.listing.proofs.apply_round.Tie as tie

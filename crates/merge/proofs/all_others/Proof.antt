@@ -1,4 +1,4 @@
--- The loop keeps that the table is `fill` up to its counter.
+-- The loop keeps that the table is `setBelow` up to its counter.
 use Prim.Native.Nat.{ℕ, _-_, _^_, _≤_}
 use mathlib.Core.List.{List}
 use mathlib.Core.Path.{_≡_, refl, ap, ap₂, _∙_}
@@ -6,8 +6,8 @@ use native.Mathlib.Omega.{arith}
 use borrow.Author.Needs.{needs}
 use lib.Bits.{bitXor}
 use lib.ListN.{set, replicate}
-use Rattle.places.specs.Places.{fill}
-use Rattle.places.proofs.Laws.{fill-more}
+use Rattle.lists.specs.Below.{setBelow}
+use Rattle.lists.proofs.Laws.{setBelow-more}
 use Rattle.merge.proofs.all_others.Statement.{statement}
 use Rattle.merge.proofs.all_others.Tie as tie
 use Rattle.merge.proofs.all_others.Reads as reads
@@ -15,13 +15,13 @@ use Rattle.merge.proofs.all_others.Lts as lts
 use Rattle.merge.proofs.others.Reads as others-reads
 
 abbrev Inv-loop : tie.InvT-loop
-Inv-loop n table₀ p₀ table p = (p ≤ n) × (table ≡ fill p (λ q. bitXor (2 ^ n - 1) (2 ^ q)) (replicate 16 0))
+Inv-loop n table₀ p₀ table p = (p ≤ n) × (table ≡ setBelow p (λ q. bitXor (2 ^ n - 1) (2 ^ q)) (replicate 16 0))
 
 abbrev μ-loop : tie.MeasureT-loop
 μ-loop n table₀ p₀ table p = n - p
 
 loop-holds : tie.Need-loop-holds Inv-loop μ-loop
-unfolding fill
+unfolding setBelow
 loop-holds c = (omega arith, refl)
 
 others-requires : tie.Need-others-requires Inv-loop μ-loop
@@ -36,14 +36,14 @@ loop-again c =
     let l = c .before .before .loop in (
       omega (arith, c .before .loop-test .taken),
       ap₂ (λ (b : List ℕ) (v : ℕ). set b (l .p) v) (l .inv .1) (c .others .ensures)
-          ∙ fill-more (l .p) (λ q. bitXor (2 ^ n - 1) (2 ^ q)) (replicate 16 0),
+          ∙ setBelow-more (l .p) (λ q. bitXor (2 ^ n - 1) (2 ^ q)) (replicate 16 0),
     )
 
 returns : tie.Need-returns Inv-loop μ-loop
 returns c =
     let l = c .before .loop in
     let e : l .p ≡ c .before .before .args .n = omega (arith, c .loop-test .left, l .inv .0) in
-    l .inv .1 ∙ ap (λ (k : ℕ). fill k (λ q. bitXor (2 ^ c .before .before .args .n - 1) (2 ^ q)) (replicate 16 0)) e
+    l .inv .1 ∙ ap (λ (k : ℕ). setBelow k (λ q. bitXor (2 ^ c .before .before .args .n - 1) (2 ^ q)) (replicate 16 0)) e
 
 pub all-others-spec : {M : Type 1} → statement M
 all-others-spec =

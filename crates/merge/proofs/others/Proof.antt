@@ -3,7 +3,7 @@ use Prim.Native.Nat.{_^_, _<_, _≤_}
 use native.Mathlib.Nat.{pow-le-pow-right}
 use native.Mathlib.Omega.{arith}
 use lib.Pow.{pow-pos}
-use Rattle.broadcast_sets.proofs.Bits.{shifted16, shifted32}
+use Rattle.link_logs.proofs.Bits.{shifted16, shifted32}
 use borrow.Author.Needs.{needs}
 use Rattle.merge.proofs.others.Statement.{statement}
 use Rattle.merge.proofs.others.Tie as tie

@@ -6,12 +6,12 @@ use native.Mathlib.Nat.{zero-mod}
 use native.Mathlib.Omega.{arith}
 use borrow.Author.Needs.{needs}
 use lib.ListN.{length}
-use Rattle.places.specs.Places.{fill}
-use Rattle.places.proofs.Laws.{length-fill}
+use Rattle.lists.specs.Below.{setBelow}
+use Rattle.lists.proofs.Laws.{length-setBelow}
 use Rattle.planning_spec.specs.Merge.{mergedMask}
 use Rattle.planning_spec.proofs.Merge.{both-accepted}
 use Rattle.merge.specs.Rounds.{fillFrom}
-use Rattle.merge.proofs.Rounds.{from-fill, next-round}
+use Rattle.merge.proofs.Rounds.{from-setBelow, next-round}
 use Rattle.merge.proofs.Written.{count-fits}
 use Rattle.merge.proofs.write_masks.Statement.{statement}
 use Rattle.merge.proofs.write_masks.Tie as tie
@@ -22,7 +22,7 @@ use Rattle.merge.proofs.write_round.Reads as write-round-reads
 
 abbrev Inv-loop : tie.InvT-loop
 Inv-loop first second n count merged₀ others at₀ merged at =
-    (at ≤ count) × (at % n ≡ 0) × (merged ≡ fill at (mergedMask n first second) merged₀)
+    (at ≤ count) × (at % n ≡ 0) × (merged ≡ setBelow at (mergedMask n first second) merged₀)
 
 abbrev μ-loop : tie.MeasureT-loop
 μ-loop first second n count merged₀ others at₀ merged at = count - at
@@ -31,7 +31,7 @@ all-others-requires : tie.Need-all-others-requires Inv-loop μ-loop
 all-others-requires c κs = both-accepted _ _ _ (c .before .before .before .pre .0) .one .few
 
 loop-holds : tie.Need-loop-holds Inv-loop μ-loop
-unfolding fill
+unfolding setBelow
 loop-holds c = (omega arith, zero-mod _, refl)
 
 write-round-requires : tie.Need-write-round-requires Inv-loop μ-loop
@@ -45,7 +45,7 @@ write-round-requires c κs =
       omega (
         arith,
         ap length (l .inv .2),
-        length-fill (l .at) (mergedMask (a .n) (a .first .now) (a .second .now)) (a .merged .now),
+        length-setBelow (l .at) (mergedMask (a .n) (a .first .now) (a .second .now)) (a .merged .now),
         z .pre .1,
         z .pre .2,
       ),
@@ -81,21 +81,21 @@ loop-again c =
       next-round (a .n) (l .at) (l .inv .1),
       c .before .before .write-round .ensures
           ∙ ap (λ (b : List ℕ). fillFrom (l .at) (a .n) (λ p. mergedMask (a .n) (a .first .now) (a .second .now) (l .at + p)) b) (l .inv .2)
-          ∙ from-fill (l .at) (a .n) (mergedMask (a .n) (a .first .now) (a .second .now)) (a .merged .now),
+          ∙ from-setBelow (l .at) (a .n) (mergedMask (a .n) (a .first .now) (a .second .now)) (a .merged .now),
     )
 
 same-length : tie.Need-same-length Inv-loop μ-loop
 same-length c =
     let a = c .before .before .before .before .before .before .args in
     let l = c .before .loop in
-    ap length (l .inv .2) ∙ length-fill (l .at) (mergedMask (a .n) (a .first .now) (a .second .now)) (a .merged .now)
+    ap length (l .inv .2) ∙ length-setBelow (l .at) (mergedMask (a .n) (a .first .now) (a .second .now)) (a .merged .now)
 
 returns : tie.Need-returns Inv-loop μ-loop
 returns c =
     let a = c .before .before .before .before .before .before .args in
     let l = c .before .loop in
     let e : l .at ≡ a .count = omega (arith, c .loop-test .left, l .inv .0) in
-    l .inv .2 ∙ ap (λ (k : ℕ). fill k (mergedMask (a .n) (a .first .now) (a .second .now)) (a .merged .now)) e
+    l .inv .2 ∙ ap (λ (k : ℕ). setBelow k (mergedMask (a .n) (a .first .now) (a .second .now)) (a .merged .now)) e
 
 pub write-masks-spec : {M : Type 1} → statement M
 write-masks-spec =

@@ -4,7 +4,7 @@ use mathlib.Core.Bool.{_||_}
 use mathlib.Core.Path.{_≡_, sym, ap₂, _∙_}
 use native.Mathlib.Omega.{arith}
 use lib.ListN.{length}
-use Rattle.places.specs.Places.{anyBelow}
+use Rattle.lists.specs.Below.{anyBelow}
 use Rattle.planning_spec.specs.Questions.{isBad, questionAt}
 use Rattle.questions.proofs.Page.{bad-start, bad-more}
 use borrow.Author.Needs.{needs}

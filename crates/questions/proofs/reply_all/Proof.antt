@@ -6,17 +6,17 @@ use borrow.Author.Needs.{needs}
 use lib.ListN.{length-replicate}
 use Rattle.planning_spec.specs.LinkLog.{roundsOf, linksOf}
 use Rattle.planning_spec.proofs.LinkLog.{accepted, round-inside}
-use Rattle.broadcast_sets.specs.Stands.{Stands}
-use Rattle.broadcast_sets.proofs.Stands.{stands-start, stands-small, round-more, zeros-at}
+use Rattle.link_logs.specs.Stands.{Stands}
+use Rattle.link_logs.proofs.Stands.{stands-start, stands-small, round-more, zeros-at}
 use Rattle.questions.specs.Replies.{Replied}
 use Rattle.questions.proofs.Page.{replied-start, replied-more}
 use Rattle.questions.proofs.reply_all.Statement.{statement}
 use Rattle.questions.proofs.reply_all.Tie as tie
 use Rattle.questions.proofs.reply_all.Reads as reads
 use Rattle.questions.proofs.reply_all.Lts as lts
-use Rattle.broadcast_sets.proofs.begin_all.Reads as begin-all-reads
-use Rattle.broadcast_sets.proofs.close.Reads as close-reads
-use Rattle.broadcast_sets.proofs.learn.Reads as learn-reads
+use Rattle.link_logs.proofs.sets.begin_all.Reads as begin-all-reads
+use Rattle.link_logs.proofs.sets.close.Reads as close-reads
+use Rattle.link_logs.proofs.sets.learn.Reads as learn-reads
 use Rattle.questions.proofs.settle_all.Reads as settle-all-reads
 
 abbrev Inv-loop : tie.InvT-loop

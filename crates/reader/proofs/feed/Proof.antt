@@ -5,8 +5,8 @@ use native.Mathlib.Omega.{arith}
 use lib.ListN.{length, take, length-map}
 use lib.Seq.{length-take-le}
 use Rattle.lines.proofs.Placed.{part-length, put-length}
-use Rattle.reader_rules.specs.Remaining.{Listed}
-use Rattle.reader_rules.proofs.Parts.{put-fits, put-tail, listed-none, listed-held, listed-line, fed-by}
+use Rattle.listing_spec.specs.Remaining.{Listed}
+use Rattle.listing_spec.proofs.Parts.{put-fits, put-tail, listed-none, listed-held, listed-line, fed-by}
 use borrow.Author.Needs.{needs}
 use Rattle.reader.proofs.feed.Statement.{statement}
 use Rattle.reader.proofs.feed.Tie as tie
@@ -24,21 +24,6 @@ loop-holds c =
     let long : length (c .before .before .before .before .args .r .line) ≡ 146 = simp length-map at (c .before .before .before .before .good .0 .1 .1 .1 .1 .0 .1 .0 .1) in
     (omega arith, omega arith, omega arith, refl, λ h. absurd (omega arith), listed-none _ _ _ _)
 
-sub-loop : tie.Need-sub-loop Inv-loop μ-loop
-sub-loop c = search needs
-
-slice-aggregate-take-line : tie.Need-slice-aggregate-take-line Inv-loop μ-loop
-slice-aggregate-take-line c = search needs
-
-take-line-requires : tie.Need-take-line-requires Inv-loop μ-loop
-take-line-requires c κs = search needs
-
-answer-requires : tie.Need-answer-requires Inv-loop μ-loop
-answer-requires c κs = search needs
-
-same-length : tie.Need-same-length Inv-loop μ-loop
-same-length c = search needs
-
 returns : tie.Need-returns Inv-loop μ-loop
 returns c =
     let at-test = c .before .before .before .before .before .before .loop in
@@ -46,25 +31,10 @@ returns c =
     fed-by _ _ _ _ _ _ _ _ _ _ (c .answer .ensures)
     (listed-held _ _ _ _ _ _ _ _ _ (at-test .inv .5) _ _ (taken .ensures .2) (taken .ensures .3 .0) (taken .ensures .0)) (taken .ensures .1) (λ h. omega arith)
 
-array-share-prefix-line : tie.Need-array-share-prefix-line Inv-loop μ-loop
-array-share-prefix-line c = search needs
-
 slice-aggregate-apply : tie.Need-slice-aggregate-apply Inv-loop μ-loop
 slice-aggregate-apply c =
     let taken = c .before .before .before .take-line in
     sym (length-take-le (taken .result .len) (taken .last .0) (omega (arith, taken .ensures .1, taken .kept .0)))
-
-sub-apply : tie.Need-sub-apply Inv-loop μ-loop
-sub-apply c = search needs
-
-part-apply-start : tie.Need-part-apply-start Inv-loop μ-loop
-part-apply-start c = search needs
-
-part-apply-end : tie.Need-part-apply-end Inv-loop μ-loop
-part-apply-end c = search needs
-
-apply-requires : tie.Need-apply-requires Inv-loop μ-loop
-apply-requires c κs = search needs
 
 add-at : tie.Need-add-at Inv-loop μ-loop
 add-at c =
@@ -73,9 +43,6 @@ add-at c =
     let applied = c .before .before .before .before .apply in
     let fits = put-fits _ _ _ _ (applied .ensures .put) (applied .kept .1 .1 .0) in
     search needs
-
-add-read : tie.Need-add-read Inv-loop μ-loop
-add-read c = search needs
 
 loop-less : tie.Need-loop-less Inv-loop μ-loop
 loop-less c =
@@ -105,12 +72,6 @@ loop-again c =
           _ (applied .result) more (taken .ensures .3 .1 more) (at-test .inv .2) (applied .ensures .session) put,
     )
 
-answer-requires-2 : tie.Need-answer-requires-2 Inv-loop μ-loop
-answer-requires-2 c κs = search needs
-
-same-length-2 : tie.Need-same-length-2 Inv-loop μ-loop
-same-length-2 c = search needs
-
 returns-2 : tie.Need-returns-2 Inv-loop μ-loop
 returns-2 c =
     let at-test = c .before .before .loop in
@@ -123,22 +84,22 @@ feed-spec =
     Inv-loop
     μ-loop
     loop-holds
-    sub-loop
-    slice-aggregate-take-line
-    take-line-requires
-    answer-requires
-    same-length
+    (λ c. search needs)
+    (λ c. search needs)
+    (λ c κs. search needs)
+    (λ c κs. search needs)
+    (λ c. search needs)
     returns
-    array-share-prefix-line
+    (λ c. search needs)
     slice-aggregate-apply
-    sub-apply
-    part-apply-start
-    part-apply-end
-    apply-requires
+    (λ c. search needs)
+    (λ c. search needs)
+    (λ c. search needs)
+    (λ c κs. search needs)
     add-at
-    add-read
+    (λ c. search needs)
     loop-less
     loop-again
-    answer-requires-2
-    same-length-2
+    (λ c κs. search needs)
+    (λ c. search needs)
     returns-2)

@@ -17,57 +17,6 @@ Inv-loop schedule n rounds g₀ sum₀ number₀ g sum number = (1 ≤ n) × (n 
 abbrev μ-loop : tie.MeasureT-loop
 μ-loop schedule n rounds g₀ sum₀ number₀ g sum number = rounds - number
 
-fresh-limited-requires : tie.Need-fresh-limited-requires Inv-loop2 μ-loop2 Inv-loop μ-loop
-fresh-limited-requires c κs = search needs
-
-loop-holds : tie.Need-loop-holds Inv-loop2 μ-loop2 Inv-loop μ-loop
-loop-holds c = search needs
-
-posted-requires : tie.Need-posted-requires Inv-loop2 μ-loop2 Inv-loop μ-loop
-posted-requires c κs = search needs
-
-masks-of-requires : tie.Need-masks-of-requires Inv-loop2 μ-loop2 Inv-loop μ-loop
-masks-of-requires c κs = search needs
-
-round-requires : tie.Need-round-requires Inv-loop2 μ-loop2 Inv-loop μ-loop
-round-requires c κs = search needs
-
-loop2-holds : tie.Need-loop2-holds Inv-loop2 μ-loop2 Inv-loop μ-loop
-loop2-holds c = search needs
-
-mul-mix-report : tie.Need-mul-mix-report Inv-loop2 μ-loop2 Inv-loop μ-loop
-mul-mix-report c = search needs
-
-array-copy-out-mix-report : tie.Need-array-copy-out-mix-report Inv-loop2 μ-loop2 Inv-loop μ-loop
-array-copy-out-mix-report c = search needs
-
-mix-report-requires : tie.Need-mix-report-requires Inv-loop2 μ-loop2 Inv-loop μ-loop
-mix-report-requires c κs = search needs
-
-add-k : tie.Need-add-k Inv-loop2 μ-loop2 Inv-loop μ-loop
-add-k c = search needs
-
-loop2-less : tie.Need-loop2-less Inv-loop2 μ-loop2 Inv-loop μ-loop
-loop2-less c = search needs
-
-loop2-again : tie.Need-loop2-again Inv-loop2 μ-loop2 Inv-loop μ-loop
-loop2-again c = search needs
-
-add-number : tie.Need-add-number Inv-loop2 μ-loop2 Inv-loop μ-loop
-add-number c = search needs
-
-loop-less : tie.Need-loop-less Inv-loop2 μ-loop2 Inv-loop μ-loop
-loop-less c = search needs
-
-loop-again : tie.Need-loop-again Inv-loop2 μ-loop2 Inv-loop μ-loop
-loop-again c = search needs
-
-low-requires : tie.Need-low-requires Inv-loop2 μ-loop2 Inv-loop μ-loop
-low-requires c κs = search needs
-
-returns : tie.Need-returns Inv-loop2 μ-loop2 Inv-loop μ-loop
-returns c = search needs
-
 pub run-spec : {M : Type 1} → statement M
 run-spec =
     tie.close
@@ -76,20 +25,20 @@ run-spec =
     μ-loop2
     Inv-loop
     μ-loop
-    fresh-limited-requires
-    loop-holds
-    posted-requires
-    masks-of-requires
-    round-requires
-    loop2-holds
-    mul-mix-report
-    array-copy-out-mix-report
-    mix-report-requires
-    add-k
-    loop2-less
-    loop2-again
-    add-number
-    loop-less
-    loop-again
-    low-requires
-    returns)
+    (λ c κs. search needs)
+    (λ c. search needs)
+    (λ c κs. search needs)
+    (λ c κs. search needs)
+    (λ c κs. search needs)
+    (λ c. search needs)
+    (λ c. search needs)
+    (λ c. search needs)
+    (λ c κs. search needs)
+    (λ c. search needs)
+    (λ c. search needs)
+    (λ c. search needs)
+    (λ c. search needs)
+    (λ c. search needs)
+    (λ c. search needs)
+    (λ c κs. search needs)
+    (λ c. search needs))

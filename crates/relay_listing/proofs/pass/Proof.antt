@@ -4,7 +4,7 @@ use mathlib.Core.Path.{_≡_}
 use native.Mathlib.Omega.{arith}
 use lib.ListN.{length, take}
 use Rattle.lines.proofs.Placed.{part-length}
-use Rattle.reader_rules.proofs.Parts.{put-fits}
+use Rattle.listing_spec.proofs.Parts.{put-fits}
 use Rattle.relay_listing.specs.Passing.{Passes}
 use Rattle.relay_listing.proofs.Parts.{passes-none, passes-more, passes-all}
 use borrow.Author.Needs.{needs}
@@ -21,29 +21,11 @@ abbrev μ-loop : tie.MeasureT-loop
 loop-holds : tie.Need-loop-holds Inv-loop μ-loop
 loop-holds c = (search needs, search needs, search needs, passes-none _)
 
-sub-feed : tie.Need-sub-feed Inv-loop μ-loop
-sub-feed c = search needs
-
-part-feed-start : tie.Need-part-feed-start Inv-loop μ-loop
-part-feed-start c = search needs
-
-part-feed-end : tie.Need-part-feed-end Inv-loop μ-loop
-part-feed-end c = search needs
-
-feed-requires : tie.Need-feed-requires Inv-loop μ-loop
-feed-requires c κs = search needs
-
-add-from : tie.Need-add-from Inv-loop μ-loop
-add-from c = search needs
-
 write-front-requires : tie.Need-write-front-requires Inv-loop μ-loop
 write-front-requires c κs =
     let fed = c .before .before .before .before .before .feed in
     let fits = put-fits _ _ _ _ (fed .ensures .lists .put) (fed .kept .1 .1 .0) in
     omega (arith, fits, fed .kept .1 .1 .0)
-
-same-length : tie.Need-same-length Inv-loop μ-loop
-same-length c = search needs
 
 returns : tie.Need-returns Inv-loop μ-loop
 returns c = (search needs, tt)
@@ -62,9 +44,6 @@ loop-again c =
     let fed = c .before .before .before .before .before .before .before .feed in
     (search needs, search needs, search needs, passes-more _ _ _ _ _ _ _ (c .before .before .before .before .before .before .before .before .before .before .before .loop .inv .3) (fed .ensures))
 
-same-length-2 : tie.Need-same-length-2 Inv-loop μ-loop
-same-length-2 c = search needs
-
 returns-2 : tie.Need-returns-2 Inv-loop μ-loop
 returns-2 c = (search needs, passes-all _ _ (c .before .before .before .before .args .part .now) (c .before .loop .from) (omega arith) (c .before .loop .inv .3))
 
@@ -75,15 +54,15 @@ pass-spec =
     Inv-loop
     μ-loop
     loop-holds
-    sub-feed
-    part-feed-start
-    part-feed-end
-    feed-requires
-    add-from
+    (λ c. search needs)
+    (λ c. search needs)
+    (λ c. search needs)
+    (λ c κs. search needs)
+    (λ c. search needs)
     write-front-requires
-    same-length
+    (λ c. search needs)
     returns
     loop-less
     loop-again
-    same-length-2
+    (λ c. search needs)
     returns-2)

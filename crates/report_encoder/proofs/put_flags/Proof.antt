@@ -5,7 +5,7 @@ use native.Mathlib.Omega.{arith}
 use lib.ListN.{length}
 use lib.Seq.{sets}
 use lib.ListN.{length-set}
-use Rattle.places.specs.Places.{tabulate}
+use Rattle.lists.specs.Below.{tabulate}
 use Rattle.station_encoder.proofs.Writing.{entry-none}
 use Rattle.report_encoder.proofs.Writing.{flagOf, flag-next, flags-written}
 use Rattle.report_encoder.proofs.put_flags.Statement.{statement}

@@ -5,7 +5,7 @@ use native.Mathlib.Omega.{arith}
 use lib.ListN.{length}
 use lib.Seq.{sets}
 use lib.ListN.{getD}
-use Rattle.station_rules.specs.Hearing.{noTaking}
+use Rattle.station_spec.specs.Hearing.{noTaking}
 use Rattle.station_bytes_spec.specs.Bytes.{joinedBelow}
 use Rattle.station_bytes_spec.specs.Reports.{takingWidth, encodeTaking}
 use Rattle.station_bytes_spec.proofs.Reports.{length-taking}

@@ -5,7 +5,7 @@ use native.Mathlib.Omega.{arith}
 use lib.ListN.{length}
 use lib.Seq.{sets}
 use lib.ListN.{getD}
-use Rattle.lanes.specs.Queue.{noSlot}
+use Rattle.queues.specs.Queue.{noSlot}
 use Rattle.station_bytes_spec.specs.Bytes.{joinedBelow}
 use Rattle.station_bytes_spec.specs.Body.{encodeBody}
 use Rattle.station_bytes_spec.proofs.Body.{length-body}

@@ -19,21 +19,6 @@ abbrev μ-loop : tie.MeasureT-loop
 loop-holds : tie.Need-loop-holds Inv-loop μ-loop
 loop-holds c = (omega arith, refl, omega arith, joined-none _ _ _)
 
-mul-report : tie.Need-mul-report Inv-loop μ-loop
-mul-report c = omega arith
-
-array-copy-out-report : tie.Need-array-copy-out-report Inv-loop μ-loop
-array-copy-out-report c = omega arith
-
-put-report-requires : tie.Need-put-report-requires Inv-loop μ-loop
-put-report-requires c κs = omega arith
-
-add-p : tie.Need-add-p Inv-loop μ-loop
-add-p c = omega arith
-
-loop-less : tie.Need-loop-less Inv-loop μ-loop
-loop-less c = omega arith
-
 loop-again : tie.Need-loop-again Inv-loop μ-loop
 loop-again c = let l = c .before .before .before .before .before .before .loop in (
   omega arith,
@@ -56,11 +41,11 @@ put-round-spec =
     Inv-loop
     μ-loop
     loop-holds
-    mul-report
-    array-copy-out-report
-    put-report-requires
-    add-p
-    loop-less
+    (λ c. omega arith)
+    (λ c. omega arith)
+    (λ c κs. omega arith)
+    (λ c. omega arith)
+    (λ c. omega arith)
     loop-again
     same-length
     returns)

@@ -1,6 +1,6 @@
 -- `rounds::no_report` meets its contract.
 use borrow.Author.Needs.{needs}
-use Rattle.group_rules.specs.Calls.{noReport}
+use Rattle.group_spec.specs.Calls.{noReport}
 use Rattle.rounds.proofs.no_report.Statement.{statement}
 use Rattle.rounds.proofs.no_report.Tie as tie
 

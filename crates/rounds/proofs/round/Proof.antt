@@ -9,14 +9,14 @@ use native.Mathlib.Omega.{arith}
 use borrow.Author.Needs.{needs}
 use borrow.Author.Tests.{not-true, not-false}
 use lib.ListN.{getD, length}
-use Rattle.station_rules.specs.declared.Station.{Station}
-use Rattle.station_rules.proofs.CallSteps.{valid-parts}
+use Rattle.station_spec.specs.declared.Station.{Station}
+use Rattle.station_spec.proofs.CallSteps.{valid-parts}
 use Rattle.hearing_spec.specs.declared.Ear.{Ear}
 use Rattle.hearing_spec.specs.StandsFor.{actsOn}
-use Rattle.acting.specs.Listened.{heardNotes, Readable}
-use Rattle.group_rules.specs.State.{stationAt, sizeOf, editionOf}
-use Rattle.group_frames.proofs.WrittenFrames.{SentBelow, sent-none, sent-more, all-sent}
-use Rattle.group_rules.proofs.CallSteps.{round-outside}
+use Rattle.listening.specs.Listened.{heardNotes, Readable}
+use Rattle.group_spec.specs.State.{stationAt, sizeOf, editionOf}
+use Rattle.rounds.proofs.WrittenFrames.{SentBelow, sent-none, sent-more, all-sent}
+use Rattle.group_spec.proofs.CallSteps.{round-outside}
 use Rattle.rounds.proofs.GroupLengths.{group-lengths}
 use Rattle.rounds.proofs.Parts.{part}
 use Rattle.rounds.proofs.HeardTurn.{takingsIn}

@@ -12,33 +12,9 @@ returns : tie.Need-returns
 unfolding fieldOf
 returns c = rw (le-ltb _ _ (c .if1 .taken))
 
-mul-start : tie.Need-mul-start
-mul-start c = search needs
-
-add-start : tie.Need-add-start
-add-start c = search needs
-
-mul-end : tie.Need-mul-end
-mul-end c = search needs
-
-add-end : tie.Need-add-end
-add-end c = search needs
-
 returns-2 : tie.Need-returns-2
 unfolding fieldOf
 returns-2 c = rw (lt-ltb _ _ (c .before .if1 .left), lt-leb _ _ (c .if2 .taken))
-
-sub-read-columns : tie.Need-sub-read-columns
-sub-read-columns c = search needs
-
-part-read-columns-start : tie.Need-part-read-columns-start
-part-read-columns-start c = search needs
-
-part-read-columns-end : tie.Need-part-read-columns-end
-part-read-columns-end c = search needs
-
-read-columns-requires : tie.Need-read-columns-requires
-read-columns-requires c κs = search needs
 
 returns-3 : tie.Need-returns-3
 unfolding fieldOf
@@ -51,13 +27,13 @@ field-spec =
     tie.close
     (tie.spec
     returns
-    mul-start
-    add-start
-    mul-end
-    add-end
+    (λ c. search needs)
+    (λ c. search needs)
+    (λ c. search needs)
+    (λ c. search needs)
     returns-2
-    sub-read-columns
-    part-read-columns-start
-    part-read-columns-end
-    read-columns-requires
+    (λ c. search needs)
+    (λ c. search needs)
+    (λ c. search needs)
+    (λ c κs. search needs)
     returns-3)

@@ -5,21 +5,6 @@ use borrow.Author.Needs.{needs}
 use Rattle.script.proofs.is_whole_at.Statement.{statement}
 use Rattle.script.proofs.is_whole_at.Tie as tie
 
-field-requires : tie.Need-field-requires
-field-requires c κs = search needs
-
-enum-told : tie.Need-enum-told
-enum-told c = search needs
-
-enum-told-2 : tie.Need-enum-told-2
-enum-told-2 c = search needs
-
-enum-told-3 : tie.Need-enum-told-3
-enum-told-3 c = search needs
-
-enum-told-4 : tie.Need-enum-told-4
-enum-told-4 c = search needs
-
 returns : tie.Need-returns
 returns c = sym (ap isWhole (sym (c .before .before .field .ensures) ∙ c .enum-told .given .1))
 
@@ -36,11 +21,11 @@ pub is-whole-at-spec : {M : Type 1} → statement M
 is-whole-at-spec =
     tie.close
     (tie.spec
-    field-requires
-    enum-told
-    enum-told-2
-    enum-told-3
-    enum-told-4
+    (λ c κs. search needs)
+    (λ c. search needs)
+    (λ c. search needs)
+    (λ c. search needs)
+    (λ c. search needs)
     returns
     returns-2
     returns-3

@@ -5,7 +5,7 @@ use native.Mathlib.Omega.{arith}
 use borrow.Author.Needs.{needs}
 use lib.ListN.{length, take, length-set}
 use lib.Seq.{take-all}
-use Rattle.places.specs.Places.{tabulate}
+use Rattle.lists.specs.Below.{tabulate}
 use Rattle.script.specs.Line.{maskAt, masksOf}
 use Rattle.script.proofs.Rounds.{mask-more}
 use Rattle.script.proofs.masks.Statement.{statement}
@@ -20,21 +20,6 @@ abbrev μ-loop : tie.MeasureT-loop
 loop-holds : tie.Need-loop-holds Inv-loop μ-loop
 unfolding tabulate
 loop-holds c = (omega arith, refl, refl)
-
-mask-at-requires : tie.Need-mask-at-requires Inv-loop μ-loop
-mask-at-requires c κs = search needs
-
-mul-made : tie.Need-mul-made Inv-loop μ-loop
-mul-made c = search needs
-
-array-write-made : tie.Need-array-write-made Inv-loop μ-loop
-array-write-made c = omega arith
-
-add-k : tie.Need-add-k Inv-loop μ-loop
-add-k c = search needs
-
-loop-less : tie.Need-loop-less Inv-loop μ-loop
-loop-less c = search needs
 
 loop-again : tie.Need-loop-again Inv-loop μ-loop
 loop-again c = (
@@ -55,10 +40,10 @@ masks-spec =
     Inv-loop
     μ-loop
     loop-holds
-    mask-at-requires
-    mul-made
-    array-write-made
-    add-k
-    loop-less
+    (λ c κs. search needs)
+    (λ c. search needs)
+    (λ c. omega arith)
+    (λ c. search needs)
+    (λ c. search needs)
     loop-again
     returns)

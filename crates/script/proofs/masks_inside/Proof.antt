@@ -18,17 +18,8 @@ abbrev μ-loop : tie.MeasureT-loop
 loop-holds : tie.Need-loop-holds Inv-loop μ-loop
 loop-holds c = (omega arith, masks-none _)
 
-natural-at-requires : tie.Need-natural-at-requires Inv-loop μ-loop
-natural-at-requires c κs = search needs
-
 returns : tie.Need-returns Inv-loop μ-loop
 returns c = sym (masks-fail _ _ (c .before .before .before .loop .k) (c .before .before .loop-test .taken) (mask-over _ (rw (c .before .natural-at .ensures) at (c .if1 .taken))))
-
-add-k : tie.Need-add-k Inv-loop μ-loop
-add-k c = search needs
-
-loop-less : tie.Need-loop-less Inv-loop μ-loop
-loop-less c = search needs
 
 loop-again : tie.Need-loop-again Inv-loop μ-loop
 loop-again c = (omega arith, masks-more _ _ (c .before .before .before .loop .inv .1) (mask-inside _ (rw (c .before .natural-at .ensures) at (c .if1 .left))))
@@ -43,9 +34,9 @@ masks-inside-spec =
     Inv-loop
     μ-loop
     loop-holds
-    natural-at-requires
+    (λ c κs. search needs)
     returns
-    add-k
-    loop-less
+    (λ c. search needs)
+    (λ c. search needs)
     loop-again
     returns-2)

@@ -5,23 +5,8 @@ use borrow.Author.Needs.{needs}
 use Rattle.script.proofs.natural_at.Statement.{statement}
 use Rattle.script.proofs.natural_at.Tie as tie
 
-field-requires : tie.Need-field-requires
-field-requires c κs = search needs
-
-enum-known-reading : tie.Need-enum-known-reading
-enum-known-reading c = search needs
-
 returns : tie.Need-returns
 returns c = sym (ap naturalOf (sym (c .before .before .before .before .field .ensures) ∙ c .before .before .reading .given .1) ∙ rw (c .if1 .taken))
-
-enum-told : tie.Need-enum-told
-enum-told c = search needs
-
-enum-told-2 : tie.Need-enum-told-2
-enum-told-2 c = search needs
-
-enum-told-3 : tie.Need-enum-told-3
-enum-told-3 c = search needs
 
 returns-2 : tie.Need-returns-2
 returns-2 c = sym (ap naturalOf (sym (c .before .before .before .before .field .ensures) ∙ c .before .before .reading .given .1) ∙ rw (c .if1 .left))
@@ -39,12 +24,12 @@ pub natural-at-spec : {M : Type 1} → statement M
 natural-at-spec =
     tie.close
     (tie.spec
-    field-requires
-    enum-known-reading
+    (λ c κs. search needs)
+    (λ c. search needs)
     returns
-    enum-told
-    enum-told-2
-    enum-told-3
+    (λ c. search needs)
+    (λ c. search needs)
+    (λ c. search needs)
     returns-2
     returns-3
     returns-4

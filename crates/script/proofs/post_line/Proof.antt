@@ -7,24 +7,9 @@ use borrow.Author.Needs.{needs}
 use Rattle.script.proofs.post_line.Statement.{statement}
 use Rattle.script.proofs.post_line.Tie as tie
 
-post-shaped-requires : tie.Need-post-shaped-requires
-post-shaped-requires c κs = search needs
-
 returns : tie.Need-returns
 unfolding postLine
 returns c = rw (refused (c .if1 .taken) (c .before .post-shaped .ensures))
-
-natural-at-requires : tie.Need-natural-at-requires
-natural-at-requires c κs = search needs
-
-natural-at-requires-2 : tie.Need-natural-at-requires-2
-natural-at-requires-2 c κs = search needs
-
-natural-at-requires-3 : tie.Need-natural-at-requires-3
-natural-at-requires-3 c κs = search needs
-
-whole-at-requires : tie.Need-whole-at-requires
-whole-at-requires c κs = search needs
 
 returns-2 : tie.Need-returns-2
 unfolding postLine
@@ -41,10 +26,10 @@ pub post-line-spec : {M : Type 1} → statement M
 post-line-spec =
     tie.close
     (tie.spec
-    post-shaped-requires
+    (λ c κs. search needs)
     returns
-    natural-at-requires
-    natural-at-requires-2
-    natural-at-requires-3
-    whole-at-requires
+    (λ c κs. search needs)
+    (λ c κs. search needs)
+    (λ c κs. search needs)
+    (λ c κs. search needs)
     returns-2)

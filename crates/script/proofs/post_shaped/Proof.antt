@@ -6,22 +6,13 @@ use borrow.Author.Needs.{needs}
 use Rattle.script.proofs.post_shaped.Statement.{statement}
 use Rattle.script.proofs.post_shaped.Tie as tie
 
-shaped-requires : tie.Need-shaped-requires
-shaped-requires c κs = search needs
-
 returns : tie.Need-returns
 unfolding postShaped
 returns c = rw (refused (c .if1 .taken) (c .before .shaped .ensures))
 
-natural-at-requires : tie.Need-natural-at-requires
-natural-at-requires c κs = search needs
-
 returns-2 : tie.Need-returns-2
 unfolding postShaped
 returns-2 c = rw (passed (c .before .before .if1 .left) (c .before .before .before .shaped .ensures), le-ltb _ 1_000_000_000 (rw (c .before .natural-at .ensures) at (c .if2 .taken)))
-
-natural-at-requires-2 : tie.Need-natural-at-requires-2
-natural-at-requires-2 c κs = search needs
 
 returns-3 : tie.Need-returns-3
 unfolding postShaped
@@ -31,9 +22,6 @@ returns-3 c = rw (
   le-ltb _ 1_000_000_000 (rw (c .before .natural-at2 .ensures) at (c .if3 .taken)),
 )
 
-natural-at-requires-3 : tie.Need-natural-at-requires-3
-natural-at-requires-3 c κs = search needs
-
 returns-4 : tie.Need-returns-4
 unfolding postShaped
 returns-4 c = rw (
@@ -42,9 +30,6 @@ returns-4 c = rw (
   lt-ltb _ 1_000_000_000 (rw (c .before .before .before .natural-at2 .ensures) at (c .before .before .if3 .left)),
   le-ltb _ 1_000_000_000 (rw (c .before .natural-at3 .ensures) at (c .if4 .taken)),
 )
-
-is-whole-at-requires : tie.Need-is-whole-at-requires
-is-whole-at-requires c κs = search needs
 
 returns-5 : tie.Need-returns-5
 unfolding postShaped
@@ -59,13 +44,13 @@ pub post-shaped-spec : {M : Type 1} → statement M
 post-shaped-spec =
     tie.close
     (tie.spec
-    shaped-requires
+    (λ c κs. search needs)
     returns
-    natural-at-requires
+    (λ c κs. search needs)
     returns-2
-    natural-at-requires-2
+    (λ c κs. search needs)
     returns-3
-    natural-at-requires-3
+    (λ c κs. search needs)
     returns-4
-    is-whole-at-requires
+    (λ c κs. search needs)
     returns-5)

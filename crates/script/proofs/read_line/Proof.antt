@@ -7,9 +7,6 @@ use borrow.Author.Needs.{needs}
 use Rattle.script.proofs.read_line.Statement.{statement}
 use Rattle.script.proofs.read_line.Tie as tie
 
-size-line-requires : tie.Need-size-line-requires
-size-line-requires c κs = search needs
-
 returns : tie.Need-returns
 unfolding commandOf
 returns c = c .size-line .ensures ∙ rw (eq-eqb _ _ (c .before .if1 .taken))
@@ -17,18 +14,9 @@ returns c = c .size-line .ensures ∙ rw (eq-eqb _ _ (c .before .if1 .taken))
 returns-2 : tie.Need-returns-2
 returns-2 c = no-letter _ _ (c .before .if1 .left) (c .if2 .taken)
 
-shared-slice-read-if3 : tie.Need-shared-slice-read-if3
-shared-slice-read-if3 c = search needs
-
-post-line-requires : tie.Need-post-line-requires
-post-line-requires c κs = search needs
-
 returns-3 : tie.Need-returns-3
 unfolding commandOf
 returns-3 c = c .post-line .ensures ∙ rw (ne-eqb _ _ (c .before .before .before .before .if1 .left), eq-eqb _ _ (c .before .if3 .taken))
-
-round-line-requires : tie.Need-round-line-requires
-round-line-requires c κs = search needs
 
 returns-4 : tie.Need-returns-4
 unfolding commandOf
@@ -38,11 +26,11 @@ pub read-line-spec : {M : Type 1} → statement M
 read-line-spec =
     tie.close
     (tie.spec
-    size-line-requires
+    (λ c κs. search needs)
     returns
     returns-2
-    shared-slice-read-if3
-    post-line-requires
+    (λ c. search needs)
+    (λ c κs. search needs)
     returns-3
-    round-line-requires
+    (λ c κs. search needs)
     returns-4)

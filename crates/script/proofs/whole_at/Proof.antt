@@ -8,23 +8,8 @@ use borrow.Author.Needs.{needs}
 use Rattle.script.proofs.whole_at.Statement.{statement}
 use Rattle.script.proofs.whole_at.Tie as tie
 
-field-requires : tie.Need-field-requires
-field-requires c κs = search needs
-
-enum-known-reading : tie.Need-enum-known-reading
-enum-known-reading c = search needs
-
 signed-requires : tie.Need-signed-requires
 signed-requires c κs = field-nine _ _ _ _ (sym (c .before .before .before .field .ensures) ∙ c .before .reading .given .1)
-
-enum-told : tie.Need-enum-told
-enum-told c = search needs
-
-enum-told-2 : tie.Need-enum-told-2
-enum-told-2 c = search needs
-
-enum-told-3 : tie.Need-enum-told-3
-enum-told-3 c = search needs
 
 returns : tie.Need-returns
 returns c =
@@ -45,12 +30,12 @@ pub whole-at-spec : {M : Type 1} → statement M
 whole-at-spec =
     tie.close
     (tie.spec
-    field-requires
-    enum-known-reading
+    (λ c κs. search needs)
+    (λ c. search needs)
     signed-requires
-    enum-told
-    enum-told-2
-    enum-told-3
+    (λ c. search needs)
+    (λ c. search needs)
+    (λ c. search needs)
     returns
     returns-2
     returns-3

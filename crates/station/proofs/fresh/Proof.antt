@@ -1,8 +1,8 @@
 -- `station::fresh` names no limit.
 use mathlib.Core.Path.{ap, _∙_}
 use borrow.Author.Needs.{needs}
-use Rattle.station_rules.specs.declared.Setup.{Setup}
-use Rattle.station_rules.specs.Calls.{freshCall}
+use Rattle.station_spec.specs.declared.Setup.{Setup}
+use Rattle.station_spec.specs.Calls.{freshCall}
 use Rattle.station.proofs.fresh.Statement.{statement}
 use Rattle.station.proofs.fresh.Tie as tie
 

@@ -3,7 +3,7 @@ use native.Mathlib.Omega.{arith}
 use mathlib.Core.Path.{sym, _∙_}
 use borrow.Author.Needs.{needs}
 use borrow.Author.Tests.{not-true, not-false}
-use Rattle.station_rules.proofs.CallSteps.{valid-parts, fresh-done, fresh-unlimited, fresh-no-edition, fresh-refused}
+use Rattle.station_spec.proofs.CallSteps.{valid-parts, fresh-done, fresh-unlimited, fresh-no-edition, fresh-refused}
 use Rattle.station.proofs.fresh_limited.Statement.{statement}
 use Rattle.station.proofs.fresh_limited.Tie as tie
 

@@ -1,6 +1,6 @@
 -- `station::no_turn` meets its contract.
 use mathlib.Core.Path.{refl}
-use Rattle.station_rules.specs.Calls.{noTurn}
+use Rattle.station_spec.specs.Calls.{noTurn}
 use Rattle.station.proofs.no_turn.Statement.{statement}
 use Rattle.station.proofs.no_turn.Tie as tie
 

@@ -2,23 +2,23 @@
 use mathlib.Core.Bool.{true}
 use mathlib.Core.Path.{_≡_, sym, ap, _∙_}
 use borrow.Author.Tests.{not-true, not-false}
-use Rattle.kind_limits.specs.Limits.{postable, onChannel}
-use Rattle.lanes.specs.declared.Waiting.{Waiting}
-use Rattle.lanes.specs.Waiting.{isDesk}
-use Rattle.station_rules.specs.declared.Station.{Station}
-use Rattle.station_rules.specs.declared.Kept.{Kept}
-use Rattle.station_rules.specs.State.{withWaiting}
-use Rattle.station_rules.specs.Limits.{stationInside}
-use Rattle.station_rules.specs.Calls.{posted}
-use Rattle.station_rules.proofs.CallSteps.{post-outside, post-no-desk, post-no-edit, post-off-channel, post-full, post-done}
-use Rattle.lanes.proofs.WaitingLaws.{room-most}
-use Rattle.station_rules.proofs.StationLimits.{inside-open}
+use Rattle.bodies.specs.Limits.{postable, onChannel}
+use Rattle.queues.specs.declared.Waiting.{Waiting}
+use Rattle.queues.specs.Waiting.{isDesk}
+use Rattle.station_spec.specs.declared.Station.{Station}
+use Rattle.station_spec.specs.declared.StationAnswer.{StationAnswer}
+use Rattle.station_spec.specs.State.{withWaiting}
+use Rattle.station_spec.specs.Limits.{stationInside}
+use Rattle.station_spec.specs.Calls.{posted}
+use Rattle.station_spec.proofs.CallSteps.{post-outside, post-no-desk, post-no-edit, post-off-channel, post-full, post-done}
+use Rattle.queues.proofs.WaitingLaws.{room-most}
+use Rattle.station_spec.proofs.StationLimits.{inside-open}
 use borrow.Author.Needs.{needs}
 use Rattle.station.proofs.post.Statement.{statement}
 use Rattle.station.proofs.post.Tie as tie
 
 -- the answer with other waiting edits
-abbrev answer : Station → Waiting → Kept
+abbrev answer : Station → Waiting → StationAnswer
 answer s w = record { refusal = 0; station = withWaiting s w }
 
 -- what each passed test says
@@ -34,20 +34,11 @@ edit c = sym (c .before .postable .ensures) ∙ not-false _ (c .if3 .left)
 channel : (c : tie.Else4) → onChannel (c .before .before .before .before .before .before .before .before .args .s .edition) (c .before .before .before .before .before .before .before .before .args .body) ≡ true
 channel c = sym (c .before .on-channel .ensures) ∙ not-false _ (c .if4 .left)
 
-station-inside-requires : tie.Need-station-inside-requires
-station-inside-requires c κs = search needs
-
 returns : tie.Need-returns
 returns c = post-outside _ _ _ (sym (c .before .station-inside .ensures) ∙ not-true _ (c .if1 .taken))
 
-is-desk-requires : tie.Need-is-desk-requires
-is-desk-requires c κs = search needs
-
 returns-2 : tie.Need-returns-2
 returns-2 c = post-no-desk _ _ _ (inside (c .before .before)) (sym (c .before .is-desk .ensures) ∙ not-true _ (c .if2 .taken))
-
-postable-requires : tie.Need-postable-requires
-postable-requires c κs = search needs
 
 returns-3 : tie.Need-returns-3
 returns-3 c =
@@ -87,11 +78,11 @@ pub post-spec : {M : Type 1} → statement M
 post-spec =
     tie.close
     (tie.spec
-    station-inside-requires
+    (λ c κs. search needs)
     returns
-    is-desk-requires
+    (λ c κs. search needs)
     returns-2
-    postable-requires
+    (λ c κs. search needs)
     returns-3
     (λ c κs. search needs)
     returns-4

@@ -1,8 +1,8 @@
 -- `station::turn` meets its contract: a station inside its limits takes its turn.
 use mathlib.Core.Path.{_≡_, sym, _∙_}
 use mathlib.Core.Bool.{true, false}
-use Rattle.station_rules.specs.Limits.{stationInside}
-use Rattle.station_rules.specs.Calls.{turnCall}
+use Rattle.station_spec.specs.Limits.{stationInside}
+use Rattle.station_spec.specs.Calls.{turnCall}
 use borrow.Author.Needs.{needs}
 use Rattle.station.proofs.turn.Statement.{statement}
 use Rattle.station.proofs.turn.Tie as tie

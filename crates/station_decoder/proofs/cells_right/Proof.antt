@@ -4,8 +4,8 @@ use mathlib.Core.Bool.{true}
 use Prim.Native.Nat.{_≤_, _-_, _+_, _*_}
 use native.Mathlib.Omega.{arith}
 use borrow.Author.Tests.{not-true, not-false}
-use Rattle.places.specs.Places.{allBelow}
-use Rattle.places.proofs.Laws.{allBelow-fails, allBelow-more}
+use Rattle.lists.specs.Below.{allBelow}
+use Rattle.lists.proofs.Laws.{allBelow-fails, allBelow-more}
 use Rattle.station_bytes_spec.specs.Station.{cellWidth, isCell}
 use Rattle.station_decoder.proofs.Reading.{all-none, all-of}
 use Rattle.station_decoder.proofs.cells_right.Statement.{statement}

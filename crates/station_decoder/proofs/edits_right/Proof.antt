@@ -4,8 +4,8 @@ use mathlib.Core.Bool.{true}
 use Prim.Native.Nat.{_≤_, _-_, _+_, _*_}
 use native.Mathlib.Omega.{arith}
 use borrow.Author.Tests.{not-true, not-false}
-use Rattle.places.specs.Places.{allBelow}
-use Rattle.places.proofs.Laws.{allBelow-more}
+use Rattle.lists.specs.Below.{allBelow}
+use Rattle.lists.proofs.Laws.{allBelow-more}
 use Rattle.station_bytes_spec.specs.Body.{isBody}
 use Rattle.station_decoder.proofs.Reading.{all-none, no-edit, all-edits}
 use Rattle.station_decoder.proofs.edits_right.Statement.{statement}

@@ -3,26 +3,26 @@ use mathlib.Core.Path.{_≡_}
 use Prim.Native.Nat.{_≤_, _-_}
 use native.Mathlib.Omega.{arith}
 use lib.ListN.{replicate}
-use Rattle.places.specs.Places.{fill}
-use Rattle.lanes.specs.Queue.{noSlot}
-use Rattle.station_decoder.proofs.Reading.{fill-none, fill-next, editIn, edits-read}
+use Rattle.lists.specs.Below.{setBelow}
+use Rattle.queues.specs.Queue.{noSlot}
+use Rattle.station_decoder.proofs.Reading.{setBelow-none, setBelow-next, editIn, edits-read}
 use Rattle.station_decoder.proofs.read_edits.Statement.{statement}
 use Rattle.station_decoder.proofs.read_edits.Tie as tie
 
 abbrev Inv-loop : tie.InvT-loop
-Inv-loop bytes at slots₀ i₀ slots i = (i ≤ 32) × (slots ≡ fill i (editIn bytes at) (replicate 32 noSlot))
+Inv-loop bytes at slots₀ i₀ slots i = (i ≤ 32) × (slots ≡ setBelow i (editIn bytes at) (replicate 32 noSlot))
 
 abbrev μ-loop : tie.MeasureT-loop
 μ-loop bytes at slots₀ i₀ slots i = 32 - i
 
 loop-holds : tie.Need-loop-holds Inv-loop μ-loop
-loop-holds c = (omega arith, fill-none _ _)
+loop-holds c = (omega arith, setBelow-none _ _)
 
 loop-again : tie.Need-loop-again Inv-loop μ-loop
 loop-again c =
     let l = c .before .before .loop in
     let s = c .before .before .before .before .args in
-    (omega arith, fill-next (l .i) (editIn (s .bytes .now) (s .at)) (replicate 32 noSlot) (l .slots) _ (l .inv .1) (λ j. record { body = c .read-body .ensures j }))
+    (omega arith, setBelow-next (l .i) (editIn (s .bytes .now) (s .at)) (replicate 32 noSlot) (l .slots) _ (l .inv .1) (λ j. record { body = c .read-body .ensures j }))
 
 returns : tie.Need-returns Inv-loop μ-loop
 returns c = edits-read _ _ _ _ (omega arith) (c .before .loop .inv .1)

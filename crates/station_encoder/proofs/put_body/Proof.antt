@@ -1,6 +1,6 @@
 -- `station_encoder::put_body` meets its contract: four bytes and two words, one behind the other.
 use native.Mathlib.Omega.{arith}
-use Rattle.record_writer.proofs.Writing.{kind-small}
+use Rattle.records.proofs.Writing.{kind-small}
 use Rattle.station_encoder.proofs.Writing.{body-written}
 use borrow.Author.Needs.{needs}
 use Rattle.station_encoder.proofs.put_body.Statement.{statement}

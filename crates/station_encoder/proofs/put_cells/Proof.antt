@@ -4,7 +4,7 @@ use Prim.Native.Nat.{_≤_, _-_}
 use native.Mathlib.Omega.{arith}
 use lib.ListN.{length}
 use lib.Seq.{sets}
-use Rattle.station_rules.specs.State.{cellOf}
+use Rattle.station_spec.specs.State.{cellOf}
 use Rattle.station_bytes_spec.specs.Bytes.{joinedBelow}
 use Rattle.station_bytes_spec.specs.Station.{cellWidth, encodeCell}
 use Rattle.station_bytes_spec.proofs.Station.{length-cell}

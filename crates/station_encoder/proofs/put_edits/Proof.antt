@@ -5,8 +5,8 @@ use native.Mathlib.Omega.{arith}
 use mathlib.Core.List.{List}
 use lib.ListN.{getD, length}
 use lib.Seq.{sets}
-use Rattle.lanes.specs.declared.Slot.{Slot}
-use Rattle.lanes.specs.Queue.{noSlot}
+use Rattle.queues.specs.declared.Slot.{Slot}
+use Rattle.queues.specs.Queue.{noSlot}
 use Rattle.station_bytes_spec.specs.Bytes.{joinedBelow}
 use Rattle.station_bytes_spec.specs.Body.{encodeBody}
 use Rattle.station_bytes_spec.proofs.Body.{length-body}

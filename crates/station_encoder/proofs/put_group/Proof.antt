@@ -4,7 +4,7 @@ use Prim.Native.Nat.{_≤_, _-_}
 use native.Mathlib.Omega.{arith}
 use lib.ListN.{length}
 use lib.Seq.{sets}
-use Rattle.group_rules.specs.State.{stationAt}
+use Rattle.group_spec.specs.State.{stationAt}
 use Rattle.station_bytes_spec.specs.Bytes.{joinedBelow}
 use Rattle.station_bytes_spec.specs.Station.{stationWidth, encodeStation}
 use Rattle.station_bytes_spec.specs.Group.{encodeGroup}

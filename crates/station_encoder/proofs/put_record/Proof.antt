@@ -1,6 +1,6 @@
 -- `station_encoder::put_record` meets its contract: four writes, one behind the other.
 use native.Mathlib.Omega.{arith}
-use Rattle.record_writer.proofs.Writing.{kind-small}
+use Rattle.records.proofs.Writing.{kind-small}
 use Rattle.station_encoder.proofs.Writing.{record-written}
 use borrow.Author.Needs.{needs}
 use Rattle.station_encoder.proofs.put_record.Statement.{statement}

@@ -5,11 +5,11 @@ use mathlib.Core.Path.{_≡_, ap, _∙_}
 use native.Mathlib.Omega.{arith}
 use borrow.Author.Needs.{needs}
 use lib.ListN.{length, replicate, length-append}
-use Rattle.frame_rules.specs.Calls.{bufferWith}
-use Rattle.station_rules.specs.declared.Station.{Station}
-use Rattle.station_rules.specs.Calls.{frameOf}
-use Rattle.station_rules.proofs.StationLimits.{Inside, inside-open}
-use Rattle.station_rules.proofs.WriteSteps.{frame-is}
+use Rattle.frame_spec.specs.Calls.{bufferWith}
+use Rattle.station_spec.specs.declared.Station.{Station}
+use Rattle.station_spec.specs.Calls.{frameOf}
+use Rattle.station_spec.proofs.StationLimits.{Inside, inside-open}
+use Rattle.station_spec.proofs.WriteSteps.{frame-is}
 use Rattle.station_frames.proofs.OwnFrame.{own-fits}
 use Rattle.station_frames.proofs.Copied.{both-are, written-roomed, roomed-length}
 use Rattle.station_frames.proofs.beside.Statement.{statement}

@@ -9,17 +9,17 @@ use lib.Seq.{take-at}
 use native.Mathlib.Omega.{arith}
 use borrow.Author.Needs.{needs}
 use borrow.Author.Tests.{not-true, not-false}
-use Rattle.station_rules.specs.declared.Station.{Station}
-use Rattle.station_rules.specs.declared.Taking.{Taking}
-use Rattle.station_rules.specs.Limits.{stationInside}
-use Rattle.station_rules.specs.Hearing.{Hearing, noTaking, silent, hearFrame}
-use Rattle.station_rules.specs.Calls.{sourcesOf}
-use Rattle.frame_rules.specs.Frame.{frameRefusal, recordsOf}
-use Rattle.station_rules.proofs.StationLimits.{inside-open}
-use Rattle.station_rules.proofs.CallSteps.{hear-outside, hear-refused, hear-stopped, hear-done}
+use Rattle.station_spec.specs.declared.Station.{Station}
+use Rattle.station_spec.specs.declared.Taking.{Taking}
+use Rattle.station_spec.specs.Limits.{stationInside}
+use Rattle.station_spec.specs.Hearing.{Hearing, noTaking, initialHearing, hearFrame}
+use Rattle.station_spec.specs.Calls.{sourcesOf}
+use Rattle.frame_spec.specs.Frame.{frameRefusal, recordsOf}
+use Rattle.station_spec.proofs.StationLimits.{inside-open}
+use Rattle.station_spec.proofs.CallSteps.{hear-outside, hear-refused, hear-stopped, hear-done}
 use Rattle.hearing_spec.specs.Buffer.{sizeIn, takingAt}
 use Rattle.hearing_spec.specs.Room.{FrameRoom}
-use Rattle.acting.specs.Listened.{takingsAt}
+use Rattle.listening.specs.Listened.{takingsAt}
 use Rattle.listening.specs.Listening.{MayListen, frameHeard}
 use Rattle.station_frames.specs.Beside.{beside}
 use Rattle.station_frames.proofs.HeardBeside.{heard-fits, may-listen, heard-room, heard-is, heard-size}
@@ -77,9 +77,9 @@ module _ (c : tie.After-listen-to) where
   abbrev d : tie.Else2
   d = c .before .before .before .before .before
 
-  heard-frame : frameHeard (c .before .before .before .before .beside .result) 260 (silent (s d)) ≡ hearFrame (silent (s d)) (recordsOf (bytes d))
+  heard-frame : frameHeard (c .before .before .before .before .beside .result) 260 (initialHearing (s d)) ≡ hearFrame (initialHearing (s d)) (recordsOf (bytes d))
   heard-frame =
-      ap (λ (b : List ℕ). frameHeard b 260 (silent (s d))) (c .before .before .before .before .beside .ensures) ∙ heard-is (s d) (inside d) (bytes d) (accepted d)
+      ap (λ (b : List ℕ). frameHeard b 260 (initialHearing (s d))) (c .before .before .before .before .beside .ensures) ∙ heard-is (s d) (inside d) (bytes d) (accepted d)
 
 returns-3 : tie.Need-returns-3
 returns-3 c =

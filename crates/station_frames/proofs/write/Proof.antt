@@ -6,11 +6,11 @@ use Prim.Native.Nat.{ℕ}
 use native.Mathlib.Omega.{arith}
 use lib.ListN.{length}
 use borrow.Author.Tests.{not-true, not-false}
-use Rattle.frame_rules.specs.Calls.{written, bufferWith}
-use Rattle.station_rules.specs.State.{cellOf}
-use Rattle.station_rules.specs.Limits.{stationInside}
-use Rattle.station_rules.proofs.StationLimits.{Inside, inside-open}
-use Rattle.station_rules.proofs.WriteSteps.{writable, frame-is, write-outside, kept-outside, write-count, kept-count, write-frame, buffer-frame}
+use Rattle.frame_spec.specs.Calls.{written, bufferWith}
+use Rattle.station_spec.specs.State.{cellOf}
+use Rattle.station_spec.specs.Limits.{stationInside}
+use Rattle.station_spec.proofs.StationLimits.{Inside, inside-open}
+use Rattle.station_spec.proofs.WriteSteps.{writable, frame-is, write-outside, kept-outside, write-count, kept-count, write-frame, buffer-frame}
 use borrow.Author.Needs.{needs}
 use Rattle.station_frames.proofs.write.Statement.{statement}
 use Rattle.station_frames.proofs.write.Tie as tie
@@ -21,9 +21,6 @@ within c = sym (c .before .station-inside .ensures) ∙ not-false _ (c .if1 .lef
 
 inside : (c : tie.Else1) → Inside (c .before .before .before .args .t1)
 inside c = inside-open (c .before .before .before .args .t1) (within c)
-
-station-inside-requires : tie.Need-station-inside-requires
-station-inside-requires c κs = search needs
 
 returns : tie.Need-returns
 returns c =
@@ -51,9 +48,6 @@ returns-2 c =
 write-table-requires : tie.Need-write-table-requires
 write-table-requires c κs = writable _ (inside (c .before .before .before .before .before .before))
 
-same-length : tie.Need-same-length
-same-length c = search needs
-
 returns-3 : tie.Need-returns-3
 unfolding cellOf
 returns-3 c =
@@ -71,12 +65,12 @@ pub write-spec : {M : Type 1} → statement M
 write-spec =
     tie.close
     (tie.spec
-    station-inside-requires
+    (λ c κs. search needs)
     returns
     mul-record
     element-copy-out-record
     count-fits-requires
     returns-2
     write-table-requires
-    same-length
+    (λ c. search needs)
     returns-3)

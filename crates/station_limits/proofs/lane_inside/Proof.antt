@@ -5,7 +5,7 @@ use Prim.Native.Nat.{_≤_}
 use native.Mathlib.Omega.{arith}
 use borrow.Author.Needs.{needs}
 use borrow.Author.Tests.{le-leb, lt-leb, eq-eqb, ne-eqb, not-true, not-false}
-use Rattle.station_rules.specs.Limits.{laneInside, takeable}
+use Rattle.station_spec.specs.Limits.{laneInside, takeable}
 use Rattle.station_limits.proofs.lane_inside.Statement.{statement}
 use Rattle.station_limits.proofs.lane_inside.Tie as tie
 

@@ -2,7 +2,7 @@
 use mathlib.Core.Path.{_≡_, sym, ap, _∙_}
 use mathlib.Core.Bool.{true, false, not, _||_}
 use borrow.Author.Tests.{le-leb, lt-leb, not-true, not-false}
-use Rattle.station_rules.specs.Limits.{recordInside, laneInside}
+use Rattle.station_spec.specs.Limits.{recordInside, laneInside}
 use Prim.Native.Nat.{ℕ}
 use borrow.Author.Needs.{needs}
 use Rattle.station_limits.proofs.place_inside.Statement.{statement}
@@ -11,20 +11,11 @@ use Rattle.station_limits.proofs.place_inside.Tie as tie
 returns : tie.Need-returns
 returns c = rw (lt-leb _ _ (c .if1 .taken))
 
-held-inside-requires : tie.Need-held-inside-requires
-held-inside-requires c κs = search needs
-
 returns-2 : tie.Need-returns-2
 returns-2 c =
     let a = c .before .before .before .args in
     let e : (not (a .held) || recordInside (a .edition) (a .n) (a .own) (a .k) (a .«record»)) ≡ false = sym (c .before .held-inside .ensures) ∙ not-true _ (c .if2 .taken) in
     rw (le-leb _ _ (c .before .before .if1 .left), e)
-
-lane-room-requires : tie.Need-lane-room-requires
-lane-room-requires c κs = search needs
-
-lane-inside-requires : tie.Need-lane-inside-requires
-lane-inside-requires c κs = search needs
 
 returns-3 : tie.Need-returns-3
 returns-3 c =
@@ -37,8 +28,8 @@ place-inside-spec =
     tie.close
     (tie.spec
     returns
-    held-inside-requires
+    (λ c κs. search needs)
     returns-2
-    lane-room-requires
-    lane-inside-requires
+    (λ c κs. search needs)
+    (λ c κs. search needs)
     returns-3)

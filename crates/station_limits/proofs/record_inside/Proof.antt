@@ -5,10 +5,10 @@ use mathlib.Core.Path.{_≡_, sym, ap, _∙_}
 use mathlib.Core.Bool.{Bool, true, false, _&&_, _||_}
 use lib.Dec.{ltb, eqb}
 use borrow.Author.Tests.{lt-ltb, eq-eqb, ne-eqb, not-true, not-false}
-use Rattle.kind_limits.specs.Limits.{insideKind, bodyInside}
-use Rattle.label_words.specs.Packing.{labelsInside}
-use Rattle.frame_rules.specs.Record.{countInside}
-use Rattle.station_rules.specs.Limits.{recordInside}
+use Rattle.bodies.specs.Limits.{insideKind, bodyInside}
+use Rattle.labels.specs.Packing.{labelsInside}
+use Rattle.frame_spec.specs.Record.{countInside}
+use Rattle.station_spec.specs.Limits.{recordInside}
 use borrow.Author.Needs.{needs}
 use Rattle.station_limits.proofs.record_inside.Statement.{statement}
 use Rattle.station_limits.proofs.record_inside.Tie as tie
@@ -17,15 +17,9 @@ use Rattle.station_limits.proofs.record_inside.Tie as tie
 below : (n k station : ℕ) → station ≡ k → k < n → ltb station n ≡ true
 below n k station e b = lt-ltb station n (omega arith)
 
-cast-if1 : tie.Need-cast-if1
-cast-if1 c = search needs
-
 returns : tie.Need-returns
 unfolding recordInside
 returns c = rw (ne-eqb _ _ (c .if1 .taken))
-
-count-inside-requires : tie.Need-count-inside-requires
-count-inside-requires c κs = search needs
 
 returns-2 : tie.Need-returns-2
 unfolding recordInside
@@ -34,9 +28,6 @@ returns-2 c =
     let e : (eqb (a .k) (a .own) || countInside (a .n) (a .«record» .count)) ≡ false = sym (c .before .count-inside .ensures) ∙ not-true _ (c .if2 .taken) in
     let s = c .before .before .if1 .left in
     rw (eq-eqb _ _ s, below (a .n) (a .k) (a .«record» .station) s (omega arith), e)
-
-body-inside-requires : tie.Need-body-inside-requires
-body-inside-requires c κs = search needs
 
 returns-3 : tie.Need-returns-3
 unfolding recordInside bodyInside insideKind
@@ -48,9 +39,6 @@ returns-3 c =
     let s = b .before .if1 .left in
     rw (eq-eqb _ _ s, below (a .n) (a .k) (a .«record» .station) s (omega arith), e)
     (ap (λ (t : Bool). t && labelsInside (a .n) (a .«record» .labels)) (sym f))
-
-labels-inside-requires : tie.Need-labels-inside-requires
-labels-inside-requires c κs = search needs
 
 returns-4 : tie.Need-returns-4
 unfolding recordInside bodyInside insideKind
@@ -67,11 +55,11 @@ pub record-inside-spec : {M : Type 1} → statement M
 record-inside-spec =
     tie.close
     (tie.spec
-    cast-if1
+    (λ c. search needs)
     returns
-    count-inside-requires
+    (λ c κs. search needs)
     returns-2
-    body-inside-requires
+    (λ c κs. search needs)
     returns-3
-    labels-inside-requires
+    (λ c κs. search needs)
     returns-4)

@@ -5,15 +5,15 @@ use mathlib.Core.Path.{_≡_, refl, sym, _∙_}
 use mathlib.Core.Bool.{Bool, true, false, _&&_}
 use borrow.Author.Needs.{needs}
 use borrow.Author.Tests.{not-true, not-false}
-use Rattle.kind_limits.specs.Limits.{isEdition, bodyInside}
-use Rattle.frame_rules.specs.Frame.{validNumber}
-use Rattle.places.specs.Places.{allBelow}
-use Rattle.places.proofs.Laws.{allBelow-more, allBelow-fails}
-use Rattle.station_rules.specs.declared.Station.{Station}
-use Rattle.station_rules.specs.State.{cellOf, ackedOf, heldOf}
-use Rattle.lanes.specs.Waiting.{waitingInside}
-use Rattle.station_rules.specs.Limits.{placeInside, stationInside}
-use Rattle.station_rules.proofs.CallSteps.{valid-parts}
+use Rattle.bodies.specs.Limits.{isEdition, bodyInside}
+use Rattle.frame_spec.specs.Frame.{validNumber}
+use Rattle.lists.specs.Below.{allBelow}
+use Rattle.lists.proofs.Laws.{allBelow-more, allBelow-fails}
+use Rattle.station_spec.specs.declared.Station.{Station}
+use Rattle.station_spec.specs.State.{cellOf, ackedOf, heldOf}
+use Rattle.queues.specs.Waiting.{waitingInside}
+use Rattle.station_spec.specs.Limits.{placeInside, stationInside}
+use Rattle.station_spec.proofs.CallSteps.{valid-parts}
 use Rattle.station_limits.proofs.station_inside.Statement.{statement}
 use Rattle.station_limits.proofs.station_inside.Tie as tie
 
@@ -55,9 +55,6 @@ held c = not-false _ (c .if4 .left)
 body : (c : tie.Else5 Inv-loop μ-loop) → bodyInside (c .before .before .before .before .before .before .before .before .before .before .args .t1 .edition) (c .before .before .before .before .before .before .before .before .before .before .args .t1 .body) ≡ true
 body c = sym (c .before .body-inside .ensures) ∙ not-false _ (c .if5 .left)
 
-valid-number-requires : tie.Need-valid-number-requires Inv-loop μ-loop
-valid-number-requires c κs = search needs
-
 returns : tie.Need-returns Inv-loop μ-loop
 unfolding stationInside
 returns c =
@@ -89,18 +86,12 @@ returns-4 c =
     let s = c .before .before .before .before .before .before .before .before .args .t1 in
     rw (valid (c .before .before .before .before .before .before), known (c .before .before .before .before), acked (c .before .before), not-true (heldOf s (s .own)) (c .if4 .taken))
 
-body-inside-requires : tie.Need-body-inside-requires Inv-loop μ-loop
-body-inside-requires c κs = search needs
-
 returns-5 : tie.Need-returns-5 Inv-loop μ-loop
 unfolding stationInside
 returns-5 c =
     let s = c .before .before .before .before .before .before .before .before .before .before .args .t1 in
     let e : bodyInside (s .edition) (s .body) ≡ false = sym (c .before .body-inside .ensures) ∙ not-true _ (c .if5 .taken) in
     rw (valid (c .before .before .before .before .before .before .before .before), known (c .before .before .before .before .before .before), acked (c .before .before .before .before), held (c .before .before), e)
-
-waiting-inside-requires : tie.Need-waiting-inside-requires Inv-loop μ-loop
-waiting-inside-requires c κs = search needs
 
 returns-6 : tie.Need-returns-6 Inv-loop μ-loop
 unfolding stationInside
@@ -127,27 +118,6 @@ loop-holds c =
       refl,
     )
 
-element-copy-out-place-inside : tie.Need-element-copy-out-place-inside Inv-loop μ-loop
-element-copy-out-place-inside c = search needs
-
-element-copy-out-place-inside-2 : tie.Need-element-copy-out-place-inside-2 Inv-loop μ-loop
-element-copy-out-place-inside-2 c = search needs
-
-mul-place-inside : tie.Need-mul-place-inside Inv-loop μ-loop
-mul-place-inside c = search needs
-
-element-copy-out-place-inside-3 : tie.Need-element-copy-out-place-inside-3 Inv-loop μ-loop
-element-copy-out-place-inside-3 c = search needs
-
-mul-place-inside-2 : tie.Need-mul-place-inside-2 Inv-loop μ-loop
-mul-place-inside-2 c = search needs
-
-element-copy-out-place-inside-4 : tie.Need-element-copy-out-place-inside-4 Inv-loop μ-loop
-element-copy-out-place-inside-4 c = search needs
-
-place-inside-requires : tie.Need-place-inside-requires Inv-loop μ-loop
-place-inside-requires c κs = search needs
-
 returns-7 : tie.Need-returns-7 Inv-loop μ-loop
 unfolding stationInside
 returns-7 c =
@@ -155,12 +125,6 @@ returns-7 c =
     let s = h .before .before .before .before .before .before .before .before .before .before .before .before .before .before .args .t1 in
     let e : placeInside s (h .loop .k) ≡ false = unfold cellOf placeInside in (sym (c .before .place-inside .ensures) ∙ not-true _ (c .if7 .taken)) in
     rw (h .loop .inv .6) (sym (allBelow-fails (s .n) (placeInside s) (h .loop .k) (omega arith) e))
-
-add-k : tie.Need-add-k Inv-loop μ-loop
-add-k c = search needs
-
-loop-less : tie.Need-loop-less Inv-loop μ-loop
-loop-less c = search needs
 
 loop-again : tie.Need-loop-again Inv-loop μ-loop
 loop-again c =
@@ -183,7 +147,7 @@ station-inside-spec =
     (tie.spec
     Inv-loop
     μ-loop
-    valid-number-requires
+    (λ c κs. search needs)
     returns
     (λ c κs. search needs)
     returns-2
@@ -191,20 +155,20 @@ station-inside-spec =
     returns-3
     element-copy-out-if4
     returns-4
-    body-inside-requires
+    (λ c κs. search needs)
     returns-5
-    waiting-inside-requires
+    (λ c κs. search needs)
     returns-6
     loop-holds
-    element-copy-out-place-inside
-    element-copy-out-place-inside-2
-    mul-place-inside
-    element-copy-out-place-inside-3
-    mul-place-inside-2
-    element-copy-out-place-inside-4
-    place-inside-requires
+    (λ c. search needs)
+    (λ c. search needs)
+    (λ c. search needs)
+    (λ c. search needs)
+    (λ c. search needs)
+    (λ c. search needs)
+    (λ c κs. search needs)
     returns-7
-    add-k
-    loop-less
+    (λ c. search needs)
+    (λ c. search needs)
     loop-again
     returns-8)

@@ -6,8 +6,8 @@ use native.Mathlib.Omega.{arith}
 use lib.Dec.{eqb}
 use lib.ListN.{getD}
 use borrow.Author.Needs.{needs}
-use Rattle.places.specs.Places.{anyBelow}
-use Rattle.places.proofs.Laws.{anyBelow-hit}
+use Rattle.lists.specs.Below.{anyBelow}
+use Rattle.lists.proofs.Laws.{anyBelow-hit}
 use Rattle.bulletin_limits.specs.Lent.{standsIn}
 use Rattle.bulletins.proofs.Free.{any-more}
 use Rattle.bulletins.proofs.issuing.has_tag.Statement.{statement}

@@ -5,8 +5,8 @@ use mathlib.Core.Path.{_≡_, ap₂, _∙_}
 use native.Mathlib.Omega.{arith}
 use lib.ListN.{getD, set, take}
 use borrow.Author.Needs.{needs}
-use Rattle.places.specs.Places.{fill}
-use Rattle.places.proofs.Laws.{fill-more}
+use Rattle.lists.specs.Below.{setBelow}
+use Rattle.lists.proofs.Laws.{setBelow-more}
 use Rattle.bulletins_spec.specs.declared.Shown.{Shown}
 use Rattle.bulletins_spec.specs.Order.{picked}
 use Rattle.bulletins_spec.specs.Calls.{shownOf, noneShown}
@@ -17,14 +17,14 @@ use Rattle.bulletins.proofs.showing.all_shown.Tie as tie
 abbrev Inv-loop : tie.InvT-loop
 Inv-loop places tags events before after n shown₀ p₀ shown p =
     (p ≤ n)
-    × (shown ≡ fill p
+    × (shown ≡ setBelow p
     (λ q. shownOf (picked (newIn (getD before q 0) (getD after q 0)) (noticeIn tags events) (take (4 * n) places))) noneShown)
 
 abbrev μ-loop : tie.MeasureT-loop
 μ-loop places tags events before after n shown₀ p₀ shown p = n - p
 
 loop-holds : tie.Need-loop-holds Inv-loop μ-loop
-unfolding fill
+unfolding setBelow
 loop-holds c = (omega arith, c .none-shown .ensures)
 
 shown-by-requires : tie.Need-shown-by-requires Inv-loop μ-loop
@@ -36,7 +36,7 @@ loop-again c =
     let l = c .before .before .before .before .loop in (
       omega arith,
       ap₂ (λ (x : List Shown) (y : Shown). set x (l .p) y) (l .inv .1) (c .shown-by .ensures)
-          ∙ fill-more (l .p)
+          ∙ setBelow-more (l .p)
           (λ q. shownOf (picked (newIn (getD (a .before .now) q 0) (getD (a .after .now) q 0)) (noticeIn (a .tags .now) (a .events .now)) (take (4 * a .n) (a .places .now))))
           noneShown,
     )

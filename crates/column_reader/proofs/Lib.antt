@@ -1,4 +1,0 @@
-pub mod Digits
-pub mod Steps
-pub mod RoundTrip
-pub mod Only

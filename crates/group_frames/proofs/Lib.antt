@@ -1,4 +1,0 @@
-pub mod SendSteps
-pub mod SentFrame
-pub mod GroupFrames
-pub mod WrittenFrames

@@ -1,5 +1,0 @@
-pub mod Laws
-pub mod Packing
-pub mod Word
-pub mod Made
-pub mod Examples

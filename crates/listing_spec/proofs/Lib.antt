@@ -1,0 +1,12 @@
+pub mod Answers
+pub mod Computing
+pub mod Example
+pub mod Stopped
+pub mod Overlong
+pub mod Commands
+pub mod ScriptCalls
+pub mod LineEnds
+pub mod Steps
+pub mod Held
+pub mod Parts
+pub mod WholeScript

@@ -1,0 +1,3 @@
+pub mod ReadWords
+pub mod WrittenWords
+pub mod Writing

@@ -1,0 +1,26 @@
+-- `sessions::commands::apply_post` keeps the group that the post returned.
+use mathlib.Core.Path.{refl}
+use Rattle.listing_spec.specs.Listing.{postedBy}
+use Rattle.listing_spec.proofs.Answers.{post-made}
+use borrow.Author.Needs.{needs}
+use Rattle.sessions.proofs.commands.apply_post.Statement.{statement}
+use Rattle.sessions.proofs.commands.apply_post.Tie as tie
+
+post-requires : tie.Need-post-requires
+post-requires c κs = search needs
+
+put-post-requires : tie.Need-put-post-requires
+put-post-requires c κs = search needs
+
+same-length : tie.Need-same-length
+same-length c = search needs
+
+returns : tie.Need-returns
+unfolding postedBy
+returns c =
+    let made = c .before .before .before .before .before in
+    post-made (made .before .before .before .args .s) _ _ _ _ _ _ (made .post .ensures)
+    (record { session = refl; put = c .before .before .before .put-post .ensures })
+
+pub apply-post-spec : {M : Type 1} → statement M
+apply-post-spec = tie.close (tie.spec post-requires put-post-requires same-length returns)

@@ -1,0 +1,2 @@
+mod AirSteps
+pub mod TurnSteps
