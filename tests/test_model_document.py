@@ -1,13 +1,12 @@
 """What docs/MODEL.md claims of late frames, computed with the model: the run that it shows, how few rounds are enough
 to break demand 3, and how many do no harm to two stations."""
 
-import pathlib
 import random
-import re
-import subprocess
 import tempfile
 import unittest
 
+import console_blocks
+from console_blocks import ROOT
 from late_listing import late_run
 from model import demand3, listing
 from model.bodies import DROP, Body
@@ -15,7 +14,6 @@ from model.late import LateRun, explore
 from model.lines import PostLine, RoundLine
 from model.scripts import script_of
 
-ROOT = pathlib.Path(__file__).resolve().parent.parent
 DOCUMENT = (ROOT / "docs" / "MODEL.md").read_text(encoding="utf-8")
 DRAWN = 60
 
@@ -49,16 +47,9 @@ def drawn_run(seed, lateness):
 
 class Document(unittest.TestCase):
     def test_blocks(self):
-        """Each command prints what the page shows after it."""
-        commands = [found for block in re.findall(r"(?ms)^```console\n(.*?)^```$", DOCUMENT)
-                    for found in re.findall(r"(?m)^\$ (.*)\n((?:(?!\$ ).*\n)*)", block)]
-        self.assertEqual(len(commands), 3)
+        self.assertEqual(len(console_blocks.commands(DOCUMENT)), 3)
         with tempfile.TemporaryDirectory() as folder:
-            pathlib.Path(folder, "tests").symlink_to(ROOT / "tests")
-            for line, shown in commands:
-                done = subprocess.run(line, shell=True, cwd=folder, stdin=subprocess.DEVNULL, stdout=subprocess.PIPE,
-                                      stderr=subprocess.STDOUT, text=True, check=False)
-                self.assertEqual(done.stdout, shown, line)
+            console_blocks.run(self, DOCUMENT, folder, ("tests",))
 
 
 class Late(unittest.TestCase):
