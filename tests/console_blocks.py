@@ -15,8 +15,8 @@ def commands(document):
 
 
 def run(test, document, folder, names):
-    """Runs the commands one after another in one folder, so that one can use what those before it made, and compares what
-    they print. The folder gets links to these names of the repository's top."""
+    """Runs the commands one after another in one folder, so that one can use what those before it made, and compares
+    what they print. The folder gets links to these names of the repository's top."""
     for name in names:
         pathlib.Path(folder, name).symlink_to(ROOT / name)
     for line, shown in commands(document):

@@ -1,4 +1,4 @@
-"""The model's listing of a script in which one frame is heard late: what document 01 forbids (H4), and what comes of it.
+"""The model's listing of a script in which one frame is heard late, which document 01 forbids (H4).
 
     python3 tests/late_listing.py SCRIPT ROUND HEARER SENDER WRITTEN
 

@@ -38,12 +38,13 @@ class Cited(unittest.TestCase):
         self.assertGreater(found, 15)
 
     def test_guarantees(self):
-        """Every name in backquotes, with a file or without one, stands for something: a definition, theorem or field, a type or
-        function of the code, or a crate."""
+        """Every name in backquotes, with a file or without one, stands for something: a definition, theorem or field, a
+        type or function of the code, or a crate."""
         crates = ROOT / "crates"
         known = {path.name for path in crates.iterdir()} | {"must-fail", "specs"}
+        form = re.compile(r"(?m)^\s*(?:\w+ )*([\w-]+) :|^\s*(?:pub )?(?:record|data) (\w+)")
         for path in crates.rglob("*.antt"):
-            for named in re.findall(r"(?m)^\s*(?:\w+ )*([\w-]+) :|^\s*(?:pub )?(?:record|data) (\w+)", path.read_text(encoding="utf-8")):
+            for named in form.findall(path.read_text(encoding="utf-8")):
                 known.update(named)
         for path in crates.rglob("*.rt"):
             known.update(re.findall(r"\b(?:fn|struct|enum) (\w+)", path.read_text(encoding="utf-8")))

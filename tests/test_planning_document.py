@@ -21,7 +21,7 @@ class Document(unittest.TestCase):
             drawn = {path.name: path.read_bytes() for path in pathlib.Path(folder).glob("*.svg")}
         self.assertEqual(set(re.findall(r"\]\(([\w-]+\.(?:svg|png))\)", DOCUMENT)), set(drawn) | {"screen.png"})
         for name, picture in drawn.items():
-            self.assertTrue(picture == (ROOT / "docs" / name).read_bytes(), f"docs/{name} is not what the command draws")
+            self.assertTrue(picture == (ROOT / "docs" / name).read_bytes(), f"docs/{name} is not what is drawn")
 
     def test_every_block_is_run(self):
         """Every block is marked `console` and is a command with what it prints; no block is indented instead."""
