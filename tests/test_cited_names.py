@@ -52,6 +52,16 @@ class Cited(unittest.TestCase):
         self.assertGreater(len(names), 200)
         self.assertEqual(names - known, set())
 
+    def test_guarantees_are_whole(self):
+        """Each request has its section, in order; each house rule and each function for C is named."""
+        text = DOCUMENTS["GUARANTEES.md"]
+        self.assertEqual(re.findall(r"(?m)^## (A\d+):", text), [f"A{k}" for k in range(1, 15)])
+        header = (ROOT / "include" / "relay.h").read_text(encoding="utf-8")
+        exported = re.findall(r"(?m)^uint32_t (\w+)\(", header)
+        self.assertGreater(len(exported), 20)
+        for name in ["H1", "H2", "H3", "H4", *exported]:
+            self.assertRegex(text, rf"\b{name}\b")
+
     def test_functions(self):
         for document, text in DOCUMENTS.items():
             for crate, name in re.findall(r"`([a-z_]+)::([a-z_]+)`", text):
