@@ -16,7 +16,20 @@
    A station's state is RELAY_STATION_BYTES bytes, a group's RELAY_GROUP_BYTES; the places of all fields
    are given below. The host may copy, save, send and load a state as it likes, and it may change it:
    every call judges the state first, and one that is outside its limits is refused with 2. Equal states
-   are equal bytes. */
+   are equal bytes.
+
+   Where to begin: examples/station.c is a whole program, and its first lines have the command that
+   compiles it. A host makes its station with relay_station_fresh, takes edits at any time with
+   relay_station_post, and does this in every round:
+
+       relay_station_write   writes the station's frame, which the host sends with the number of the round
+       relay_station_hear    for each frame of this round that came, by ascending sender; a frame of
+                             another round is dropped
+       relay_station_turn    closes the round; its report says what was aired, ended and started
+
+   The state is saved after the turn, before the report is acted on and the next frame is sent:
+   docs/HOST.md says why. To try a whole group in one program, relay_group_fresh, relay_group_post and
+   relay_group_round do all of that for up to sixteen stations. */
 #ifndef RELAY_H
 #define RELAY_H
 

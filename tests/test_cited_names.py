@@ -16,6 +16,11 @@ def text_of(crate, file):
     return path.read_text(encoding="utf-8") if path.is_file() else ""
 
 
+def defines(text, name):
+    """The text has a definition, a theorem, a field, a record or a data type of this name."""
+    return re.search(rf"(?m)^\s*(?:\w+ )*{name} :|^\s*(?:pub )?(?:record|data) {name}\b", text)
+
+
 class Cited(unittest.TestCase):
     def test_files(self):
         for document, text in DOCUMENTS.items():
@@ -29,8 +34,33 @@ class Cited(unittest.TestCase):
             for names, crate, file in re.findall(NAMES + r",? \(?" + FILE, text):
                 for name in re.findall(r"`([\w-]+)`", names):
                     found += 1
-                    self.assertTrue(re.search(rf"(?m)^\s*(?:\w+ )*{name} :", text_of(crate, file)), f"{document}: {name} of {crate}/{file}")
+                    self.assertTrue(defines(text_of(crate, file), name), f"{document}: {name} of {crate}/{file}")
         self.assertGreater(found, 15)
+
+    def test_guarantees(self):
+        """Every name in backquotes, with a file or without one, stands for something: a definition, theorem or field, a
+        type or function of the code, or a crate."""
+        crates = ROOT / "crates"
+        known = {path.name for path in crates.iterdir()} | {"must-fail", "specs"}
+        form = re.compile(r"(?m)^\s*(?:\w+ )*([\w-]+) :|^\s*(?:pub )?(?:record|data) (\w+)")
+        for path in crates.rglob("*.antt"):
+            for named in form.findall(path.read_text(encoding="utf-8")):
+                known.update(named)
+        for path in crates.rglob("*.rt"):
+            known.update(re.findall(r"\b(?:fn|struct|enum) (\w+)", path.read_text(encoding="utf-8")))
+        names = set(re.findall(r"`(?:\w+\.)?([a-z][\w-]*|[A-Z][a-z][\w-]*)`", DOCUMENTS["GUARANTEES.md"]))
+        self.assertGreater(len(names), 200)
+        self.assertEqual(names - known, set())
+
+    def test_guarantees_are_whole(self):
+        """Each request has its section, in order; each house rule and each function for C is named."""
+        text = DOCUMENTS["GUARANTEES.md"]
+        self.assertEqual(re.findall(r"(?m)^## (A\d+):", text), [f"A{k}" for k in range(1, 15)])
+        header = (ROOT / "include" / "relay.h").read_text(encoding="utf-8")
+        exported = re.findall(r"(?m)^uint32_t (\w+)\(", header)
+        self.assertGreater(len(exported), 20)
+        for name in ["H1", "H2", "H3", "H4", *exported]:
+            self.assertRegex(text, rf"\b{name}\b")
 
     def test_functions(self):
         for document, text in DOCUMENTS.items():

@@ -11,8 +11,10 @@ import pathlib
 import re
 import shlex
 import subprocess
+import tempfile
 import unittest
 
+import console_blocks
 from model import listing
 
 ROOT = pathlib.Path(__file__).resolve().parent.parent
@@ -54,6 +56,13 @@ class Document(unittest.TestCase):
 
     def test_the_command_prints_them(self):
         self.check(command_listing)
+
+    def test_commands(self):
+        """The blocks marked `console`: each command prints what stands under it."""
+        text = DOCUMENT.decode()
+        self.assertGreaterEqual(len(console_blocks.commands(text)), 4)
+        with tempfile.TemporaryDirectory() as folder:
+            console_blocks.run(self, text, folder, ("relay", "listing", "examples"))
 
     def test_every_letter_is_shown(self):
         printed = b"".join(text for _, text in examples())
