@@ -10,7 +10,8 @@ use lib.Signed.{leZ}
 use Rattle.bodies.specs.Refusals.{done, badNumber, badListing, refuse}
 use Rattle.listing_spec.specs.Listing.{listingOf}
 use Rattle.air_logs_spec.specs.declared.Compared.{Compared}
-use Rattle.air_logs_spec.specs.declared.Compared.the-variants.{Equal, FirstBegins, SecondBegins, Different, Refused}
+use Rattle.air_logs_spec.specs.declared.Compared.the-variants.{Equal, FirstBegins, SecondBegins}
+use Rattle.air_logs_spec.specs.declared.Compared.the-variants.{Different, Refused}
 use Rattle.air_logs_spec.specs.Form.{isListing}
 use Rattle.air_logs_spec.specs.Logs.{Edit, logOf}
 

@@ -55,8 +55,8 @@ sameBody a b =
     && (leZ (argumentOf a) (argumentOf b) && leZ (argumentOf b) (argumentOf a))
     && eqb (channelOf a) (channelOf b)
 
--- the body of a kind with its event, argument and channel; numbers that the kind does not have are left out, and a number
--- that is no kind gives Empty
+-- the body of a kind with its event, argument and channel; numbers that the kind does not have are
+-- left out, and a number that is no kind gives Empty
 unfoldable pub bodyOf : ℕ → ℕ → ℤ → ℕ → Body
 bodyOf kind event argument channel =
     cond (eqb kind 1) Neutral

@@ -69,11 +69,13 @@ badDesk = 15
 abbrev pub badListing : ℕ
 badListing = 16
 
--- an edition is neither 0 nor 1, or a posted edit's channel is none for edits of its station's edition (document 02, A9)
+-- an edition is neither 0 nor 1, or a posted edit's channel is none for edits of its station's
+-- edition (document 02, A9)
 abbrev pub badEdition : ℕ
 badEdition = 17
 
--- a question names a station that is not among N, has a number below 1, is not whole, or is past the 64th (document 02, A11)
+-- a question names a station that is not among N, has a number below 1, is not whole, or is past
+-- the 64th (document 02, A11)
 abbrev pub badQuestion : ℕ
 badQuestion = 18
 

@@ -7,7 +7,8 @@ ghost use Rattle.bodies.specs.Body.{kindOf, eventOf, argumentOf, channel
 
 pub mod refusals;
 
-// What a record carries: document 01's five kinds, each with its own numbers, and the channel of an edit (document 02, A9).
+// What a record carries: document 01's five kinds, each with its own numbers, and the channel of an
+// edit (document 02, A9).
 pub enum Body {
     Empty,
     Neutral,
@@ -127,8 +128,8 @@ pub fn is_edit(body: Body) -> bool
     2 <= kind_of(body)
 }
 
-// The body of a kind with its event, argument and channel. A kind leaves out the numbers that it does not have, and a number
-// that is no kind gives Empty.
+// The body of a kind with its event, argument and channel. A kind leaves out the numbers that it
+// does not have, and a number that is no kind gives Empty.
 pub fn body_of(kind: u32, event: u32, argument: i32, channel: u8) -> Body
     ensures { λ r. ⌜ r ≡ bodyOf kind event argument channel ⌝ }
 {

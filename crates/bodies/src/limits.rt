@@ -1,7 +1,8 @@
 // The one table of kinds with their limits, the channels of an edition, and the tests of bodies by them.
 
 ghost use mathlib.Core.Path.{_≡_};
-ghost use Rattle.bodies.specs.Limits.{numbersInside, channelInside, onChannel, insideKind, bodyInside, postable, mayWait};
+ghost use Rattle.bodies.specs.Limits.{numbersInside, channelInside, onChannel};
+ghost use Rattle.bodies.specs.Limits.{insideKind, bodyInside, postable, mayWait};
 use super::Body;
 
 // One row of the table of kinds: the least and the most of its event and of its argument.

@@ -1,4 +1,5 @@
-// What a call returns: 0 where it is done, else the refusal of document 01's list "Turned down" or of a request of document 02.
+// What a call returns: 0 where it is done, else the refusal of document 01's list "Turned down" or
+// of a request of document 02.
 
 pub const DONE: u32 = 0;
 

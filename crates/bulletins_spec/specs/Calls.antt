@@ -19,7 +19,8 @@ use Rattle.bulletins_spec.specs.declared.Shown.{Shown}
 use Rattle.bulletins_spec.specs.declared.BulletinsAnswer.{BulletinsAnswer}
 use Rattle.bulletins_spec.specs.declared.IssueDone.{IssueDone}
 use Rattle.bulletins_spec.specs.declared.BulletinsRound.{BulletinsRound}
-use Rattle.bulletins_spec.specs.State.{setOf, holds, stands, tagAt, noticeAt, eventInside, bulletinsInside, freshBulletins}
+use Rattle.bulletins_spec.specs.State.{setOf, holds, stands, tagAt, noticeAt}
+use Rattle.bulletins_spec.specs.State.{eventInside, bulletinsInside, freshBulletins}
 use Rattle.bulletins_spec.specs.Order.{inOrder, picked}
 
 -- fresh: 1; a refused call returns the fresh state of N = 1
@@ -112,7 +113,8 @@ allShown B masks = setBelow (B .n) (λ p. shownOf (shownBy B masks p)) noneShown
 abbrev pub fits : List Station → Bulletins → Bool
 fits g B = bulletinsInside B && eqb (sizeOf g) (B .n)
 
--- the group's part of the answer: 2 where the bulletins do not fit the group, else what the group's round gives (2, 10, then 14 or 8)
+-- the group's part of the answer: 2 where the bulletins do not fit the group, else what the group's
+-- round gives (2, 10, then 14 or 8)
 unfoldable pub roundPart : List Station → Bulletins → List ℕ → RoundDone
 roundPart g B masks =
     cond (fits g B) (roundCall g masks) (record { refusal = outsideLimits; group = g; reports = replicate 16 noReport })

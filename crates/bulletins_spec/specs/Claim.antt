@@ -19,8 +19,8 @@ pub record FirstBy (L : Links) (a t b u : ℕ) : Type 0 where
   pub reached : RelayBy L a t b u
   pub first : (v : ℕ) → RelayBy L a t b v → u ≤ v
 
--- station p has to show b in round u: its issuer in the round of issue, another in the first round by which a relay from the issuer has reached it after
--- the round of issue
+-- station p has to show b in round u: its issuer in the round of issue, another in the first round
+-- by which a relay from the issuer has reached it after the round of issue
 pub record Due (L : Links) (issues : List Issued) (p u : ℕ) (b : Notice) : Type 0 where
   pub after : ℕ
   pub accepted : List·Memᴰ (record { notice = b; after = after }) issues
@@ -48,10 +48,13 @@ pub data Once : List Issued → Type 0 where
 
 pub record Claim (n : ℕ) (H : History) : Type 0 where
   -- a station shows a bulletin exactly when it is due
-  pub shows : (p u : ℕ) → p < n → u ≤ length (H .rounds) → (b : Notice) → Shows H p u b ↔ Due (ofLog n (H .group .log)) (H .issues) p u b
+  pub shows :
+      (p u : ℕ) → p < n → u ≤ length (H .rounds) → (b : Notice) →
+      Shows H p u b ↔ Due (ofLog n (H .group .log)) (H .issues) p u b
   -- so once: not in two rounds, nor with two events
   pub shows-once :
-      (p u v : ℕ) → p < n → u ≤ length (H .rounds) → v ≤ length (H .rounds) → (b c : Notice) → b .issuer ≡ c .issuer → b .tag ≡ c .tag →
+      (p u v : ℕ) → p < n → u ≤ length (H .rounds) → v ≤ length (H .rounds) →
+      (b c : Notice) → b .issuer ≡ c .issuer → b .tag ≡ c .tag →
       Shows H p u b → Shows H p v c → (u ≡ v) × (b ≡ c)
   -- what one round shows comes by issuer, then tag
   pub ordered : (p u : ℕ) → p < n → u < length (H .rounds) → Ascends (shownIn (H .rounds) p (suc u))
@@ -64,9 +67,11 @@ pub record Claim (n : ℕ) (H : History) : Type 0 where
   -- the group's part of each round is what the group's own round gave
   pub as-many : length (H .rounds) ≡ length (H .group .rounds)
   pub group-part :
-      (u : ℕ) → u < length (H .rounds) → (getD (H .rounds) u noBulletinsRound) .round ≡ getD (H .group .rounds) u noRound
+      (u : ℕ) → u < length (H .rounds) →
+      (getD (H .rounds) u noBulletinsRound) .round ≡ getD (H .group .rounds) u noRound
 
--- for every fresh group that is not refused and every list: the claim, and the group's history is that of the list without its issues
+-- for every fresh group that is not refused and every list: the claim, and the group's history is
+-- that of the list without its issues
 abbrev pub BulletinsShown : Type 0
 BulletinsShown =
     (setup : Setup) → groupFreshRefusal setup ≡ done → (entries : List Entry) →

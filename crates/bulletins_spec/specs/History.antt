@@ -36,7 +36,8 @@ pub record Answer : Type 0 where
   pub after : ℕ
   pub notice : Notice
 
--- what a list leaves: the group and what its own calls gave, the bulletins, the accepted issues, what their answers show, and what the rounds returned
+-- what a list leaves: the group and what its own calls gave, the bulletins, the accepted issues,
+-- what their answers show, and what the rounds returned
 pub record History : Type 0 where
   pub group : group.History
   pub bulletins : Bulletins
@@ -44,8 +45,8 @@ pub record History : Type 0 where
   pub answers : List Answer
   pub rounds : List BulletinsRound
 
--- one entry more. A round is given the group that the call before it left; that the group's part of its answer is what the group's own round gives is
--- a claim (`Claim.group-part`)
+-- one entry more. A round is given the group that the call before it left; that the group's part of
+-- its answer is what the group's own round gives is a claim (`Claim.group-part`)
 unfoldable pub next : History → Entry → History
 next H (call (post x)) =
     record {
@@ -72,7 +73,8 @@ next H (issue i tag event) =
       group = H .group;
       bulletins = made .bulletins;
       issues =
-          H .issues ++ cond accepted (record { notice = record { issuer = i; tag = tag; event = event }; after = u } ∷ []) [];
+          H .issues
+          ++ cond accepted (record { notice = record { issuer = i; tag = tag; event = event }; after = u } ∷ []) [];
       answers = H .answers ++ cond accepted (record { station = i; after = u; notice = made .shown } ∷ []) [];
       rounds = H .rounds;
     }

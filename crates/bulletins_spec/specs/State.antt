@@ -51,8 +51,8 @@ abbrev pub ownInside : Bulletins → ℕ → Bool
 ownInside B s =
     not (stands B s) || (eventInside (eventAt B s) && allBelow 4 (λ k. otherTag B s (4 * issuerOf s + k)))
 
--- the state is inside its limits. That a station holds a bulletin once, that the issuer's has the same event, and that an issuer has at most four
--- is so in every state of this form
+-- the state is inside its limits. That a station holds a bulletin once, that the issuer's has the
+-- same event, and that an issuer has at most four is so in every state of this form
 unfoldable pub bulletinsInside : Bulletins → Bool
 bulletinsInside B =
     (leb 1 (B .n) && leb (B .n) 16) &&

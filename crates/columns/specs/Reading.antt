@@ -1,6 +1,8 @@
--- Document 01, "The relay listing": a number right-justified in its columns, read from the left. Blanks come first, then at most one minus, then the digits up to
--- the last column; no leading zero, no minus before a zero, at most nine digits. `reads-exactly` (proofs/Only) says the same without the order of reading: bytes
--- are read as a number exactly if they are what `columns` of `Writing` writes of it.
+-- Document 01, "The relay listing": a number right-justified in its columns, read from the left.
+-- Blanks come first, then at most one minus, then the digits up to the last column; no leading
+-- zero, no minus before a zero, at most nine digits. `reads-exactly` (proofs/Only) says the same
+-- without the order of reading: bytes are read as a number exactly if they are what `columns` of
+-- `Writing` writes of it.
 use Prim.Native.Nat.{ℕ, _+_, _-_, _*_}
 use mathlib.Core.Bool.{Bool, true, false, cond, _&&_, _||_}
 use mathlib.Core.List.{List, [], _∷_}

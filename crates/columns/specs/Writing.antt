@@ -14,8 +14,8 @@ lead false w = replicate w 32
 lead true zero = []
 lead true (suc w) = replicate w 32 ++ (45 ∷ [])
 
--- a number in w columns, behind a minus or not: its last digit in the last column, before it the number without that digit. A number that does not fit
--- loses what stands first.
+-- a number in w columns, behind a minus or not: its last digit in the last column, before it the
+-- number without that digit. A number that does not fit loses what stands first.
 unfoldable pub columns : Bool → ℕ → ℕ → List ℕ
 columns minus zero v = []
 columns minus (suc w) v = cond (ltb v 10) (lead minus w) (columns minus w (v / 10)) ++ ((48 + v % 10) ∷ [])

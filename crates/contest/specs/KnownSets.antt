@@ -1,5 +1,6 @@
--- The contest over sets of stations, which the functions' contracts speak of. Four sets, for one station s: that at place p has the stations of which p
--- knows that they have the broadcast of s. What the contest is says `contest_spec`.
+-- The contest over sets of stations, which the functions' contracts speak of. Four sets, for one
+-- station s: that at place p has the stations of which p knows that they have the broadcast of s.
+-- What the contest is says `contest_spec`.
 use mathlib.Core.Bool.{Bool, false, not, _||_}
 use mathlib.Core.List.{List}
 use Prim.Native.Nat.{ℕ, zero, suc, _+_, _*_}

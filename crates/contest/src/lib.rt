@@ -1,4 +1,5 @@
-// The link contest (document 02, A13). Of one station s, the set at place p has the stations of which p knows that they have the broadcast of s.
+// The link contest (document 02, A13). Of one station s, the set at place p has the stations of
+// which p knows that they have the broadcast of s.
 ghost use mathlib.Core.Path.{_≡_};
 ghost use mathlib.Core.Bool.{cond, false};
 ghost use Prim.Native.Nat.{_+_, _*_, _<_, _≤_};
@@ -60,7 +61,8 @@ fn learn(know: [u16; 4], masks: &[u16], at: usize, n: usize, s: usize) -> [u16; 
     next
 }
 
-// Can the keeper force the end from these sets, at least one round played, with so many rounds left? The next pick is the keeper's or the breaker's.
+// Can the keeper force the end from these sets, at least one round played, with so many rounds
+// left? The next pick is the keeper's or the breaker's.
 fn wins(
     know: [u16; 4],
     masks: &[u16],
@@ -139,8 +141,9 @@ fn refusal_of(n: usize, s: usize, masks: usize, rounds: usize) -> u32
     DONE
 }
 
-// Who can force the result about station s of n, with the sets that the masks hold, n a set, over so many rounds.
-// 1: n is not 1 to 16, or s is not below n. 20: n is above 4, the masks are not one to four whole sets, or there are more than six rounds.
+// Who can force the result about station s of n, with the sets that the masks hold, n a set, over
+// so many rounds. 1: n is not 1 to 16, or s is not below n. 20: n is above 4, the masks are not one
+// to four whole sets, or there are more than six rounds.
 pub fn contest(n: usize, s: usize, masks: &[u16], rounds: usize) -> ContestAnswer
     ensures { λ r. ⌜ r ≡ contestCall n s (now (masks .entry)) rounds ⌝ }
 {

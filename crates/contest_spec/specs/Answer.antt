@@ -12,7 +12,8 @@ use Rattle.contest_spec.specs.declared.ContestAnswer.the-variants.{Refus
 use Rattle.contest_spec.specs.Contest.{KeeperForcesBy, BreakerForces}
 use Rattle.contest_spec.specs.Winner.{keeperWins, firstPick}
 
--- 1: N is not 1 to 16, or s is not below N. 20: N is above 4; the masks are not one to four whole sets; there are more than six rounds
+-- 1: N is not 1 to 16, or s is not below N. 20: N is above 4; the masks are not one to four whole
+-- sets; there are more than six rounds
 unfoldable pub contestRefusal : ℕ → ℕ → ℕ → ℕ → ℕ
 contestRefusal n s masks rounds =
     refuse (not (leb 1 n && leb n 16)) badNumber

@@ -1,5 +1,5 @@
--- Document 02, A13: the link contest. The sets are a list, numbered from 0; a set is a list of masks, one a station. A play is the list of its picks,
--- that of round 1 first.
+-- Document 02, A13: the link contest. The sets are a list, numbered from 0; a set is a list of
+-- masks, one a station. A play is the list of its picks, that of round 1 first.
 use mathlib.Core.Bool.{Bool, cond}
 use mathlib.Core.List.{List, [], _∷_, _++_}
 use mathlib.Core.Path.{_≡_}

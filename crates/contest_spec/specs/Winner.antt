@@ -1,5 +1,5 @@
--- Document 02, A13: which side can force the result, by recursion on the rounds left. `answer-means` (proofs/Meaning) says what the answer made of it
--- means by strategies.
+-- Document 02, A13: which side can force the result, by recursion on the rounds left.
+-- `answer-means` (proofs/Meaning) says what the answer made of it means by strategies.
 use mathlib.Core.Bool.{Bool, cond}
 use mathlib.Core.List.{List, [], _∷_, _++_}
 use Prim.Native.Nat.{ℕ, zero, suc, _-_}

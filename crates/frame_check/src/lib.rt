@@ -75,8 +75,8 @@ fn address_wrong(bytes: &[u8], edition: usize, n: usize, own: usize) -> bool
     n <= sender
 }
 
-// Are the records of a frame inside their limits, stations strictly ascending, the sender's among them? `least` is the least
-// station that the next record may be of.
+// Are the records of a frame inside their limits, stations strictly ascending, the sender's among
+// them? `least` is the least station that the next record may be of.
 fn records_inside(bytes: &[u8], edition: usize, n: usize) -> bool
     requires { ⌜ (length (now bytes) ≡ 4 + 16 * getD (now bytes) 2 0) × (n ≤ 16) ⌝ }
     ensures { λ r. ⌜ r ≡ recordsInside edition (now (bytes .entry)) n ⌝ }

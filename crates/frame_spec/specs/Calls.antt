@@ -31,13 +31,15 @@ tableRecords n held table = filterMap n (λ k. getD held k false) (λ k. framed 
 -- the answer to writing a frame into room for some bytes: 9 where it is longer, else its length
 unfoldable pub written : List ℕ → ℕ → Written
 written frame room =
-    cond (ltb room (length frame)) (record { refusal = shortBuffer; len = 0 }) (record { refusal = done; len = length frame })
+    cond (ltb room (length frame)) (record { refusal = shortBuffer; len = 0 })
+    (record { refusal = done; len = length frame })
 
 -- the buffer afterwards: as it was where it is shorter than the frame, else the frame and then what stood past it
 unfoldable pub bufferWith : List ℕ → List ℕ → List ℕ
 bufferWith frame buffer = cond (ltb (length buffer) (length frame)) buffer (frame ++ drop (length frame) buffer)
 
--- the records at the held places may stand in a frame: each is of its place's station and inside the record limits, and the sender's is among them
+-- the records at the held places may stand in a frame: each is of its place's station and inside
+-- the record limits, and the sender's is among them
 unfoldable pub tableFits : ℕ → ℕ → ℕ → List Bool → List Record → Bool
 tableFits edition n sender held table =
     allBelow n (λ k. not (getD held k false) || placeFits edition n k (getD table k noRecord)) && getD held sender false

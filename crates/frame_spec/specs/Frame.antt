@@ -1,4 +1,5 @@
--- Document 01, "Frame bytes" and "Turned down", and document 02, A9: a frame of an edition, its check with every refusal in its order, its records, and its bytes.
+-- Document 01, "Frame bytes" and "Turned down", and document 02, A9: a frame of an edition, its
+-- check with every refusal in its order, its records, and its bytes.
 use Prim.Native.Nat.{ℕ, pred, _+_, _*_}
 use mathlib.Core.Bool.{Bool, not, _&&_, _||_}
 use mathlib.Core.List.{List, [], _∷_, _++_}
@@ -42,7 +43,9 @@ recordStation bytes k = getD (part bytes k) 0 0
 -- the record limits over a whole frame: each inside its own, stations strictly ascending, the sender's among them
 unfoldable pub recordsInside : ℕ → List ℕ → ℕ → Bool
 recordsInside edition bytes n =
-    allBelow (getD bytes 2 0) (λ k. bytesInside edition n (part bytes k) && (eqb k 0 || ltb (recordStation bytes (pred k)) (recordStation bytes k)))
+    allBelow (getD bytes 2 0)
+    (λ k. bytesInside edition n (part bytes k)
+    && (eqb k 0 || ltb (recordStation bytes (pred k)) (recordStation bytes k)))
     && anyBelow (getD bytes 2 0) (λ k. eqb (recordStation bytes k) (getD bytes 1 0))
 
 -- what hearing judges of a frame, in the order 5, 6, 7
@@ -71,8 +74,11 @@ recordsBytes n (r ∷ rs) = recordBytes n r ++ recordsBytes n rs
 unfoldable pub frameBytes : ℕ → ℕ → ℕ → List Record → List ℕ
 frameBytes edition n sender records = n ∷ sender ∷ length records ∷ edition ∷ recordsBytes n records
 
--- the record limits over records that are to be written: each inside its own, stations strictly ascending, the sender's among them
+-- the record limits over records that are to be written: each inside its own, stations strictly
+-- ascending, the sender's among them
 unfoldable pub recordsFit : ℕ → ℕ → ℕ → List Record → Bool
 recordsFit edition n sender rs =
-    allBelow (length rs) (λ k. recordFits edition n (getD rs k noRecord) && (eqb k 0 || ltb ((getD rs (pred k) noRecord) .station) ((getD rs k noRecord) .station)))
+    allBelow (length rs)
+    (λ k. recordFits edition n (getD rs k noRecord)
+    && (eqb k 0 || ltb ((getD rs (pred k) noRecord) .station) ((getD rs k noRecord) .station)))
     && anyBelow (length rs) (λ k. eqb ((getD rs k noRecord) .station) sender)

@@ -66,8 +66,8 @@ recordLimits edition n free r =
 unfoldable pub bytesInside : ℕ → ℕ → List ℕ → Bool
 bytesInside edition n bytes =
     let labels = wordAt bytes 12 in
-    fieldsInside edition n false (getD bytes 0 0) (getD bytes 1 0) (getD bytes 2 0) (wordAt bytes 4) (signed (wordAt bytes 8))
-    (getD bytes 3 0) labels
+    fieldsInside edition n false (getD bytes 0 0) (getD bytes 1 0) (getD bytes 2 0) (wordAt bytes 4)
+    (signed (wordAt bytes 8)) (getD bytes 3 0) labels
     && zeroFrom n labels
 
 -- a record that a frame of an edition may carry

@@ -1,4 +1,5 @@
-// What a record is, and the answers of the calls on frames. The definitions of bytes, records and frames and their laws stand beside; there is no code.
+// What a record is, and the answers of the calls on frames. The definitions of bytes, records and
+// frames and their laws stand beside; there is no code.
 
 use bodies::Body;
 

@@ -47,7 +47,8 @@ pub fn write_table(
     requires { ⌜ (n ≤ 16) × (sender < 256) × (edition < 256) ⌝ }
     ensures { λ r.
         ⌜ (r ≡ written (frameBytes edition n sender (tableRecords n held table)) (length (now (buffer .entry))))
-        × (now (buffer .exit) ≡ bufferWith (frameBytes edition n sender (tableRecords n held table)) (now (buffer .entry))) ⌝ }
+        × (now (buffer .exit)
+        ≡ bufferWith (frameBytes edition n sender (tableRecords n held table)) (now (buffer .entry))) ⌝ }
 {
     let count = held_count(held, n);
     let len = 4 + 16 * count;

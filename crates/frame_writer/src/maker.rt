@@ -62,8 +62,8 @@ fn table_fits(
     held[sender]
 }
 
-// Writing a frame: 1, 17, 7, 9, or the length of the frame of an edition that a sender among n stations makes of the records
-// at the held places of a table.
+// Writing a frame: 1, 17, 7, 9, or the length of the frame of an edition that a sender among n
+// stations makes of the records at the held places of a table.
 pub fn write_frame(
     buffer: &mut [u8],
     held: [bool; 16],

@@ -1,4 +1,5 @@
--- Document 01, "A group and its rounds" and "Turned down": group fresh, group post and round, each with its refusals in their order.
+-- Document 01, "A group and its rounds" and "Turned down": group fresh, group post and round, each
+-- with its refusals in their order.
 use Prim.Native.Nat.{ℕ, zero, suc, _-_}
 use mathlib.Core.Bool.{cond, not, _&&_}
 use mathlib.Core.List.{List, _++_}
@@ -50,7 +51,8 @@ unfoldable pub groupPostCall : List Station → Post → GroupAnswer
 groupPostCall g x =
     record { refusal = groupPostRefusal g x; group = cond (eqb (groupPostRefusal g x) done) (afterPost g x) g }
 
--- station i once it has heard the frames of the senders below k of its mask, by ascending sender; each frame is of the group before any hearing
+-- station i once it has heard the frames of the senders below k of its mask, by ascending sender;
+-- each frame is of the group before any hearing
 unfoldable pub heardBelow : List Station → List ℕ → ℕ → ℕ → Hearing
 heardBelow g masks i zero = initialHearing (stationAt g i)
 heardBelow g masks i (suc j) =
@@ -96,5 +98,9 @@ afterRound g masks = setBelow (sizeOf g) (λ i. afterTurn ((heard g masks i) .st
 unfoldable pub roundCall : List Station → List ℕ → RoundDone
 roundCall g masks =
     cond (eqb (roundRefusal g masks) done)
-    (record { refusal = done; group = afterRound g masks; reports = setBelow (sizeOf g) (reportOf g masks) (replicate 16 noReport) })
+    (record {
+      refusal = done;
+      group = afterRound g masks;
+      reports = setBelow (sizeOf g) (reportOf g masks) (replicate 16 noReport);
+    })
     (record { refusal = roundRefusal g masks; group = g; reports = replicate 16 noReport })

@@ -1,4 +1,5 @@
--- Document 02, A4: from a fresh group no record that a station hears conflicts with the one that it holds when that frame is heard.
+-- Document 02, A4: from a fresh group no record that a station hears conflicts with the one that it
+-- holds when that frame is heard.
 use Prim.Native.Nat.{ℕ, _<_}
 use mathlib.Core.Bool.{true}
 use mathlib.Core.List.{List}
@@ -15,7 +16,8 @@ use Rattle.group_spec.specs.State.{stationAt}
 use Rattle.group_spec.specs.Calls.{groupFreshRefusal, heardBelow}
 use Rattle.group_spec.specs.History.{Call, historyOf}
 
--- in a round of the group g of n stations: where p hears j, and the frame of j has a record of k, another station than p, that record does not conflict
+-- in a round of the group g of n stations: where p hears j, and the frame of j has a record of k,
+-- another station than p, that record does not conflict
 abbrev pub Calm : ℕ → List Station → List ℕ → Type 0
 Calm n g masks =
     (p j k : ℕ) → p < n → k < n → (k ≡ p → ⊥) → hearsIn n masks p j ≡ true → heldOf (stationAt g j) k ≡ true →

@@ -14,7 +14,8 @@ use Rattle.station_spec.specs.declared.Station.{Station}
 use Rattle.group_spec.specs.declared.Post.{Post}
 use Rattle.group_spec.specs.State.{stationAt, sizeOf, editionOf, groupInside}
 use Rattle.group_spec.specs.Calls.{groupFreshRefusal, groupPostRefusal}
-use Rattle.group_spec.specs.History.{History, Call, next, continued, historyOf, takingsOf, postsAt, postsOf, airedList}
+use Rattle.group_spec.specs.History.{History, Call, next, continued, historyOf}
+use Rattle.group_spec.specs.History.{takingsOf, postsAt, postsOf, airedList}
 use Rattle.group_spec.specs.Demand.{Begins}
 
 module _ {A : Type 0} where
@@ -59,13 +60,15 @@ pub record Desks (n : ℕ) (H : History) : Type 0 where
 
 -- every fresh group that is not refused, every list of calls
 abbrev pub TwoDesks : Type 0
-TwoDesks = (setup : Setup) → groupFreshRefusal setup ≡ done → (calls : List Call) → Desks (setup .n) (historyOf setup calls)
+TwoDesks =
+    (setup : Setup) → groupFreshRefusal setup ≡ done → (calls : List Call) → Desks (setup .n) (historyOf setup calls)
 
--- isolation: two groups inside their limits that agree in N, in their edition, in the limit of the post's station and in
--- the waiting edits of its desk refuse it alike
+-- isolation: two groups inside their limits that agree in N, in their edition, in the limit of the
+-- post's station and in the waiting edits of its desk refuse it alike
 abbrev pub Isolated : Type 0
 Isolated =
-    (g h : List Station) (x : Post) → groupInside g ≡ true → groupInside h ≡ true → sizeOf g ≡ sizeOf h → editionOf g ≡ editionOf h →
+    (g h : List Station) (x : Post) → groupInside g ≡ true → groupInside h ≡ true →
+    sizeOf g ≡ sizeOf h → editionOf g ≡ editionOf h →
     let v = (stationAt g (x .station)) .waiting in
     let w = (stationAt h (x .station)) .waiting in
     v .limit ≡ w .limit → waitingEdits v (x .desk) ≡ waitingEdits w (x .desk) →

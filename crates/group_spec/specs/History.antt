@@ -1,4 +1,5 @@
--- Document 01, "A group and its rounds", demand 3: one list of calls from a fresh group, and what the demand's words mean of it.
+-- Document 01, "A group and its rounds", demand 3: one list of calls from a fresh group, and what
+-- the demand's words mean of it.
 use Prim.Native.Nat.{ℕ, zero, suc}
 use mathlib.Core.Bool.{Bool, false, cond, _&&_}
 use mathlib.Core.List.{List, [], _∷_, _++_}
@@ -25,7 +26,8 @@ pub data Call : Type 0 where
   post : Post → Call
   round : List ℕ → Call
 
--- what a list of calls leaves: the group, what its rounds returned, the masks they were given, its accepted posts, and the edits that its turns started
+-- what a list of calls leaves: the group, what its rounds returned, the masks they were given, its
+-- accepted posts, and the edits that its turns started
 pub record History : Type 0 where
   pub group : List Station
   pub rounds : List RoundDone
@@ -37,12 +39,13 @@ pub record History : Type 0 where
 abbrev pub reportIn : RoundDone → ℕ → Report
 reportIn r p = getD (r .reports) p noReport
 
--- the edits that the turns of a round report as started, in station order; each is of the desk that was next in the group
--- before the round, for hearing leaves the waiting edits as they are
+-- the edits that the turns of a round report as started, in station order; each is of the desk that
+-- was next in the group before the round, for hearing leaves the waiting edits as they are
 unfoldable pub startsIn : List Station → RoundDone → List Post
 startsIn g r =
     filterMap (sizeOf g) (λ p. isEdit ((reportIn r p) .turn .«started_body»))
-    (λ p. record { station = p; desk = nextDesk ((stationAt g p) .waiting); body = (reportIn r p) .turn .«started_body» })
+    (λ p.
+    record { station = p; desk = nextDesk ((stationAt g p) .waiting); body = (reportIn r p) .turn .«started_body» })
 
 -- one call more
 unfoldable pub next : History → Call → History

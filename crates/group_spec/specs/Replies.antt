@@ -12,7 +12,8 @@ use Rattle.station_spec.specs.declared.Setup.{Setup}
 use Rattle.station_spec.specs.declared.Taking.{Taking}
 use Rattle.group_spec.specs.declared.Post.{Post}
 use Rattle.group_spec.specs.Calls.{noTaking, groupFreshRefusal, groupPostRefusal}
-use Rattle.group_spec.specs.History.{History, Call, post, next, continued, historyOf, takingsOf, postsOf, airedList}
+use Rattle.group_spec.specs.History.{History, Call, post, next, continued, historyOf}
+use Rattle.group_spec.specs.History.{takingsOf, postsOf, airedList}
 
 -- what tells an edit from all others; numbers and entries are counted from 0
 pub record Edit : Type 0 where

@@ -1,4 +1,5 @@
--- Document 01, "Frame bytes": the labels of a record in one word of 32 bits, the label of station k at bits 2k and 2k + 1.
+-- Document 01, "Frame bytes": the labels of a record in one word of 32 bits, the label of station k
+-- at bits 2k and 2k + 1.
 use Prim.Native.Nat.{ℕ, suc, zero, _+_, _*_, _/_, _%_, _^_}
 use mathlib.Core.Bool.{Bool, _&&_, _||_}
 use mathlib.Core.List.{List, [], _∷_}

@@ -27,7 +27,8 @@ headBytes round letter station source =
 
 -- kind in 2 columns, event in 9, argument in 9, and the line end
 unfoldable pub bodyBytes : Body → List ℕ
-bodyBytes body = natColumns 2 (kindOf body) ++ natColumns 9 (eventOf body) ++ intColumns 9 (argumentOf body) ++ (10 ∷ [])
+bodyBytes body =
+    natColumns 2 (kindOf body) ++ natColumns 9 (eventOf body) ++ intColumns 9 (argumentOf body) ++ (10 ∷ [])
 
 -- a listing line
 unfoldable pub lineBytes : ℕ → ℕ → ℕ → ℕ → Body → List ℕ

@@ -9,7 +9,8 @@ pub record RelayBy (L : Links) (a t b v : ℕ) : Type 0 where
   pub by : arrival ≤ v
   pub relay : Relay L a t b arrival
 
--- There and back: r was reached from s after round t by some round, and after that round s was reached from r, by round u.
+-- There and back: r was reached from s after round t by some round, and after that round s was
+-- reached from r, by round u.
 pub record Returned (L : Links) (s t r u : ℕ) : Type 0 where
   pub turning : ℕ
   pub out : RelayBy L s t r turning
@@ -25,7 +26,8 @@ pub record EndsIn (L : Links) (s t u : ℕ) : Type 0 where
   pub returned : AllReturned L s t u
   pub first : (v : ℕ) → t < v → AllReturned L s t v → u ≤ v
 
--- Broadcast number k of s, from 1 on, starts in round t: the first in round 0, each other in the round in which the one before it ends.
+-- Broadcast number k of s, from 1 on, starts in round t: the first in round 0, each other in the
+-- round in which the one before it ends.
 pub data Starts (L : Links) (s : ℕ) : ℕ → ℕ → Type 0 where
   at-first : Starts L s 1 0
   after : {k t u : ℕ} → Starts L s k t → EndsIn L s t u → Starts L s (suc k) u

@@ -22,7 +22,8 @@ one-round = ofLog 3 ((0 ∷ 1 ∷ 2 ∷ []) ∷ [])
 abbrev pub one-way : Links
 one-way = ofMasks 2 (λ u. 0 ∷ 1 ∷ [])
 
--- The three rounds of document 01's listing: two stations that hear each other, the masks as a script has them, and as a round call is given them.
+-- The three rounds of document 01's listing: two stations that hear each other, the masks as a
+-- script has them, and as a round call is given them.
 abbrev pub listing : Links
 listing = ofLog 2 ((2 ∷ 1 ∷ []) ∷ (2 ∷ 1 ∷ []) ∷ (2 ∷ 1 ∷ []) ∷ [])
 

@@ -6,7 +6,8 @@ use Rattle.lists.specs.Below.{allBelow, total}
 use Rattle.links.specs.Relay.{Links}
 use Rattle.links.specs.Clock.{news}
 
--- Is the version v of r, 0 for none and w + 1 for r as round w left it, one in which r has news of s from after round t?
+-- Is the version v of r, 0 for none and w + 1 for r as round w left it, one in which r has news of
+-- s from after round t?
 unfoldable pub answers : Links → ℕ → ℕ → ℕ → ℕ → Bool
 answers L s t r zero = false
 answers L s t r (suc w) = leb (suc t) (news L w r s)
@@ -52,6 +53,7 @@ added p now before r = cond (eqb r p) 0 (now r - before r)
 unfoldable pub tally : ℕ → ℕ → (ℕ → ℕ) → (ℕ → ℕ) → ℕ
 tally n p now before = total n (added p now before)
 
--- How many broadcasts of other stations came to p within the present broadcast of p, up to round u: what document 01 has p keep as its count.
+-- How many broadcasts of other stations came to p within the present broadcast of p, up to round u:
+-- what document 01 has p keep as its count.
 unfoldable pub counted : Links → ℕ → ℕ → ℕ
 counted L u p = tally (L .size) p (λ r. got L u p r) (λ r. got L (start L u p) p r)

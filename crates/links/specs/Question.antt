@@ -9,7 +9,8 @@ use Rattle.links.specs.Relay.{Links}
 use Rattle.links.specs.EndRule.{RelayBy, Starts}
 use Rattle.links.specs.Number.{got}
 
--- By round u station r has broadcast number k of s: s itself from the round on in which it starts it, another where a relay after that start has come.
+-- By round u station r has broadcast number k of s: s itself from the round on in which it starts
+-- it, another where a relay after that start has come.
 pub record HasBy (L : Links) (r s k u : ℕ) : Type 0 where
   pub started : ℕ
   pub starts : Starts L s k started
@@ -20,7 +21,8 @@ pub record BroughtIn (L : Links) (r s k u : ℕ) : Type 0 where
   pub has : HasBy L r s k u
   pub first : (v : ℕ) → HasBy L r s k v → u ≤ v
 
--- The answer within so many rounds, by relays alone: the first round by which r has it, or never, `none`, where these rounds do not bring it.
+-- The answer within so many rounds, by relays alone: the first round by which r has it, or never,
+-- `none`, where these rounds do not bring it.
 pub data Answered (L : Links) (r s k last : ℕ) : Option ℕ → Type 0 where
   in-round : {u : ℕ} → u ≤ last → BroughtIn L r s k u → Answered L r s k last (some u)
   in-none : (HasBy L r s k last → ⊥) → Answered L r s k last none
@@ -36,8 +38,9 @@ unfoldable pub otherwise : Option ℕ → ℕ → ℕ → ℕ → Option ℕ
 otherwise none k have u = cond (leb k have) (some u) none
 otherwise (some v) k have u = some v
 
--- The answer by the numbers of broadcasts that r has: the first round from 0 on in which it has k of s. `answer-relays` and `answer-only` (proofs/Question)
--- say that this, and nothing else, is the answer by relays.
+-- The answer by the numbers of broadcasts that r has: the first round from 0 on in which it has k
+-- of s. `answer-relays` and `answer-only` (proofs/Question) say that this, and nothing else, is the
+-- answer by relays.
 unfoldable pub answerIn : Links → ℕ → ℕ → ℕ → ℕ → Option ℕ
 answerIn L r s k zero = otherwise none k (got L 0 r s) 0
 answerIn L r s k (suc u) = otherwise (answerIn L r s k u) k (got L (suc u) r s) (suc u)

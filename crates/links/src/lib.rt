@@ -15,8 +15,8 @@ pub fn set_at(mask: u16, j: usize) -> bool
     (mask >> j) % 2 == 1
 }
 
-// Station i of a group of n hears j in a round with these masks. It can be asked of any numbers: nobody hears itself, and from n up nobody
-// hears or is heard.
+// Station i of a group of n hears j in a round with these masks. It can be asked of any numbers:
+// nobody hears itself, and from n up nobody hears or is heard.
 pub fn hears(masks: [u16; 16], n: usize, i: usize, j: usize) -> bool
     ensures { λ r. ⌜ r ≡ hearsIn n masks i j ⌝ }
 {

@@ -9,14 +9,15 @@ ghost use mathlib.Core.Path.{_≡_};
 ghost use Prim.Native.Nat.{_≤_, _<_};
 ghost use lib.ListN.{length};
 ghost use Rattle.script.specs.Line.{commandOf, masksOf};
-ghost use Rattle.listing_spec.specs.Listing.{Answer, AnswersRound, obeyed, answered, after, printed};
+ghost use Rattle.round_lines.specs.Reports.{roundRoom};
+ghost use Rattle.listing_spec.specs.Listing.{lastRound, Answer, AnswersRound, obeyed, answered, after, printed};
 
 // The most that a round's columns can number.
 const LAST_ROUND: u32 = 999_999;
 
 // The session after a round, and what the round prints.
 fn after_round(s: Session, made: RoundDone, out: &mut [u8]) -> Applied
-    requires { ⌜ (s .n ≤ 16) × (s .rounds < 999_999) × (26_880 ≤ length (now out)) ⌝ }
+    requires { ⌜ (s .n ≤ 16) × (s .rounds < lastRound) × (roundRoom ≤ length (now out)) ⌝ }
     ensures { λ r. ⌜ AnswersRound s made (now (out .entry)) (now (out .exit)) r ⌝ }
 {
     let rounds = s.rounds + 1;
@@ -34,8 +35,9 @@ fn after_round(s: Session, made: RoundDone, out: &mut [u8]) -> Applied
 
 // A round's line, whose masks the group hears by; a round past the last that can be numbered stops the reading.
 fn apply_round(s: Session, line: &[u8], out: &mut [u8]) -> Applied
-    requires { ⌜ (s .n ≤ 16) × (26_880 ≤ length (now out)) ⌝ }
-    ensures { λ r. ⌜ Answer (obeyed s (masksOf (s .n) (now (line .entry))) Command.Round) (answered s (masksOf (s .n) (now (line .entry))) Command.Round) (now (out .entry)) (now (out .exit)) r ⌝ }
+    requires { ⌜ (s .n ≤ 16) × (roundRoom ≤ length (now out)) ⌝ }
+    ensures { λ r. ⌜ Answer (obeyed s (masksOf (s .n) (now (line .entry))) Command.Round)
+        (answered s (masksOf (s .n) (now (line .entry))) Command.Round) (now (out .entry)) (now (out .exit)) r ⌝ }
 {
     if LAST_ROUND <= s.rounds {
         return sessions::ends::halt(s, out);
@@ -48,8 +50,9 @@ fn apply_round(s: Session, line: &[u8], out: &mut [u8]) -> Applied
 
 // What a line says, done.
 fn obey(s: Session, command: Command, line: &[u8], out: &mut [u8]) -> Applied
-    requires { ⌜ (command ≡ commandOf (s .n) (now line)) × (26_880 ≤ length (now out)) ⌝ }
-    ensures { λ r. ⌜ Answer (obeyed s (masksOf (s .n) (now (line .entry))) command) (answered s (masksOf (s .n) (now (line .entry))) command) (now (out .entry)) (now (out .exit)) r ⌝ }
+    requires { ⌜ (command ≡ commandOf (s .n) (now line)) × (roundRoom ≤ length (now out)) ⌝ }
+    ensures { λ r. ⌜ Answer (obeyed s (masksOf (s .n) (now (line .entry))) command)
+        (answered s (masksOf (s .n) (now (line .entry))) command) (now (out .entry)) (now (out .exit)) r ⌝ }
 {
     match command {
         Command::Size { n } => sessions::commands::apply_size(s, n),
@@ -73,10 +76,12 @@ fn obey(s: Session, command: Command, line: &[u8], out: &mut [u8]) -> Applied
     }
 }
 
-// One line, without its line end; nothing once the reading has stopped. The buffer has room for what sixteen stations can report of a round.
+// One line, without its line end; nothing once the reading has stopped. The buffer has room for
+// what sixteen stations can report of a round.
 pub fn apply(s: Session, line: &[u8], out: &mut [u8]) -> Applied
-    requires { ⌜ 26_880 ≤ length (now out) ⌝ }
-    ensures { λ r. ⌜ Answer (after s (now (line .entry))) (printed s (now (line .entry))) (now (out .entry)) (now (out .exit)) r ⌝ }
+    requires { ⌜ roundRoom ≤ length (now out) ⌝ }
+    ensures { λ r. ⌜ Answer (after s (now (line .entry))) (printed s (now (line .entry)))
+        (now (out .entry)) (now (out .exit)) r ⌝ }
 {
     if s.stopped {
         return Applied { len: 0, session: s };

@@ -1,5 +1,6 @@
--- Document 01, "The relay listing", over the lists of calls that demand 3 speaks of: the calls that a script makes, read off its lines alone; and that its listing
--- is what the history of these calls gives, call by call.
+-- Document 01, "The relay listing", over the lists of calls that demand 3 speaks of: the calls that
+-- a script makes, read off its lines alone; and that its listing is what the history of these calls
+-- gives, call by call.
 use Prim.Native.Nat.{ℕ, _+_, _≤_}
 use mathlib.Core.Bool.{Bool, true, false, cond, not}
 use mathlib.Core.Path.{_≡_}
@@ -16,9 +17,11 @@ use Rattle.lines.specs.Lines.{endLine}
 use Rattle.round_lines.specs.Reports.{roundText}
 use Rattle.listing_spec.specs.declared.Session.{Session}
 use Rattle.listing_spec.specs.Listing as listing
-use Rattle.listing_spec.specs.Listing.{setupOf, postOf, lastRound, refusalText, refusedText, after, Lines, rest, line, linesOf, listingOf}
+use Rattle.listing_spec.specs.Listing.{setupOf, postOf, lastRound, refusalText, refusedText, after}
+use Rattle.listing_spec.specs.Listing.{Lines, rest, line, linesOf, listingOf}
 
--- the call of a command, before the calls of the lines after it, which are others after a round; none from where the reading stops
+-- the call of a command, before the calls of the lines after it, which are others after a round;
+-- none from where the reading stops
 unfoldable pub called : ℕ → List ℕ → Command → List Call → List Call → List Call
 called rounds masks (Post station kind event argument) more later = post (postOf station kind event argument) ∷ more
 called rounds masks Round more later = cond (ltb rounds lastRound) (round masks ∷ later) []
@@ -50,7 +53,8 @@ sizeSaid (Post station kind event argument) = 0
 sizeSaid Round = 0
 sizeSaid Malformed = 0
 
--- of a whole script: N of its first line, 0 where that is no `N` line; the lines after it; its calls; whether its reading stops
+-- of a whole script: N of its first line, 0 where that is no `N` line; the lines after it; its
+-- calls; whether its reading stops
 abbrev pub sizeIn : Lines → ℕ
 sizeIn (rest l) = 0
 sizeIn (line l ls) = sizeSaid (commandOf 0 l)
@@ -85,8 +89,9 @@ unfoldable pub callsText : ℕ → History → List Call → List ℕ
 callsText n H [] = []
 callsText n H (c ∷ cs) = callText n H c ++ callsText n (next H c) cs
 
--- The session of a script that begins with an `N` line makes exactly the script's calls, in their order: its group and its number of rounds are those of their
--- history, and its listing is what these calls print, and then a refusal where the reading stops.
+-- The session of a script that begins with an `N` line makes exactly the script's calls, in their
+-- order: its group and its number of rounds are those of their history, and its listing is what
+-- these calls print, and then a refusal where the reading stops.
 pub record RunsCalls (script : List ℕ) : Type 0 where
   pub group : (sessionOf script) .group ≡ (historyOf (setupOf (sizeOf script)) (callsOf script)) .group
   pub rounds : (sessionOf script) .rounds ≡ length ((historyOf (setupOf (sizeOf script)) (callsOf script)) .rounds)
@@ -99,4 +104,6 @@ pub record RunsCalls (script : List ℕ) : Type 0 where
 -- Every script runs its calls; one that does not begin with an `N` line makes none, and its listing is one refusal.
 pub record ScriptsRun : Type 0 where
   pub runs-calls : (script : List ℕ) → 1 ≤ sizeOf script → RunsCalls script
-  pub no-size : (script : List ℕ) → sizeOf script ≡ 0 → (callsOf script ≡ []) × (listingOf script ≡ refusalText 0 0 malformedLine ++ endLine)
+  pub no-size :
+      (script : List ℕ) → sizeOf script ≡ 0 →
+      (callsOf script ≡ []) × (listingOf script ≡ refusalText 0 0 malformedLine ++ endLine)

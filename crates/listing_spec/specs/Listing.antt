@@ -38,7 +38,8 @@ listingLimit = 32
 abbrev pub setupOf : ℕ → Setup
 setupOf n = record { n = n; limit = listingLimit; edition = 0 }
 
--- the body that a post's numbers name, without a channel; numbers that no body has are posted as Empty, which is no edit
+-- the body that a post's numbers name, without a channel; numbers that no body has are posted as
+-- Empty, which is no edit
 unfoldable pub postedBody : ℕ → ℕ → ℤ → Body
 postedBody kind event argument = cond (numbersInside kind event argument) (bodyOf kind event argument 0) Empty
 
@@ -79,7 +80,8 @@ refusedText n rounds station refusal =
 -- the session after a command, whose line has the masks of a round
 unfoldable pub obeyed : Session → List ℕ → Command → Session
 obeyed s masks (Size n) = sizedBy s n (groupFreshCall (setupOf n))
-obeyed s masks (Post station kind event argument) = postedBy s (groupPostCall (s .group) (postOf station kind event argument))
+obeyed s masks (Post station kind event argument) =
+    postedBy s (groupPostCall (s .group) (postOf station kind event argument))
 obeyed s masks Round = cond (ltb (s .rounds) lastRound) (roundedBy s (roundCall (s .group) masks)) (halted s)
 obeyed s masks Malformed = halted s
 
@@ -101,13 +103,18 @@ after s line = cond (s .stopped) s (obeyed s (masksOf (s .n) line) (commandOf (s
 unfoldable pub printed : Session → List ℕ → List ℕ
 printed s line = cond (s .stopped) [] (answered s (masksOf (s .n) line) (commandOf (s .n) line))
 
--- the end of a script; so many bytes stand after its last line end. Nothing is printed where the reading has stopped, or where an `N` line was read and none
--- stand there; else the script has no `N` line, or breaks off in a line, and that is malformed
+-- the end of a script; so many bytes stand after its last line end. Nothing is printed where the
+-- reading has stopped, or where an `N` line was read and none stand there; else the script has no
+-- `N` line, or breaks off in a line, and that is malformed
 unfoldable pub restText : Session → ℕ → List ℕ
 restText s left = cond (s .stopped || (ltb 0 (s .n) && eqb left 0)) [] (malformedText s)
 
 abbrev pub closed : Session → List ℕ → List ℕ
 closed s rest = restText s (length rest)
+
+-- the most bytes that the end of a script prints: a refusal, of 35, and the last line, of 4
+abbrev pub closingRoom : ℕ
+closingRoom = 35 + 4
 
 -- what a call on a session promises: the session after it, and the text put at the front of the lent buffer
 pub record Answer (after : Session) (text entry exit : List ℕ) (r : Applied) : Type 0 where
@@ -116,10 +123,12 @@ pub record Answer (after : Session) (text entry exit : List ℕ) (r : Applied) :
 
 -- the same of a post and of a round, by what the group's call returned
 abbrev pub AnswersPost : Session → ℕ → GroupAnswer → List ℕ → List ℕ → Applied → Type 0
-AnswersPost s station made entry exit r = Answer (postedBy s made) (refusedText (s .n) (s .rounds) station (made .refusal)) entry exit r
+AnswersPost s station made entry exit r =
+    Answer (postedBy s made) (refusedText (s .n) (s .rounds) station (made .refusal)) entry exit r
 
 abbrev pub AnswersRound : Session → RoundDone → List ℕ → List ℕ → Applied → Type 0
-AnswersRound s made entry exit r = Answer (roundedBy s made) (roundText (s .n) (s .rounds + 1) (made .reports)) entry exit r
+AnswersRound s made entry exit r =
+    Answer (roundedBy s made) (roundText (s .n) (s .rounds + 1) (made .reports)) entry exit r
 
 -- a script's lines, each without its line end, and what stands after the last line end
 pub data Lines : Type 0 where

@@ -9,6 +9,11 @@ use Rattle.listing_spec.specs.Listing.{Lines, rest, line, sessionBegun, 
 use Rattle.listing_spec.specs.declared.reading.Reader.{Reader}
 use Rattle.listing_spec.specs.declared.reading.FeedAnswer.{FeedAnswer}
 
+-- how many bytes of a line are kept: one more than the longest line of the form has, so that a
+-- line that is too long is seen to be malformed
+abbrev pub keptBytes : ℕ
+keptBytes = 146
+
 -- bytes put before the first line
 abbrev pub behind : List ℕ → Lines → Lines
 behind held (rest l) = rest (held ++ l)
@@ -18,8 +23,9 @@ behind held (line l ls) = line (held ++ l) ls
 unfoldable pub remainingAt : Session → List ℕ → List ℕ → List ℕ
 remainingAt s held bytes = listed s (behind held (linesOf bytes)) ++ endLine
 
--- the bytes of a line whose line end is still to come. What stands in the array past them is left from earlier lines and is no part of the state: nothing that a reader
--- does or promises depends on it
+-- the bytes of a line whose line end is still to come. What stands in the array past them is left
+-- from earlier lines and is no part of the state: nothing that a reader does or promises depends on
+-- it
 abbrev pub heldBy : Reader → List ℕ
 heldBy r = take (r .len) (r .line)
 
@@ -29,18 +35,22 @@ remaining r bytes = remainingAt (r .session) (heldBy r) bytes
 
 -- before any byte is read
 abbrev pub beginning : Reader
-beginning = record { session = sessionBegun; len = 0; line = replicate 146 0 }
+beginning = record { session = sessionBegun; len = 0; line = replicate keptBytes 0 }
 
--- some bytes of a part are read, and the front of the buffer is what they print: with what is then to be listed it is what was to be listed before, whatever follows
-pub record Listed (s : Session) (held part entry : List ℕ) (s' : Session) (held' : List ℕ) (read len : ℕ) (exit : List ℕ) : Type 0 where
+-- some bytes of a part are read, and the front of the buffer is what they print: with what is then
+-- to be listed it is what was to be listed before, whatever follows
+pub record Listed
+    (s : Session) (held part entry : List ℕ) (s' : Session) (held' : List ℕ) (read len : ℕ) (exit : List ℕ)
+    : Type 0 where
   pub inside : read ≤ length part
   pub put : Put entry exit 0 len (take len exit)
   pub lists : (more : List ℕ) → remainingAt s held (take read part ++ more) ≡ take len exit ++ remainingAt s' held' more
 
 -- what feeding a part promises; of a part that is not empty something is read
 pub record Feeds (r : Reader) (part entry exit : List ℕ) (f : FeedAnswer) : Type 0 where
-  pub lists : Listed (r .session) (heldBy r) part entry (f .reader .session) (heldBy (f .reader)) (f .read) (f .len) exit
-  pub kept : f .reader .len ≤ 146
+  pub lists :
+      Listed (r .session) (heldBy r) part entry (f .reader .session) (heldBy (f .reader)) (f .read) (f .len) exit
+  pub kept : f .reader .len ≤ keptBytes
   pub moves : 0 < length part → 0 < f .read
 
 -- bytes taken into the line that is held: in every session, and whatever follows, the same is to be listed

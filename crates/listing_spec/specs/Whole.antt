@@ -12,7 +12,8 @@ use Rattle.listing_spec.specs.Remaining.{beginning, remaining, Feeds}
 pub data Reached : Reader → List ℕ → List ℕ → Type 0 where
   at-first : Reached beginning [] []
   then-fed :
-      {r : Reader} {read listed : List ℕ} (part entry exit : List ℕ) (f : FeedAnswer) → Reached r read listed → Feeds r part entry exit f →
+      {r : Reader} {read listed : List ℕ} (part entry exit : List ℕ) (f : FeedAnswer) →
+      Reached r read listed → Feeds r part entry exit f →
       Reached (f .reader) (read ++ take (f .read) part) (listed ++ take (f .len) exit)
 
 -- with what the end of the script prints it is the listing of the script

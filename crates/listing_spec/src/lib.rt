@@ -1,10 +1,12 @@
-// Where a script stands, and the answer of a line. The listing of a whole script and its laws stand beside; there is no code.
+// Where a script stands, and the answer of a line. The listing of a whole script and its laws stand
+// beside; there is no code.
 
 pub mod reading;
 
 use station_spec::Station;
 
-// Where a script stands: the group's size, 0 before the `N` line; the rounds done; whether the reading has stopped; the group.
+// Where a script stands: the group's size, 0 before the `N` line; the rounds done; whether the
+// reading has stopped; the group.
 pub struct Session {
     pub n: usize,
     pub rounds: u32,

@@ -1,4 +1,5 @@
-// Where the reading of a script stands, and the answer of a part. What is still to be listed, and that a script read in parts is listed whole, stand beside; there is no code.
+// Where the reading of a script stands, and the answer of a part. What is still to be listed, and
+// that a script read in parts is listed whole, stand beside; there is no code.
 
 use super::Session;
 

@@ -17,7 +17,8 @@ use Rattle.load_spec.specs.Script.{scriptOf}
 -- what the group returns for a command that is a post
 abbrev pub postAnswer : Session → Command → ℕ
 postAnswer s (Size n) = done
-postAnswer s (Post station kind event argument) = (groupPostCall (s .group) (postOf station kind event argument)) .refusal
+postAnswer s (Post station kind event argument) =
+    (groupPostCall (s .group) (postOf station kind event argument)) .refusal
 postAnswer s Round = done
 postAnswer s Malformed = done
 

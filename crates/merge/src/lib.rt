@@ -55,7 +55,8 @@ fn unite_round(
     }
 }
 
-// Writes the round at place `at` of the merged log. A log that has ended is silent, so that the other one is taken twice.
+// Writes the round at place `at` of the merged log. A log that has ended is silent, so that the
+// other one is taken twice.
 fn write_round(
     first: &[u16],
     second: &[u16],

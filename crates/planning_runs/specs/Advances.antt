@@ -26,7 +26,8 @@ advances setup H r s (suc u) = eqb (labelAfter setup H r s (suc u)) (successor (
 -- how often it does so in the rounds up to u
 unfoldable pub advancesBy : Setup → History → ℕ → ℕ → ℕ → ℕ
 advancesBy setup H r s zero = 0
-advancesBy setup H r s (suc u) = cond (advances setup H r s (suc u)) (suc (advancesBy setup H r s u)) (advancesBy setup H r s u)
+advancesBy setup H r s (suc u) =
+    cond (advances setup H r s (suc u)) (suc (advancesBy setup H r s u)) (advancesBy setup H r s u)
 
 -- it advances for the k-th time in round u
 pub record AdvancesIn (setup : Setup) (H : History) (r s k u : ℕ) : Type 0 where

@@ -1,4 +1,5 @@
--- Document 01, "A station and its calls": a lane, at most two bodies, oldest first. What stands past its length is no part of it.
+-- Document 01, "A station and its calls": a lane, at most two bodies, oldest first. What stands
+-- past its length is no part of it.
 use mathlib.Core.List.{List, [], _∷_, _++_}
 use lib.ListN.{take, drop}
 use Rattle.bodies.specs.declared.Body.{Body}

@@ -1,4 +1,5 @@
--- Document 01, "A station and its calls": edits in the order posted, oldest first. What stands past the length is no part of the queue.
+-- Document 01, "A station and its calls": edits in the order posted, oldest first. What stands past
+-- the length is no part of the queue.
 use Prim.Native.Nat.{ℕ, _+_, _-_}
 use mathlib.Core.Bool.{Bool, _&&_}
 use mathlib.Core.List.{List, _∷_, _++_, map}
@@ -36,7 +37,11 @@ oldest q = (getD (q .slots) 0 noSlot) .body
 
 -- the oldest removed: those after it move up by one place, and the place that becomes free holds Empty
 unfoldable pub unqueued : Queue → Queue
-unqueued q = record { len = q .len - 1; slots = take (q .len - 1) (drop 1 (q .slots)) ++ (noSlot ∷ drop (q .len) (q .slots)) }
+unqueued q =
+    record {
+      len = q .len - 1;
+      slots = take (q .len - 1) (drop 1 (q .slots)) ++ (noSlot ∷ drop (q .len) (q .slots));
+    }
 
 -- no more than a limit, and each may wait in this edition
 unfoldable pub queueInside : ℕ → ℕ → Queue → Bool

@@ -9,7 +9,8 @@ use lib.ListN.{getD}
 use Rattle.bodies.specs.declared.Body.{Body}
 use Rattle.queues.specs.declared.Queue.{Queue}
 use Rattle.queues.specs.declared.Waiting.{Waiting}
-use Rattle.queues.specs.Queue.{queueCapacity, noSlot, queueBodies, emptyQueue, queued, oldest, unqueued, queueInside}
+use Rattle.queues.specs.Queue.{queueCapacity, noSlot, queueBodies, emptyQueue}
+use Rattle.queues.specs.Queue.{queued, oldest, unqueued, queueInside}
 
 -- what is a desk: 0 or 1
 abbrev pub isDesk : ℕ → Bool

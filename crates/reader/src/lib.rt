@@ -9,10 +9,15 @@ use listing_spec::reading::Reader;
 ghost use mathlib.Core.Path.{_≡_};
 ghost use Prim.Native.Nat.{_≤_};
 ghost use lib.ListN.{length};
-ghost use Rattle.listing_spec.specs.Remaining.{Feeds};
+ghost use Rattle.round_lines.specs.Reports.{roundRoom};
+ghost use Rattle.listing_spec.specs.Remaining.{keptBytes, Feeds};
 
 fn answer(session: Session, len: usize, line: [u8; KEPT], read: usize, put: usize) -> FeedAnswer
-    ensures { λ r. ⌜ r ≡ record { read = read; len = put; reader = record { session = session; len = len; line = line } } ⌝ }
+    ensures { λ r. ⌜ r ≡ record {
+      read = read;
+      len = put;
+      reader = record { session = session; len = len; line = line };
+    } ⌝ }
 {
     let reader = Reader { session, len, line };
     FeedAnswer {
@@ -22,9 +27,10 @@ fn answer(session: Session, len: usize, line: [u8; KEPT], read: usize, put: usiz
     }
 }
 
-// A part of the script read, or as much of it as the buffer has room for: what its lines print is put at the front of the buffer.
+// A part of the script read, or as much of it as the buffer has room for: what its lines print is
+// put at the front of the buffer.
 pub fn feed(r: Reader, part: &[u8], out: &mut [u8]) -> FeedAnswer
-    requires { ⌜ (r .len ≤ 146) × (26_880 ≤ length (now out)) ⌝ }
+    requires { ⌜ (r .len ≤ keptBytes) × (roundRoom ≤ length (now out)) ⌝ }
     ensures { λ f. ⌜ Feeds r (now (part .entry)) (now (out .entry)) (now (out .exit)) f ⌝ }
 {
     let mut session = r.session;

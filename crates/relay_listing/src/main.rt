@@ -2,6 +2,8 @@
 
 ghost use Prim.Native.Nat.{_≤_};
 ghost use lib.ListN.{length};
+ghost use Rattle.round_lines.specs.Reports.{roundRoom};
+ghost use Rattle.listing_spec.specs.Remaining.{keptBytes};
 ghost use Rattle.relay_listing.specs.Passing.{PassesIf};
 use libc::STDERR_FILENO;
 use libc::STDIN_FILENO;
@@ -33,8 +35,8 @@ fn write_front(out: &[u8], len: usize) -> bool
 
 // Feeds a whole part to the reader, and writes what comes of it, call by call.
 fn pass(r: Reader, part: &[u8], out: &mut [u8]) -> Passed
-    requires { ⌜ (r .len ≤ 146) × (26_880 ≤ length (now out)) ⌝ }
-    ensures { λ p. ⌜ (p .reader .len ≤ 146) × PassesIf (p .sound) r (now (part .entry)) (p .reader) ⌝ }
+    requires { ⌜ (r .len ≤ keptBytes) × (roundRoom ≤ length (now out)) ⌝ }
+    ensures { λ p. ⌜ (p .reader .len ≤ keptBytes) × PassesIf (p .sound) r (now (part .entry)) (p .reader) ⌝ }
 {
     let mut reader = r;
     let mut from = 0;
@@ -85,8 +87,8 @@ fn is_over(passed: Passed) -> bool {
 // Reads standard input until it ends or the reading stops. A proved loop has to end, and nothing says that the input does: the loop counts its
 // turns down from a number that no run uses up.
 fn read_input(out: &mut [u8]) -> Passed
-    requires { ⌜ 26_880 ≤ length (now out) ⌝ }
-    ensures { λ p. ⌜ p .reader .len ≤ 146 ⌝ }
+    requires { ⌜ roundRoom ≤ length (now out) ⌝ }
+    ensures { λ p. ⌜ p .reader .len ≤ keptBytes ⌝ }
 {
     let mut reader = reader::steps::begin();
     let mut bytes = io::large_buffer();

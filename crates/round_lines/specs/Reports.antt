@@ -1,6 +1,7 @@
--- Document 01, "The relay listing": what a round prints, station by station, in the order in which a station does it: what it took (D), what it aired (A), what it
--- ended (E), what it started (D again, with itself as the source).
-use Prim.Native.Nat.{ℕ, zero, suc}
+-- Document 01, "The relay listing": what a round prints, station by station, in the order in which
+-- a station does it: what it took (D), what it aired (A), what it ended (E), what it started (D
+-- again, with itself as the source).
+use Prim.Native.Nat.{ℕ, zero, suc, _*_}
 use Rattle.bodies.specs.declared.Body.the-variants.{Empty}
 use mathlib.Core.Bool.{Bool, false, cond, not, _&&_}
 use mathlib.Core.List.{List, [], _++_}
@@ -15,6 +16,15 @@ use Rattle.queues.specs.Queue.{noSlot}
 use Rattle.group_spec.specs.declared.Report.{Report}
 use Rattle.group_spec.specs.Calls.{noTaking}
 use Rattle.lines.specs.Lines.{delivered, airing, ending, lineBytes}
+
+-- the most bytes that a station can print of a round: a line, of 35 bytes, for each of thirty
+-- bodies taken and sixteen aired, for one ended and for one started
+abbrev pub reportRoom : ℕ
+reportRoom = 48 * 35
+
+-- the most bytes that a round can print: what sixteen stations can
+abbrev pub roundRoom : ℕ
+roundRoom = 16 * reportRoom
 
 -- the text that f gives for each place below n, one after the other
 unfoldable pub joined : ℕ → (ℕ → List ℕ) → List ℕ

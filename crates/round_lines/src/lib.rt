@@ -10,6 +10,7 @@ ghost use lib.ListN.{length};
 ghost use mathlib.Core.Bool.{_&&_};
 ghost use Rattle.bodies.specs.Body.{isEdit};
 ghost use Rattle.lines.specs.Lines.{Put};
+ghost use Rattle.round_lines.specs.Reports.{reportRoom, roundRoom};
 ghost use Rattle.round_lines.specs.Reports.{lineIf, takenText, airedText, turnText, reportText, roundText};
 
 // The letters D, A and E of document 01's listing.
@@ -34,7 +35,9 @@ fn put_line_if(
     body: Body,
 ) -> usize
     requires { ⌜ at + 35 ≤ length (now out) ⌝ }
-    ensures { λ r. ⌜ Put (now (out .entry)) (now (out .exit)) at r (lineIf wanted round letter station source body) × (r ≤ at + 35) ⌝ }
+    ensures { λ r.
+        ⌜ Put (now (out .entry)) (now (out .exit)) at r (lineIf wanted round letter station source body)
+        × (r ≤ at + 35) ⌝ }
 {
     if wanted {
         return lines::put_line(out, at, round, letter, station, source, body);
@@ -103,8 +106,10 @@ fn put_turn(out: &mut [u8], at: usize, round: u32, p: usize, turn: TurnReport) -
 
 // What station p reports of a round.
 fn put_report(out: &mut [u8], at: usize, n: usize, round: u32, p: usize, report: Report) -> usize
-    requires { ⌜ (n ≤ 16) × (at + 1680 ≤ length (now out)) ⌝ }
-    ensures { λ r. ⌜ Put (now (out .entry)) (now (out .exit)) at r (reportText n round p report) × (r ≤ at + 1680) ⌝ }
+    requires { ⌜ (n ≤ 16) × (at + reportRoom ≤ length (now out)) ⌝ }
+    ensures { λ r.
+        ⌜ Put (now (out .entry)) (now (out .exit)) at r (reportText n round p report)
+        × (r ≤ at + reportRoom) ⌝ }
 {
     let mid = put_takings(out, at, round, p, report);
     let turn = report.turn;
@@ -114,7 +119,7 @@ fn put_report(out: &mut [u8], at: usize, n: usize, round: u32, p: usize, report:
 
 // What the n stations of a round report.
 pub fn put_round(out: &mut [u8], n: usize, round: u32, reports: [Report; 16]) -> usize
-    requires { ⌜ (n ≤ 16) × (26_880 ≤ length (now out)) ⌝ }
+    requires { ⌜ (n ≤ 16) × (roundRoom ≤ length (now out)) ⌝ }
     ensures { λ r. ⌜ Put (now (out .entry)) (now (out .exit)) 0 r (roundText n round reports) ⌝ }
 {
     let mut end = 0;

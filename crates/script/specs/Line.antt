@@ -44,9 +44,11 @@ wholeOf Minus = pos 0
 wholeOf (Number minus v) = signedOf minus v
 wholeOf Malformed = pos 0
 
--- the number in the nine columns of field k, the first behind the letter being field 0; a line has at most sixteen fields
+-- the number in the nine columns of field k, the first behind the letter being field 0; a line has
+-- at most sixteen fields
 unfoldable pub fieldOf : List ℕ → ℕ → Reading
-fieldOf line k = cond (ltb k 16 && leb (9 * k + 10) (length line)) (readColumns (take 9 (drop (9 * k + 1) line))) Malformed
+fieldOf line k =
+    cond (ltb k 16 && leb (9 * k + 10) (length line)) (readColumns (take 9 (drop (9 * k + 1) line))) Malformed
 
 -- the line is a letter and n fields, and nothing else
 abbrev pub shaped : List ℕ → ℕ → ℕ → Bool
@@ -64,12 +66,14 @@ sizeLine line =
 unfoldable pub postShaped : List ℕ → Bool
 postShaped line =
     shaped line 80 4
-    && (isNatural (fieldOf line 0) && (isNatural (fieldOf line 1) && (isNatural (fieldOf line 2) && isWhole (fieldOf line 3))))
+    && (isNatural (fieldOf line 0)
+    && (isNatural (fieldOf line 1) && (isNatural (fieldOf line 2) && isWhole (fieldOf line 3))))
 
 unfoldable pub postLine : List ℕ → Command
 postLine line =
     cond (postShaped line)
-    (Post (naturalOf (fieldOf line 0)) (naturalOf (fieldOf line 1)) (naturalOf (fieldOf line 2)) (wholeOf (fieldOf line 3)))
+    (Post (naturalOf (fieldOf line 0)) (naturalOf (fieldOf line 1)) (naturalOf (fieldOf line 2))
+    (wholeOf (fieldOf line 3)))
     MalformedLine
 
 -- a mask is 0 to 65,535
@@ -84,7 +88,8 @@ masksInside line n = allBelow n (λ k. isMask (fieldOf line k))
 unfoldable pub roundLine : ℕ → List ℕ → Command
 roundLine n line = cond (shaped line 82 n && masksInside line n) Round MalformedLine
 
--- a line of a script whose group has n stations; n = 0 says that no `N` line was read yet. An `N` line is wanted first, and is malformed later
+-- a line of a script whose group has n stations; n = 0 says that no `N` line was read yet. An `N`
+-- line is wanted first, and is malformed later
 unfoldable pub commandOf : ℕ → List ℕ → Command
 commandOf n line =
     cond (eqb n 0)

@@ -3,7 +3,8 @@
 use columns::reader::Reading;
 ghost use mathlib.Core.Path.{_≡_};
 ghost use Prim.Native.Nat.{_≤_};
-ghost use Rattle.script.specs.Line.{isWhole, naturalOf, signedOf, wholeOf, fieldOf, shaped, maskAt, masksInside, sizeLine, postShaped, postLine, roundLine, commandOf, masksOf};
+ghost use Rattle.script.specs.Line.{isWhole, naturalOf, signedOf, wholeOf, fieldOf, shaped, sizeLine};
+ghost use Rattle.script.specs.Line.{maskAt, masksInside, postShaped, postLine, roundLine, commandOf, masksOf};
 
 // What a field without a number counts as: more than nine columns hold.
 const NO_NUMBER: u32 = 1_000_000_000;

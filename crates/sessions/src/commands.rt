@@ -80,7 +80,8 @@ pub fn apply_size(s: Session, n: usize) -> Applied
 // A post, and its refusal where it is refused.
 pub fn apply_post(s: Session, post: Post, out: &mut [u8]) -> Applied
     requires { ⌜ 35 ≤ length (now out) ⌝ }
-    ensures { λ r. ⌜ AnswersPost s (post .station) (groupPostCall (s .group) post) (now (out .entry)) (now (out .exit)) r ⌝ }
+    ensures { λ r. ⌜ AnswersPost s (post .station) (groupPostCall (s .group) post)
+        (now (out .entry)) (now (out .exit)) r ⌝ }
 {
     let before = s.group;
     let made = group::post(before, post);

@@ -12,6 +12,7 @@ ghost use lib.Dec.{ltb, eqb};
 ghost use Prim.Native.Nat.{_≤_};
 ghost use lib.ListN.{length};
 ghost use Rattle.lines.specs.Lines.{Put, endLine};
+ghost use Rattle.listing_spec.specs.Listing.{closingRoom};
 ghost use Rattle.listing_spec.specs.Listing.{Answer, sessionBegun, halted, malformedText, restText, closed};
 
 // The refusal of a malformed line, as its line shows it.
@@ -47,7 +48,8 @@ pub fn halt(s: Session, out: &mut [u8]) -> Applied
     Applied { len, session }
 }
 
-// Nothing is malformed at the end of a script: the reading has stopped, or an `N` line was read and nothing stands after the last line end.
+// Nothing is malformed at the end of a script: the reading has stopped, or an `N` line was read and
+// nothing stands after the last line end.
 fn is_over(stopped: bool, n: usize, rest: usize) -> bool
     ensures { λ r. ⌜ r ≡ (stopped || (ltb 0 n && eqb rest 0)) ⌝ }
 {
@@ -73,7 +75,7 @@ fn put_rest(s: Session, rest: usize, out: &mut [u8]) -> usize
 
 // The end of a script, with what stands after its last line end; then the listing's last line.
 pub fn close(s: Session, rest: &[u8], out: &mut [u8]) -> usize
-    requires { ⌜ 39 ≤ length (now out) ⌝ }
+    requires { ⌜ closingRoom ≤ length (now out) ⌝ }
     ensures { λ r. ⌜ Put (now (out .entry)) (now (out .exit)) 0 r (closed s (now (rest .entry)) ++ endLine) ⌝ }
 {
     let at = put_rest(s, rest.len(), out);

@@ -7,7 +7,8 @@ use lib.Dec.{ltb, eqb}
 use Rattle.bodies.specs.declared.Body.{Body}
 use Rattle.bodies.specs.declared.Body.the-variants.{Empty}
 use Rattle.bodies.specs.Limits.{isEdition, postable, onChannel}
-use Rattle.bodies.specs.Refusals.{done, badNumber, badLimit, outsideLimits, queueFull, notAnEdit, badDesk, badEdition, shortBuffer, countTooHigh, refuse}
+use Rattle.bodies.specs.Refusals.{done, badNumber, badLimit, outsideLimits, queueFull, notAnEdit}
+use Rattle.bodies.specs.Refusals.{badDesk, badEdition, shortBuffer, countTooHigh, refuse}
 use Rattle.frame_spec.specs.Record.{countInside}
 use Rattle.frame_spec.specs.Frame.{validNumber, frameRefusal, recordsOf, frameBytes}
 use Rattle.station_spec.specs.declared.Setup.{Setup}

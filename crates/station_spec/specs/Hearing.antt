@@ -17,9 +17,11 @@ use Rattle.lists.specs.Below.{allBelow}
 use Rattle.station_spec.specs.declared.Station.{Station}
 use Rattle.station_spec.specs.declared.Taking.{Taking}
 use Rattle.queues.specs.Lane.{pushed}
-use Rattle.station_spec.specs.State.{labelOf, ackedOf, heldOf, recordOf, laneAt, ownLabel, withBroadcast, withCell}
+use Rattle.station_spec.specs.State.{labelOf, ackedOf, heldOf, recordOf, laneAt}
+use Rattle.station_spec.specs.State.{ownLabel, withBroadcast, withCell}
 
--- two records of a station agree in all but own label and count: in the body, and in the labels of the n stations (document 02, A4)
+-- two records of a station agree in all but own label and count: in the body, and in the labels of
+-- the n stations (document 02, A4)
 unfoldable pub agree : ℕ → Record → Record → Bool
 agree n a b = sameBody (a .body) (b .body) && allBelow n (λ j. eqb (recordLabel a j) (recordLabel b j))
 
@@ -55,8 +57,8 @@ replaced n old r =
 abbrev pub saturatingSuc : ℕ → ℕ
 saturatingSuc count = cond (ltb count 255) (count + 1) 255
 
--- the hearer after a newer record: replaced, acknowledged, advanced, taken (lines 9 to 17). H1: a record of a station that was not seen before is
--- no discovery, for all N stations are known
+-- the hearer after a newer record: replaced, acknowledged, advanced, taken (lines 9 to 17). H1: a
+-- record of a station that was not seen before is no discovery, for all N stations are known
 unfoldable pub heardNewer : Station → Record → Station
 heardNewer s r =
     let k = r .station in
@@ -86,7 +88,8 @@ pub record Hearing : Type 0 where
 abbrev pub initialHearing : Station → Hearing
 initialHearing s = record { station = s; takings = []; refusal = done }
 
--- what a record of another station does, by what it is. A conflicting one refuses the frame, and in one frame 14 goes before 8
+-- what a record of another station does, by what it is. A conflicting one refuses the frame, and in
+-- one frame 14 goes before 8
 unfoldable pub heardAs : Hearing → Record → Age → Hearing
 heardAs h r Newer =
     let s = h .station in

@@ -1,5 +1,5 @@
--- Document 01, "A station and its calls", Limits: when a station is inside its limits. Entries from N up, places past a length, and the record of a
--- station of which none is held are not looked at.
+-- Document 01, "A station and its calls", Limits: when a station is inside its limits. Entries from
+-- N up, places past a length, and the record of a station of which none is held are not looked at.
 use Prim.Native.Nat.{ℕ}
 use mathlib.Core.Bool.{Bool, cond, not, _&&_, _||_}
 use lib.Dec.{leb, eqb}
@@ -27,7 +27,8 @@ laneInside edition most l =
     && (eqb (l .len) 0 || takeable edition (l .first))
     && (leb (l .len) 1 || takeable edition (l .second))
 
--- a record of station k in the table of station `own` among n: inside the record limits, but the own record's count is free, and may reach what a byte holds
+-- a record of station k in the table of station `own` among n: inside the record limits, but the
+-- own record's count is free, and may reach what a byte holds
 unfoldable pub recordInside : ℕ → ℕ → ℕ → ℕ → Record → Bool
 recordInside edition n own k r = eqb (r .station) k && recordLimits edition n (eqb k own) r
 

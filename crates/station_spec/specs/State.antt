@@ -1,5 +1,6 @@
--- Document 01, "A station and its calls": what a station has of station k, a station of which something else is changed, and the fresh station. Only
--- here is it said in which arrays a station keeps what it has of the others.
+-- Document 01, "A station and its calls": what a station has of station k, a station of which
+-- something else is changed, and the fresh station. Only here is it said in which arrays a station
+-- keeps what it has of the others.
 use Prim.Native.Nat.{ℕ}
 use mathlib.Core.Bool.{Bool, true, false}
 use mathlib.Core.List.{List, []}
@@ -17,7 +18,8 @@ use Rattle.station_spec.specs.declared.Station.{Station}
 use Rattle.queues.specs.Lane.{noLane}
 use Rattle.queues.specs.Waiting.{defaultLimit, noneWaiting, absentWaiting}
 
--- what a station has of station k: its label for it, whether it is acknowledged, whether the table holds a record of it, that record, and its lane
+-- what a station has of station k: its label for it, whether it is acknowledged, whether the table
+-- holds a record of it, that record, and its lane
 pub record Cell : Type 0 where
   pub label : ℕ
   pub acked : Bool
@@ -123,8 +125,8 @@ withArrays s acked labels held table lanes =
 -- with another cell for station k
 unfoldable pub withCell : Station → ℕ → Cell → Station
 withCell s k c =
-    withArrays s (set (s .acked) k (c .acked)) (set (s .labels) k (c .label)) (set (s .held) k (c .held)) (set (s .table) k (c .entry))
-    (set (s .lanes) k (c .lane))
+    withArrays s (set (s .acked) k (c .acked)) (set (s .labels) k (c .label)) (set (s .held) k (c .held))
+    (set (s .table) k (c .entry)) (set (s .lanes) k (c .lane))
 
 -- with other acknowledgements, or other lanes, of the stations below n
 unfoldable pub withAcked : Station → (ℕ → Bool) → Station
@@ -133,7 +135,8 @@ withAcked s acked = withArrays s (setBelow (s .n) acked (s .acked)) (s .labels) 
 unfoldable pub withLanes : Station → (ℕ → Lane) → Station
 withLanes s lane = withArrays s (s .acked) (s .labels) (s .held) (s .table) (setBelow (s .n) lane (s .lanes))
 
--- the records of the table in station order, as the station's frame carries them (source document 001, Algorithm 2, line 4)
+-- the records of the table in station order, as the station's frame carries them (source document
+-- 001, Algorithm 2, line 4)
 unfoldable pub sentRecords : Station → List Record
 sentRecords s = filterMap (s .n) (heldOf s) (λ k. framed (s .n) (recordOf s k))
 
@@ -141,7 +144,8 @@ sentRecords s = filterMap (s .n) (heldOf s) (λ k. framed (s .n) (recordOf s k))
 abbrev pub sized : ℕ → Setup
 sized n = record { n = n; limit = defaultLimit; edition = 0 }
 
--- what a station alone is given: a refused fresh call answers with it, and it stands in a fresh group's places from N up
+-- what a station alone is given: a refused fresh call answers with it, and it stands in a fresh
+-- group's places from N up
 abbrev pub aloneSetup : Setup
 aloneSetup = sized 1
 
@@ -153,8 +157,9 @@ freshLabels own = set (replicate 16 0) own 1
 abbrev pub freshRecord : ℕ → Record
 freshRecord own = record { station = own; count = 0; body = Empty; labels = packed (freshLabels own) }
 
--- the term "fresh": label 1 for itself and 0 for others, nothing counted, Empty as its body, nobody but itself acknowledged, no record but its own, an Empty
--- record standing in the other places of the table (Algorithm 1, the initial values)
+-- the term "fresh": label 1 for itself and 0 for others, nothing counted, Empty as its body, nobody
+-- but itself acknowledged, no record but its own, an Empty record standing in the other places of
+-- the table (Algorithm 1, the initial values)
 unfoldable pub freshStation : Setup → ℕ → Station
 freshStation setup own =
     record {

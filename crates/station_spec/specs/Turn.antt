@@ -1,4 +1,5 @@
--- Document 01, "A station and its calls", Turn: airing, the end of the broadcast and the next start, the own record rewritten.
+-- Document 01, "A station and its calls", Turn: airing, the end of the broadcast and the next
+-- start, the own record rewritten.
 use Prim.Native.Nat.{ℕ}
 use mathlib.Core.Bool.{Bool, cond, _&&_}
 use mathlib.Core.List.{List}
@@ -18,7 +19,9 @@ use Rattle.station_spec.specs.declared.TurnReport.{TurnReport}
 use Rattle.queues.specs.Lane.{pushed, popped}
 use Rattle.queues.specs.Queue.{noSlot}
 use Rattle.queues.specs.Waiting.{waitingCount, nextEdit, withoutNext}
-use Rattle.station_spec.specs.State.{cellOf, labelOf, ackedOf, recordOf, laneAt, withLabel, withEntry, withLane, withWaiting, withBroadcast, withCell, withAcked, withLanes}
+use Rattle.station_spec.specs.State.{cellOf, labelOf, ackedOf, recordOf, laneAt}
+use Rattle.station_spec.specs.State.{withLabel, withEntry, withLane, withWaiting, withBroadcast}
+use Rattle.station_spec.specs.State.{withCell, withAcked, withLanes}
 
 -- each of the first n lanes has a body
 abbrev pub eachHasBody : ℕ → (ℕ → Lane) → Bool
@@ -28,7 +31,8 @@ eachHasBody n lane = allBelow n (λ k. ltb 0 ((lane k) .len))
 abbrev pub oldestOfEach : ℕ → (ℕ → Lane) → List Slot
 oldestOfEach n lane = setBelow n (λ k. record { body = (lane k) .first }) (replicate 16 noSlot)
 
--- every lane has a body, so a row is aired (source document 001, Algorithm 3, lines 5 to 9; H2: there at each delivery, here at the turn, one row)
+-- every lane has a body, so a row is aired (source document 001, Algorithm 3, lines 5 to 9; H2:
+-- there at each delivery, here at the turn, one row)
 unfoldable pub airs : Station → Bool
 airs s = eachHasBody (s .n) (laneAt s)
 
@@ -44,7 +48,8 @@ afterAiring s = cond (airs s) (withLanes s (λ k. popped (laneAt s k))) s
 unfoldable pub broadcastEnds : Station → Bool
 broadcastEnds s = allBelow (s .n) (ackedOf s)
 
--- the own lane is empty after the airing step, so a body may start (H3: the paper starts what is queued whenever a broadcast ends, line 21)
+-- the own lane is empty after the airing step, so a body may start (H3: the paper starts what is
+-- queued whenever a broadcast ends, line 21)
 abbrev pub mayStart : Station → Bool
 mayStart s = eqb ((laneAt (afterAiring s) (s .own)) .len) 0
 
@@ -56,9 +61,11 @@ startsEdit s = broadcastEnds s && (mayStart s && ltb 0 (waitingCount (s .waiting
 -- (Algorithm 3, line 11), Empty where the own lane is not empty (Algorithm 2, lines 21 to 24)
 unfoldable pub startedBody : Station → Body
 startedBody s =
-    cond (broadcastEnds s) (cond (mayStart s) (cond (ltb 0 (waitingCount (s .waiting))) (nextEdit (s .waiting)) Neutral) Empty) Empty
+    cond (broadcastEnds s)
+    (cond (mayStart s) (cond (ltb 0 (waitingCount (s .waiting))) (nextEdit (s .waiting)) Neutral) Empty) Empty
 
--- the station with its broadcast ended and one of another body begun: nothing counted, nobody but itself acknowledged, its own label the next (lines 19 and 20)
+-- the station with its broadcast ended and one of another body begun: nothing counted, nobody but
+-- itself acknowledged, its own label the next (lines 19 and 20)
 unfoldable pub begins : Station → Body → Station
 begins s b =
     let t = withAcked (withBroadcast s b 0) (λ k. eqb k (s .own)) in

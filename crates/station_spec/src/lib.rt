@@ -1,4 +1,5 @@
-// What a station is, and the answers of its calls. The definitions of the calls and their laws stand beside; there is no code.
+// What a station is, and the answers of its calls. The definitions of the calls and their laws
+// stand beside; there is no code.
 
 use bodies::Body;
 use frame_spec::Record;
