@@ -4,7 +4,7 @@ import { call } from "./calls.js";
 import { at, given, numbers, state, trying } from "./state.js";
 import { counted } from "./tables.js";
 
-const REST = 500; // milliseconds
+const REST = 2000; // milliseconds
 
 export async function findDelta() {
   const [from, waiting] = numbers("now", "waiting");
