@@ -68,6 +68,15 @@ class Cited(unittest.TestCase):
                 code = "".join(path.read_text(encoding="utf-8") for path in (ROOT / "crates" / crate / "src").glob("*.rt"))
                 self.assertTrue(re.search(rf"\bfn {name}\(", code), f"{document}: {crate}::{name}")
 
+    def test_edits(self):
+        """The wrong versions of docs/DECISIONS.md, each with the edits that stand for it, in whatever crate."""
+        edits = {path.stem for path in ROOT.glob("crates/*/must-fail*/*.edit")}
+        table = DOCUMENTS["DECISIONS.md"].split("| Wrong version | Edit |")[1].split("\n\n")[0]
+        named = [name for row in table.splitlines()[2:] for name in re.findall(r"`(\w+)`", row.split(" | ")[1])]
+        self.assertGreater(len(named), 60)
+        for name in named:
+            self.assertIn(name, edits)
+
 
 if __name__ == "__main__":
     unittest.main()

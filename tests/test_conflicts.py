@@ -5,12 +5,13 @@ import unittest
 
 from drawn import conflicts
 from model import group, hearing
+from model.bodies import EDITIONS
 from model.station import in_limits
 
 
 class Drawn(unittest.TestCase):
     def test_stations(self):
-        met = set()
+        met, names = set(), set()
         for name, s, frame, refusal in conflicts.station_cases(random.Random("stations"), 40):
             with self.subTest(name):
                 self.assertTrue(in_limits(s))
@@ -18,8 +19,10 @@ class Drawn(unittest.TestCase):
                 self.assertEqual(heard.refusal, refusal)
                 if refusal:
                     self.assertEqual((heard.station, heard.taken), (s, 0))
-                met.add(refusal)
-        self.assertEqual(met, {0, 8, 14})
+                met.add((s.edition, refusal))
+                names.add(name)
+        self.assertEqual(met, {(edition, refusal) for edition in EDITIONS for refusal in (0, 8, 14)})
+        self.assertLess({f"another {field}" for field in ("kind", "event", "argument", "channel")}, names)
 
     def test_rounds(self):
         met = set()
@@ -30,8 +33,8 @@ class Drawn(unittest.TestCase):
                 self.assertEqual(done.refusal, refusal)
                 if refusal:
                     self.assertEqual(done.group, given)
-                met.add(refusal)
-        self.assertEqual(met, {0, 8, 14})
+                met.add((given[0].edition, refusal))
+        self.assertEqual(met, {(edition, refusal) for edition in EDITIONS for refusal in (0, 8, 14)})
 
 
 if __name__ == "__main__":

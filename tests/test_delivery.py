@@ -24,26 +24,31 @@ def calls_of(seed):
         calls = [call._replace(desk=0) if isinstance(call, PostLine) else call for call in calls]
     quiet = rng.choice((0.1, 0.3, 1.0)) * len(calls)
     calls = [call for at, call in enumerate(calls) if at < quiet or isinstance(call, RoundLine)]
+    calls = scripts.on_one_channel(calls, scripts.seeded_edition(seed))
     return n, replies.with_bodies(calls, lambda number: ONE)
+
+
+def run_of(seed):
+    return delivery.run_of(*calls_of(seed), scripts.seeded_limit(seed), scripts.seeded_edition(seed))
 
 
 def check_seed(seed):
     """What the run of a seed breaks, with the seed and its script; None where it holds."""
     n, calls = calls_of(seed)
-    limit = scripts.seeded_limit(seed)
-    fault = delivery.first_fault(n, calls, limit)
+    limit, edition = scripts.seeded_limit(seed), scripts.seeded_edition(seed)
+    fault = delivery.first_fault(n, calls, limit, edition)
     if fault is None:
         return None
     desks = [call.desk for call in calls if isinstance(call, PostLine)]
     script = scripts.script_of(n, calls).decode("ascii")
-    return f"seed {seed}, {fault}, with the limit {limit}, posts of the desks {desks}\n{script}"
+    return f"seed {seed}, {fault}, with the limit {limit}, edition {edition}, posts of the desks {desks}\n{script}"
 
 
 def nearest(seeds):
     """How near the runs of these seeds come to a bound, how many edits have one, and the seed that comes nearest."""
     found, edits = [], 0
     for seed in seeds:
-        run = delivery.run_of(*calls_of(seed), scripts.seeded_limit(seed))
+        run = run_of(seed)
         edits += sum(1 for _ in delivery.bounded_posts(run))
         part = delivery.nearest(run)
         if part is not None:
@@ -63,12 +68,13 @@ class RandomRuns(unittest.TestCase):
 class WhatTheRunsReach(unittest.TestCase):
     @classmethod
     def setUpClass(cls):
-        cls.bounded = []
+        cls.bounded, cls.editions = [], set()
         for seed in range(0, RUNS, 3):
-            run = delivery.run_of(*calls_of(seed), scripts.seeded_limit(seed))
+            run = run_of(seed)
             cls.bounded += [(run.n, *post) for post in delivery.bounded_posts(run)]
+            cls.editions |= {run.group[0].edition for _ in delivery.bounded_posts(run)}
         for seed in range(1, RUNS, 6):
-            run = delivery.run_of(*calls_of(seed), scripts.seeded_limit(seed))
+            run = run_of(seed)
             cls.bounded += [(run.n, *post) for post in delivery.bounded_posts(run)]
 
     def test_many_edits_have_a_bound(self):
@@ -80,6 +86,9 @@ class WhatTheRunsReach(unittest.TestCase):
 
     def test_both_desks(self):
         self.assertEqual({post.edit.desk for _, post, _, _ in self.bounded}, {0, 1})
+
+    def test_both_editions(self):
+        self.assertEqual(self.editions, {0, 1})
 
     def test_runs_come_near(self):
         """The bound is no more than twice or so what some edit takes."""

@@ -68,6 +68,24 @@ class Delta(unittest.TestCase):
         self.assertEqual(delta.least(3, log, 25), 6)
         self.assertEqual(delta.least(3, log, 30), 1)
 
+    def test_library_agrees(self):
+        """With Delta, and with no other number."""
+        rng, met = random.Random("library"), set()
+        for _ in range(60):
+            n, rounds = rng.randint(1, 9), rng.randrange(30)
+            log = logs.random_log(rng, n, rounds)
+            first = rng.randint(0, rounds)
+            found = delta.least(n, log, first)
+            met.add(found is None)
+            self.assertIsNone(delta.objection(n, log, first, found), (n, list(log), first))
+            for other in {None, 1, (found or 1) - 1, (found or 0) + 1, rounds - first} - {0, found}:
+                if other is None or other <= rounds - first:
+                    self.assertIsNotNone(delta.objection(n, log, first, other), (n, list(log), first, other))
+        self.assertEqual(met, {False, True})
+        self.assertIsNone(delta.objection(16, ring(16, 300), 0, 15))
+        self.assertEqual(delta.objection(16, ring(16, 300), 0, 14), "after round 0 no relay from 15 to 0 arrives within 14 rounds")
+        self.assertEqual(delta.objection(16, ring(16, 300), 0, 16), "fewer rounds would do")
+
     def test_bound(self):
         """The formula, which the screen does not show before it is proved."""
         self.assertEqual(delta.on_air_by(0, 0, 1, False), 7)

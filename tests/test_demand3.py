@@ -11,20 +11,22 @@ RUNS = 320
 
 
 def calls_of(seed):
+    if scripts.seeded_edition(seed):
+        return scripts.seeded_channels(seed)
     return scripts.seeded_desks(seed) if seed % 2 else scripts.seeded_calls(seed)
 
 
 def check_seed(seed):
-    """What the run of a seed breaks, with the seed and its script; None where it holds. Every second
-    seed posts from both desks."""
+    """What the run of a seed breaks, with the seed and its script; None where it holds. Half of the
+    seeds run edition 1, and of the others every second posts from both desks."""
     n, calls = calls_of(seed)
-    limit = scripts.seeded_limit(seed)
-    fault = demand3.first_fault(n, calls, limit)
+    limit, edition = scripts.seeded_limit(seed), scripts.seeded_edition(seed)
+    fault = demand3.first_fault(n, calls, limit, edition)
     if fault is None:
         return None
     desks = [call.desk for call in calls if isinstance(call, PostLine)]
     script = scripts.script_of(n, calls).decode("ascii")
-    return f"seed {seed}, {fault}, with the limit {limit}, posts of the desks {desks}\n{script}"
+    return f"seed {seed}, {fault}, with the limit {limit}, edition {edition}, posts of the desks {desks}\n{script}"
 
 
 class RandomRuns(unittest.TestCase):
@@ -45,7 +47,7 @@ class WhatTheRunsReach(unittest.TestCase):
         for seed in range(0, RUNS, 7):
             n, calls = calls_of(seed)
             limit = scripts.seeded_limit(seed)
-            run = demand3.Run(n, limit)
+            run = demand3.Run(n, limit, scripts.seeded_edition(seed))
             for call in calls:
                 if isinstance(call, RoundLine):
                     run.round(call.masks)
@@ -64,7 +66,13 @@ class WhatTheRunsReach(unittest.TestCase):
         self.assertLess({1, 8, 32}, self.limits)
 
     def test_refused_posts(self):
-        self.assertEqual(self.refusals, {0, 1, 3, 4, 15})
+        self.assertEqual(self.refusals, {0, 1, 3, 4, 15, 17})
+
+    def test_channels_are_aired(self):
+        """Runs of both editions air edits, and those of edition 1 on many channels."""
+        channels = [{body.channel for aired in run.aired for _, body in aired} for run in self.runs]
+        self.assertIn({0}, channels)
+        self.assertTrue(any(len(some) > 5 and 0 not in some for some in channels))
 
     def test_desks_start_in_turn(self):
         """Some stations start edits of both desks one after the other, and some two of one desk."""

@@ -11,6 +11,7 @@ LOADER.exec_module(CHECK)
 
 FACT = "/copy/proofs/f/Proof.antt:14:13: error: `returns`: expected type `x`, but this has type `y`"
 NAME = "/copy/proofs/f/Proof.antt:9:12: error: `cast`: `tie.Need-cast`: module `M.Tie` has no `Need-cast` that can be named from here"
+FIELD = "/copy/proofs/f/Proof.antt:9:12: error: `loop-again`: record `Rattle.f.proofs.f.Lts.In-loop` has no field `args`"
 NOTE = "note: /copy/src/lib.rt:3:1: it is not proved that what the function ensures holds when it returns (`returns`)"
 
 
@@ -43,7 +44,8 @@ class TestEdits(unittest.TestCase):
         self.assertTrue(CHECK.shows(error))
 
     def test_a_name_alone_shows_nothing(self):
-        self.assertFalse(CHECK.shows(CHECK.first_error(f"{NAME}\n{FACT}\n", "/copy")))
+        for error in (NAME, FIELD):
+            self.assertFalse(CHECK.shows(CHECK.first_error(f"{error}\n{FACT}\n", "/copy")))
 
     def test_without_an_error_the_first_note_counts(self):
         self.assertTrue(CHECK.shows(CHECK.first_error(f"logic\n{NOTE}\n", "/copy")))

@@ -16,6 +16,7 @@ ONE, OTHER = Body(DROP, 7, 0), Body(SHIFT, 7, -1)
 def calls_of(seed):
     """Every body that may be posted is one of two, mostly the same."""
     n, calls = scripts.seeded_desks(seed)
+    calls = scripts.on_one_channel(calls, scripts.seeded_edition(seed))
     rng = random.Random(f"bodies {seed}")
     return n, replies.with_bodies(calls, lambda number: rng.choice((ONE, ONE, ONE, OTHER)))
 
@@ -23,13 +24,13 @@ def calls_of(seed):
 def check_seed(seed):
     """What the run of a seed breaks, with the seed and its script; None where it holds."""
     n, calls = calls_of(seed)
-    limit = scripts.seeded_limit(seed)
-    fault = replies.first_fault(n, calls, limit)
+    limit, edition = scripts.seeded_limit(seed), scripts.seeded_edition(seed)
+    fault = replies.first_fault(n, calls, limit, edition)
     if fault is None:
         return None
     desks = [call.desk for call in calls if isinstance(call, PostLine)]
     script = scripts.script_of(n, calls).decode("ascii")
-    return f"seed {seed}, {fault}, with the limit {limit}, posts of the desks {desks}\n{script}"
+    return f"seed {seed}, {fault}, with the limit {limit}, edition {edition}, posts of the desks {desks}\n{script}"
 
 
 class RandomRuns(unittest.TestCase):
@@ -49,7 +50,7 @@ class WhatTheRunsReach(unittest.TestCase):
         cls.aired, cls.left = [], 0
         for seed in range(0, RUNS, 2):
             n, calls = calls_of(seed)
-            run = replies.run_of(n, calls, scripts.seeded_limit(seed))
+            run = replies.run_of(n, calls, scripts.seeded_limit(seed), scripts.seeded_edition(seed))
             edits = replies.by_place(run)
             for edit, seen in run.replies:
                 elsewhere = [q for q in range(n) if edit in edits[q]]
@@ -65,6 +66,9 @@ class WhatTheRunsReach(unittest.TestCase):
 
     def test_both_desks(self):
         self.assertEqual({edit.desk for _, edit, _, _, _ in self.aired}, {0, 1})
+
+    def test_both_editions(self):
+        self.assertEqual({run.group[0].edition for run, *_ in self.aired}, {0, 1})
 
     def test_replies_to_the_other_desk_and_to_other_stations(self):
         kinds = set()

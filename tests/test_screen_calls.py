@@ -200,7 +200,7 @@ class Refused(Calls):
                  "q is for 3 stations, but p for 2: two plans are merged for one group")):
             show = "both" if len(sent) == 2 else 0
             more = {"plans": sent, "show": show, "view": [1, 1], "questions": [], "from": 0}
-            for path in ("look", "delta", "script", "picture", "forecast.csv", "answers.csv"):
+            for path in ("look", "delta", "delta-check", "script", "picture", "forecast.csv", "answers.csv"):
                 self.assertEqual(self.post(path, more), words, (path, words))
 
     def test_the_rest(self):
@@ -225,6 +225,20 @@ class Delta(Calls):
             first = rng.randint(0, len(log) // n)
             found = json.loads(self.post("delta", given((n, log), waiting=0, **{"from": first})))
             self.assertEqual((found["from"], found["delta"]), (first, delta.least(n, log, first)))
+
+    def test_check(self):
+        """The library agrees with Delta, and an answer that is wrong on purpose is an objection."""
+        rng, right = random.Random("check"), library.questions
+        for _ in range(10):
+            n, log = drawn(rng)
+            first = rng.randint(0, len(log) // n)
+            sent = given((n, log), **{"from": first})
+            self.assertEqual(json.loads(self.post("delta-check", sent)), {"delta": delta.least(n, log, first), "objection": None})
+        sent = given((3, logs.full_mesh(3, 30)), **{"from": 4})
+        for wrong, words in ((lambda u: None, "after round 4 no relay from "), (lambda u: 1, None)):
+            with mock.patch.object(library, "questions", lambda *asked: (0, [wrong(u) for u in right(*asked)[1]])):
+                found = json.loads(self.post("delta-check", sent))["objection"]
+            self.assertTrue(found is None if words is None else found.startswith(words), found)
 
     def test_bound(self):
         """A bound is shown where the plan has so many rounds."""

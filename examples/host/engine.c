@@ -9,7 +9,8 @@
 enum { QUEUE_LIMIT = RELAY_MOST_LIMIT, DESK = 0, EDITION = 0, CHANNEL = 0 };
 
 /* Places in a frame: a head, and then records. */
-enum { FRAME_SENDER = 1, FRAME_RECORDS = 2, FRAME_HEAD = 4, RECORD_KIND = 2, RECORD_NUMBERS = 4 };
+enum { FRAME_N = 0, FRAME_SENDER = 1, FRAME_RECORDS = 2, FRAME_EDITION = 3, FRAME_HEAD = 4, RECORD_KIND = 2,
+       RECORD_NUMBERS = 4 };
 
 /* Places in a station's state. */
 enum { STATE_N = 0, STATE_OWN = 1 };
@@ -83,6 +84,16 @@ uint32_t engine_turn(uint8_t state[STATE_BYTES], struct turn *turn)
 uint32_t engine_sender(const uint8_t *frame)
 {
     return frame[FRAME_SENDER];
+}
+
+int engine_other_n(const uint8_t *frame, uint32_t n)
+{
+    return frame[FRAME_N] != n;
+}
+
+int engine_other_edition(const uint8_t *frame)
+{
+    return frame[FRAME_EDITION] != EDITION;
 }
 
 /* A body that is no edit is refused with 4 by a station inside its limits, and with 2 by any other bytes. */

@@ -36,6 +36,10 @@ uint32_t engine_turn(uint8_t state[STATE_BYTES], struct turn *turn);
 /* The sender of a frame that the check accepts. */
 uint32_t engine_sender(const uint8_t *frame);
 
+/* Of a frame that the check refuses with 6: whether it is of another n, and whether of another edition. */
+int engine_other_n(const uint8_t *frame, uint32_t n);
+int engine_other_edition(const uint8_t *frame);
+
 /* Whether a state is that of station `own` of n stations and inside its limits. */
 int engine_accepts(const uint8_t state[STATE_BYTES], uint32_t n, uint32_t own);
 

@@ -17,6 +17,16 @@ static enum fate keep(struct kept *kept, uint32_t round, const uint8_t *frame, s
     return KEPT;
 }
 
+static enum fate refused(struct inbox *inbox, uint32_t refusal, const uint8_t *frame)
+{
+    inbox->refused[refusal < REFUSALS ? refusal : 0]++;
+    if (refusal == RELAY_BAD_ADDRESS) {
+        inbox->other_n += (uint64_t)engine_other_n(frame, inbox->n);
+        inbox->other_edition += (uint64_t)engine_other_edition(frame);
+    }
+    return REFUSED;
+}
+
 static enum fate judge(struct inbox *inbox, int peer, const uint8_t *datagram, size_t len)
 {
     struct stamp stamp;
@@ -38,8 +48,7 @@ static enum fate judge(struct inbox *inbox, int peer, const uint8_t *datagram, s
     const uint8_t *frame = datagram + STAMP_BYTES;
     uint32_t refusal = engine_check(frame, len - STAMP_BYTES, inbox->n, inbox->own);
     if (refusal != RELAY_DONE) {
-        inbox->refused[refusal < REFUSALS ? refusal : 0]++;
-        return REFUSED;
+        return refused(inbox, refusal, frame);
     }
     if (engine_sender(frame) != stamp.sender)
         return WRONG_NAME;

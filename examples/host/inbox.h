@@ -35,6 +35,7 @@ struct inbox {
     uint8_t key[KEY_BYTES];
     struct kept kept[ROUNDS_KEPT][MOST_STATIONS];
     uint64_t fates[FATES], refused[REFUSALS];
+    uint64_t other_n, other_edition; /* of those refused with 6 */
 };
 
 /* Judges a datagram that came from the address of station `peer`, or from no station's (NO_PEER). */

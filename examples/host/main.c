@@ -47,6 +47,12 @@ static int open_socket(const struct sockaddr_in *own)
     return made;
 }
 
+/* Puts a count behind a line, if it is not 0. */
+static int put_count(char *line, size_t room, const char *name, uint64_t count)
+{
+    return count == 0 ? 0 : snprintf(line, room, " %s=%llu", name, (unsigned long long)count);
+}
+
 static void tell_status(const struct host *host)
 {
     const struct station *station = &host->station;
@@ -61,6 +67,8 @@ static void tell_status(const struct host *host)
         if (station->inbox.refused[refusal] != 0)
             len += snprintf(line + len, sizeof line - (size_t)len, " refused-%d=%llu", refusal,
                             (unsigned long long)station->inbox.refused[refusal]);
+    len += put_count(line + len, sizeof line - (size_t)len, "other-n", station->inbox.other_n);
+    len += put_count(line + len, sizeof line - (size_t)len, "other-edition", station->inbox.other_edition);
     for (uint32_t k = 0; k < station->n; k++)
         if (k != station->own)
             len += snprintf(line + len, sizeof line - (size_t)len, " last-%lu=%lu", (unsigned long)k,

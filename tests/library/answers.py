@@ -31,11 +31,11 @@ def station_fresh_edition(state, n, own, limit, edition):
     return station_fresh(state, n, own, limit, edition)
 
 
-def station_post(state, desk, *numbers):
+def station_post(state, desk, kind, event, argument, channel):
     given = formats.read_station(bytes(state))
     if given is None:
         return OUTSIDE_LIMITS, [state]
-    refusal, after = station.post(given, Body(*numbers), desk)
+    refusal, after = station.post(given, Body(kind, event, argument, channel), desk)
     return refusal, [state if refusal else formats.station_bytes(after)]
 
 
@@ -84,11 +84,11 @@ def group_fresh_edition(state, n, limit, edition):
     return group_fresh(state, n, limit, edition)
 
 
-def group_post(state, place, desk, *numbers):
+def group_post(state, place, desk, kind, event, argument, channel):
     given = formats.read_group(bytes(state))
     if given is None:
         return OUTSIDE_LIMITS, [state]
-    refusal, after = group.post(given, place, Body(*numbers), desk)
+    refusal, after = group.post(given, place, Body(kind, event, argument, channel), desk)
     return refusal, [state if refusal else formats.group_bytes(after)]
 
 

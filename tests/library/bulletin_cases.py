@@ -7,11 +7,12 @@ from model import states
 from model.bulletins import MOST_OWN
 from model.group import fresh_group_state
 from model.records import PLACES
+from model.station import DESKS
 
 from . import formats, group_cases
 from .bulletin_bytes import ALL, ROUND_SHOWN, SHOWN, WIDTH, Table, places_of, stands, table_bytes
 from .cases import NUMBERS, around, buffer, changed, of_other_length
-from .group_cases import BEYOND, POST, some_masks
+from .group_cases import BEYOND, POST, post, some_masks
 from .station_cases import first_of, lent
 
 FRESH, ISSUE, ROUND = (f"relay_bulletins_{name}" for name in ("fresh", "issue", "round"))
@@ -47,8 +48,8 @@ def in_set(table, station, place):
     return table._replace(sets=tuple(held | (p == station) << place for p, held in enumerate(table.sets)))
 
 
-def group_bytes(n):
-    return formats.group_bytes(fresh_group_state(n, 8))
+def group_bytes(n, edition=0):
+    return formats.group_bytes(fresh_group_state(n, 8, edition))
 
 
 def issue(rng, data, issuer, tag=None, event=None):
@@ -77,16 +78,17 @@ def fresh(rng):
 
 
 def runs(rng, rounds):
-    """Issues, posts and rounds from fresh, of groups of 1 to 16."""
+    """Issues, posts of both desks and rounds from fresh, of groups of 1 to 16 of either edition."""
     def steps(step):
         for n in range(1, PLACES + 1):
-            group = group_bytes(n)
+            edition = n // 2 % 2
+            group = group_bytes(n, edition)
             _, state = step(FRESH, buffer(rng, WIDTH), n)
             for _ in range(rounds):
                 for _ in range(rng.choice((0, 1, 3, 6))):
                     event = rng.choice(BAD_EVENTS) if rng.random() < 0.1 else None
                     _, state = step(*issue(rng, bytes(state), rng.choice((*range(n),) * 4 + BEYOND), event=event))
-                _, group = step(POST, lent(rng, bytes(group)), rng.randrange(n), *states.random_edit(rng))
+                _, group = step(*post(rng, bytes(group), rng.randrange(n), states.random_edit(rng, edition), rng.choice(DESKS)))
                 _, group, state, *_ = step(*round_of(rng, bytes(group), bytes(state)))
     return steps
 

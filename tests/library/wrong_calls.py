@@ -193,6 +193,79 @@ def any_zero(kind, channel, _zero, event, argument, right=formats.read_body):
     return right(kind, channel, 0, event, argument)
 
 
+# Request A4.
+
+def with_ages(**others):
+    """Ages of which some are taken for others."""
+    return lambda seen, held, n, right=records.age: others.get(right(seen, held, n), right(seen, held, n))
+
+
+def without_labels(seen, held, n, right=records.age):
+    """The labels of the N stations not compared, but for the own one."""
+    return right(seen, None if held is None else held._replace(
+        labels=seen.labels[:held.station] + held.labels[held.station:held.station + 1] + seen.labels[held.station + 1:]), n)
+
+
+def without_body(seen, held, n, right=records.age):
+    return right(seen, None if held is None else held._replace(body=seen.body), n)
+
+
+def others_of(one, found):
+    return [record for record in found if record.station != one.own]
+
+
+def own_conflicts(one, found, right=hearing.hear_records):
+    if any(hearing.conflicts(one, record) for record in found):
+        raise hearing.FrameRefused(14)
+    return right(one, found)
+
+
+def full_first(one, found, right=hearing.hear_records):
+    """8 before 14, wherever they stand in the frame."""
+    after = one
+    for record in others_of(one, found):
+        after, _ = hearing.hear_record(after, record)
+    return right(one, found)
+
+
+def first_record(one, found):
+    """The first record that meets 8 or 14 decides."""
+    takings = []
+    for record in others_of(one, found):
+        if hearing.conflicts(one, record):
+            raise hearing.FrameRefused(14)
+        one, body = hearing.hear_record(one, record)
+        takings += [hearing.Taking(record.station, body)] * (body.kind > 0)
+    return one, takings
+
+
+def judged_before(given, masks):
+    """All frames of a round judged against the table before the round."""
+    shown = [frames.read_frame(station.written_frame(one)) for one in given]
+    after, takings = [], []
+    for place, before in enumerate(given):
+        one, taken = before, []
+        for sender in group.heard_stations(masks[place], place, len(given)):
+            if any(hearing.conflicts(before, record) for record in others_of(before, shown[sender])):
+                raise hearing.FrameRefused(14)
+            for record in others_of(before, shown[sender]):
+                one, body = hearing.hear_record(one, record)
+                taken += [hearing.Taking(record.station, body)] * (body.kind > 0)
+        after.append(one)
+        takings.append(taken)
+    return after, takings
+
+
+def any_conflict_first(given, masks, right=group.hear_all):
+    """A conflict in any frame goes before a full lane in an earlier one."""
+    shown = [frames.read_frame(station.written_frame(one)) for one in given]
+    for place, one in enumerate(given):
+        for sender in group.heard_stations(masks[place], place, len(given)):
+            if any(hearing.conflicts(one, record) for record in others_of(one, shown[sender])):
+                raise hearing.FrameRefused(14)
+    return right(given, masks)
+
+
 # Request A9.
 
 def channels_of(numbers):
@@ -301,6 +374,15 @@ ENGINE = {
     "a third body is dropped": by_model(take=third_body),
     "labels from N up taken from the frame": by_model(hold=labels_from_n_up),
     "an edit started while the own lane is full": by_model(may_start=lambda one: True),
+    "conflicts passed over": by_model(conflicts=lambda one, record: False),
+    "the same taken for conflicting, and the reverse": by_model(age=with_ages(same="conflicting", conflicting="same")),
+    "an older record conflicts": by_model(age=with_ages(older="conflicting")),
+    "a conflicting record is newer": by_model(age=with_ages(conflicting="newer")),
+    "labels from N up compared": by_model(age=lambda seen, held, n, right=records.age: right(seen, held, PLACES)),
+    "labels not compared": by_model(age=without_labels),
+    "bodies not compared": by_model(age=without_body),
+    "8 before 14": by_model(hear_records=full_first),
+    "the first record of a frame that is refused decides": by_model(hear_records=first_record),
     "no row is aired": by_model(row_ready=lambda one: False),
     "nothing ends": by_model(all_acknowledged=lambda one: False),
     "only Empty starts": by_model(choose_body=lambda one: (one, EMPTY)),
@@ -422,6 +504,7 @@ def before_two(name, judge):
 STATION = {
     **ENGINE,
     "the own record heard": by_model(hear_records=own_heard),
+    "the own record conflicts": by_model(hear_records=own_conflicts),
     "the present values written": by_model(held_records=present_values),
     "labels from N up written to a frame": by_model(record_bytes=all_labels),
     "more bytes than a station has accepted": by_model(read_station=front_of),
@@ -470,6 +553,8 @@ STATION = {
 GROUP = {
     **{name: wrong for name, wrong in ENGINE.items() if name != "a count that wraps after 255"},
     "frames written after some station has heard": by_model(hear_all=written_late),
+    "all frames judged against the table before the round": by_model(hear_all=judged_before),
+    "14 before an earlier frame's 8": by_model(hear_all=any_conflict_first),
     "frames heard by descending sender": by_model(heard_stations=descending),
     "the bits of a mask from N up read": by_model(heard_stations=lambda mask, place, n: [
         j for j in range(n) if j != place and mask >> j & 1 or mask >> n & 1 and j == (place + 1) % n != place]),
@@ -588,6 +673,7 @@ def group_cases(rng):
     found += groups.drawn(rng, 30)
     found += groups.another_n(rng)
     found += groups.mixed(rng)
+    found += [case for _, case in groups.false_tables(rng, 3)]
     found += [groups.post(rng, formats.group_bytes(group.fresh_group_state(2, 8, edition)), 1, bodies.Body(3, 5, 0, channel), 0)
               for edition in bodies.EDITIONS for channel in (0, 1, 200, 201, 255)]
     found += [(groups.EDITION, groups.buffer(rng, formats.GROUP), n, 8, edition) for n in (1, 3) for edition in (0, 1, 2)]

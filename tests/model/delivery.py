@@ -29,8 +29,8 @@ class Post(NamedTuple):
 class Run(replies.Run):
     """A run that notes when everything is aired."""
 
-    def __init__(self, n, limit):
-        super().__init__(n, limit)
+    def __init__(self, n, limit, edition=0):
+        super().__init__(n, limit, edition)
         self.posted = []
         self.aired_in = [[] for _ in range(n)]      # by station and entry, the round
         self.rows = [[0] for _ in range(n)]         # by station, the rows aired by each round from 0 on
@@ -50,8 +50,8 @@ class Run(replies.Run):
         entries += [len(self.log)] * (len(self.aired[place]) - len(entries))
 
 
-def run_of(n, calls, limit):
-    run = Run(n, limit)
+def run_of(n, calls, limit, edition=0):
+    run = Run(n, limit, edition)
     for call in calls:
         if isinstance(call, PostLine):
             run.post(call.station, call.body, call.desk)
@@ -137,9 +137,9 @@ def rows_come(run):
             yield f"from round {u} to {bound} not all have aired a row more"
 
 
-def first_fault(n, calls, limit=DEFAULT_LIMIT):
+def first_fault(n, calls, limit=DEFAULT_LIMIT, edition=0):
     """What the first broken sentence says, or None."""
-    run = run_of(n, calls, limit)
+    run = run_of(n, calls, limit, edition)
     return next(chain(edits_in_time(run), rows_close(run), rows_come(run)), None)
 
 

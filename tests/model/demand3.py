@@ -17,9 +17,9 @@ from .station import DESKS, queue_of
 
 
 class Run:
-    def __init__(self, n, limit=DEFAULT_LIMIT):
+    def __init__(self, n, limit=DEFAULT_LIMIT, edition=0):
         self.n = n
-        self.group = groups.fresh(n, limit).group
+        self.group = groups.fresh(n, limit, edition).group
         self.log = []                                           # the masks of each round
         self.round_refusals = []
         self.accepted = [[[], []] for _ in range(n)]            # accepted[p][d]: posts of desk d at p
@@ -163,9 +163,9 @@ AFTER_EACH_CALL = (no_round_refused, counts_and_lanes_bounded, taken_begins_star
                    desks_take_turns)
 
 
-def first_fault(n, calls, limit=DEFAULT_LIMIT):
+def first_fault(n, calls, limit=DEFAULT_LIMIT, edition=0):
     """What the first broken sentence says, or None: calls are post and round lines."""
-    run = Run(n, limit)
+    run = Run(n, limit, edition)
     for number, call in enumerate(calls, 1):
         if isinstance(call, PostLine):
             run.post(call.station, call.body, call.desk)

@@ -33,8 +33,8 @@ class Reply(NamedTuple):
 class Run(demand3.Run):
     """A run that notes its accepted posts in their order."""
 
-    def __init__(self, n, limit):
-        super().__init__(n, limit)
+    def __init__(self, n, limit, edition=0):
+        super().__init__(n, limit, edition)
         self.replies = []
         self.edit_of = {}       # the last accepted post with each body
 
@@ -53,8 +53,8 @@ class Run(demand3.Run):
 # Calls with other bodies.
 
 def with_bodies(calls, body_of):
-    """Another body, by the number of the call, for each that may be posted."""
-    return [call._replace(body=body_of(number))
+    """Another body, by the number of the call, for each that may be posted; its channel stays."""
+    return [call._replace(body=body_of(number)._replace(channel=call.body.channel))
             if isinstance(call, PostLine) and is_edit(call.body) else call
             for number, call in enumerate(calls, 1)]
 
@@ -63,8 +63,8 @@ def all_different(calls):
     return with_bodies(calls, lambda number: Body(DROP, number, 0))
 
 
-def run_of(n, calls, limit):
-    run = Run(n, limit)
+def run_of(n, calls, limit, edition=0):
+    run = Run(n, limit, edition)
     for call in calls:
         if isinstance(call, PostLine):
             run.post(call.station, call.body, call.desk)
@@ -145,9 +145,9 @@ def replies_stay_behind(run, edits):
                     yield f"{q} has aired {reply} before {x}, which {reply.source} had aired before"
 
 
-def first_fault(n, calls, limit=DEFAULT_LIMIT):
+def first_fault(n, calls, limit=DEFAULT_LIMIT, edition=0):
     """What the first broken sentence says, or None; the bodies of the calls may be equal."""
-    run, twin = run_of(n, calls, limit), run_of(n, all_different(calls), limit)
+    run, twin = run_of(n, calls, limit, edition), run_of(n, all_different(calls), limit, edition)
     told, true = by_place(run), by_body(twin)
     faults = chain(places_tell_the_edit(told, true), entries_are_posts(run, told), entries_differ(told),
                    replies_stay_behind(run, told), replies_stay_behind(twin, true))

@@ -3,7 +3,7 @@
 import random
 from typing import NamedTuple
 
-from .bodies import DROP, EMPTY, INSERT, KINDS, NEUTRAL, SHIFT, Body
+from .bodies import CHANNELS, DROP, EMPTY, INSERT, KINDS, NEUTRAL, SHIFT, Body, edit_kind
 from .bulletins import Bulletin
 from .lines import FIELD_WIDTH, PostLine, RoundLine
 from .queues import CAPACITY, DEFAULT_LIMIT
@@ -191,6 +191,17 @@ def seeded_limit(seed):
     """The limit of waiting edits that belongs to a seed, of all from 1 to 32; often the least, the default or the most."""
     rng = random.Random(f"limit {seed}")
     return rng.choice((1, DEFAULT_LIMIT, CAPACITY, rng.randint(1, CAPACITY)))
+
+
+def seeded_edition(seed):
+    """The edition that belongs to a seed: every second two have edition 1."""
+    return seed // 2 % 2
+
+
+def on_one_channel(calls, edition):
+    """The same calls in an edition: in edition 1 all edits on the last channel, so that bodies that are equal stay so."""
+    return [call._replace(body=call.body._replace(channel=CHANNELS[-1]))
+            if isinstance(call, PostLine) and edition == 1 and edit_kind(call.body) else call for call in calls]
 
 
 def seeded_script(seed, shape=None):

@@ -3,12 +3,14 @@
 from typing import NamedTuple
 
 from model.frames import check_frame
+from model.refusals import BAD_FRAME_ADDRESS
 
 from .siphash import siphash
 
 STAMP = 24
 LONGEST = STAMP + 260
 ROUNDS_KEPT = 4
+EDITION = 0
 FATES = ("kept", "stranger", "malformed", "unsealed", "other-run", "wrong-name", "late", "early", "refused", "repeated",
          "two-faced")
 
@@ -36,6 +38,11 @@ def opened(key, data):
     return Stamp(int.from_bytes(data[8:16], "little"), int.from_bytes(data[16:20], "little"), data[20], data[24:])
 
 
+def other_group(frame, n):
+    """What is told apart of frames that are refused with 6."""
+    return ["other-n"] * (frame[0] != n) + ["other-edition"] * (frame[3] != EDITION)
+
+
 class Inbox:
     """What a host keeps and counts; a new one whenever the host begins."""
 
@@ -49,6 +56,8 @@ class Inbox:
         fate = self.fate(peer, data)
         if isinstance(fate, int):
             self.count(f"refused-{fate}")
+            for name in other_group(data[STAMP:], self.n) if fate == BAD_FRAME_ADDRESS else ():
+                self.count(name)
             fate = "refused"
         self.count(fate)
         return fate

@@ -45,6 +45,9 @@ FAULTS = {
     "does not look at the address": ("inbox.c", "if (stamp.sender != (uint32_t)peer)", "if (0)", "lives"),
     "does not look at the frame's own sender": ("inbox.c", "engine_sender(frame) != stamp.sender", "0", "lives"),
     "does not check frames": ("inbox.c", "if (refusal != RELAY_DONE) {", "if (refusal > 7) {", "lives"),
+    "tells no frame of another edition": (
+        "engine.c", "return frame[FRAME_EDITION] != EDITION;", "return frame[FRAME_EDITION] != 1;", "lives"),
+    "tells no frame of another n": ("engine.c", "return frame[FRAME_N] != n;", "return n == 0 || frame == 0;", "lives"),
     "takes the later of two frames": (
         "inbox.c", "    if (kept->len != 0)\n", "    if (kept->len != 0 && 0)\n", "lives"),
     "hears by descending sender": (

@@ -92,12 +92,12 @@ def compare_rounds():
 
 
 def compare_conflicts():
-    for name, s, frame, refusal in conflicts.station_cases(random.Random("conflicts"), 12):
+    for name, s, frame, refusal in conflicts.station_cases(random.Random("conflicts"), 12, editions=(0,)):
         expected = hearing.hear(s, frame)
         got, taken, after = built.call("h", station_bytes(s) + frame)
         agree(name, [("the case", refusal, expected.refusal),
                      ("hear", (expected.refusal, expected.taken, visible(s, expected.station)), (got, taken, visible(s, after.station())))])
-    for name, given, masks, refusal in conflicts.group_cases(random.Random("conflicts"), 12):
+    for name, given, masks, refusal in conflicts.group_cases(random.Random("conflicts"), 12, editions=(0,)):
         expected = group.round_of(given, masks)
         got, _, after = built.call("r", group_bytes(given) + mask_bytes(masks))
         agree(name, [("the case", refusal, expected.refusal), ("refusal", expected.refusal, got),

@@ -2,9 +2,11 @@
 
 Delta of a plan from a round on is the least number of rounds, 1 or more, such that after every round from there on
 that leaves room for it every two stations have a relay that arrives within so many rounds. It is computed here from
-the masks, and by no call of the library.
+the masks, and by no call of the library; the library's answers can be asked whether they agree.
 """
 
+from . import library
+from .faults import Wrong
 from .hearings import hearings
 
 
@@ -53,6 +55,41 @@ def joined(first, second, length):
     stations = range(len(first))
     later = [[rounds >> length for rounds in row] for row in second]
     return [[-1 if a == b else united(first[a], [row[b] for row in later]) for b in stations] for a in stations]
+
+
+def objection(n, log, first, found):
+    """What the library's answers say against this Delta, in words; None where they agree.
+
+    A relay after a round is asked for as the first broadcast of its sender in a plan that begins behind that round.
+    """
+    rounds = len(log) // n
+
+    def slowest(t, length):
+        """The pair of stations whose relay after round t comes last, or not at all, within the next rounds, and when."""
+        worst = 0, None
+        for page in pages(n):
+            refusal, arrive = library.questions(n, log[n * t:n * (t + length)], page)
+            if refusal:
+                raise Wrong(f"refused with {refusal}")
+            worst = max(worst, *((length + 1 if one is None else one, pair) for one, pair in zip(arrive, page)))
+        return worst
+
+    if found is None:
+        none = first == rounds or slowest(first, rounds - first)[0] > rounds - first
+        return None if none else f"after round {first} every two stations have a relay"
+    late = [slowest(t, found) for t in range(first, rounds - found + 1)]
+    for t, (when, pair) in enumerate(late, first):
+        if when > found:
+            return f"after round {t} no relay from {pair[0]} to {pair[1]} arrives within {found} rounds"
+    if found == 1 or max(late)[0] == found or slowest(rounds - found + 1, found - 1)[0] == found:
+        return None
+    return "fewer rounds would do"
+
+
+def pages(n):
+    """Questions for the first broadcast, of every station to every other, a page each."""
+    asked = [(a, b, 1) for a in range(n) for b in range(n) if a != b]
+    return [asked[at:at + library.MOST_QUESTIONS] for at in range(0, len(asked), library.MOST_QUESTIONS)]
 
 
 def united(there, onward):

@@ -263,6 +263,14 @@ def delta_of(given):
     return answer
 
 
+def delta_check(given):
+    """What the library's answers say against Delta of the plan from a round on, or None."""
+    plan = plan_shown(given)
+    posted = number_of(given.get("from"), "from", plan.rounds)
+    found = delta.least(plan.n, plan.log, posted)
+    return {"delta": found, "objection": delta.objection(plan.n, plan.log, posted, found)}
+
+
 # Exports: the texts that the other subcommands print.
 
 def script(given):

@@ -275,7 +275,7 @@ function fillStation() {
   const left = fillWindows(at("windows").tBodies[0], plan, station, first, last, remove);
   at("more-windows").hidden = left === 0;
   at("more-windows").textContent = `${counted(left, "window")} more: zoom in, or go to other rounds, to see them.`;
-  at("station-ends").textContent = endWords(station, state.found.part, state.found.part_alone);
+  at("station-ends").textContent = endWords(station, state.found.part, state.found.part_alone, [first, last]);
   at("seen").textContent = plan.rounds ? `to ${last} of ${plan.rounds}` : "";
 }
 

@@ -28,7 +28,7 @@ FILES = {
     **{f"/{name}.js": (f"{name}.js", "text/javascript; charset=utf-8")
        for name in ("calls", "delta", "exports", "input", "legend", "page", "picture", "plan", "state", "tables")},
 }
-CALLS = {"/look": answers.look, "/delta": answers.delta_of}
+CALLS = {"/look": answers.look, "/delta": answers.delta_of, "/delta-check": answers.delta_check}
 EXPORTS = {
     "/script": (answers.script, TEXT),
     "/picture": (answers.picture, "image/svg+xml; charset=utf-8"),

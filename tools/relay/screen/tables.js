@@ -119,13 +119,16 @@ export function fillWindows(body, plan, station, from, to, remove) {
   return found.length - shown.length;
 }
 
-// The ends of a station in view in words; with two plans the k-th end under each alone beside it.
-export function endWords(station, part, partAlone) {
-  const ends = part.ends[station];
-  if (!ends) return "";
-  const where = `rounds ${part.first} to ${part.last}`;
+// The ends of a station in the rounds in view in words, as far as they are known; with two plans the k-th end under each
+// alone beside it.
+export function endWords(station, part, partAlone, view) {
+  const [first, last] = [Math.max(view[0], part.first), Math.min(view[1], part.last)];
+  if (!part.ends[station] || last < first) return "";
+  const passed = part.ends[station].filter((round) => round < first).length;
+  const ends = part.ends[station].slice(passed).filter((round) => round <= last);
+  const where = `rounds ${first} to ${last}`;
   if (ends.length === 0) return `Station ${station} ends no broadcast in ${where}.`;
-  const number = (at) => part.before[station] + at + 1;
+  const number = (at) => part.before[station] + passed + at + 1;
   const alone = (at) => partAlone.map((one, which) => {
     const round = one.ends[station]?.[number(at) - one.before[station] - 1];
     return `${which ? "second" : "first"} alone ${round ?? "not in view"}`;
