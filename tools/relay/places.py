@@ -1,6 +1,7 @@
 """Where the command finds what it needs: in the repository, or below the folder that `./relay install` was given."""
 
 import pathlib
+import re
 
 MODULES = pathlib.Path(__file__).resolve().parents[1]   # tools, or PREFIX/share/relay
 INSTALLED = MODULES.name != "tools"
@@ -12,6 +13,6 @@ LIBRARY = ROOT / "lib" / "librelay.so"                          # of what is ins
 PROGRAM = ROOT / "libexec" / "relay" / "relay_listing"          # likewise
 
 
-def spoken(text):
-    """A help text, which is written for the repository's top, as it holds here."""
-    return text.replace("./relay ", "relay ").replace("docs/", "") if INSTALLED else text
+def spoken(text, installed=INSTALLED):
+    """A help text, which is written for the repository's top, as it holds here or once it is installed."""
+    return re.sub(r"\./relay (?!install)", "relay ", text).replace("docs/", "") if installed else text
