@@ -40,7 +40,7 @@ class Files(unittest.TestCase):
         self.file = pathlib.Path(self.folder.name, "given")
 
     def test_every_subcommand_is_tried(self):
-        self.assertEqual({use[0] for use in USES} | READS_NONE, set(command.subcommands()) | READS_NONE)
+        self.assertEqual({use[0] for use in USES} | READS_NONE, set(command.subcommands()))
 
     def test_not_to_be_read(self):
         loop = pathlib.Path(self.folder.name, "loop")

@@ -45,19 +45,19 @@ def archive_file():
     named = os.environ.get("RELAY_HOST_ARCHIVE")
     archive = pathlib.Path(named) if named else places.ROOT / ARCHIVE
     if not archive.exists() and not named:
-        build_archive()
+        build("staticlib", CRATE, ARCHIVE)
     if not archive.exists():
         raise Missing(f"there is no archive {archive}")
     return archive
 
 
-def build_archive():
+def build(how, name, made):
+    """Has rt make a file of the repository that is missing."""
     if not shutil.which("rt"):
         raise Missing("this machine lacks 'rt', the command of the Rattle toolchain")
-    print(f"relay: {ARCHIVE} is missing; 'rt staticlib {CRATE}' proves and builds it, which takes some minutes",
-          file=sys.stderr)
+    print(f"relay: {made} is missing; 'rt {how} {name}' proves and builds it, which takes some minutes", file=sys.stderr)
     import rt_build     # of the repository, and not installed
-    rt_build.build("staticlib", CRATE, places.ROOT)
+    rt_build.build(how, name, places.ROOT)
 
 
 def link(archive, made, *options):
