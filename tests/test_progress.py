@@ -19,7 +19,7 @@ sleep 1.5
 echo "the last words of $*"
 exit %d
 """
-GONE = r"\r *\r\r$"
+GONE = r"\r +\r$"
 
 
 def python(program, terminal=True):
@@ -38,6 +38,12 @@ class Working(unittest.TestCase):
         status, said = python(self.PROGRAM % 1.7)
         self.assertEqual(status, 0)
         self.assertRegex(said, r"^(\rat work, 1 s)+" + GONE)
+
+    def test_lines_that_stay(self):
+        status, said = python("import progress; sys.stdout = sys.stderr\n"
+                              "with progress.working(lambda: 'at work') as line: time.sleep(1.5); line.above('one part')")
+        self.assertEqual(status, 0)
+        self.assertRegex(said, r"^(\rat work, 1 s)+\r +\rone part\r\n(\rat work, 1 s" + GONE[:-1] + ")?$")
 
     def test_short_work(self):
         self.assertEqual(python(self.PROGRAM % 0.4), (0, ""))

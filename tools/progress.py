@@ -20,7 +20,7 @@ class Line:
     """The line; it first comes after a second."""
 
     def __init__(self, beside_output=True):
-        self.width = 0
+        self.width, self.lock = 0, threading.RLock()
         self.due = time.monotonic() + FIRST_SHOWN if on_a_terminal(beside_output) else float("inf")
 
     def show(self, words):
@@ -30,13 +30,21 @@ class Line:
             self.write(words())
 
     def write(self, text):
-        print("\r" + text.ljust(self.width), end="", file=sys.stderr, flush=True)
-        self.width = len(text)
+        with self.lock:
+            print("\r" + text.ljust(self.width), end="", file=sys.stderr, flush=True)
+            self.width = len(text)
 
     def clear(self):
-        if self.width:
-            self.write("")
-            self.write("\r")
+        with self.lock:
+            if self.width:
+                self.write("")
+                print("\r", end="", file=sys.stderr, flush=True)
+
+    def above(self, text):
+        """Prints a line that stays, on standard output."""
+        with self.lock:
+            self.clear()
+            print(text, flush=True)
 
 
 class Reading(Line):
@@ -61,7 +69,7 @@ def since(began):
 
 @contextlib.contextmanager
 def working(words):
-    """Shows what a function says, and for how long, while work goes on that cannot tell by itself how far it is."""
+    """Shows what a function says, and for how long, while work goes on that does not tell by itself how far it is."""
     line, began, done = Line(beside_output=False), time.monotonic(), threading.Event()
 
     def tell():
@@ -72,7 +80,7 @@ def working(words):
     if line.due < float("inf"):
         teller.start()
     try:
-        yield
+        yield line
     finally:
         done.set()
         if teller.is_alive():

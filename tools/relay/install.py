@@ -1,4 +1,4 @@
-"""The library, its header, the command and its man page, below PREFIX.
+"""Installs the library for C, the command and its man page.
 
 librelay.a, librelay.so, relay.h and relay.pc go where cc and pkg-config look;
 the command, man page, documents and examples where Debian users expect them.
