@@ -1,4 +1,4 @@
-"""Errors of ./relay: whatever file or number it is given, it says where and what was expected, and never how it failed inside."""
+"""Errors of ./relay: whatever file or number it is given, it says where and what was expected, in plain words."""
 
 import os
 import pathlib
@@ -14,8 +14,8 @@ from relay import command, faults  # from tools, which relay_command puts on the
 PLAN, LISTING = ROOT / "examples" / "five-stations.plan", ROOT / "examples" / "evening.listing"
 FILE = "FILE"
 USES = (  # every place at which a file is read
-    ("listing", FILE), ("run", FILE), ("forecast", FILE), ("merge", FILE, PLAN), ("merge", PLAN, FILE), ("ask", FILE, "0 1 1"),
-    ("ask", PLAN, "--questions", FILE), ("contest", FILE), ("compare", FILE, "0", LISTING, "0"),
+    ("listing", FILE), ("run", FILE), ("forecast", FILE), ("merge", FILE, PLAN), ("merge", PLAN, FILE),
+    ("ask", FILE, "0 1 1"), ("ask", PLAN, "--questions", FILE), ("contest", FILE), ("compare", FILE, "0", LISTING, "0"),
     ("compare", LISTING, "0", FILE, "0"), ("screen", FILE), ("screen", PLAN, FILE))
 READS_NONE = {"load", "install"}
 MALFORMED = {
@@ -82,14 +82,16 @@ class Use(unittest.TestCase):
 
     def test_standard_input_twice(self):
         plan = PLAN.read_bytes()
-        self.assertEqual(self.refused("merge", "-", "-", given=plan), "standard input can be one of the two plans, not both")
+        self.assertEqual(self.refused("merge", "-", "-", given=plan),
+                         "standard input can be one of the two plans, not both")
         self.assertEqual(self.refused("ask", "-", "--questions", "-", given=plan),
                          "standard input can be the plan or the questions, not both")
         self.assertEqual(self.refused("contest", "-", "--play"),
                          "--play reads your picks from standard input, so the contest comes from a file")
 
     def test_no_question(self):
-        self.assertEqual(self.refused("ask", PLAN), "there is no question; give one as '0 4 2', or a file of them with --questions")
+        self.assertEqual(self.refused("ask", PLAN),
+                         "there is no question; give one as '0 4 2', or a file of them with --questions")
         status, _, words = run("ask", PLAN, "--questions", "-", given=b"# none\n\n")
         self.assertEqual(status, 1)
         self.assertRegex(words, "^relay ask: standard input: there is no question in it; a question is three numbers")
@@ -119,14 +121,16 @@ class Streams(unittest.TestCase):
         return done.returncode, done.stdout, done.stderr
 
     def test_output_that_fails(self):
-        for line in ("forecast examples/five-stations.plan", "merge examples/first-carrier.script examples/second-carrier.plan",
-                     "load 1 2 30000", "run examples/two-desks.script", "contest examples/three-stations.contest",
-                     "compare examples/evening.listing 0 examples/evening.listing 1", "screen examples/five-stations.plan"):
+        for line in ("forecast examples/five-stations.plan", "contest examples/three-stations.contest",
+                     "merge examples/first-carrier.script examples/second-carrier.plan", "load 1 2 30000",
+                     "compare examples/evening.listing 0 examples/evening.listing 1", "run examples/two-desks.script",
+                     "screen examples/five-stations.plan"):
             head = f"relay {line.split()[0]}: "
             for how, words in ((">/dev/full", "cannot write standard output: No space left on device"),
                                (">&-", "standard output is closed")):
                 for unbuffered in ("", "1"):
-                    self.assertEqual(self.shell(f"PYTHONUNBUFFERED={unbuffered} ./relay {line} {how}"), (2, "", f"{head}{words}\n"))
+                    self.assertEqual(self.shell(f"PYTHONUNBUFFERED={unbuffered} ./relay {line} {how}"),
+                                     (2, "", f"{head}{words}\n"))
         self.assertEqual(self.shell("./relay listing >&-"), (2, "", "relay listing: standard output is closed\n"))
         for how in (">/dev/full", ">&-"):
             status, _, words = self.shell(f"./listing {how}")

@@ -1,4 +1,4 @@
-"""The man page docs/relay.1: it is what the help texts give, it names all of them, and the formatters have no complaint."""
+"""The man page docs/relay.1: it is what the help texts give, it has all of them, and formatters do not complain."""
 
 import os
 import re
@@ -32,8 +32,8 @@ class Manual(unittest.TestCase):
             text = run(name, "--help", env={**os.environ, "COLUMNS": "80"})[1]
             for option in set(re.findall(r"--[a-z]+", text)) - {"--help"}:
                 self.assertIn(rf"\fB{manual.escaped(option)}", page, name)
-            after = text[text.index("\n\n"):].replace("show this help message and exit", "").replace("./relay", "relay")
-            missing = set(plain(after.replace("docs/", ""))) - words - {"positional", "arguments", "options", "h", "help"}
+            after = text[text.index("\n\n"):].replace("show this help message and exit", "").replace("docs/", "")
+            missing = set(plain(after)) - words - {"positional", "arguments", "options", "h", "help"}
             self.assertEqual(missing, set(), name)
 
     def test_statuses(self):
@@ -45,8 +45,8 @@ class Manual(unittest.TestCase):
         """groff and man, each where it is installed; they warn of nothing."""
         for line in ("groff -man -ww -z", "groff -man -ww -Tutf8 -z", "man --warnings -l"):
             if shutil.which(line.split()[0]):
-                done = subprocess.run([*line.split(), PAGE], stdout=subprocess.DEVNULL, stderr=subprocess.PIPE, text=True,
-                                      check=False, env={**os.environ, "MANPAGER": "cat", "MANROFFSEQ": ""})
+                done = subprocess.run([*line.split(), PAGE], stdout=subprocess.DEVNULL, stderr=subprocess.PIPE,
+                                      text=True, check=False, env={**os.environ, "MANPAGER": "cat", "MANROFFSEQ": ""})
                 self.assertEqual((done.returncode, done.stderr), (0, ""), line)
 
 
@@ -56,7 +56,8 @@ class Escapes(unittest.TestCase):
 
     def test_prose(self):
         self.assertEqual(manual.prose("one\ntwo:\n    a b\n    c\nthree\n\nfour"),
-                         [".PP", "One\ntwo:", ".PP", ".RS 4", ".EX", "a b", "c", ".EE", ".RE", ".PP", "Three", ".PP", "Four"])
+                         [".PP", "One\ntwo:", ".PP", ".RS 4", ".EX", "a b", "c", ".EE", ".RE", ".PP", "Three",
+                          ".PP", "Four"])
 
 
 if __name__ == "__main__":

@@ -1,4 +1,4 @@
-"""How far long work is: a line on the terminal that is written over again and again, and is gone when the work is done."""
+"""How far long work is: a line on the terminal, written over again and again, and gone when the work is done."""
 
 import contextlib
 import sys

@@ -4,6 +4,7 @@
     faults.py     what is wrong, for the user, and the exit statuses
     places.py     where things stand, in the repository and once they are installed
     manual.py     the man page, of the same texts as the help; it stays in the repository, as install.py does
+    completion.py   completion for bash, likewise
     library.py    the C library: finds or makes it, and one function for each call
     plans.py      link plans: the N and R lines of a script
     listings.py   listings, mapped into memory, and the words for their faults

@@ -39,8 +39,10 @@ def subcommand_lines(modules):
 
 
 def epilog(modules):
-    found = f"\nExamples are for {places.DOCUMENTS}, which has the documents too." if places.INSTALLED else ""
-    return places.spoken(f"subcommands:{subcommand_lines(modules)}\n\nexample:\n    {EXAMPLE}\n{MORE}") + f"{found}\n{statuses()}"
+    text = places.spoken(f"subcommands:{subcommand_lines(modules)}\n\nexample:\n    {EXAMPLE}\n{MORE}")
+    if places.INSTALLED:
+        text += f"\nExamples are for {places.DOCUMENTS}, which has the documents too."
+    return f"{text}\n{statuses()}"
 
 
 def parsers(modules):

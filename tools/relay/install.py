@@ -17,16 +17,16 @@ import pathlib
 import tempfile
 from typing import NamedTuple
 
-from . import VERSION, library, places
+from . import VERSION, completion, library, places
 from .faults import Misused, Missing
 
 ONLY_IN_REPOSITORY = True
 SONAME = f"librelay.so.{VERSION.partition('.')[0]}"
 PROGRAM = pathlib.Path("target", "bin", "relay_listing")
 MODULES = "progress.py", "run_listing.py", "script_faults.py", "svg.py"    # of tools, for the command
-HERE_ONLY = "install.py", "manual.py"                                     # of tools/relay
-DOCUMENTS = ("EXTENDED-SCRIPTS.md", "PLANNING.md", "SCRIPTS.md", "five-stations.svg", "killed-station.svg", "link-plan.svg",
-             "screen.png")
+HERE_ONLY = "completion.py", "install.py", "manual.py"                    # of tools/relay
+DOCUMENTS = ("EXTENDED-SCRIPTS.md", "PLANNING.md", "SCRIPTS.md", "five-stations.svg", "killed-station.svg",
+             "link-plan.svg", "screen.png")
 SYSTEM = "/usr", "/usr/local"   # where the compiler, the loader and pkg-config look by themselves
 
 COMMAND = '''#!/usr/bin/env python3
@@ -99,6 +99,7 @@ def files(prefix):
     yield File("lib/pkgconfig/relay.pc", (PKG_CONFIG % (prefix, VERSION)).encode())
     yield File("bin/relay", COMMAND.encode(), 0o755)
     yield File("libexec/relay/relay_listing", program.read_bytes(), 0o755)
+    yield File("share/bash-completion/completions/relay", completion.script().encode())
     yield from those("include", sorted((root / "include").glob("*.h")))
     yield from those("share/man/man1", [root / "docs" / "relay.1"])
     yield from those("share/doc/relay", [root / "docs" / name for name in DOCUMENTS])

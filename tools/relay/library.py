@@ -55,7 +55,8 @@ def build(how, name, made):
     """Has rt make a file of the repository that is missing."""
     if not shutil.which("rt"):
         raise Missing("this machine lacks 'rt', the command of the Rattle toolchain")
-    print(f"relay: {made} is missing; 'rt {how} {name}' proves and builds it, which takes some minutes", file=sys.stderr)
+    print(f"relay: {made} is missing; 'rt {how} {name}' proves and builds it, which takes some minutes",
+          file=sys.stderr)
     import rt_build     # of the repository, and not installed
     rt_build.build(how, name, places.ROOT)
 

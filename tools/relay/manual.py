@@ -5,8 +5,8 @@ import re
 
 from . import VERSION, command, faults, places
 
-DESCRIPTION = """Relay shows on the command line what the proved library and programs of the edit relay answer: listings of
-scripts, forecasts from a plan of links, and comparisons of air logs. In the repository it is ./relay.
+DESCRIPTION = """Relay shows on the command line what the proved library and programs of the edit relay answer:
+listings of scripts, forecasts from a plan of links, and comparisons of air logs. In the repository it is ./relay.
 
 What is wrong with a file is said on standard error: the file, the line and what was expected. Long work shows on a
 terminal how far it is; colours are used there only."""
@@ -22,8 +22,9 @@ FILES = (
     ("PREFIX/lib/librelay.a, PREFIX/lib/librelay.so", "the library for C"),
     ("PREFIX/include/relay.h", "its header, which documents every call"),
     ("PREFIX/lib/pkgconfig/relay.pc", "for pkg-config: cc program.c $(pkg-config --cflags --libs relay)"),
-    ("PREFIX/share/doc/relay", "the documents named here, and the folder examples: examples are run from there, or from the "
-                               "repository's top"),
+    ("PREFIX/share/bash-completion/completions/relay", "completion for bash"),
+    ("PREFIX/share/doc/relay", "the documents named here, and the folder examples: examples are run from there, or "
+                               "from the repository's top"),
 )
 SPECIAL = {"\\": r"\e", "-": r"\-", "'": r"\(aq", "`": r"\(ga", "^": r"\(ha", "~": r"\(ti"}
 
@@ -80,9 +81,12 @@ def page():
     """The whole man page."""
     modules = command.subcommands()
     _, parsers = command.parsers(modules)
-    lines = [f'.TH RELAY 1 "" "relay {VERSION}" "The edit relay"', ".SH NAME", r"relay \- the edit relay on the command line",
-             ".SH SYNOPSIS", r"\fBrelay\fR \fISUBCOMMAND\fR ...", ".br", r"\fBrelay\fR [\fISUBCOMMAND\fR] \fB\-\-help\fR",
-             ".SH DESCRIPTION", *prose(DESCRIPTION)[1:], ".SH SUBCOMMANDS"]
+    lines = [f'.TH RELAY 1 "" "relay {VERSION}" "The edit relay"',
+             ".SH NAME", r"relay \- the edit relay on the command line",
+             ".SH SYNOPSIS", r"\fBrelay\fR \fISUBCOMMAND\fR ...",
+             ".br", r"\fBrelay\fR [\fISUBCOMMAND\fR] \fB\-\-help\fR",
+             ".SH DESCRIPTION", *prose(DESCRIPTION)[1:],
+             ".SH SUBCOMMANDS"]
     for name, module in modules.items():
         lines += subcommand(name, module, parsers[name])
     for title, terms in (("EXIT STATUS", faults.STATUSES), ("ENVIRONMENT", ENVIRONMENT), ("FILES", FILES)):
