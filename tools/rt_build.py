@@ -7,6 +7,7 @@ to standard error.
 import collections
 import pathlib
 import re
+import signal
 import subprocess
 import sys
 
@@ -46,4 +47,7 @@ def build(how, name, root=ROOT):
 
 
 if __name__ == "__main__":
-    sys.exit(build(*sys.argv[1:]))
+    try:
+        sys.exit(build(*sys.argv[1:]))
+    except KeyboardInterrupt:
+        sys.exit(128 + signal.SIGINT)

@@ -84,7 +84,10 @@ def done(module, given):
         status = module.run(given) or 0
         sys.stdout.flush()
         return status
-    except OSError as wrong:    # of standard output: all else that fails is turned into words where it does
+    except OSError as wrong:
+        if wrong.filename is not None:
+            raise faults.Missing(f"{wrong.filename}: {wrong.strerror}") from None
+        # What is left is standard output: a file that cannot be read or written has words of its own.
         os.dup2(os.open(os.devnull, os.O_WRONLY), sys.stdout.fileno())  # what Python still holds goes nowhere
         if isinstance(wrong, BrokenPipeError):
             return 128 + signal.SIGPIPE
