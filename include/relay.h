@@ -2,6 +2,7 @@
    group's bulletins; the frame check; for planners the forecast, the merge of link logs, a page of
    questions and the link contest; the load generator; and the comparison of two air logs. Link with the
    archive that `rt staticlib relay` makes, target/staticlib/librelay.a; it needs no other library.
+   After `./relay install PREFIX` the options are those of `pkg-config --cflags --libs relay`.
 
    The library has no state of its own and allocates nothing. A call reads and writes the memory that it
    is lent, and no other; it keeps no pointer. So any number of threads may call at once, as long as no

@@ -1,6 +1,8 @@
 """The command ./relay, run by tests."""
 
+import os
 import pathlib
+import pty
 import re
 import subprocess
 import sys
@@ -13,6 +15,21 @@ def run(*arguments, given=b"", **options):
     """Exit status, standard output and standard error."""
     done = subprocess.run([ROOT / "relay", *arguments], input=given, capture_output=True, check=False, **options)
     return done.returncode, done.stdout.decode(), done.stderr.decode()
+
+
+def on_a_terminal(command, **options):
+    """Exit status and standard error of a command, where the latter is a terminal."""
+    terminal, other = pty.openpty()
+    said = b""
+    with subprocess.Popen(command, stderr=other, **{"stdout": subprocess.DEVNULL, **options}) as running:
+        os.close(other)
+        try:
+            while part := os.read(terminal, 4096):
+                said += part
+        except OSError:
+            pass    # the terminal's other side is closed
+    os.close(terminal)
+    return running.returncode, said.decode()
 
 
 def example_of(help_text):

@@ -71,8 +71,9 @@ class Cited(unittest.TestCase):
     def test_edits(self):
         """The wrong versions of docs/DECISIONS.md, each with the edits that stand for it, in whatever crate."""
         edits = {path.stem for path in ROOT.glob("crates/*/must-fail*/*.edit")}
-        table = DOCUMENTS["DECISIONS.md"].split("| Wrong version | Edit |")[1].split("\n\n")[0]
-        named = [name for row in table.splitlines()[2:] for name in re.findall(r"`(\w+)`", row.split(" | ")[1])]
+        section = DOCUMENTS["DECISIONS.md"].split("### What refuses each wrong version")[1].split("\n## ")[0]
+        rows = [row.split(". Refused by")[0] for row in section.split("\n- ")[1:]]
+        named = [name for row in rows for name in re.findall(r"`(\w+)`", row)]
         self.assertGreater(len(named), 60)
         for name in named:
             self.assertIn(name, edits)

@@ -184,7 +184,7 @@ class Command(unittest.TestCase):
                 (N2 + GOOD_ROUND + b"x" * 300_000, "line 3: the line begins with 'x'; its letter is N, P or R"),
                 (b"", "line 1: the script is empty; its first line is N with the number of stations"),
                 (N2 + GOOD_POST * 5000 + b"\n" + GOOD_ROUND * 5000, "line 5002: the line is empty")):
-            self.assertEqual(self.run_listing("-", script=script), (0, listing.listing(script), f"listing: reading stops at {words}\n"))
+            self.assertEqual(self.run_listing("-", script=script), (0, listing.listing(script), f"listing: standard input, {words}; the reading stops there\n"))
 
     def test_no_such_script(self):
         self.assertEqual(self.run_listing("/nowhere"), (2, b"", "listing: cannot read /nowhere: No such file or directory\n"))
@@ -231,7 +231,7 @@ class Command(unittest.TestCase):
                               env={**self.environment, "RELAY_LISTING_PROGRAM": str(early)}) as running:
             output, words = running.communicate(timeout=60)
         self.assertEqual(output[-4:], b"END\n")
-        self.assertIn(b"listing: reading stops at line 1: the line is empty\n", words)
+        self.assertIn(b"listing: standard input, line 1: the line is empty; the reading stops there\n", words)
 
     def on_a_terminal(self, pauses):
         """What is said on a terminal while a script comes in with these pauses."""

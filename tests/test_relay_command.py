@@ -2,7 +2,6 @@
 
 import os
 import pathlib
-import pty
 import shutil
 import subprocess
 import sys
@@ -11,23 +10,12 @@ import unittest
 
 from model import listing
 from model.malformed import GOOD_ROUND, N2
-from relay_command import ROOT, example_of, run
+from relay_command import ROOT, example_of, on_a_terminal, run
 
-from relay import command  # from tools, which relay_command puts on the path
+from relay import command, faults  # from tools, which relay_command puts on the path
 
 SERVES = "screen",      # until it is interrupted: tests/test_screen.py runs its example
 LIBRARY = "#include <stdint.h>\nuint32_t relay_sum(uint32_t one, uint32_t two) { return %d * (one + two); }\n"
-
-
-def on_a_terminal(*arguments, **environment):
-    """What the command says on standard error, where that is a terminal."""
-    terminal, other = pty.openpty()
-    done = subprocess.run([ROOT / "relay", *arguments], stdout=subprocess.PIPE, stderr=other, check=False,
-                          env={**os.environ, **environment})
-    os.close(other)
-    text = os.read(terminal, 4096).decode()
-    os.close(terminal)
-    return done.returncode, text
 
 
 class Help(unittest.TestCase):
@@ -36,27 +24,28 @@ class Help(unittest.TestCase):
         self.assertEqual((status, words), (0, ""))
         for name in command.subcommands():
             self.assertRegex(text, rf"(?m)^    {name} ")
-        self.assertEqual([line[:15] for line in example_of(text)], ["./relay listing"])
+        self.assertEqual(example_of(text), ["./relay listing examples/two-stations.script"])
         self.fits(text)
+        for number, _ in faults.STATUSES:
+            self.assertIn(f" {number} ", text[text.index("exit status:"):])
 
     def fits(self, text):
         """A screen is 80 columns and 24 lines."""
         self.assertLessEqual(max(map(len, text.splitlines())), 80, text)
         self.assertLessEqual(len(text.splitlines()), 24, text)
 
-    def test_each_subcommand(self):
-        """Its help fits a screen, and its example works."""
-        with tempfile.TemporaryDirectory() as folder:
-            for name in ("relay", "examples"):
-                pathlib.Path(folder, name).symlink_to(ROOT / name)
-            for name in command.subcommands():
-                status, text, words = run(name, "--help", env={**os.environ, "COLUMNS": "80"})
-                self.assertEqual((status, words), (0, ""))
+    def test_examples(self):
+        """Each help fits a screen, and its example works from the repository's top and prints something."""
+        with tempfile.TemporaryDirectory() as home:
+            for words in ((), *((name,) for name in command.subcommands())):
+                status, text, said = run(*words, "--help", env={**os.environ, "COLUMNS": "80"})
+                self.assertEqual((status, said), (0, ""))
                 self.fits(text)
-                for line in () if name in SERVES else example_of(text):
-                    done = subprocess.run(line, shell=True, cwd=folder, capture_output=True, stdin=subprocess.DEVNULL,
-                                          check=False)
+                for line in () if words == SERVES else example_of(text):
+                    done = subprocess.run(line, shell=True, cwd=ROOT, capture_output=True, stdin=subprocess.DEVNULL,
+                                          check=False, env={**os.environ, "HOME": home})
                     self.assertEqual((done.returncode, done.stderr), (0, b""), line)
+                    self.assertGreater(done.stdout.count(b"\n"), 0, line)
 
     def test_wrong_use(self):
         for arguments in ((), ("nothing",), ("listing", "a", "b"), ("--version",), ("listing", "--picture", "x")):
@@ -88,9 +77,10 @@ class Errors(unittest.TestCase):
         """Only on a terminal, and not where NO_COLOR is set."""
         plain = "relay forecast: cannot read /nowhere: No such file or directory\n"
         self.assertEqual(run("forecast", "/nowhere"), (2, "", plain))
-        self.assertEqual(on_a_terminal("forecast", "/nowhere", NO_COLOR=""),
-                         (2, plain.replace("relay forecast:", "\x1b[31mrelay forecast:\x1b[0m").replace("\n", "\r\n")))
-        self.assertEqual(on_a_terminal("forecast", "/nowhere", NO_COLOR="1"), (2, plain.replace("\n", "\r\n")))
+        red = plain.replace("relay forecast:", "\x1b[31mrelay forecast:\x1b[0m")
+        for value, words in (("", red), ("1", plain)):
+            said = on_a_terminal([ROOT / "relay", "forecast", "/nowhere"], env={**os.environ, "NO_COLOR": value})
+            self.assertEqual(said, (2, words.replace("\n", "\r\n")))
 
     def test_broken_pipe(self):
         """No one reads: no words, and the status of a command that SIGPIPE ends."""

@@ -22,6 +22,7 @@ class Comparison:
         self.check, self.program, self.told, self.kept = check, program, told, kept
         self.passed = self.failed = self.differences = self.scripts = 0
         self.refusals, self.letters, self.sizes = set(), set(), set()  # what the scripts came to
+        self.print = functools.partial(print, flush=True)
 
     def listing(self, name, script, run=command.whole, expected=None):
         """One test: the listing of one script."""
@@ -59,7 +60,7 @@ class Comparison:
 
     def say(self, text):
         if self.told:
-            print(f"{self.check}: {text}", flush=True)
+            self.print(f"{self.check}: {text}")
 
     def reach(self, script, expected):
         """Notes which letters, refusals and sizes of group the scripts come to."""

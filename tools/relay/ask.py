@@ -14,7 +14,7 @@ import sys
 from typing import NamedTuple
 
 from . import library, plans
-from .faults import Wrong
+from .faults import Misused, Wrong
 
 LARGEST = 2 ** 32 - 1  # that the library can be asked
 FORM = f"a question is three numbers up to {LARGEST:,}, as '0 4 2': station s, station r and k"
@@ -35,17 +35,21 @@ def arguments(parser):
 def parse(text, where):
     numbers = tuple(plans.number(word, LARGEST) for word in text.split())
     if len(numbers) != 3 or None in numbers:
-        raise Wrong(f"{where}: {text!r}: {FORM}")
+        raise Wrong(f"{where}: {plans.quoted(text)}: {FORM}")
     return Question(where, numbers)
 
 
 def read(given):
     """The questions of the arguments, then those of the file."""
     asked = [parse(text, f"question {number}") for number, text in enumerate(given.question, 1)]
-    if given.questions:
+    if given.questions is not None:
         lines = b"".join(plans.parts(given.questions)).decode("latin-1").split("\n")
         asked += [parse(line, f"{plans.shown(given.questions)}, line {number}") for number, line in enumerate(lines, 1)
                   if line.strip() and not line.startswith("#")]
+        if not asked:
+            raise Wrong(f"{plans.shown(given.questions)}: there is no question in it; {FORM}")
+    if not asked:
+        raise Misused("there is no question; give one as '0 4 2', or a file of them with --questions")
     return asked
 
 
@@ -80,6 +84,8 @@ def write_values(file, rows):
 
 
 def run(given):
+    if given.plan == given.questions == "-":
+        raise Misused("standard input can be the plan or the questions, not both")
     plan, asked = plans.read(given.plan), read(given)
     rows = rows_of(asked, answers(plan, asked))
     if given.csv:

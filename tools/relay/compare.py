@@ -16,10 +16,11 @@ import argparse
 import itertools
 import re
 
-from . import library, listings, plans
-from .faults import Wrong
+import progress
 
-DIFFERENT = 3    # the exit status, and the answer's place in library.ANSWERS
+from . import library, listings, plans
+from .faults import DIFFERENT, Wrong
+
 LARGEST = 2 ** 32 - 1  # that the library can be asked
 WORDS = {
     0: "equal",
@@ -32,7 +33,7 @@ def station(text):
     """A number of 32 bits; whether it is a station's, the library judges."""
     number = plans.number(text, LARGEST)
     if number is None:
-        raise argparse.ArgumentTypeError(f"{text!r} is no station number")
+        raise argparse.ArgumentTypeError(f"{text!r} is no station number, 0 to 15")
     return number
 
 
@@ -61,10 +62,11 @@ def run(given):
     first = listings.Listing(given.first)
     second = first if given.second == given.first else listings.Listing(given.second)
     p, q = given.first_station, given.second_station
-    refusal, (answer, position) = library.compare(first.lent, p, second.lent, q)
-    if refusal:
-        raise refused(refusal, first, p, second, q)
-    if answer != DIFFERENT:
+    with progress.working(lambda: f"compare: {first.size + second.size:,} bytes"):
+        refusal, (answer, position) = library.compare(first.lent, p, second.lent, q)
+        if refusal:
+            raise refused(refusal, first, p, second, q)
+    if library.ANSWERS[answer] != "different":
         print(WORDS[answer])
         return 0
     print(f"different at edit {position}")

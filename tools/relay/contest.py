@@ -18,7 +18,7 @@ from array import array
 from typing import NamedTuple
 
 from . import library, plans
-from .faults import Wrong
+from .faults import Misused, Wrong
 
 LARGEST, LARGEST_MASK = 2 ** 32 - 1, 65_535
 SIDES = "breaker", "keeper"
@@ -54,7 +54,7 @@ def read(name):
             if len(numbers) != 1:
                 raise Wrong(f"{where}: '{word}' has {plans.counted(len(numbers), 'number')}; it takes one")
         elif word:
-            raise Wrong(f"{where}: {word!r}; a line is stations, keep, rounds or set, with its numbers")
+            raise Wrong(f"{where}: {plans.quoted(word)}; a line is stations, keep, rounds or set, with its numbers")
     for word in ("stations", "keep", "rounds"):
         if word not in found:
             raise Wrong(f"{plans.shown(name)}: there is no line '{word}'")
@@ -68,7 +68,7 @@ def read(name):
 def parse(words, most, where):
     for word in words:
         if plans.number(word, most) is None:
-            raise Wrong(f"{where}: {word!r}; a number here is 0 to {most:,}")
+            raise Wrong(f"{where}: {plans.quoted(word)}; a number here is 0 to {most:,}")
     return list(map(int, words))
 
 
@@ -148,6 +148,8 @@ def asked(prompt, count):
 
 
 def run(given):
+    if given.play and given.contest == "-":
+        raise Misused("--play reads your picks from standard input, so the contest comes from a file")
     contest = read(given.contest)
     winner, pick = answer(contest)
     print(f"{plans.counted(contest.n, 'station')}, {plans.counted(contest.rounds, 'round')}; "

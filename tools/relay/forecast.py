@@ -7,7 +7,7 @@ rounds on end in which a station hears another, as bars, and ends as marks.
 Below the table: how long news takes, and by when an edit is aired everywhere.
 
 example:
-    ./relay forecast examples/five-stations.plan --picture windows.svg
+    ./relay forecast examples/five-stations.plan --from 20 --behind 1
 """
 
 import csv
@@ -15,6 +15,7 @@ import sys
 
 from . import forecast_picture, library, on_air, plans
 from .faults import Missing
+
 
 def arguments(parser):
     parser.add_argument("plan", metavar="PLAN", help="the plan's file; '-' is standard input")
@@ -47,7 +48,7 @@ def run(given):
     plan = plans.read(given.plan)
     ends, last = answer(plan)
     bounds = on_air.lines(plan, given.first, given.behind)
-    if given.picture:
+    if given.picture is not None:
         draw(plan, given.picture)
     if given.csv:
         write_values(sys.stdout, ends, last)
@@ -72,4 +73,4 @@ def draw(plan, name):
         with open(name, "w", encoding="utf-8") as file:
             file.write(picture)
     except OSError as wrong:
-        raise Missing(f"cannot write {name}: {wrong.strerror}") from None
+        raise Missing(f"cannot write {name or repr(name)}: {wrong.strerror}") from None

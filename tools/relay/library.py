@@ -1,7 +1,7 @@
 """The relay's C library from Python: finds or makes the shared object, and one function for each call.
 
-The shared object stands beside the archive target/staticlib/librelay.a and is made of it. RELAY_ARCHIVE names
-another archive, RELAY_LIBRARY another shared object.
+In the repository the shared object stands beside the archive target/staticlib/librelay.a and is made of it.
+RELAY_ARCHIVE names another archive, RELAY_LIBRARY another shared object.
 """
 
 import ctypes
@@ -17,10 +17,11 @@ import threading
 import time
 from array import array
 
+from . import places
 from .faults import Missing
 
-ROOT = pathlib.Path(__file__).resolve().parents[2]
-ARCHIVE = pathlib.Path("target", "staticlib", "librelay.a")
+CRATE = "relay"
+ARCHIVE = pathlib.Path("target", "staticlib", f"lib{CRATE}.a")
 PLACES = 16
 
 
@@ -30,34 +31,44 @@ def shared_object():
     """The shared object's file, made anew where its archive is newer."""
     if os.environ.get("RELAY_LIBRARY"):
         return pathlib.Path(os.environ["RELAY_LIBRARY"])
-    named = os.environ.get("RELAY_ARCHIVE")
-    archive = pathlib.Path(named) if named else ROOT / ARCHIVE
-    if not archive.exists() and not named:
-        build_archive()
-    if not archive.exists():
-        raise Missing(f"there is no archive {archive}")
+    if places.INSTALLED:
+        return places.LIBRARY
+    archive = archive_file()
     made = archive.with_suffix(".so")
     if not made.exists() or made.stat().st_mtime_ns < archive.stat().st_mtime_ns:
         link(archive, made)
     return made
 
 
-def build_archive():
+def archive_file():
+    """The archive's file, built where it is missing."""
+    named = os.environ.get("RELAY_ARCHIVE")
+    archive = pathlib.Path(named) if named else places.ROOT / ARCHIVE
+    if not archive.exists() and not named:
+        build("staticlib", CRATE, ARCHIVE)
+    if not archive.exists():
+        raise Missing(f"there is no archive {archive}")
+    return archive
+
+
+def build(how, name, made):
+    """Has rt make a file of the repository that is missing."""
     if not shutil.which("rt"):
         raise Missing("this machine lacks 'rt', the command of the Rattle toolchain")
-    print(f"relay: {ARCHIVE} is missing; 'rt staticlib relay' proves and builds it, which takes some minutes",
+    print(f"relay: {made} is missing; 'rt {how} {name}' proves and builds it, which takes some minutes",
           file=sys.stderr)
-    subprocess.run(["rt", "staticlib", "relay"], cwd=ROOT, stdin=subprocess.DEVNULL, stdout=2, check=False)
+    import rt_build     # of the repository, and not installed
+    rt_build.build(how, name, places.ROOT)
 
 
-def link(archive, made):
+def link(archive, made, *options):
     """Makes the shared object. It gets its name when it is whole, so another command never meets half of it."""
     compiler = shlex.split(os.environ.get("CC", "gcc"))
     if not shutil.which(compiler[0]):
         raise Missing(f"this machine lacks '{compiler[0]}': install Debian's package gcc")
     with tempfile.TemporaryDirectory(dir=made.parent) as folder:
         part = pathlib.Path(folder, made.name)
-        done = subprocess.run([*compiler, "-shared", "-o", part, "-Wl,--whole-archive", archive,
+        done = subprocess.run([*compiler, "-shared", *options, "-o", part, "-Wl,--whole-archive", archive,
                                "-Wl,--no-whole-archive"], capture_output=True, text=True, check=False)
         if done.returncode:
             raise Missing(f"{compiler[0]} cannot make a shared object of {archive}: {done.stderr.strip()}")
@@ -73,7 +84,7 @@ def exported(name):
     except OSError as wrong:
         raise Missing(f"cannot load the library: {wrong}") from None
     except AttributeError:
-        raise Missing(f"{file} has no {name}: 'rt staticlib relay' builds it anew") from None
+        raise Missing(f"{file} has no {name}: 'rt staticlib {CRATE}' builds it anew") from None
     function.restype = ctypes.c_uint32
     return function
 

@@ -1,16 +1,20 @@
 """The listing of a script of posts and rounds.
 
-./relay listing does what ./listing does; docs/SCRIPTS.md tells of scripts and
-listings. Without a name examples/two-stations.script is listed.
+docs/SCRIPTS.md tells of scripts and listings. Without a name the example
+two-stations.script is listed. A line that stops the reading is explained on
+standard error; the listing shows it too, so the exit status is 0 all the same.
 
 example:
     ./relay listing examples/five-stations.script
 """
 
 import os
-import pathlib
+import sys
 
-COMMAND = pathlib.Path(__file__).resolve().parents[2] / "listing"
+from . import places
+
+COMMAND = places.ROOT / "listing"   # of the repository: it builds the program where it is missing
+EXAMPLE = places.EXAMPLES / "two-stations.script"
 
 
 def arguments(parser):
@@ -18,4 +22,8 @@ def arguments(parser):
 
 
 def run(given):
-    os.execv(COMMAND, [COMMAND] + [given.script] * (given.script is not None))
+    named = [] if given.script is None else [given.script]
+    if not places.INSTALLED:
+        os.execv(COMMAND, [COMMAND, *named])
+    program = os.environ.get("RELAY_LISTING_PROGRAM") or places.PROGRAM
+    os.execv(sys.executable, [sys.executable, "-B", places.MODULES / "run_listing.py", program, *(named or [EXAMPLE])])

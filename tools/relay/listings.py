@@ -9,7 +9,7 @@ import os
 import re
 import stat
 
-from . import library
+from . import library, plans
 from .faults import Missing
 
 LINE, LAST_LINE = 35, b"END\n"
@@ -38,7 +38,7 @@ class Listing:
     def __init__(self, name):
         self.name = name
         try:
-            file = 0 if name == "-" else os.open(name, os.O_RDONLY)
+            file = plans.opened(name)
             kept = os.fstat(file)
             self.size = kept.st_size
             if stat.S_ISREG(kept.st_mode) and self.size:
@@ -48,7 +48,7 @@ class Listing:
                 self.size = len(held)
                 self.memory = (ctypes.c_char * max(1, self.size)).from_buffer_copy(held or b"\0")
         except OSError as wrong:
-            raise Missing(f"cannot read {name}: {wrong.strerror}") from None
+            raise Missing(f"cannot read {plans.shown(name)}: {wrong.strerror}") from None
         self.lent = ctypes.addressof(self.memory), self.size
 
     def text(self, at):

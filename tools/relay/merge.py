@@ -11,7 +11,7 @@ example:
 import sys
 
 from . import library, plans
-from .faults import Wrong
+from .faults import Misused, Wrong
 
 
 def arguments(parser):
@@ -31,5 +31,7 @@ def merged(first, second):
 
 
 def run(given):
+    if given.first == given.second == "-":
+        raise Misused("standard input can be one of the two plans, not both")
     first, second = plans.read(given.first), plans.read(given.second)
     sys.stdout.write(plans.text(first.n, merged(first, second)))

@@ -1,6 +1,8 @@
 """Link plans. A plan is a script of which the N line and the R lines count; P lines are judged and passed over."""
 
+import errno
 import os
+import sys
 from array import array
 from typing import NamedTuple
 
@@ -10,6 +12,7 @@ from .faults import Missing, Wrong
 
 PART = 1 << 16       # bytes
 MOST_ROUNDS = 2_048  # for the words of a refusal only: the library judges
+QUOTED = 60          # characters of what is malformed
 
 
 class Plan(NamedTuple):
@@ -32,14 +35,23 @@ class PlanReader(ScriptReader):
             self.log.extend(numbers)
 
 
+def opened(name):
+    """The descriptor of a file, or of standard input."""
+    if name != "-":
+        return os.open(name, os.O_RDONLY)
+    if sys.stdin is None:
+        raise OSError(errno.EBADF, "it is closed")
+    return 0
+
+
 def parts(name):
     """The bytes of a file, or of standard input, part by part."""
     try:
-        file = 0 if name == "-" else os.open(name, os.O_RDONLY)
+        file = opened(name)
         while part := os.read(file, PART):
             yield part
     except OSError as wrong:
-        raise Missing(f"cannot read {name}: {wrong.strerror}") from None
+        raise Missing(f"cannot read {shown(name)}: {wrong.strerror}") from None
 
 
 def read(name):
@@ -83,7 +95,12 @@ def number(word, most):
 
 
 def shown(name):
-    return "standard input" if name == "-" else name
+    return "standard input" if name == "-" else name or "''"
+
+
+def quoted(text):
+    """The front of a text that is malformed."""
+    return repr(text[:QUOTED]) + ".." * (len(text) > QUOTED)
 
 
 def counted(count, noun):

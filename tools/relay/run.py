@@ -12,23 +12,27 @@ example:
     ./relay run examples/bulletins.script
 """
 
+import argparse
+import os
 import sys
 
+from progress import Reading
 from script_faults import COUNTS, ScriptReader
 
 from . import groups, plans
 from .faults import Wrong
 
 LIMIT = 32         # of waiting edits of a desk, as the listing names it
+LARGEST = 2 ** 32 - 1  # that the library can be asked
 MALFORMED, BAD_LIMIT = 11, 13
 LAST_LINE = "END\n"
 
 
 def number(text):
     """A number of 32 bits; whether it is a limit or an edition, the library judges."""
-    number = plans.number(text, 2 ** 32 - 1)
+    number = plans.number(text, LARGEST)
     if number is None:
-        raise ValueError(text)
+        raise argparse.ArgumentTypeError(f"{text!r} is no number from 0 to {LARGEST:,}")
     return number
 
 
@@ -94,15 +98,25 @@ def ending(reader):
     return groups.line(reader.rounds, "X", 0, MALFORMED) * bool(reader.fault) + LAST_LINE
 
 
+def size_of(name):
+    """How many bytes a file has; 0 where that is not known."""
+    try:
+        return os.stat(0 if name == "-" else name).st_size
+    except OSError:
+        return 0
+
+
 def run(given):
-    reader = RunReader(given.limit, given.edition)
+    reader, progress = RunReader(given.limit, given.edition), Reading("run", size_of(given.script))
     for part in plans.parts(given.script):
         reader.read(part)
         sys.stdout.write(reader.taken())
+        progress.read(part, reader.rounds)
         if reader.fault:
             break
     else:
         reader.close()
+    progress.clear()
     sys.stdout.write(ending(reader))
     if reader.fault:
         sys.stdout.flush()
