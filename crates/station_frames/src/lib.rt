@@ -6,9 +6,10 @@ ghost use mathlib.Core.List.{_++_};
 ghost use Prim.Native.Nat.{_≤_};
 ghost use lib.ListN.{length, drop, replicate};
 ghost use Rattle.station_rules.specs.Limits.{stationInside};
-ghost use Rattle.station_rules.specs.Calls.{writeCall, bufferAfter, hearCall};
+ghost use Rattle.station_rules.specs.Calls.{writeCall, bufferAfter, sourcesOf, hearCall};
 ghost use Rattle.hearing_spec.specs.Buffer.{frameRoom};
 ghost use Rattle.hearing_spec.specs.Room.{takingsRoom};
+ghost use Rattle.acting.specs.Listened.{takingsAt, TakenRoom};
 ghost use Rattle.station_frames.specs.Beside as spec;
 ghost use Rattle.station_frames.specs.Beside.{bothRoom, HearsBeside};
 use frame_rules::Written;
@@ -111,6 +112,15 @@ pub fn listen(
     listening::listen_to(both, FRAME_ROOM, places, taken, s)
 }
 
+// The stations that the records at the first places are of, whose bodies are taken.
+pub fn sources_of(both: &[u8], taken: &[u16], len: usize) -> [bool; 16]
+    requires { ⌜ TakenRoom (now both) (now taken) len ⌝ }
+    ensures { λ r. ⌜ r ≡ sourcesOf (takingsAt (now (both .entry)) (now (taken .entry)) len) ⌝ }
+{
+    let takings = acting::takings_of(both, taken, len);
+    heard_sources::sources(takings, len)
+}
+
 // Hear: one frame's records in order.
 pub fn hear(s: Station, bytes: &[u8]) -> Heard
     ensures { λ r. ⌜ r ≡ hearCall s (now (bytes .entry)) ⌝ }
@@ -127,8 +137,7 @@ pub fn hear(s: Station, bytes: &[u8]) -> Heard
             taken: none,
         };
     }
-    let takings = acting::takings_of(&both, &taken, heard.len);
-    let sources = heard_sources::sources(takings, heard.len);
+    let sources = sources_of(&both, &taken, heard.len);
     let station = acting::acted(heard, &both, &places, &taken, s);
     Heard {
         refusal: DONE,

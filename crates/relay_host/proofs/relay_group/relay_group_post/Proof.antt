@@ -8,7 +8,7 @@ use mir.Syntax.{w32}
 use mir.ValLaws.{toZ-ofZ}
 use Rattle.kinds.specs.declared.Body.{Body}
 use Rattle.group_rules.specs.Calls.{groupPostCall}
-use Rattle.relay_host.specs.Station.{namedBody}
+use Rattle.station_calls.specs.Station.{namedBody}
 use Rattle.relay_host.proofs.Group.{group-long, post-no-group, post-refused, post-done}
 use borrow.Author.Needs.{needs}
 use Rattle.relay_host.proofs.relay_group.relay_group_post.Statement.{statement}
