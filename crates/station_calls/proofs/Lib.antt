@@ -1,3 +1,4 @@
 pub mod Refusals
 pub mod Station
-pub mod Write
+pub mod Heard
+pub mod Written

@@ -13,6 +13,7 @@ use kinds::Body;
 use kinds::refusals::DONE;
 use kinds::refusals::OUTSIDE_LIMITS;
 use kinds::refusals::SHORT_BUFFER;
+use station_frames::BOTH_ROOM;
 use station_rules::Kept;
 use station_rules::Setup;
 
@@ -149,7 +150,8 @@ pub fn write(state: &[u8], frame: &mut [u8], lengths: &mut [u32]) -> u32
     DONE
 }
 
-// Hear: one frame's records in order; sixteen flags tell from which stations a body was taken.
+// Hear: one frame's records in order; sixteen flags tell from which stations a body was taken. Of the state only what
+// hearing can change is written.
 pub fn hear(state: &mut [u8], frame: &[u8], taken: &mut [u8]) -> u32
     ensures { λ r. ⌜ (r ≡ hearReturned (now (state .entry)) (now (frame .entry)) (now (taken .entry)))
         × (now (state .exit) ≡ frontWritten r
@@ -161,16 +163,18 @@ pub fn hear(state: &mut [u8], frame: &[u8], taken: &mut [u8]) -> u32
         return OUTSIDE_LIMITS;
     }
     let station = station_decoder::read_station(state);
-    let heard = station_frames::hear(station, frame);
+    let mut both = [0u8; BOTH_ROOM];
+    let mut places = [0u16; 16];
+    let mut bodies = [0u16; 30];
+    let heard = station_frames::listen(&mut both, &mut places, &mut bodies, frame, station);
     if heard.refusal != DONE {
         return heard.refusal;
     }
     if taken.len() < 16 {
         return SHORT_BUFFER;
     }
-    let after = heard.station;
-    let sources = heard.taken;
-    station_encoder::put_station(state, 0, after);
+    let sources = station_frames::sources_of(&both, &bodies, heard.len);
+    heard_bytes::put_heard(state, heard, &both, &places, &bodies, station.n);
     report_encoder::put_flags(taken, sources);
     DONE
 }

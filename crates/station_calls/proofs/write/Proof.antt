@@ -3,7 +3,7 @@ use mathlib.Core.Path.{sym, _∙_}
 use native.Mathlib.Omega.{arith}
 use borrow.Author.Tests.{not-true, not-false}
 use Rattle.station_calls.proofs.Station.{station-long}
-use Rattle.station_calls.proofs.Write.{write-no-station, write-none-refused, write-none, write-refused, length-fits, write-done}
+use Rattle.station_calls.proofs.Written.{write-no-station, write-none-refused, write-none, write-refused, length-fits, write-done}
 use borrow.Author.Needs.{needs}
 use Rattle.station_calls.proofs.write.Statement.{statement}
 use Rattle.station_calls.proofs.write.Tie as tie
