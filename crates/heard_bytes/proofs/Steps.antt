@@ -1,4 +1,5 @@
--- What each function leaves: the bytes of the station with its part of what was heard. The loops go place by place, and each turn is one change more.
+-- What each function leaves: the bytes of the station with its part of what was heard. The loops go
+-- place by place, and each turn is one change more.
 use mathlib.Core.Path.{_≡_, refl, sym, ap, _∙_}
 use mathlib.Core.Bool.{Bool, true, false}
 use mathlib.Core.List.{List, [], _∷_}

@@ -18,7 +18,8 @@ use Rattle.hearing_spec.specs.StandsFor.{holdsAt, topAt}
 use Rattle.acting.specs.Listened.{takingsAt}
 use Rattle.station_bytes_spec.specs.Station.{encodeStation}
 
--- bytes of a station become those of the changed station, whichever station it is; its arrays have sixteen places by their types
+-- bytes of a station become those of the changed station, whichever station it is; its arrays have
+-- sixteen places by their types
 pub record Changes (before after : List ℕ) (f : Station → Station) : Type 0 where
   pub encoded : (s : Station) → Shaped s → before ≡ encodeStation s → after ≡ encodeStation (f s)
 

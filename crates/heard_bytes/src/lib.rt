@@ -1,4 +1,4 @@
-// What was heard, put into the bytes of a station: of the bytes only those are written that hearing can change.
+// What was heard, put into the bytes of a station: only those are written that hearing can change.
 
 ghost use mathlib.Core.Path.{_≡_};
 ghost use Prim.Native.Nat.{ℕ, _+_, _≤_, _<_};
@@ -7,7 +7,8 @@ ghost use Rattle.hearing_spec.specs.Buffer.{sizeIn, recordAt};
 ghost use Rattle.hearing_spec.specs.StandsFor.{actsOn};
 ghost use Rattle.acting.specs.Listened.{TakenRoom, Readable, heardNotes};
 ghost use Rattle.station_bytes_spec.specs.Station.{stationWidth};
-ghost use Rattle.heard_bytes.specs.Changes.{Changes, ChangesAt, ChangesOf, withoutEntry, withEntryAt, entriesBelow, withNumbers, withPushed, withTaken};
+ghost use Rattle.heard_bytes.specs.Changes.{Changes, ChangesAt, ChangesOf, withoutEntry, withEntryAt};
+ghost use Rattle.heard_bytes.specs.Changes.{entriesBelow, withNumbers, withPushed, withTaken};
 use frame_rules::Record;
 use hearing_spec::Ear;
 use kinds::Body;
@@ -31,7 +32,8 @@ fn clear_entry(state: &mut [u8], k: usize)
 fn put_entry(state: &mut [u8], k: usize, bytes: &[u8], at: usize, n: usize)
     requires { ⌜ (stationWidth ≤ length (now state)) × (k < 16) ⌝ ∗
         ⌜ (at + 16 ≤ length (now bytes)) × (n ≤ 16) ⌝ }
-    ensures { λ _. ⌜ ChangesAt k (now (state .entry)) (now (state .exit)) (λ s. withEntryAt s n k (now (bytes .entry)) at) ⌝ }
+    ensures { λ _. ⌜ ChangesAt k (now (state .entry)) (now (state .exit))
+        (λ s. withEntryAt s n k (now (bytes .entry)) at) ⌝ }
 {
     let cell = FIRST_CELL + CELL_WIDTH * k;
     let old = record_reader::word_at(state, cell + 40);
@@ -52,7 +54,8 @@ fn put_entry(state: &mut [u8], k: usize, bytes: &[u8], at: usize, n: usize)
 fn put_entries(state: &mut [u8], bytes: &[u8], places: &[u16], n: usize)
     requires { ⌜ (stationWidth ≤ length (now state)) × (n ≤ 16) × (length (now places) ≡ 16) ⌝ ∗
         ⌜ ((k : ℕ) → k < n → getD (now places) k 0 + 16 ≤ length (now bytes)) ⌝ }
-    ensures { λ _. ⌜ ChangesOf n (now (state .entry)) (now (state .exit)) (λ s. entriesBelow s (now (bytes .entry)) (now (places .entry)) n) ⌝ }
+    ensures { λ _. ⌜ ChangesOf n (now (state .entry)) (now (state .exit))
+        (λ s. entriesBelow s (now (bytes .entry)) (now (places .entry)) n) ⌝ }
 {
     let mut k: usize = 0;
     while k < n {
@@ -105,7 +108,8 @@ fn push(state: &mut [u8], k: usize, body: Body)
 fn push_taken(state: &mut [u8], bytes: &[u8], taken: &[u16], len: usize)
     requires { ⌜ (stationWidth ≤ length (now state)) × (sizeIn (now bytes) ≤ 16) ⌝ ∗
         ⌜ TakenRoom (now bytes) (now taken) len ⌝ }
-    ensures { λ _. ⌜ Changes (now (state .entry)) (now (state .exit)) (λ s. withTaken s (now (bytes .entry)) (now (taken .entry)) len) ⌝ }
+    ensures { λ _. ⌜ Changes (now (state .entry)) (now (state .exit))
+        (λ s. withTaken s (now (bytes .entry)) (now (taken .entry)) len) ⌝ }
 {
     let mut i: usize = 0;
     while i < len {
@@ -118,7 +122,14 @@ fn push_taken(state: &mut [u8], bytes: &[u8], taken: &[u16], len: usize)
 }
 
 // All that was heard.
-pub fn put_heard(state: &mut [u8], heard: Ear, bytes: &[u8], places: &[u16], taken: &[u16], n: usize)
+pub fn put_heard(
+    state: &mut [u8],
+    heard: Ear,
+    bytes: &[u8],
+    places: &[u16],
+    taken: &[u16],
+    n: usize,
+)
     requires { ⌜ (stationWidth ≤ length (now state)) × (n ≡ sizeIn (now bytes)) ⌝ ∗
         ⌜ Readable (now bytes) (now places) (now taken) (heard .len) ⌝ }
     ensures { λ _. ⌜ ChangesOf n (now (state .entry)) (now (state .exit))

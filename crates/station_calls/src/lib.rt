@@ -74,13 +74,7 @@ pub fn fresh_limited(state: &mut [u8], n: u32, own: u32, limit: u32) -> u32
 }
 
 // Fresh, with a limit and an edition named.
-pub fn fresh_edition(
-    state: &mut [u8],
-    n: u32,
-    own: u32,
-    limit: u32,
-    edition: u32,
-) -> u32
+pub fn fresh_edition(state: &mut [u8], n: u32, own: u32, limit: u32, edition: u32) -> u32
     ensures { λ r. ⌜ (r ≡ freshReturned (freshCall (record { n = n; limit = limit; edition = edition }) own) (now (state .entry)))
         × (now (state .exit) ≡ frontWritten r
         (encodeStation (freshCall (record { n = n; limit = limit; edition = edition }) own .station))
@@ -96,14 +90,7 @@ pub fn fresh_edition(
 }
 
 // Post: one more waiting edit of a desk.
-pub fn post(
-    state: &mut [u8],
-    desk: u32,
-    kind: u32,
-    event: u32,
-    argument: i32,
-    channel: u32,
-) -> u32
+pub fn post(state: &mut [u8], desk: u32, kind: u32, event: u32, argument: i32, channel: u32) -> u32
     ensures { λ r. ⌜ (r ≡ postReturned (now (state .entry)) desk (namedBody kind event argument channel))
         × (now (state .exit) ≡ frontWritten r
         (encodeStation (postAnswer (now (state .entry)) desk (namedBody kind event argument channel) .station))

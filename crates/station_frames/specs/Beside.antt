@@ -25,7 +25,8 @@ beside s bytes = roomed (frameOf s) ++ roomed bytes
 abbrev pub bothRoom : ℕ
 bothRoom = frameRoom * 2
 
--- a frame was heard, and none refused: what is acted on and the sources of the takings are what the call hear answers with
+-- a frame was heard, and none refused: what is acted on and the sources of the takings are what the
+-- call hear answers with
 pub record Acts (s : Station) (frame both places taken : List ℕ) (e : Ear) : Type 0 where
   pub size : s .n ≡ sizeIn both
   pub readable : Readable both places taken (e .len)

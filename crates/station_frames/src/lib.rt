@@ -87,8 +87,8 @@ fn refused(refusal: u32) -> Ear
     }
 }
 
-// What the call hear judges and hears, before it is taken into the station. The own frame and the heard one are put into
-// `both`, and what was heard is told by places there.
+// What the call hear judges and hears, before it is taken into the station. The own frame and the
+// heard one are put into `both`, and what was heard is told by places there.
 pub fn listen(
     both: &mut [u8],
     places: &mut [u16],
@@ -96,8 +96,10 @@ pub fn listen(
     frame: &[u8],
     s: Station,
 ) -> Ear
-    requires { ⌜ (now both ≡ replicate bothRoom 0) × (now places ≡ replicate 16 0) × (length (now taken) ≡ takingsRoom) ⌝ }
-    ensures { λ r. ⌜ HearsBeside s (now (frame .entry)) (now (both .exit)) (now (places .exit)) (now (taken .exit)) r ⌝ }
+    requires { ⌜ (now both ≡ replicate bothRoom 0)
+        × (now places ≡ replicate 16 0) × (length (now taken) ≡ takingsRoom) ⌝ }
+    ensures { λ r. ⌜ HearsBeside s (now (frame .entry)) (now (both .exit))
+        (now (places .exit)) (now (taken .exit)) r ⌝ }
 {
     if !station_limits::station_inside(s) {
         return refused(OUTSIDE_LIMITS);

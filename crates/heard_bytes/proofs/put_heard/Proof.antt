@@ -1,4 +1,5 @@
--- `heard_bytes::put_heard` meets its contract: the records, the numbers and the takings one after the other make what is acted on.
+-- `heard_bytes::put_heard` meets its contract: the records, the numbers and the takings one after the
+-- other make what is acted on.
 use mathlib.Core.Path.{_∙_}
 use native.Mathlib.Omega.{arith}
 use Rattle.heard_bytes.proofs.Lengths.{acked-long, labels-long}

@@ -1,4 +1,5 @@
--- `station_frames::hear` meets its contract: what was heard is taken into the station, and the sources of the takings are told.
+-- `station_frames::hear` meets its contract: what was heard is taken into the station, and the sources
+-- of the takings are told.
 use mathlib.Core.Path.{_∙_}
 use borrow.Author.Needs.{needs}
 use Rattle.kinds.specs.Refusals.{done}
