@@ -13,7 +13,6 @@ use Rattle.places.specs.Places.{fill}
 use Rattle.places.proofs.Laws.{fill-below, fill-ext, and-left}
 use Rattle.broadcast_sets.specs.Sets.{united}
 use Rattle.station_rules.specs.declared.Station.{Station}
-use Rattle.group_rules.specs.declared.Report.{Report}
 use Rattle.group_rules.specs.declared.RoundDone.{RoundDone}
 use Rattle.group_rules.specs.State.{sizeOf}
 use Rattle.group_rules.specs.Calls.{noReport, roundCall}
@@ -83,12 +82,12 @@ module _ (g : List Station) (B : Bulletins) (masks : List ℕ) where
   pub fit-inside : fits g B ≡ true → bulletinsInside B ≡ true
   fit-inside h = and-left (bulletinsInside B) (eqb (sizeOf g) (B .n)) h
 
-  pub unfit : fits g B ≡ false → (reports : List Report) (silent : List Shown) → reports ≡ replicate 16 noReport → silent ≡ noneShown
+  pub unfit : fits g B ≡ false
       → _≡_ {A = BulletinsRound}
-      (record { round = record { refusal = outsideLimits; group = g; reports = reports }; bulletins = B; shown = silent })
+      (record { round = record { refusal = outsideLimits; group = g; reports = replicate 16 noReport }; bulletins = B; shown = noneShown })
       (bulletinsRoundCall g B masks)
   unfolding bulletinsRoundCall roundPart
-  unfit e reports silent r s = rw (r, s, e)
+  unfit e = rw e
 
   module _ (fit : fits g B ≡ true) (d : RoundDone) (called : d ≡ roundCall g masks) where
     part : roundPart g B masks ≡ d
