@@ -38,8 +38,8 @@ loop2-holds c = search needs
 mul-mix-report : tie.Need-mul-mix-report Inv-loop2 μ-loop2 Inv-loop μ-loop
 mul-mix-report c = search needs
 
-array-copy-out-mix-report : tie.Need-array-copy-out-mix-report Inv-loop2 μ-loop2 Inv-loop μ-loop
-array-copy-out-mix-report c = search needs
+element-copy-out-mix-report : tie.Need-element-copy-out-mix-report Inv-loop2 μ-loop2 Inv-loop μ-loop
+element-copy-out-mix-report c = search needs
 
 mix-report-requires : tie.Need-mix-report-requires Inv-loop2 μ-loop2 Inv-loop μ-loop
 mix-report-requires c κs = search needs
@@ -83,7 +83,7 @@ run-spec =
     round-requires
     loop2-holds
     mul-mix-report
-    array-copy-out-mix-report
+    element-copy-out-mix-report
     mix-report-requires
     add-k
     loop2-less
