@@ -13,7 +13,6 @@ use Rattle.lists.specs.Below.{setBelow}
 use Rattle.lists.proofs.Laws.{setBelow-inside, setBelow-ext, and-left}
 use Rattle.link_logs.specs.Sets.{united}
 use Rattle.station_spec.specs.declared.Station.{Station}
-use Rattle.group_spec.specs.declared.Report.{Report}
 use Rattle.group_spec.specs.declared.RoundDone.{RoundDone}
 use Rattle.group_spec.specs.State.{sizeOf}
 use Rattle.group_spec.specs.Calls.{noReport, roundCall}
@@ -83,12 +82,12 @@ module _ (g : List Station) (B : Bulletins) (masks : List ℕ) where
   pub fit-inside : fits g B ≡ true → bulletinsInside B ≡ true
   fit-inside h = and-left (bulletinsInside B) (eqb (sizeOf g) (B .n)) h
 
-  pub unfit : fits g B ≡ false → (reports : List Report) (silent : List Shown) → reports ≡ replicate 16 noReport → silent ≡ noneShown
+  pub unfit : fits g B ≡ false
       → _≡_ {A = BulletinsRound}
-      (record { round = record { refusal = outsideLimits; group = g; reports = reports }; bulletins = B; shown = silent })
+      (record { round = record { refusal = outsideLimits; group = g; reports = replicate 16 noReport }; bulletins = B; shown = noneShown })
       (bulletinsRoundCall g B masks)
   unfolding bulletinsRoundCall roundPart
-  unfit e reports silent r s = rw (r, s, e)
+  unfit e = rw e
 
   module _ (fit : fits g B ≡ true) (d : RoundDone) (called : d ≡ roundCall g masks) where
     part : roundPart g B masks ≡ d

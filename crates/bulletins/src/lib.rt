@@ -9,12 +9,14 @@ ghost use mathlib.Core.Bool.{cond, _&&_};
 ghost use Prim.Native.Nat.{_≤_, _<_};
 ghost use lib.Bits.{bitOr};
 ghost use lib.Dec.{eqb};
-ghost use lib.ListN.{getD};
+ghost use lib.ListN.{getD, replicate};
+ghost use Rattle.bodies.specs.Refusals.{outsideLimits};
 ghost use Rattle.links.specs.Log.{hearsIn};
 ghost use Rattle.lists.specs.Below.{setBelow};
 ghost use Rattle.link_logs.specs.Sets.{united};
+ghost use Rattle.group_spec.specs.Calls.{noReport};
 ghost use Rattle.bulletins_spec.specs.State.{freshBulletins, bulletinsInside};
-ghost use Rattle.bulletins_spec.specs.Calls.{bulletinsFreshCall, issueCall, bulletinsRoundCall};
+ghost use Rattle.bulletins_spec.specs.Calls.{bulletinsFreshCall, issueCall, bulletinsRoundCall, noneShown};
 use bodies::refusals::ALREADY_ISSUED;
 use bodies::refusals::BAD_NUMBER;
 use bodies::refusals::DONE;
@@ -156,24 +158,35 @@ fn fit(b: Bulletins, n: usize) -> bool
     n == b.n
 }
 
+// A round refused for its bulletins: all is as it was given.
+fn refused_round(g: [Station; 16], b: Bulletins) -> BulletinsRound
+    ensures { λ r. ⌜ r ≡ record {
+      round = record { refusal = outsideLimits; group = g; reports = replicate 16 noReport };
+      bulletins = b;
+      shown = noneShown;
+    } ⌝ }
+{
+    let silent = showing::none_shown();
+    let none = rounds::no_report();
+    let reports = [none; 16];
+    BulletinsRound {
+        round: RoundDone {
+            refusal: OUTSIDE_LIMITS as usize,
+            group: g,
+            reports: reports,
+        },
+        bulletins: b,
+        shown: silent,
+    }
+}
+
 // Round: the group's round, and on the same masks everyone takes over what those that it hears held before the round.
 pub fn round(g: [Station; 16], b: Bulletins, masks: [u16; 16]) -> BulletinsRound
     ensures { λ r. ⌜ r ≡ bulletinsRoundCall g b masks ⌝ }
 {
     let first = g[0];
     if !fit(b, first.n) {
-        let silent = showing::none_shown();
-        let none = rounds::no_report();
-        let reports = [none; 16];
-        return BulletinsRound {
-            round: RoundDone {
-                refusal: OUTSIDE_LIMITS as usize,
-                group: g,
-                reports: reports,
-            },
-            bulletins: b,
-            shown: silent,
-        };
+        return refused_round(g, b);
     }
     let done = rounds::round(g, masks);
     if done.refusal != DONE as usize {

@@ -85,9 +85,6 @@ fn shown_by(
         (noticeIn (now (tags .entry)) (now (events .entry))) (take (4 * n) (now (places .entry)))) ⌝ }
 {
     let mut shown = nothing();
-    if before == after {
-        return shown;
-    }
     let mut len: usize = 0;
     let mut t: usize = 0;
     while t < OWN * n {
@@ -109,7 +106,7 @@ pub fn none_shown() -> [Shown; 16]
     [none; 16]
 }
 
-// What all stations below n show, whose sets were `before` and are `after`.
+// What all stations below n show, whose sets were `before` and are `after`; where a set is as before, that is nothing.
 pub fn all_shown(
     places: &[usize; 64],
     tags: &[u32; 64],
@@ -127,6 +124,10 @@ pub fn all_shown(
     let mut shown = none_shown();
     let mut p: usize = 0;
     while p < n {
+        if before[p] == after[p] {
+            p += 1;
+            continue;
+        }
         shown[p] = shown_by(places, tags, events, before[p], after[p], n);
         p += 1;
     }

@@ -37,6 +37,10 @@ actedBelow s bytes places k =
 abbrev pub withEntries : Station → List Bool → List Record → Station
 withEntries s held table = withArrays s (s .acked) (s .labels) held table (s .lanes)
 
+-- with other lanes
+abbrev pub withPushed : Station → List Lane → Station
+withPushed s lanes = withArrays s (s .acked) (s .labels) (s .held) (s .table) lanes
+
 pub acted-first : (s : Station) (bytes places : List ℕ) → s ≡ actedBelow s bytes places 0
 unfolding setBelow
 acted-first s bytes places = refl
@@ -78,11 +82,10 @@ module _ (s : Station) (bytes places : List ℕ) (k : ℕ) where
 
 -- all of it
 pub acted-all :
-    (s : Station) (bytes places taken : List ℕ) (e : Ear) (lanes : List Lane) → lanes ≡ pushedAll (s .lanes) (takingsAt bytes taken (e .len)) →
+    (s : Station) (bytes places taken : List ℕ) (e : Ear) →
     withArrays (withBroadcast (actedBelow s bytes places (s .n)) (s .body) (e .count)) (e .acked) (e .labels)
-    (setBelow (s .n) (holdsAt places) (s .held)) (setBelow (s .n) (entryAt s bytes places) (s .table)) lanes
+    (setBelow (s .n) (holdsAt places) (s .held)) (setBelow (s .n) (entryAt s bytes places) (s .table))
+    (pushedAll (s .lanes) (takingsAt bytes taken (e .len)))
     ≡ actsOn s bytes (heardNotes places taken e)
 unfolding actedOn
-acted-all s bytes places taken e lanes is =
-    λ i. withArrays (withBroadcast s (s .body) (e .count)) (e .acked) (e .labels) (setBelow (s .n) (holdsAt places) (s .held))
-    (setBelow (s .n) (entryAt s bytes places) (s .table)) (is i)
+acted-all s bytes places taken e = refl

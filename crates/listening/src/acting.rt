@@ -9,7 +9,6 @@ ghost use Rattle.queues.specs.Lane.{noLane};
 ghost use Rattle.lists.specs.Below.{setBelow};
 ghost use Rattle.station_spec.specs.Hearing.{noTaking, replaced};
 ghost use Rattle.hearing_spec.specs.Buffer.{sizeIn, recordAt};
-ghost use Rattle.hearing_spec.specs.Gathered.{pushedAll};
 ghost use Rattle.hearing_spec.specs.StandsFor.{actsOn};
 ghost use Rattle.hearing_spec.specs.Room.{FrameRoom, mostBytes};
 ghost use Rattle.listening.specs.OwnPlaces.{placesOf};
@@ -76,26 +75,6 @@ pub fn takings_of(bytes: &[u8], taken: &[u16], len: usize) -> [Taking; 30]
     takings
 }
 
-// The lanes with the bodies of the records at the first places, each put last into the lane of its
-// station.
-fn filled(lanes: [Lane; 16], bytes: &[u8], taken: &[u16], len: usize) -> [Lane; 16]
-    requires { ⌜ (sizeIn (now bytes) ≤ 16) × TakenRoom (now bytes) (now taken) len ⌝ }
-    ensures { λ r. ⌜ r ≡ pushedAll lanes (takingsAt (now (bytes .entry)) (now (taken .entry)) len) ⌝ }
-{
-    let mut full = lanes;
-    let mut i: usize = 0;
-    while i < len {
-        let at = taken[i] as usize;
-        let seen = records::reader::read_record(&bytes[at..at + 16]);
-        let k = seen.station as usize;
-        let body = seen.body;
-        let lane = full[k];
-        full[k] = queues::pushed(lane, body);
-        i += 1;
-    }
-    full
-}
-
 // The record at a place, put in the place of an old one, whose labels from n up stay.
 fn record_over(bytes: &[u8], at: usize, n: usize, old: Record) -> Record
     requires { ⌜ (n ≤ 16) × (at + 16 ≤ length (now bytes)) ⌝ }
@@ -132,11 +111,19 @@ pub fn acted(heard: Ear, bytes: &[u8], places: &[u16], taken: &[u16], s: Station
         station.table[k] = record_over(bytes, at, n, old);
         k += 1;
     }
-    let lanes = station.lanes;
-    let full = filled(lanes, bytes, taken, heard.len);
+    let len = heard.len;
+    let mut i: usize = 0;
+    while i < len {
+        let at = taken[i] as usize;
+        let seen = records::reader::read_record(&bytes[at..at + 16]);
+        let source = seen.station as usize;
+        let body = seen.body;
+        let lane = station.lanes[source];
+        station.lanes[source] = queues::pushed(lane, body);
+        i += 1;
+    }
     let acked = heard.acked;
     let labels = heard.labels;
-    station.lanes = full;
     station.count = heard.count;
     station.acked = acked;
     station.labels = labels;

@@ -51,6 +51,9 @@ pub queue-make : (edition limit : ℕ) (q : Queue) → q .len ≤ limit → ((i 
 unfolding queueInside
 queue-make edition limit q l h = and-both (le-leb (q .len) limit l) (allBelow-make (q .len) (λ i. mayWait edition (slotBody q i)) h)
 
+pub queue-empty : (edition limit : ℕ) (q : Queue) → q .len ≡ 0 → queueInside edition limit q ≡ true
+queue-empty edition limit q e = queue-make edition limit q (omega (arith, e)) (λ i l. absurd (omega (arith, e)))
+
 pub queued-len : (q : Queue) (b : Body) → (queued q b) .len ≡ suc (q .len)
 unfolding queued
 queued-len q b = omega arith

@@ -267,13 +267,16 @@ pub fn without_next(waiting: Waiting) -> Waiting
     }
 }
 
-// Are the waiting edits inside their limits in an edition?
+// Are the waiting edits inside their limits in an edition? Queues without edits are not looked at.
 pub fn waiting_inside(edition: usize, waiting: Waiting) -> bool
     ensures { λ r. ⌜ r ≡ waitingSpec.waitingInside edition waiting ⌝ }
 {
     let limit = waiting.limit;
     if !limit_inside(limit) {
         return false;
+    }
+    if !any_waits(waiting) {
+        return true;
     }
     let queue0 = waiting.queue0;
     if !queue_inside(queue0, edition, limit) {

@@ -30,7 +30,7 @@ use Rattle.bulletin_bytes_spec.proofs.Bulletins.{length-bulletins}
 use Rattle.bulletin_bytes_spec.proofs.Shown.{length-all-shown}
 use Rattle.relay.specs.Group.{sixteenMasks}
 use Rattle.relay.specs.Bulletins.{bulletinsFreshReturned, issueAnswer, issueReturned, bothAnswer, bothReturned}
-use Rattle.relay.proofs.Refusals.{first-refused, first-done, state-refused, state-taken, no-room, room, kept-whole, front-made, refused-is-2, short-is-9}
+use Rattle.station_calls.proofs.Refusals.{first-refused, first-done, state-refused, state-taken, no-room, room, kept-whole, front-made, refused-is-2, short-is-9}
 use Rattle.relay.proofs.Group.{group-long}
 use Rattle.relay.proofs.RoundRefusals.{round-small}
 

@@ -25,7 +25,7 @@ use Rattle.station_bytes_spec.proofs.Bytes.{filled}
 use Rattle.station_bytes_spec.proofs.Group.{length-group}
 use Rattle.station_bytes_spec.proofs.Reports.{length-reports}
 use Rattle.relay.specs.Group.{groupFreshReturned, groupPostAnswer, groupPostReturned, sixteenMasks, roundAnswer, roundReturned}
-use Rattle.relay.proofs.Refusals.{first-refused, first-done, state-refused, state-taken, no-room, room, kept-whole, front-made, refused-is-2, short-is-9}
+use Rattle.station_calls.proofs.Refusals.{first-refused, first-done, state-refused, state-taken, no-room, room, kept-whole, front-made, refused-is-2, short-is-9}
 
 -- ---- fresh
 

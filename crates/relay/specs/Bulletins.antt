@@ -11,7 +11,7 @@ use Rattle.bulletins_spec.specs.declared.BulletinsRound.{BulletinsRound}
 use Rattle.bulletins_spec.specs.Calls.{bulletinsFreshCall, issueCall, bulletinsRoundCall}
 use Rattle.bulletin_bytes_spec.specs.Bulletins.{bulletinsWidth, decodeBulletins, isBulletins}
 use Rattle.bulletin_bytes_spec.specs.Shown.{allShownWidth}
-use Rattle.relay.specs.Station.{orElse, roomRefusal}
+use Rattle.station_calls.specs.Station.{orElse, roomRefusal}
 use Rattle.relay.specs.Group.{groupRefusal, sixteenMasks}
 
 -- 2: the bytes are no bulletins

@@ -12,7 +12,7 @@ use Rattle.group_spec.specs.declared.RoundDone.{RoundDone}
 use Rattle.group_spec.specs.Calls.{groupPostCall, roundCall}
 use Rattle.station_bytes_spec.specs.Group.{groupWidth, decodeGroup, isGroup}
 use Rattle.station_bytes_spec.specs.Reports.{reportsWidth}
-use Rattle.relay.specs.Station.{orElse, roomRefusal}
+use Rattle.station_calls.specs.Station.{orElse, roomRefusal}
 
 -- 2: the bytes are no group
 abbrev pub groupRefusal : List ℕ → ℕ

@@ -1,6 +1,5 @@
 pub mod Pair
 pub mod Contest
 pub mod Compare
-pub mod Station
 pub mod Group
 pub mod Bulletins

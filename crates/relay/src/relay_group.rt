@@ -7,7 +7,7 @@ ghost use Rattle.station_spec.specs.State.{sized};
 ghost use Rattle.group_spec.specs.Calls.{groupFreshCall};
 ghost use Rattle.station_bytes_spec.specs.Group.{encodeGroup};
 ghost use Rattle.station_bytes_spec.specs.Reports.{encodeReports};
-ghost use Rattle.relay.specs.Station.{namedBody};
+ghost use Rattle.station_calls.specs.Station.{namedBody};
 ghost use Rattle.relay.specs.Group.{groupFreshReturned, groupPostAnswer, groupPostReturned, sixteenMasks, roundAnswer, roundReturned};
 use bodies::refusals::DONE;
 use bodies::refusals::OUTSIDE_LIMITS;
@@ -106,7 +106,7 @@ pub extern "C" fn relay_group_post(
         return OUTSIDE_LIMITS;
     }
     let stations = station_decoder::read_group(state);
-    let body = super::relay_station::named_body(kind, event, argument, channel);
+    let body = station_calls::named_body(kind, event, argument, channel);
     let post = Post {
         station: station as usize,
         desk: desk as usize,

@@ -148,11 +148,10 @@ fn run(schedule: &[u8], n: usize, rounds: u32) -> u32
         }
         let done = rounds::round(g, masks_of(schedule, number));
         let after = done.group;
-        let reports = done.reports;
         g = after;
         let mut k: usize = 0;
         while k < n {
-            sum = mix_report(sum, reports[k], number);
+            sum = mix_report(sum, done.reports[k], number);
             k += 1;
         }
         number += 1;

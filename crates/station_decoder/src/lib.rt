@@ -1,9 +1,11 @@
 // Stations and groups read from bytes. Bytes are judged first, and then read: reading gives a station for any bytes that are long enough.
 
 ghost use mathlib.Core.Path.{_≡_};
-ghost use Prim.Native.Nat.{_+_, _≤_};
+ghost use mathlib.Core.Bool.{true};
+ghost use Prim.Native.Nat.{ℕ, _+_, _≤_, _<_};
 ghost use lib.ListN.{length};
 ghost use Rattle.lists.specs.Below.{allBelow};
+ghost use Rattle.station_bytes_spec.specs.Bytes.{byteAt};
 ghost use Rattle.station_bytes_spec.specs.Body.{bodyOfWords, wordsRight, decodeBody, isBody, recordWidth, decodeRecord, isRecord};
 ghost use Rattle.station_bytes_spec.specs.Waiting.{editsWidth, decodeEdits, areEdits, waitingWidth, decodeWaiting, isWaiting};
 ghost use Rattle.station_bytes_spec.specs.Station.{cellWidth, decodeLane, isCell, cellsWidth, stationWidth, decodeStation, isStationAt, isStation};
@@ -21,6 +23,8 @@ use station_spec::Station;
 const BODY_WIDTH: usize = 12;
 
 const CELL_WIDTH: usize = 44;
+
+const EDITS_WIDTH: usize = 384;
 
 const WAITING_PLACE: usize = 720;
 
@@ -159,13 +163,30 @@ fn cells_right(bytes: &[u8], at: usize) -> bool
     true
 }
 
-// The edits of a desk at a place.
+// Are so many bytes from a place on all 0? All are looked at, so that many can be at once.
+fn all_zero(bytes: &[u8], at: usize, count: usize) -> bool
+    requires { ⌜ at + count ≤ length (now bytes) ⌝ }
+    ensures { λ r. ⌜ (r ≡ true → (i : ℕ) → i < count → byteAt (now (bytes .entry)) (at + i) ≡ 0) ⌝ }
+{
+    let mut joined: u8 = 0;
+    let mut i: usize = 0;
+    while i < count {
+        joined = joined | bytes[at + i];
+        i += 1;
+    }
+    joined == 0
+}
+
+// The edits of a desk at a place. Most often none waits, and all bytes are 0.
 fn read_edits(bytes: &[u8], at: usize) -> [Slot; 32]
     requires { ⌜ at + editsWidth ≤ length (now bytes) ⌝ }
     ensures { λ r. ⌜ r ≡ decodeEdits (now (bytes .entry)) at ⌝ }
 {
     let none = Slot { body: Body::Empty };
     let mut slots = [none; 32];
+    if all_zero(bytes, at, EDITS_WIDTH) {
+        return slots;
+    }
     let mut i: usize = 0;
     while i < 32 {
         let body = read_body(bytes, at + BODY_WIDTH * i);
@@ -180,6 +201,9 @@ fn edits_right(bytes: &[u8], at: usize) -> bool
     requires { ⌜ at + editsWidth ≤ length (now bytes) ⌝ }
     ensures { λ r. ⌜ r ≡ areEdits (now (bytes .entry)) at ⌝ }
 {
+    if all_zero(bytes, at, EDITS_WIDTH) {
+        return true;
+    }
     let mut i: usize = 0;
     while i < 32 {
         if !body_right(bytes, at + BODY_WIDTH * i) {

@@ -76,7 +76,7 @@ pub fn put_body(bytes: &mut [u8], at: usize, body: Body)
 }
 
 // A record, put at a place.
-fn put_record(bytes: &mut [u8], at: usize, r: Record)
+pub fn put_record(bytes: &mut [u8], at: usize, r: Record)
     requires { ⌜ at + recordWidth ≤ length (now bytes) ⌝ }
     ensures { λ _. ⌜ now (bytes .exit) ≡ sets (now (bytes .entry)) at (encodeRecord r) ⌝ }
 {

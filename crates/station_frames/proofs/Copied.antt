@@ -3,7 +3,7 @@ use Prim.Native.Nat.{ℕ, suc, _+_, _-_, _≤_, _<_}
 use native.Mathlib.Numerals.{add-one}
 use native.Mathlib.Omega.{arith}
 use mathlib.Core.List.{List, _++_, append-nil}
-use mathlib.Core.Path.{_≡_, sym, ap, _∙_}
+use mathlib.Core.Path.{_≡_, sym, ap, subst, _∙_}
 use lib.ListN.{getD, set, take, drop, length, length-append, length-replicate, replicate, replicate-append-replicate}
 use lib.Seq.{take-suc, drop-cons, set-at, append-snoc, length-take-le, take-at, drop-at, take-length}
 use borrow.Author.Tests.{le-ltb}
@@ -56,3 +56,15 @@ both-are f h x y lf lh xe ye =
     let put : y ≡ roomed h = ye ∙ ap (λ (l : List ℕ). h ++ drop (length h) (take 260 l)) rest ∙ put-roomed h lh in
     (λ i. take-at x z 260 size i ++ (put i ++ drop 260 (rest i)))
     ∙ (λ i. is i ++ append-nil (roomed h) i)
+
+-- the same in the room of both, which is lent
+pub both-put :
+    (f h x y z : List ℕ) → z ≡ replicate 520 0 → length f ≤ 260 → length h ≤ 260 → x ≡ bufferWith f (take 260 z) →
+    y ≡ h ++ drop (length h) (take 260 (drop 260 (x ++ drop 260 z))) →
+    take 260 (x ++ drop 260 z) ++ (y ++ drop 260 (drop 260 (x ++ drop 260 z))) ≡ roomed f ++ roomed h
+both-put f h x y z e lf lh =
+    subst
+    (λ (l : List ℕ).
+    x ≡ bufferWith f (take 260 l) → y ≡ h ++ drop (length h) (take 260 (drop 260 (x ++ drop 260 l))) →
+    take 260 (x ++ drop 260 l) ++ (y ++ drop 260 (drop 260 (x ++ drop 260 l))) ≡ roomed f ++ roomed h)
+    (sym e) (both-are f h x y lf lh)

@@ -2,7 +2,8 @@
 -- what it hears of the frame alone.
 use Prim.Native.Nat.{ℕ, _+_, _-_, _≤_, _<_}
 use native.Mathlib.Omega.{arith}
-use mathlib.Core.Bool.{true}
+use mathlib.Core.Bool.{true, false}
+use Rattle.bodies.specs.Refusals.{done}
 use mathlib.Core.List.{List, _++_, append-assoc}
 use mathlib.Core.Path.{_≡_, sym, ap, subst, _∙_}
 use lib.ListN.{getD, drop, length, replicate, length-append, List·getD-append}
@@ -15,13 +16,16 @@ use Rattle.frame_spec.proofs.FrameTrip.{part-written}
 use Rattle.frame_spec.proofs.Check.{Shape, accepted-frame, shape}
 use Rattle.station_spec.specs.declared.Station.{Station}
 use Rattle.station_spec.specs.Limits.{stationInside}
-use Rattle.station_spec.specs.Hearing.{initialHearing, hearFrame}
-use Rattle.station_spec.specs.Calls.{frameOf}
+use Rattle.station_spec.specs.Hearing.{Hearing, initialHearing, hearFrame}
+use Rattle.station_spec.specs.Calls.{frameOf, sourcesOf, hearCall}
+use Rattle.station_spec.proofs.CallSteps.{hear-stopped, hear-done}
 use Rattle.station_spec.proofs.StationLimits.{Inside, inside-open}
+use Rattle.hearing_spec.specs.declared.Ear.{Ear}
 use Rattle.hearing_spec.specs.Buffer.{sizeIn}
 use Rattle.hearing_spec.specs.Room.{FrameRoom}
+use Rattle.listening.specs.Listened.{Listens}
 use Rattle.listening.specs.Listening.{MayListen, frameHeard}
-use Rattle.station_frames.specs.Beside.{roomed, beside}
+use Rattle.station_frames.specs.Beside.{roomed, beside, HearsBeside}
 use Rattle.station_frames.proofs.OwnFrame.{own-shape, own-fits, own-first, own-read, own-stations, own-written, frame-records, frame-room}
 use Rattle.station_frames.proofs.Copied.{roomed-length}
 
@@ -93,3 +97,32 @@ module _ (s : Station) (inside : stationInside s ≡ true) (bytes : List ℕ) (a
 
   pub heard-size : s .n ≡ sizeIn both
   heard-size = size
+
+  -- what is heard beside the own frame answers the call
+  pub hears-beside :
+      (l places taken : List ℕ) (e : Ear) → l ≡ both → Listens s l (frameHeard l 260) places taken e → HearsBeside s bytes l places taken e
+  hears-beside l places taken e is h =
+      let same : frameHeard l 260 (initialHearing s) ≡ hearFrame (initialHearing s) (recordsOf bytes) = ap (λ (b : List ℕ). frameHeard b 260 (initialHearing s)) is ∙ heard-is in
+      record {
+        refused = λ d. hear-stopped s bytes inside accepted _ (h .refusal ∙ ap (λ (x : Hearing). x .refusal) same) d;
+        heard = λ fine.
+            record {
+              size = size ∙ ap sizeIn (sym is);
+              readable = h .readable;
+              answered =
+                  hear-done s bytes inside accepted _ _
+                  (sym (h .refusal ∙ ap (λ (x : Hearing). x .refusal) same) ∙ fine)
+                  (h .station fine ∙ ap (λ (x : Hearing). x .station) same)
+                  (ap sourcesOf (h .takings fine ∙ ap (λ (x : Hearing). x .takings) same));
+            };
+      }
+
+-- nothing is heard of a frame that is refused
+pub hears-refused :
+    (s : Station) (bytes l places taken : List ℕ) (e : Ear) (q : ℕ) → e .refusal ≡ q → (q ≡ done → ⊥) →
+    record { refusal = q; station = s; taken = replicate 16 false } ≡ hearCall s bytes → HearsBeside s bytes l places taken e
+hears-refused s bytes l places taken e q is ne answer =
+    record {
+      refused = λ d. ap (λ (x : ℕ). record { refusal = x; station = s; taken = replicate 16 false }) is ∙ answer;
+      heard = λ z. absurd (ne (sym is ∙ z));
+    }

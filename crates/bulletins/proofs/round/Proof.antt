@@ -1,8 +1,6 @@
 -- `bulletins::round` meets its contract: bulletins that do not fit the group, a round that the group refuses, and a round that is done.
 use mathlib.Core.Bool.{true}
-use mathlib.Core.Path.{_≡_, sym, ap, _∙_}
-use lib.ListN.{replicate}
-use Rattle.group_spec.specs.declared.Report.{Report}
+use mathlib.Core.Path.{_≡_, sym, _∙_}
 use borrow.Author.Tests.{not-true, not-false}
 use Rattle.bulletins_spec.specs.Calls.{fits}
 use Rattle.bulletins_spec.proofs.Lengths.{lengths-at}
@@ -14,10 +12,9 @@ use Rattle.bulletins.proofs.round.Tie as tie
 
 returns : tie.Need-returns
 returns c =
-    let t = c .before .before .before in
+    let t = c .before .before in
     let a = t .before .before .args in
-    unfit (a .t1) (a .b) (a .masks) (sym (t .fit .ensures) ∙ not-true (t .fit .result) (c .before .before .if1 .taken)) _ _
-    (ap (λ (r : Report). replicate 16 r) (c .no-report .ensures)) (c .before .none-shown .ensures)
+    c .refused-round .ensures ∙ unfit (a .t1) (a .b) (a .masks) (sym (t .fit .ensures) ∙ not-true (t .fit .result) (c .before .if1 .taken))
 
 returns-2 : tie.Need-returns-2
 returns-2 c =
@@ -25,7 +22,7 @@ returns-2 c =
     let t = one .before in
     let a = t .before .before .args in
     round-refused (a .t1) (a .b) (a .masks) (sym (t .fit .ensures) ∙ not-false (t .fit .result) (one .if1 .left))
-    (c .before .before .before .round .result) (c .before .before .before .round .ensures) (c .before .if2 .taken) _ (c .none-shown2 .ensures)
+    (c .before .before .before .round .result) (c .before .before .before .round .ensures) (c .before .if2 .taken) _ (c .none-shown .ensures)
 
 held-after-requires : tie.Need-held-after-requires
 held-after-requires c κs =
@@ -82,8 +79,6 @@ round-spec =
     (λ c. search needs)
     (λ c κs. search needs)
     (λ c κs. search needs)
-    (λ c κs. search needs)
-    (λ c. search needs)
     returns
     (λ c κs. search needs)
     (λ c. search needs)

@@ -11,7 +11,7 @@ use Rattle.bulletins_spec.specs.declared.Shown.{Shown}
 use Rattle.bulletins_spec.specs.Order.{picked}
 use Rattle.bulletins_spec.specs.Calls.{shownOf, noNotice}
 use Rattle.bulletins.specs.Lent.{newIn, noticeIn}
-use Rattle.bulletins.proofs.Pushing.{padded, pushed, pushed-length, picked-more, picked-none, none-new}
+use Rattle.bulletins.proofs.Pushing.{padded, pushed, pushed-length, picked-more}
 use Rattle.bulletins.proofs.showing.shown_by.Statement.{statement}
 use Rattle.bulletins.proofs.showing.shown_by.Tie as tie
 
@@ -28,33 +28,25 @@ Inv-loop places tags events before after n shown₀ len₀ t₀ shown len t =
 abbrev μ-loop : tie.MeasureT-loop
 μ-loop places tags events before after n shown₀ len₀ t₀ shown len t = 4 * n - t
 
-returns : tie.Need-returns Inv-loop μ-loop
-returns c =
-    let a = c .before .before .args in
-    c .before .nothing .ensures
-    ∙ ap shownOf
-    (picked-none (newIn (a .before) (a .after)) (noticeIn (a .tags .now) (a .events .now)) (take (4 * a .n) (a .places .now))
-    (λ s. ap (λ (x : ℕ). newIn (a .before) x s) (sym (c .if1 .taken)) ∙ none-new (a .before) s))
-
 loop-holds : tie.Need-loop-holds Inv-loop μ-loop
 unfolding shownOf picked
 loop-holds c =
-    let e = ap (λ (x : Shown). x .notices) (c .before .nothing .ensures) in
+    let e = ap (λ (x : Shown). x .notices) (c .nothing .ensures) in
     (omega arith, omega arith, ap length e, refl, e)
 
 notice-if-requires : tie.Need-notice-if-requires Inv-loop μ-loop
 notice-if-requires c κs =
-    c .before .before .before .before .before .before .pre .1 (c .before .before .before .loop .t) (c .before .before .loop-test .taken)
+    c .before .before .before .before .before .pre .1 (c .before .before .before .loop .t) (c .before .before .loop-test .taken)
 
 add-len : tie.Need-add-len Inv-loop μ-loop
 add-len c =
     let l = c .before .before .before .before .before .loop in
-    let z = c .before .before .before .before .before .before .before .before in
+    let z = c .before .before .before .before .before .before .before in
     omega (arith, one-small (c .before .before .gained .result), c .one-if .ensures, l .inv .0, l .inv .1, z .pre .0)
 
 loop-again : tie.Need-loop-again Inv-loop μ-loop
 loop-again c =
-    let z = c .before .before .before .before .before .before .before .before in
+    let z = c .before .before .before .before .before .before .before in
     let l = c .before .before .before .before .before .loop in
     let a = z .args in
     let test = newIn (a .before) (a .after) in
@@ -76,10 +68,10 @@ loop-again c =
           ∙ ap padded (sym more),
     )
 
-returns-2 : tie.Need-returns-2 Inv-loop μ-loop
+returns : tie.Need-returns Inv-loop μ-loop
 unfolding shownOf
-returns-2 c =
-    let a = c .before .before .before .before .args in
+returns c =
+    let a = c .before .before .before .args in
     let l = c .before .loop in
     let e : l .t ≡ 4 * a .n = omega arith in
     ap₂ (λ (x : ℕ) (y : List Notice). record { len = x; notices = y }) (l .inv .3) (l .inv .4)
@@ -92,7 +84,6 @@ shown-by-spec =
     Inv-loop
     μ-loop
     (λ c κs. search needs)
-    returns
     loop-holds
     (λ c. search needs)
     (λ c. search needs)
@@ -106,4 +97,4 @@ shown-by-spec =
     (λ c. search needs)
     (λ c. search needs)
     loop-again
-    returns-2)
+    returns)

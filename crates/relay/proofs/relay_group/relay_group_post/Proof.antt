@@ -8,7 +8,7 @@ use mir.Syntax.{w32}
 use mir.ValLaws.{toZ-ofZ}
 use Rattle.bodies.specs.declared.Body.{Body}
 use Rattle.group_spec.specs.Calls.{groupPostCall}
-use Rattle.relay.specs.Station.{namedBody}
+use Rattle.station_calls.specs.Station.{namedBody}
 use Rattle.relay.proofs.Group.{group-long, post-no-group, post-refused, post-done}
 use borrow.Author.Needs.{needs}
 use Rattle.relay.proofs.relay_group.relay_group_post.Statement.{statement}

@@ -1,0 +1,4 @@
+pub mod Refusals
+pub mod Station
+pub mod Heard
+pub mod Written
