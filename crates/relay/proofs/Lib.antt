@@ -1,4 +1,1 @@
 pub mod Pair
-pub mod Group
-pub mod RoundRefusals
-pub mod Bulletins

@@ -1,5 +1,3 @@
 pub mod Pair
 pub mod Contest
 pub mod Compare
-pub mod Group
-pub mod Bulletins

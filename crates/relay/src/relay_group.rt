@@ -1,40 +1,13 @@
 // The calls of a group that lies as bytes in the host's memory.
 
 ghost use mathlib.Core.Path.{_≡_};
-ghost use lib.ListN.{getD};
 ghost use Rattle.planning_spec.specs.Merge.{frontWritten};
 ghost use Rattle.station_spec.specs.State.{sized};
 ghost use Rattle.group_spec.specs.Calls.{groupFreshCall};
 ghost use Rattle.station_bytes_spec.specs.Group.{encodeGroup};
 ghost use Rattle.station_bytes_spec.specs.Reports.{encodeReports};
 ghost use Rattle.station_calls.specs.Station.{namedBody};
-ghost use Rattle.relay.specs.Group.{groupFreshReturned, groupPostAnswer, groupPostReturned, sixteenMasks, roundAnswer, roundReturned};
-use bodies::refusals::DONE;
-use bodies::refusals::OUTSIDE_LIMITS;
-use bodies::refusals::SHORT_BUFFER;
-use group_spec::GroupAnswer;
-use group_spec::Post;
-use station_spec::Setup;
-
-const GROUP_WIDTH: usize = 23872;
-
-pub const REPORTS_WIDTH: usize = 11264;
-
-// What a fresh call answered, put into a lent buffer.
-fn put_fresh(state: &mut [u8], made: GroupAnswer) -> u32
-    ensures { λ r. ⌜ (r ≡ groupFreshReturned made (now (state .entry)))
-        × (now (state .exit) ≡ frontWritten r (encodeGroup (made .group)) (now (state .entry))) ⌝ }
-{
-    if made.refusal != DONE {
-        return made.refusal;
-    }
-    if state.len() < GROUP_WIDTH {
-        return SHORT_BUFFER;
-    }
-    let stations = made.group;
-    station_encoder::put_group(state, stations);
-    DONE
-}
+ghost use Rattle.group_calls.specs.Group.{groupFreshReturned, groupPostAnswer, groupPostReturned, roundAnswer, roundReturned};
 
 // Group fresh, with neither limit nor edition named: n stations, as they begin.
 #[no_mangle]
@@ -42,8 +15,7 @@ pub extern "C" fn relay_group_fresh(state: &mut [u8], n: u32) -> u32
     ensures { λ r. ⌜ (r ≡ groupFreshReturned (groupFreshCall (sized n)) (now (state .entry)))
         × (now (state .exit) ≡ frontWritten r (encodeGroup (groupFreshCall (sized n) .group)) (now (state .entry))) ⌝ }
 {
-    let made = group::fresh(n as usize);
-    put_fresh(state, made)
+    group_calls::fresh(state, n)
 }
 
 // Group fresh, with a limit named.
@@ -53,13 +25,7 @@ pub extern "C" fn relay_group_fresh_limited(state: &mut [u8], n: u32, limit: u32
         × (now (state .exit) ≡ frontWritten r
         (encodeGroup (groupFreshCall (record { n = n; limit = limit; edition = 0 }) .group)) (now (state .entry))) ⌝ }
 {
-    let setup = Setup {
-        n: n as usize,
-        limit: limit as usize,
-        edition: 0,
-    };
-    let made = group::fresh_limited(setup);
-    put_fresh(state, made)
+    group_calls::fresh_limited(state, n, limit)
 }
 
 // Group fresh, with a limit and an edition named.
@@ -75,13 +41,7 @@ pub extern "C" fn relay_group_fresh_edition(
         (encodeGroup (groupFreshCall (record { n = n; limit = limit; edition = edition }) .group))
         (now (state .entry))) ⌝ }
 {
-    let setup = Setup {
-        n: n as usize,
-        limit: limit as usize,
-        edition: edition as usize,
-    };
-    let made = group::fresh_limited(setup);
-    put_fresh(state, made)
+    group_calls::fresh_edition(state, n, limit, edition)
 }
 
 // Group post: one more waiting edit of a desk at a station.
@@ -102,46 +62,7 @@ pub extern "C" fn relay_group_post(
         (record { station = station; desk = desk; body = namedBody kind event argument channel }) .group))
         (now (state .entry))) ⌝ }
 {
-    if !station_decoder::is_group(state) {
-        return OUTSIDE_LIMITS;
-    }
-    let stations = station_decoder::read_group(state);
-    let body = station_calls::named_body(kind, event, argument, channel);
-    let post = Post {
-        station: station as usize,
-        desk: desk as usize,
-        body: body,
-    };
-    let kept = group::post(stations, post);
-    if kept.refusal != DONE {
-        return kept.refusal;
-    }
-    let after = kept.group;
-    station_encoder::put_group(state, after);
-    DONE
-}
-
-// The mask at a place; 0 where there is none.
-fn mask_at(masks: &[u16], k: usize) -> u16
-    ensures { λ r. ⌜ r ≡ getD (now (masks .entry)) k 0 ⌝ }
-{
-    if masks.len() <= k {
-        return 0;
-    }
-    masks[k]
-}
-
-// Sixteen masks, as an array; those that are not there are 0.
-pub fn sixteen_masks(masks: &[u16]) -> [u16; 16]
-    ensures { λ r. ⌜ r ≡ sixteenMasks (now (masks .entry)) ⌝ }
-{
-    let mut sixteen = [0u16; 16];
-    let mut k: usize = 0;
-    while k < 16 {
-        sixteen[k] = mask_at(masks, k);
-        k += 1;
-    }
-    sixteen
+    group_calls::post(state, station, desk, kind, event, argument, channel)
 }
 
 // Round: all frames are sent, then each station hears those of its mask and takes its turn.
@@ -153,25 +74,5 @@ pub extern "C" fn relay_group_round(state: &mut [u8], masks: &[u16], reports: &m
         × (now (reports .exit) ≡ frontWritten r
         (encodeReports (roundAnswer (now (state .entry)) (now (masks .entry)) .reports)) (now (reports .entry))) ⌝ }
 {
-    if !station_decoder::is_group(state) {
-        return OUTSIDE_LIMITS;
-    }
-    let stations = station_decoder::read_group(state);
-    let sixteen = sixteen_masks(masks);
-    let done = rounds::round(stations, sixteen);
-    let refusal = done.refusal as u32;
-    if refusal != DONE {
-        return refusal;
-    }
-    if masks.len() < 16 {
-        return SHORT_BUFFER;
-    }
-    if reports.len() < REPORTS_WIDTH {
-        return SHORT_BUFFER;
-    }
-    let after = done.group;
-    let told = done.reports;
-    station_encoder::put_group(state, after);
-    report_encoder::put_reports(reports, told);
-    DONE
+    group_calls::round(state, masks, reports)
 }
