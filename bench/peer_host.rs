@@ -47,8 +47,8 @@ fn put_turn(bytes: &mut [u8], turn: &TurnReport) {
 }
 
 #[unsafe(no_mangle)]
-pub unsafe extern "C" fn relay_frame_check(bytes: *const u8, len: usize, n: u32, own: u32, _edition: u32) -> u32 {
-    number(&frames::check(unsafe { slice::from_raw_parts(bytes, len) }, n as usize, own as usize))
+pub unsafe extern "C" fn relay_frame_check(bytes: *const u8, len: usize, n: u32, own: u32, edition: u32) -> u32 {
+    number(&frames::check(unsafe { slice::from_raw_parts(bytes, len) }, n as usize, own as usize, edition))
 }
 
 #[unsafe(no_mangle)]
