@@ -21,7 +21,8 @@ use Rattle.queues.specs.Waiting.{deskCount}
 use Rattle.queues.proofs.WaitingLaws.{limit-most, inside-limit, inside-most}
 use Rattle.station_spec.specs.declared.Setup.{Setup}
 use Rattle.station_spec.specs.declared.Station.{Station}
-use Rattle.station_spec.specs.State.{heldOf, recordOf, sentRecords, aloneSetup, freshStation, noStation}
+use Rattle.station_spec.specs.State.{heldOf, recordOf, sentRecords, aloneSetup, freshStation}
+use Rattle.station_spec.specs.Absent.{noStation}
 use Rattle.station_spec.specs.Hearing.{hearFrame}
 use Rattle.station_spec.specs.Calls.{posted}
 use Rattle.station_spec.proofs.Setters.{Shaped}

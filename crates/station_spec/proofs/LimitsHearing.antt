@@ -11,7 +11,7 @@ use lib.ListN.{length, length-append}
 use borrow.Author.Tests.{leb-false, eq-eqb, ne-eqb}
 use Rattle.bodies.specs.Refusals.{done, laneFull, refuse}
 use Rattle.frame_spec.specs.declared.Record.{Record}
-use Rattle.lists.specs.Below.{total}
+use Rattle.lists.specs.Inner.Total.{total}
 use Rattle.lists.proofs.Keeps.{cond-keeps}
 use Rattle.lists.proofs.Total.{total-ext, total-gap, total-raised}
 use Rattle.station_spec.specs.declared.Station.{Station}

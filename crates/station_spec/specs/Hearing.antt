@@ -43,15 +43,10 @@ advances s r = follows (labelOf s (r .station)) r
 abbrev pub takes : Station → Record → Bool
 takes s r = advances s r && not (isEmpty (r .body))
 
--- the seen record in the place of the held one, whose labels from n up stay (lines 9 to 11)
+-- a seen record r in the place of the held one h, whose labels from n up stay (lines 9 to 11)
 unfoldable pub replaced : ℕ → Record → Record → Record
-replaced n old r =
-    record {
-      station = r .station;
-      count = r .count;
-      body = r .body;
-      labels = labelsOver n (recordLabel r) (old .labels);
-    }
+replaced n h r =
+    record { station = r .station; count = r .count; body = r .body; labels = labelsOver n (recordLabel r) (h .labels) }
 
 -- one more, and 255 stays 255
 abbrev pub saturatingSuc : ℕ → ℕ

@@ -2,9 +2,10 @@
 use mathlib.Core.Bool.{Bool, false, cond, _||_}
 use Prim.Native.Nat.{ℕ, zero, suc, _-_}
 use lib.Dec.{eqb, leb}
-use Rattle.lists.specs.Below.{allBelow, total}
+use Rattle.lists.specs.Below.{allBelow}
+use Rattle.lists.specs.Inner.Total.{total}
 use Rattle.links.specs.Relay.{Links}
-use Rattle.links.specs.Clock.{news}
+use Rattle.links.specs.Inner.Clock.{news}
 
 -- Is the version v of r, 0 for none and w + 1 for r as round w left it, one in which r has news of
 -- s from after round t?

@@ -4,8 +4,8 @@ use mathlib.Core.Bool.{Bool, cond, _&&_, _||_}
 use Prim.Native.Nat.{ℕ, zero, suc}
 use lib.Dec.{eqb}
 use Rattle.links.specs.Relay.{Links}
-use Rattle.links.specs.Clock.{news}
-use Rattle.links.specs.Number.{answers, start}
+use Rattle.links.specs.Inner.Clock.{news}
+use Rattle.links.specs.Inner.Number.{answers, start}
 
 -- After round u p knows that r has the present broadcast of s. Of s itself that means that p has it.
 unfoldable pub knows : Links → ℕ → ℕ → ℕ → ℕ → Bool
