@@ -1,8 +1,8 @@
--- `hearing::same` meets its contract: equal numbers have equal bytes, and the reverse.
+-- `heeding::same` meets its contract: equal numbers have equal bytes, and the reverse.
 use borrow.Author.Needs.{needs}
-use Rattle.hearing.proofs.SameBytes.{same-is}
-use Rattle.hearing.proofs.same.Statement.{statement}
-use Rattle.hearing.proofs.same.Tie as tie
+use Rattle.heeding.proofs.SameBytes.{same-is}
+use Rattle.heeding.proofs.same.Statement.{statement}
+use Rattle.heeding.proofs.same.Tie as tie
 
 returns : tie.Need-returns
 returns c =

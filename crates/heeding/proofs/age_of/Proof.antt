@@ -1,10 +1,10 @@
--- `hearing::age_of` meets its contract: the decision of `labels` is given what the two records say.
+-- `heeding::age_of` meets its contract: the decision of `labels` is given what the two records say.
 use mathlib.Core.Path.{_∙_}
 use borrow.Author.Needs.{needs}
 use Rattle.labels.specs.Newer.{ageOf}
-use Rattle.hearing.proofs.HeedCases.{label-is}
-use Rattle.hearing.proofs.age_of.Statement.{statement}
-use Rattle.hearing.proofs.age_of.Tie as tie
+use Rattle.heeding.proofs.HeedCases.{label-is}
+use Rattle.heeding.proofs.age_of.Statement.{statement}
+use Rattle.heeding.proofs.age_of.Tie as tie
 
 returns : tie.Need-returns
 returns c =

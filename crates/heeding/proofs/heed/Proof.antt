@@ -1,10 +1,10 @@
--- `hearing::heed` meets its contract: each of its four ends is one way of a newer record.
+-- `heeding::heed` meets its contract: each of its four ends is one way of a newer record.
 use mathlib.Core.Path.{sym, _∙_}
 use native.Mathlib.Omega.{arith}
 use borrow.Author.Needs.{needs}
-use Rattle.hearing.proofs.HeedCases.{label-is, case-known, case-empty, case-full, case-taken}
-use Rattle.hearing.proofs.heed.Statement.{statement}
-use Rattle.hearing.proofs.heed.Tie as tie
+use Rattle.heeding.proofs.HeedCases.{label-is, case-known, case-empty, case-full, case-taken}
+use Rattle.heeding.proofs.heed.Statement.{statement}
+use Rattle.heeding.proofs.heed.Tie as tie
 
 returns : tie.Need-returns
 returns c =

@@ -1,4 +1,4 @@
--- `hearing::age_at` meets its contract: the hearer's own record is told by its station, and any other is
+-- `heeding::age_at` meets its contract: the hearer's own record is told by its station, and any other is
 -- judged beside the held one.
 use mathlib.Core.Path.{_≡_, _∙_}
 use mathlib.Core.Bool.{not}
@@ -6,9 +6,9 @@ use lib.Dec.{eqb}
 use borrow.Author.Needs.{needs}
 use borrow.Author.Tests.{eq-eqb, ne-eqb}
 use Rattle.hearing_spec.specs.Heeding.{sameBytes, ageBeside, ageAt}
-use Rattle.hearing.proofs.RecordCases.{part-is, read-is}
-use Rattle.hearing.proofs.age_at.Statement.{statement}
-use Rattle.hearing.proofs.age_at.Tie as tie
+use Rattle.heeding.proofs.RecordParts.{part-is, read-is}
+use Rattle.heeding.proofs.age_at.Statement.{statement}
+use Rattle.heeding.proofs.age_at.Tie as tie
 
 returns : tie.Need-returns
 unfolding ageAt

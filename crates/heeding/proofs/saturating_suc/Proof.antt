@@ -1,8 +1,8 @@
--- `hearing::saturating_suc` meets its contract.
+-- `heeding::saturating_suc` meets its contract.
 use borrow.Author.Tests.{lt-ltb, le-ltb}
 use borrow.Author.Needs.{needs}
-use Rattle.hearing.proofs.saturating_suc.Statement.{statement}
-use Rattle.hearing.proofs.saturating_suc.Tie as tie
+use Rattle.heeding.proofs.saturating_suc.Statement.{statement}
+use Rattle.heeding.proofs.saturating_suc.Tie as tie
 
 returns : tie.Need-returns
 returns c = rw (lt-ltb _ _ (c .if1 .taken))
