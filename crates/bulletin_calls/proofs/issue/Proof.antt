@@ -2,10 +2,10 @@
 use mathlib.Core.Path.{sym, _∙_}
 use native.Mathlib.Omega.{arith}
 use borrow.Author.Tests.{not-true, not-false}
-use Rattle.group_calls.proofs.Bulletins.{bulletins-long, issue-no-state, issue-refused, issue-done}
+use Rattle.bulletin_calls.proofs.Bulletins.{bulletins-long, issue-no-state, issue-refused, issue-done}
 use borrow.Author.Needs.{needs}
-use Rattle.group_calls.proofs.with_bulletins.issue.Statement.{statement}
-use Rattle.group_calls.proofs.with_bulletins.issue.Tie as tie
+use Rattle.bulletin_calls.proofs.issue.Statement.{statement}
+use Rattle.bulletin_calls.proofs.issue.Tie as tie
 
 returns : tie.Need-returns
 returns c =

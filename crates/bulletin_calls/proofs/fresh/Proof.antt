@@ -1,8 +1,8 @@
 -- Each return is a case of the definition: the call's refusal, no room, or the bulletins written to the front.
-use Rattle.group_calls.proofs.Bulletins.{fresh-refused, fresh-short, fresh-done}
+use Rattle.bulletin_calls.proofs.Bulletins.{fresh-refused, fresh-short, fresh-done}
 use borrow.Author.Needs.{needs}
-use Rattle.group_calls.proofs.with_bulletins.fresh.Statement.{statement}
-use Rattle.group_calls.proofs.with_bulletins.fresh.Tie as tie
+use Rattle.bulletin_calls.proofs.fresh.Statement.{statement}
+use Rattle.bulletin_calls.proofs.fresh.Tie as tie
 
 fresh-requires : tie.Need-fresh-requires
 fresh-requires c κs = search needs

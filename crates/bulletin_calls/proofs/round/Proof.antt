@@ -3,11 +3,11 @@
 use mathlib.Core.Path.{sym, _∙_}
 use native.Mathlib.Omega.{arith}
 use borrow.Author.Tests.{not-true, not-false}
 use Rattle.group_calls.proofs.Group.{group-long}
-use Rattle.group_calls.proofs.Bulletins.{bulletins-long, both-small, both-no-group, both-no-state, both-refused, both-few, both-short, both-unshown, both-done}
+use Rattle.bulletin_calls.proofs.Bulletins.{bulletins-long, both-small, both-no-group, both-no-state, both-refused, both-few, both-short, both-unshown, both-done}
 use borrow.Author.Needs.{needs}
-use Rattle.group_calls.proofs.with_bulletins.round.Statement.{statement}
-use Rattle.group_calls.proofs.with_bulletins.round.Tie as tie
+use Rattle.bulletin_calls.proofs.round.Statement.{statement}
+use Rattle.bulletin_calls.proofs.round.Tie as tie
 
 returns : tie.Need-returns
 returns c =

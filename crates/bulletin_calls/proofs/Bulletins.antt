@@ -28,11 +28,11 @@ use Rattle.bulletin_bytes_spec.specs.Bulletins.{bulletinsWidth, encodeBulletins
 use Rattle.bulletin_bytes_spec.specs.Shown.{allShownWidth, encodeAllShown}
 use Rattle.bulletin_bytes_spec.proofs.Bulletins.{length-bulletins}
 use Rattle.bulletin_bytes_spec.proofs.Shown.{length-all-shown}
 use Rattle.group_calls.specs.Group.{sixteenMasks}
-use Rattle.group_calls.specs.Bulletins.{bulletinsFreshReturned, issueAnswer, issueReturned, bothAnswer, bothReturned}
+use Rattle.bulletin_calls.specs.Bulletins.{bulletinsFreshReturned, issueAnswer, issueReturned, bothAnswer, bothReturned}
 use Rattle.station_calls.proofs.Refusals.{first-refused, first-done, state-refused, state-taken, no-room, room, kept-whole, front-made, refused-is-2, short-is-9}
 use Rattle.group_calls.proofs.Group.{group-long}
 use Rattle.group_calls.proofs.RoundRefusals.{round-small}
 
 pub bulletins-long : (b : List ℕ) → isBulletins b ≡ true → length b ≡ bulletinsWidth
 unfolding isBulletins

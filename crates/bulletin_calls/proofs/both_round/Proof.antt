@@ -1,8 +1,8 @@
 -- What is read from the bytes is what they decode to, so the round of it is the round of the bytes.
-use Rattle.group_calls.proofs.Bulletins.{both-read}
+use Rattle.bulletin_calls.proofs.Bulletins.{both-read}
 use borrow.Author.Needs.{needs}
-use Rattle.group_calls.proofs.with_bulletins.both_round.Statement.{statement}
-use Rattle.group_calls.proofs.with_bulletins.both_round.Tie as tie
+use Rattle.bulletin_calls.proofs.both_round.Statement.{statement}
+use Rattle.bulletin_calls.proofs.both_round.Tie as tie
 
 returns : tie.Need-returns
 returns c =

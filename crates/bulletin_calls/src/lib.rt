@@ -10,15 +10,18 @@ ghost use Rattle.station_bytes_spec.specs.Reports.{reportsWidth, encodeReports}
 ghost use Rattle.bulletins_spec.specs.Calls.{bulletinsFreshCall};
 ghost use Rattle.bulletin_bytes_spec.specs.Bulletins.{bulletinsWidth, encodeBulletins};
 ghost use Rattle.bulletin_bytes_spec.specs.Shown.{allShownWidth, encodeAllShown};
-ghost use Rattle.group_calls.specs.Bulletins.{bulletinsFreshReturned, issueAnswer, issueReturned};
-ghost use Rattle.group_calls.specs.Bulletins.{bothAnswer, bothReturned};
+ghost use Rattle.bulletin_calls.specs.Bulletins.{bulletinsFreshReturned, issueAnswer, issueReturned};
+ghost use Rattle.bulletin_calls.specs.Bulletins.{bothAnswer, bothReturned};
 use bodies::refusals::DONE;
 use bodies::refusals::OUTSIDE_LIMITS;
 use bodies::refusals::SHORT_BUFFER;
 use bulletins_spec::BulletinsRound;
+use group_calls::REPORTS_WIDTH;
 
+// The bytes of the bulletins of a group.
 const BULLETINS_WIDTH: usize = 644;
 
+// The bytes of what all stations show in a round.
 const SHOWN_WIDTH: usize = 12352;
 
 // Fresh: the bulletins of a group of n, as they begin.
@@ -65,7 +68,7 @@ fn both_round(group: &[u8], state: &[u8], masks: &[u16]) -> BulletinsRound
 {
     let stations = station_decoder::read_group(group);
     let before = bulletin_codec::read_bulletins(state);
-    let sixteen = super::sixteen_masks(masks);
+    let sixteen = group_calls::sixteen_masks(masks);
     bulletins::round(stations, before, sixteen)
 }
 
@@ -133,7 +136,7 @@ pub fn round(
     if masks.len() < 16 {
         return SHORT_BUFFER;
     }
-    if reports.len() < super::REPORTS_WIDTH {
+    if reports.len() < REPORTS_WIDTH {
         return SHORT_BUFFER;
     }
     if shown.len() < SHOWN_WIDTH {
