@@ -87,7 +87,7 @@ nextEdit w = oldest (queueOf w (nextDesk w))
 unfoldable pub withoutNext : Waiting → Waiting
 withoutNext w = withFirst (withQueue w (nextDesk w) (unqueued (queueOf w (nextDesk w)))) (otherDesk (nextDesk w))
 
--- "Limits": the limit may be one, no more of a desk wait than the limit, and each may wait in this edition
-unfoldable pub waitingInside : ℕ → Waiting → Bool
-waitingInside edition w =
-    limitInside (w .limit) && (queueInside edition (w .limit) (w .queue0) && queueInside edition (w .limit) (w .queue1))
+-- "Limits": the limit may be one, no more of a desk wait than the limit, and each may wait
+unfoldable pub waitingInside : (Body → Bool) → Waiting → Bool
+waitingInside inside w =
+    limitInside (w .limit) && (queueInside inside (w .limit) (w .queue0) && queueInside inside (w .limit) (w .queue1))
