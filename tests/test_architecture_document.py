@@ -72,7 +72,7 @@ def lines(of):
 class Architecture(unittest.TestCase):
     def test_lines_to_read(self):
         """The document says at most how many lines of definitions there are to read: for the engine, and in all folders."""
-        said = [int(number.replace(",", "")) for number in re.findall(r"at most ([\d,]+)\s+lines", DOCUMENT)]
+        said = [int(number.replace(",", "")) for number in re.findall(r"at most\s+([\d,]+)\s+lines", DOCUMENT)]
         for counted, most in zip((lines(engine()), lines(read_first())), said, strict=True):
             self.assertGreater(counted, most - 40)
             self.assertLessEqual(counted, most)
