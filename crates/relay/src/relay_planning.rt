@@ -50,7 +50,8 @@ pub extern "C" fn relay_questions(log: &[u16], n: u32, page: &[u32], answers: &m
     planning_calls::questions_into(log, n, page, answers)
 }
 
-// Who can force the result of a contest, put as two numbers into a buffer: 0, or the refusal, for any numbers and any masks.
+// Who can force the result of a contest, put as two numbers into a lent buffer: 0, or the refusal, and then the buffer
+// does not change.
 #[no_mangle]
 pub extern "C" fn relay_contest(
     n: u32,

@@ -19,12 +19,14 @@ pub extern "C" fn relay_load(
     ensures { λ r.
         ⌜ (r ≡ hostRefusal state n due (wanted head) (length (now (buffer .entry))) (length (now (next .entry))))
         × (now (buffer .exit) ≡ hostBuffer state n due (wanted head) (length (now (next .entry))) (now (buffer .entry)))
-        × (now (next .exit) ≡ hostPlaces state n due (wanted head) (length (now (buffer .entry))) (now (next .entry))) ⌝ }
+        × (now (next .exit)
+        ≡ hostPlaces state n due (wanted head) (length (now (buffer .entry))) (now (next .entry))) ⌝ }
 {
     text_calls::load_into(state, n, due, head, buffer, next)
 }
 
-// How two air logs compare, put as two numbers into a buffer: 0, or the refusal, for any bytes and any numbers.
+// How two air logs compare, put as two numbers into a lent buffer: 0, or the refusal, and then the buffer does not
+// change.
 #[no_mangle]
 pub extern "C" fn relay_compare(
     first: &[u8],

@@ -24,7 +24,8 @@ pub fn load_into(
     ensures { λ r.
         ⌜ (r ≡ hostRefusal state n due (wanted head) (length (now (buffer .entry))) (length (now (next .entry))))
         × (now (buffer .exit) ≡ hostBuffer state n due (wanted head) (length (now (next .entry))) (now (buffer .entry)))
-        × (now (next .exit) ≡ hostPlaces state n due (wanted head) (length (now (buffer .entry))) (now (next .entry))) ⌝ }
+        × (now (next .exit)
+        ≡ hostPlaces state n due (wanted head) (length (now (buffer .entry))) (now (next .entry))) ⌝ }
 {
     if !load::numbers_fit(n as usize, due) {
         return BAD_NUMBER;

@@ -1,14 +1,8 @@
 -- Each return is a case of the definition: the answer's own refusal, a buffer without room, or both buffers written.
-use mathlib.Core.Path.{_≡_, refl, sym, ap, _∙_}
-use native.Mathlib.Omega.{arith}
 use borrow.Author.Needs.{needs}
 use Rattle.planning_spec.proofs.ForecastInto.{into-refused, into-short-ends, into-short-last, into-done}
 use Rattle.planning_calls.proofs.forecast_into.Statement.{statement}
 use Rattle.planning_calls.proofs.forecast_into.Tie as tie
-use Rattle.planning_calls.proofs.forecast_into.Reads as reads
-use Rattle.planning_calls.proofs.forecast_into.Lts as lts
-use Rattle.forecast.proofs.forecast.Reads as forecast-reads
-use Rattle.planning_calls.proofs.write_entries.Reads as write-entries-reads
 
 returns : tie.Need-returns
 returns c =

@@ -1,15 +1,11 @@
 -- Each return is a case of the definition: no room for the number of masks, the merge's own refusal, or both buffers written. The number of masks fits, for a
 -- log has at most 2,048 rounds of sixteen.
-use mathlib.Core.Path.{_≡_, refl, sym, ap, _∙_}
+use mathlib.Core.Path.{sym, _∙_}
 use native.Mathlib.Omega.{arith}
 use borrow.Author.Needs.{needs}
 use Rattle.planning_spec.proofs.MergeInto.{no-room-refused, no-room, into-refused, into-small, into-done}
 use Rattle.planning_calls.proofs.merge_into.Statement.{statement}
 use Rattle.planning_calls.proofs.merge_into.Tie as tie
-use Rattle.planning_calls.proofs.merge_into.Reads as reads
-use Rattle.planning_calls.proofs.merge_into.Lts as lts
-use Rattle.merge.proofs.logs_refusal.Reads as logs-refusal-reads
-use Rattle.merge.proofs.merge.Reads as merge-reads
 
 returns : tie.Need-returns
 returns c =

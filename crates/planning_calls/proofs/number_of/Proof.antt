@@ -3,8 +3,6 @@ use borrow.Author.Needs.{needs}
 use Rattle.planning_spec.specs.Questions.{arrivalNumber}
 use Rattle.planning_calls.proofs.number_of.Statement.{statement}
 use Rattle.planning_calls.proofs.number_of.Tie as tie
-use Rattle.planning_calls.proofs.number_of.Reads as reads
-use Rattle.planning_calls.proofs.number_of.Lts as lts
 
 returns : tie.Need-returns
 unfolding arrivalNumber

@@ -1,14 +1,8 @@
 -- Each return is a case of the definition: the page's own refusal, a buffer without room, or the answers written.
-use mathlib.Core.Path.{_≡_, refl, sym, ap, _∙_}
-use native.Mathlib.Omega.{arith}
 use borrow.Author.Needs.{needs}
 use Rattle.planning_spec.proofs.QuestionsInto.{into-refused, into-short, into-few, into-done}
 use Rattle.planning_calls.proofs.questions_into.Statement.{statement}
 use Rattle.planning_calls.proofs.questions_into.Tie as tie
-use Rattle.planning_calls.proofs.questions_into.Reads as reads
-use Rattle.planning_calls.proofs.questions_into.Lts as lts
-use Rattle.questions.proofs.answer.Reads as answer-reads
-use Rattle.planning_calls.proofs.write_answers.Reads as write-answers-reads
 
 returns : tie.Need-returns
 returns c =

@@ -10,9 +10,6 @@ use Rattle.lists.proofs.Laws.{setBelow-more, length-setBelow}
 use Rattle.planning_spec.specs.Questions.{never, arrivalNumber}
 use Rattle.planning_calls.proofs.write_answers.Statement.{statement}
 use Rattle.planning_calls.proofs.write_answers.Tie as tie
-use Rattle.planning_calls.proofs.write_answers.Reads as reads
-use Rattle.planning_calls.proofs.write_answers.Lts as lts
-use Rattle.planning_calls.proofs.number_of.Reads as number-of-reads
 
 abbrev Inv-loop : tie.InvT-loop
 Inv-loop buffer₀ count answers i₀ buffer i = (i ≤ count) × (buffer ≡ setBelow i (λ k. arrivalNumber (getD answers k never .arrival)) buffer₀)

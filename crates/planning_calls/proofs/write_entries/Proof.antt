@@ -1,7 +1,7 @@
 -- The loop keeps that the buffer is `setBelow` up to its counter: the entries before it are written, and all others are as they were.
 use Prim.Native.Nat.{ℕ, _-_, _≤_}
 use mathlib.Core.List.{List}
-use mathlib.Core.Path.{_≡_, refl, sym, ap, _∙_}
+use mathlib.Core.Path.{_≡_, refl, ap, _∙_}
 use native.Mathlib.Omega.{arith}
 use borrow.Author.Needs.{needs}
 use lib.ListN.{getD, length, set}
@@ -9,8 +9,6 @@ use Rattle.lists.specs.Below.{setBelow}
 use Rattle.lists.proofs.Laws.{setBelow-more, length-setBelow}
 use Rattle.planning_calls.proofs.write_entries.Statement.{statement}
 use Rattle.planning_calls.proofs.write_entries.Tie as tie
-use Rattle.planning_calls.proofs.write_entries.Reads as reads
-use Rattle.planning_calls.proofs.write_entries.Lts as lts
 
 abbrev Inv-loop : tie.InvT-loop
 Inv-loop buffer₀ entries k₀ buffer k = (k ≤ 16) × (buffer ≡ setBelow k (λ i. getD entries i 0) buffer₀)
