@@ -29,7 +29,8 @@ agree n a b = sameBody (a .body) (b .body) && allBelow n (λ j. eqb (recordLabel
 abbrev pub ageIn : Station → Record → Age
 ageIn s r =
     let k = r .station in
-    ageOf (heldOf s k) (recordLabel (recordOf s k) k) ((recordOf s k) .count) (ownLabel r) (r .count) (agree (s .n) (recordOf s k) r)
+    let h = recordOf s k in
+    ageOf (heldOf s k) (recordLabel h k) (h .count) (ownLabel r) (r .count) (agree (s .n) h r)
 
 -- the record's own label comes after this one
 abbrev pub follows : ℕ → Record → Bool
