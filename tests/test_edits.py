@@ -46,9 +46,9 @@ class TestEdits(unittest.TestCase):
     def test_a_name_alone_shows_nothing(self):
         self.assertFalse(CHECK.shows(CHECK.first_error(f"{NAME}\n{FACT}\n", "/copy")))
 
-    def test_a_fact_looked_for_elsewhere_is_told(self):
-        self.assertTrue(CHECK.MOVED.search(CHECK.first_error(f"{FIELD}\n{FACT}\n", "/copy")))
-        self.assertFalse(CHECK.MOVED.search(FACT))
+    def test_a_fact_looked_for_elsewhere_shows_nothing(self):
+        self.assertFalse(CHECK.shows(CHECK.first_error(f"{FIELD}\n{FACT}\n", "/copy")))
+        self.assertTrue(CHECK.shows(CHECK.first_error(f"{FACT}\n{FIELD}\n", "/copy")))
 
     def test_without_an_error_the_first_note_counts(self):
         self.assertTrue(CHECK.shows(CHECK.first_error(f"logic\n{NOTE}\n", "/copy")))

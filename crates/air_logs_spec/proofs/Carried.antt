@@ -25,11 +25,11 @@ use Rattle.station_spec.specs.Hearing.{Hearing, takes, hearRecord, hearRecords,
 use Rattle.station_spec.specs.Turn.{airs, rowOf, broadcastEnds, turnReport}
 use Rattle.station_spec.specs.Calls.{noTurn}
 use Rattle.station_spec.proofs.HearRecord.{heardOne, hearRecord-cases}
-use Rattle.station_spec.proofs.BodyLaws.{takeable-inside}
+use Rattle.station_spec.proofs.BodyLaws.{takeable-inside, allowed-inside}
 use Rattle.station_spec.proofs.LimitsHear.{Carried}
 use Rattle.station_spec.proofs.LimitsHearing.{AllCarried}
 use Rattle.station_spec.proofs.LimitsSent.{sent-carried}
-use Rattle.station_spec.specs.Limits.{takeable}
+use Rattle.station_spec.specs.Limits.{takeable, allowed}
 use Rattle.station_spec.proofs.LimitsTurn.{started-cases}
 use Rattle.station_spec.proofs.LimitsLane.{lane-first}
 use Rattle.station_spec.proofs.Setters.{Shaped}
@@ -41,8 +41,11 @@ use Rattle.group_spec.proofs.Members.{Members}
 use Rattle.group_spec.proofs.MembersRound.{Runs, runs, run-hears, run-room}
 
 -- a body that a lane may hold is inside the limits of its kind, and so is Empty
-takeable-kind : (edition : ℕ) (b : Body) → takeable edition b ≡ true → insideKind b ≡ true
-takeable-kind edition b h = inside-kind edition b (takeable-inside edition b h)
+allowed-kind : (s : Station) (b : Body) → allowed s b ≡ true → insideKind b ≡ true
+allowed-kind s b h = inside-kind (s .edition) b (allowed-inside s b h)
+
+takeable-kind : (s : Station) (b : Body) → takeable (allowed s) b ≡ true → insideKind b ≡ true
+takeable-kind s b h = allowed-kind s b (takeable-inside (allowed s) b h)
 
 pub empty-kind : insideKind Empty ≡ true
 unfolding insideKind numbersInside
@@ -65,24 +68,24 @@ taken-at n (x ∷ xs) a zero l = a .0
 taken-at n (x ∷ xs) a (suc k) l = taken-at n xs (a .1) k (omega arith)
 
 module _ (n : ℕ) where
-  took-record : (e : ℕ) (h : Hearing) (r : Record) → Carried e n r → AllTaken n (h .takings) → AllTaken n ((hearRecord h r) .takings)
+  took-record : (s : Station) (h : Hearing) (r : Record) → Carried (allowed s) n r → AllTaken n (h .takings) → AllTaken n ((hearRecord h r) .takings)
   unfolding heardOne
-  took-record e h r c a =
+  took-record s h r c a =
       hearRecord-cases (λ (x : Hearing). AllTaken n (x .takings)) h r (λ t. newer (takes (h .station) r)) (λ t. a) (λ t f. a)
     where
       newer : (u : Bool) → AllTaken n (h .takings ++ cond u (record { source = r .station; body = r .body } ∷ []) [])
-      newer true = taken-append n (h .takings) (record { source = r .station; body = r .body } ∷ []) a ((c .station, inside-kind e (r .body) (c .body)), tt)
+      newer true = taken-append n (h .takings) (record { source = r .station; body = r .body } ∷ []) a ((c .station, allowed-kind s (r .body) (c .body)), tt)
       newer false = taken-append n (h .takings) [] a tt
 
-  took-records : (e : ℕ) (h : Hearing) (rs : List Record) → AllCarried e n rs → AllTaken n (h .takings) → AllTaken n ((hearRecords h rs) .takings)
+  took-records : (s : Station) (h : Hearing) (rs : List Record) → AllCarried (allowed s) n rs → AllTaken n (h .takings) → AllTaken n ((hearRecords h rs) .takings)
   unfolding hearRecords
-  took-records e h [] c a = a
-  took-records e h (r ∷ rs) c a = took-records e (hearRecord h r) rs (c .1) (took-record e h r (c .0) a)
+  took-records s h [] c a = a
+  took-records s h (r ∷ rs) c a = took-records s (hearRecord h r) rs (c .1) (took-record s h r (c .0) a)
 
-  took-frame : (e : ℕ) (h : Hearing) (rs : List Record) → AllCarried e n rs → AllTaken n (h .takings) → AllTaken n ((hearFrame h rs) .takings)
+  took-frame : (s : Station) (h : Hearing) (rs : List Record) → AllCarried (allowed s) n rs → AllTaken n (h .takings) → AllTaken n ((hearFrame h rs) .takings)
   unfolding hearFrame
-  took-frame e h rs c a =
-      cond-keeps (λ (x : Hearing). AllTaken n (x .takings)) (eqb (h .refusal) done) (hearRecords h rs) h (took-records e h rs c a) a
+  took-frame s h rs c a =
+      cond-keeps (λ (x : Hearing). AllTaken n (x .takings)) (eqb (h .refusal) done) (hearRecords h rs) h (took-records s h rs c a) a
 
   module _ (g : List Station) (c : Members n g) (masks : List ℕ) (run : Runs g masks) (i : ℕ) where
     took-below : (j : ℕ) → j ≤ n → AllTaken n ((heardBelow g masks i j) .takings)
@@ -90,14 +93,14 @@ module _ (n : ℕ) where
     took-below zero l = tt
     took-below (suc j) l = go (hearsIn (sizeOf g) masks i j) (took-below j (omega arith))
       where
-        sent : AllCarried (stationAt g j .edition) n (sentRecords (stationAt g j))
+        sent : AllCarried (allowed (stationAt g j)) n (sentRecords (stationAt g j))
         sent =
-            subst (λ (k : ℕ). AllCarried (stationAt g j .edition) k (sentRecords (stationAt g j))) (c .member j l .size)
+            subst (λ (k : ℕ). AllCarried (allowed (stationAt g j)) k (sentRecords (stationAt g j))) (c .member j l .size)
             (sent-carried (stationAt g j) (c .member j l .inside) (run .counts j (omega (arith, c .size))))
 
         go : (t : Bool) → AllTaken n ((heardBelow g masks i j) .takings) →
             AllTaken n ((cond t (hearFrame (heardBelow g masks i j) (sentRecords (stationAt g j))) (heardBelow g masks i j)) .takings)
-        go true a = took-frame (stationAt g j .edition) (heardBelow g masks i j) (sentRecords (stationAt g j)) sent a
+        go true a = took-frame (stationAt g j) (heardBelow g masks i j) (sentRecords (stationAt g j)) sent a
         go false a = a
 
     took-all : AllTaken n ((heard g masks i) .takings)
@@ -121,8 +124,8 @@ module _ (n : ℕ) (g : List Station) (c : Members n g) (masks : List ℕ) where
   unfolding turnReport airs rowOf
   turn-aired s h e k l =
       rw (e, setBelow-inside (s .n) (λ j. record { body = (laneAt s j) .first }) (replicate 16 noSlot) k noSlot l (omega (arith, h .high)))
-      (takeable-kind (s .edition) ((laneAt s k) .first)
-      (lane-first (s .edition) (cond (eqb k (s .own)) 1 2) (laneAt s k) (h .places k l .lane)
+      (takeable-kind s ((laneAt s k) .first)
+      (lane-first (allowed s) (cond (eqb k (s .own)) 1 2) (laneAt s k) (h .places k l .lane)
       (ltb-true 0 ((laneAt s k) .len) (allBelow-at (s .n) (λ j. ltb 0 ((laneAt s j) .len)) e k l))))
 
   turn-ended : (s : Station) → Inside s → insideKind ((turnReport s) .«ended_body») ≡ true
@@ -130,12 +133,12 @@ module _ (n : ℕ) (g : List Station) (c : Members n g) (masks : List ℕ) where
   turn-ended s h = go (broadcastEnds s)
     where
       go : (t : Bool) → insideKind (cond t (s .body) Empty) ≡ true
-      go true = inside-kind (s .edition) (s .body) (h .body)
+      go true = allowed-kind s (s .body) (h .body)
       go false = empty-kind
 
   turn-started : (s : Station) → Shaped s → Inside s → insideKind ((turnReport s) .«started_body») ≡ true
   unfolding turnReport
-  turn-started s shape h = started-cases s shape h (λ b. insideKind b ≡ true) empty-kind (λ b t room. takeable-kind (s .edition) b t)
+  turn-started s shape h = started-cases s shape h (λ b. insideKind b ≡ true) empty-kind (λ b t room. takeable-kind s b t)
 
   report-sound : Runs g masks → (i : ℕ) → i < n → Sound n (reportOf g masks i)
   unfolding reportOf

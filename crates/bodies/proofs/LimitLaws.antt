@@ -204,23 +204,23 @@ inside-postable b h = rw h (and-true (isEdit b))
     and-true true = refl
     and-true false = refl
 
--- what may wait is an edit inside its limits: it may be posted, and its channel is one of its edition
-module _ (edition : ℕ) (b : Body) where
-  pub waiting-make : postable b ≡ true → onChannel edition b ≡ true → mayWait edition b ≡ true
+-- what may be posted, on a channel of an edition, may wait there
+pub waiting-make : (edition : ℕ) (b : Body) → postable b ≡ true → onChannel edition b ≡ true → mayWait (bodyInside edition) b ≡ true
+unfolding mayWait
+waiting-make edition b h on = and-both (postable-edit b h) (inside-make edition b (postable-kind b h) on)
+
+-- what may wait is an edit inside its limits, whatever test says so
+module _ (test : Body → Bool) (b : Body) (h : mayWait test b ≡ true) where
+  pub waiting-edit : isEdit b ≡ true
   unfolding mayWait
-  waiting-make h on = and-both (postable-edit b h) (inside-make edition b (postable-kind b h) on)
+  waiting-edit = both (isEdit b) (test b) h .0
 
-  module _ (h : mayWait edition b ≡ true) where
-    pub waiting-edit : isEdit b ≡ true
-    unfolding mayWait
-    waiting-edit = both (isEdit b) (bodyInside edition b) h .0
+  pub waiting-inside : test b ≡ true
+  unfolding mayWait
+  waiting-inside = both (isEdit b) (test b) h .1
 
-    pub waiting-inside : bodyInside edition b ≡ true
-    unfolding mayWait
-    waiting-inside = both (isEdit b) (bodyInside edition b) h .1
-
-    pub waiting-not-empty : isEmpty b ≡ false
-    waiting-not-empty = edit-not-empty b waiting-edit
+  pub waiting-not-empty : isEmpty b ≡ false
+  waiting-not-empty = edit-not-empty b waiting-edit
 
 -- an argument outside its kind's limits puts the numbers outside, whatever the event
 last-no : (a b c : Bool) → c ≡ false → (a && (b && c)) ≡ false

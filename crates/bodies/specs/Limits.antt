@@ -64,6 +64,6 @@ bodyInside edition b = insideKind b && onChannel edition b
 unfoldable pub postable : Body → Bool
 postable b = isEdit b && insideKind b
 
--- a body that may wait at a station of an edition: an edit inside its limits
-unfoldable pub mayWait : ℕ → Body → Bool
-mayWait edition b = isEdit b && bodyInside edition b
+-- a body that may wait: an edit inside its limits, by the test `inside` (in an edition that is `bodyInside edition`)
+unfoldable pub mayWait : (Body → Bool) → Body → Bool
+mayWait inside b = isEdit b && inside b

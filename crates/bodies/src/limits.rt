@@ -134,7 +134,7 @@ pub fn postable(body: Body) -> bool
 
 // May the body wait at a station of an edition: is it an edit inside its limits?
 pub fn may_wait(edition: usize, body: Body) -> bool
-    ensures { λ r. ⌜ r ≡ mayWait edition body ⌝ }
+    ensures { λ r. ⌜ r ≡ mayWait (bodyInside edition) body ⌝ }
 {
     if !super::is_edit(body) {
         return false;

@@ -1,5 +1,5 @@
--- Bulletins as bytes: N, the tags of the 64 places, their events, and the sets of sixteen stations. Every field is kept whole, from N up too, so that decoding
--- is the inverse. include/relay.h gives the place of each field.
+-- Bulletins as bytes: N, the tags of the 64 places, their events, and the sets of sixteen stations. Every field is
+-- kept whole, from N up too, so that decoding is the inverse. include/relay.h gives the place of each field.
 use Prim.Native.Nat.{ℕ, _+_, _*_, _/_, _%_}
 use mathlib.Core.Bool.{Bool, _&&_}
 use mathlib.Core.List.{List, _++_}

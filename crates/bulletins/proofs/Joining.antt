@@ -22,8 +22,8 @@ use Rattle.bulletins_spec.specs.declared.BulletinsRound.{BulletinsRound}
 use Rattle.bulletins_spec.specs.State.{tagAt, noticeAt, bulletinsInside}
 use Rattle.bulletins_spec.specs.Order.{inOrder, picked}
 use Rattle.bulletins_spec.specs.Calls.{setAfter, bulletinsAfter, gains, shownBy, shownOf, noneShown, allShown, fits, roundPart, bulletinsRoundCall}
-use Rattle.bulletins.specs.Lent.{newIn, noticeIn}
-use Rattle.bulletins.proofs.Ordering.{order-length, order-below, order-front}
+use Rattle.bulletin_sets.specs.Lent.{newIn, noticeIn}
+use Rattle.bulletin_sets.proofs.Ordering.{order-length, order-below, order-front}
 
 -- the bulletins of a round that is not refused, and what is shown in it
 module _ (B : Bulletins) (masks : List ℕ) (long : length (B .held) ≡ 16) (high : B .n ≤ 16) where

@@ -1,21 +1,10 @@
 // The calls on the bulletins of a group (document 02, A12).
 
-mod issuing;
-mod order;
-mod showing;
-
 ghost use mathlib.Core.Path.{_≡_};
-ghost use mathlib.Core.Bool.{cond, _&&_};
-ghost use Prim.Native.Nat.{_≤_, _<_};
-ghost use lib.Bits.{bitOr};
-ghost use lib.Dec.{eqb};
-ghost use lib.ListN.{getD, replicate};
+ghost use lib.ListN.{replicate};
 ghost use Rattle.bodies.specs.Refusals.{outsideLimits};
-ghost use Rattle.links.specs.Log.{hearsIn};
-ghost use Rattle.lists.specs.Below.{setBelow};
-ghost use Rattle.link_logs.specs.Sets.{united};
 ghost use Rattle.group_spec.specs.Calls.{noReport};
-ghost use Rattle.bulletins_spec.specs.State.{freshBulletins, bulletinsInside};
+ghost use Rattle.bulletins_spec.specs.State.{freshBulletins};
 ghost use Rattle.bulletins_spec.specs.Calls.{bulletinsFreshCall, issueCall, bulletinsRoundCall, noneShown};
 use bodies::refusals::ALREADY_ISSUED;
 use bodies::refusals::BAD_NUMBER;
@@ -78,24 +67,24 @@ pub fn issue(b: Bulletins, issuer: usize, tag: u32, event: u32) -> IssueDone
     ensures { λ r. ⌜ r ≡ issueCall b issuer tag event ⌝ }
 {
     if !bulletin_limits::inside(b) {
-        return issuing::refused(b, OUTSIDE_LIMITS);
+        return bulletin_sets::issuing::refused(b, OUTSIDE_LIMITS);
     }
     if b.n <= issuer {
-        return issuing::refused(b, BAD_NUMBER);
+        return bulletin_sets::issuing::refused(b, BAD_NUMBER);
     }
     if !bulletin_limits::event_inside(event) {
-        return issuing::refused(b, NOT_AN_EDIT);
+        return bulletin_sets::issuing::refused(b, NOT_AN_EDIT);
     }
     let held = b.held;
     let tags = b.tags;
-    if issuing::has_tag(&held, &tags, issuer, tag) {
-        return issuing::refused(b, ALREADY_ISSUED);
+    if bulletin_sets::issuing::has_tag(&held, &tags, issuer, tag) {
+        return bulletin_sets::issuing::refused(b, ALREADY_ISSUED);
     }
-    let s = issuing::free_place(&held, issuer);
+    let s = bulletin_sets::issuing::free_place(&held, issuer);
     if s == OWN * issuer + OWN {
-        return issuing::refused(b, ALREADY_ISSUED);
+        return bulletin_sets::issuing::refused(b, ALREADY_ISSUED);
     }
-    let after = issuing::with_bulletin(b, issuer, s, tag, event);
+    let after = bulletin_sets::issuing::with_bulletin(b, issuer, s, tag, event);
     IssueDone {
         refusal: DONE,
         bulletins: after,
@@ -107,57 +96,6 @@ pub fn issue(b: Bulletins, issuer: usize, tag: u32, event: u32) -> IssueDone
     }
 }
 
-// A set, with another one where its station is heard.
-fn joined(set: u64, other: u64, heard: bool) -> u64
-    ensures { λ r. ⌜ r ≡ cond heard (bitOr set other) set ⌝ }
-{
-    if !heard {
-        return set;
-    }
-    set | other
-}
-
-// What station p holds after a round: its own, and what those that it hears held before the round.
-fn set_after(held: &[u64; 16], masks: [u16; 16], n: usize, p: usize) -> u64
-    requires { ⌜ (n ≤ 16) × (p < 16) ⌝ }
-    ensures { λ r. ⌜ r
-        ≡ united n (λ j. hearsIn n masks p j) (λ j. getD (now (held .entry)) j 0) (getD (now (held .entry)) p 0) ⌝ }
-{
-    let mut set = held[p];
-    let mut j: usize = 0;
-    while j < n {
-        set = joined(set, held[j], links::hears(masks, n, p, j));
-        j += 1;
-    }
-    set
-}
-
-// What all stations below n hold after a round.
-fn held_after(held: &[u64; 16], masks: [u16; 16], n: usize) -> [u64; 16]
-    requires { ⌜ n ≤ 16 ⌝ }
-    ensures { λ r. ⌜ r ≡ setBelow n
-        (λ p. united n (λ j. hearsIn n masks p j) (λ j. getD (now (held .entry)) j 0) (getD (now (held .entry)) p 0))
-        (now (held .entry)) ⌝ }
-{
-    let mut after = *held;
-    let mut p: usize = 0;
-    while p < n {
-        after[p] = set_after(held, masks, n, p);
-        p += 1;
-    }
-    after
-}
-
-// Are the bulletins inside their limits, and those of a group of n?
-fn fit(b: Bulletins, n: usize) -> bool
-    ensures { λ r. ⌜ r ≡ (bulletinsInside b && eqb n (b .n)) ⌝ }
-{
-    if !bulletin_limits::inside(b) {
-        return false;
-    }
-    n == b.n
-}
-
 // A round refused for its bulletins: all is as it was given.
 fn refused_round(g: [Station; 16], b: Bulletins) -> BulletinsRound
     ensures { λ r. ⌜ r ≡ record {
@@ -166,7 +104,7 @@ fn refused_round(g: [Station; 16], b: Bulletins) -> BulletinsRound
       shown = noneShown;
     } ⌝ }
 {
-    let silent = showing::none_shown();
+    let silent = bulletin_sets::showing::none_shown();
     let none = rounds::no_report();
     let reports = [none; 16];
     BulletinsRound {
@@ -185,12 +123,12 @@ pub fn round(g: [Station; 16], b: Bulletins, masks: [u16; 16]) -> BulletinsRound
     ensures { λ r. ⌜ r ≡ bulletinsRoundCall g b masks ⌝ }
 {
     let first = g[0];
-    if !fit(b, first.n) {
+    if !bulletin_sets::fit(b, first.n) {
         return refused_round(g, b);
     }
     let done = rounds::round(g, masks);
     if done.refusal != DONE as usize {
-        let silent = showing::none_shown();
+        let silent = bulletin_sets::showing::none_shown();
         return BulletinsRound {
             round: done,
             bulletins: b,
@@ -201,9 +139,9 @@ pub fn round(g: [Station; 16], b: Bulletins, masks: [u16; 16]) -> BulletinsRound
     let before = b.held;
     let tags = b.tags;
     let events = b.events;
-    let after = held_after(&before, masks, n);
-    let places = order::order_of(&tags, n);
-    let shown = showing::all_shown(&places, &tags, &events, &before, &after, n);
+    let after = bulletin_sets::held_after(&before, masks, n);
+    let places = bulletin_sets::order::order_of(&tags, n);
+    let shown = bulletin_sets::showing::all_shown(&places, &tags, &events, &before, &after, n);
     BulletinsRound {
         round: done,
         bulletins: Bulletins {

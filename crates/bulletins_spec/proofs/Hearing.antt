@@ -6,8 +6,8 @@ use native.Mathlib.Decide.{decLe}
 use native.Mathlib.Omega.{arith}
 use borrow.Author.Tests.{lt-ltb, le-ltb}
 use lib.Dec.{ltb}
-use Rattle.links.specs.Clock.{latest}
-use Rattle.links.specs.Know.{either}
+use Rattle.links.specs.Inner.Clock.{latest}
+use Rattle.links.specs.Inner.Know.{either}
 
 max-later : (T v w : ℕ) → ltb T (max v w) ≡ (ltb T v || ltb T w)
 max-later T v w =

@@ -13,7 +13,7 @@ use Rattle.lists.specs.Below.{allBelow}
 use Rattle.lists.proofs.Laws.{allBelow-make, and-both, and-left}
 use Rattle.links.specs.Log.{bit}
 use Rattle.links.specs.Relay.{Links, ofLog}
-use Rattle.links.specs.Clock.{news}
+use Rattle.links.specs.Inner.Clock.{news}
 use Rattle.links.proofs.Log.{bit-zero}
 use Rattle.links.proofs.Facts.{P-news}
 use Rattle.bulletins_spec.specs.declared.Bulletins.{Bulletins}

@@ -14,7 +14,7 @@ use Rattle.bodies.specs.Refusals.{done, badNumber, outsideLimits, notAnEdit, al
 use Rattle.lists.proofs.Laws.{anyBelow-at, and-both}
 use Rattle.links.specs.Log.{bit}
 use Rattle.links.specs.Relay.{Links}
-use Rattle.links.specs.Clock.{news}
+use Rattle.links.specs.Inner.Clock.{news}
 use Rattle.links.proofs.Clock.{news-own, news-other}
 use Rattle.link_logs.proofs.Bits.{bit-or, bit-pow}
 use Rattle.bulletins_spec.specs.declared.Bulletins.{Bulletins}

@@ -12,8 +12,8 @@ use lib.ListN.{length}
 use Rattle.lists.proofs.Laws.{setBelow-inside, length-setBelow}
 use Rattle.links.specs.Log.{bit, masksIn, hearsIn}
 use Rattle.links.specs.Relay.{Links, ofLog}
-use Rattle.links.specs.Clock.{news, hearing}
-use Rattle.links.specs.Know.{either}
+use Rattle.links.specs.Inner.Clock.{news, hearing}
+use Rattle.links.specs.Inner.Know.{either}
 use Rattle.links.proofs.Clock.{news-own}
 use Rattle.links.proofs.Hearing.{hearing-all, hearing-own}
 use Rattle.link_logs.proofs.Stands.{united-bit, either-ext}

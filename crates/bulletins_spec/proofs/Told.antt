@@ -15,7 +15,7 @@ use Rattle.bodies.specs.Refusals.{done}
 use Rattle.lists.proofs.Laws.{setBelow-inside, and-both, and-left, and-right}
 use Rattle.links.specs.Log.{bit, masksIn}
 use Rattle.links.specs.Relay.{Links, ofLog}
-use Rattle.links.specs.Clock.{news}
+use Rattle.links.specs.Inner.Clock.{news}
 use Rattle.links.proofs.Facts.{P-news}
 use Rattle.station_spec.specs.declared.Station.{Station}
 use Rattle.group_spec.specs.declared.RoundDone.{RoundDone}

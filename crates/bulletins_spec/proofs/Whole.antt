@@ -13,7 +13,7 @@ use lib.Seq.{getD-at}
 use Rattle.bodies.specs.Refusals.{done, outsideLimits, badNumber, notAnEdit, alreadyIssued, refuse}
 use Rattle.links.specs.Relay.{Links, ofLog}
 use Rattle.links.specs.EndRule.{RelayBy}
-use Rattle.links.specs.Clock.{news}
+use Rattle.links.specs.Inner.Clock.{news}
 use Rattle.links.proofs.Clock.{news-mono, news-relay, relayBy-news}
 use Rattle.station_spec.specs.declared.Setup.{Setup}
 use Rattle.station_spec.specs.declared.Station.{Station}

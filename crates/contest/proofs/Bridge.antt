@@ -14,9 +14,9 @@ use Rattle.lists.specs.Below.{allBelow, anyBelow, setBelow}
 use Rattle.lists.proofs.Laws.{allBelow-ext, setBelow-inside, length-setBelow}
 use Rattle.links.specs.Log.{bit, hearsIn, masksIn, cut}
 use Rattle.links.specs.Relay.{Links, ofLog}
-use Rattle.links.specs.Clock.{news}
-use Rattle.links.specs.Number.{answers, start, ends, num}
-use Rattle.links.specs.Know.{knows, either, brought, learnt, newly}
+use Rattle.links.specs.Inner.Clock.{news}
+use Rattle.links.specs.Inner.Number.{answers, start, ends, num}
+use Rattle.links.specs.Inner.Know.{knows, either, brought, learnt, newly}
 use Rattle.links.proofs.Clock.{news-limit}
 use Rattle.links.proofs.Log.{bit-zero, hearsIn-own, hearsIn-bit, cut-mask, cut-length}
 use Rattle.links.proofs.Number.{step, num-mono, num-positive, num-zero}

@@ -3,8 +3,8 @@ use mathlib.Core.List.{List, [], _∷_}
 use mathlib.Core.Path.{_≡_, refl}
 use Rattle.lists.specs.Below.{allBelow, anyBelow}
 use Rattle.links.specs.Log.{bit, hearsIn, masksIn, cut}
-use Rattle.links.specs.Clock.{latest, news}
-use Rattle.links.specs.Number.{answers, full, start, ends, num}
+use Rattle.links.specs.Inner.Clock.{latest, news}
+use Rattle.links.specs.Inner.Number.{answers, full, start, ends, num}
 use Rattle.contest_spec.specs.Contest.{logOf}
 use Rattle.contest_spec.specs.Winner.{decided, still, lowest, won, keeperWins, firstPick}
 use Rattle.contest_spec.specs.declared.ContestAnswer.{ContestAnswer}

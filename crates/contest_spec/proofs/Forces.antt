@@ -14,7 +14,7 @@ use Rattle.lists.specs.Below.{allBelow, anyBelow}
 use Rattle.lists.proofs.Laws.{anyBelow-hit, anyBelow-none, anyBelow-at}
 use Rattle.links.specs.Relay.{Links, ofLog}
 use Rattle.links.specs.EndRule.{EndsIn, Starts, at-first, after}
-use Rattle.links.specs.Number.{start, ends, num}
+use Rattle.links.specs.Inner.Number.{start, ends, num}
 use Rattle.links.proofs.Number.{step, num-mono, num-positive, num-zero, start-zero, same-start}
 use Rattle.links.proofs.EndRule.{ends-rule, num-starts, alone}
 use Rattle.contest_spec.specs.Contest.{logOf, EndsFirst, Strategy, play, KeeperForces, KeeperForcesBy, BreakerForces}

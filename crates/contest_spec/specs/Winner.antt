@@ -7,7 +7,7 @@ use lib.Dec.{ltb}
 use lib.ListN.{length}
 use Rattle.lists.specs.Below.{allBelow, anyBelow}
 use Rattle.links.specs.Relay.{ofLog}
-use Rattle.links.specs.Number.{num}
+use Rattle.links.specs.Inner.Number.{num}
 use Rattle.contest_spec.specs.Contest.{logOf, keeper's}
 
 -- some pick will do where the keeper picks, every pick must where the breaker does

@@ -15,9 +15,9 @@ use Rattle.bodies.specs.Body.{isEmpty}
 use Rattle.lists.proofs.Later.{from-on}
 use Rattle.links.specs.Relay.{Links}
 use Rattle.links.specs.EndRule.{Returned, after}
-use Rattle.links.specs.Clock.{news}
-use Rattle.links.specs.Number.{start, num}
-use Rattle.links.specs.Number as number
+use Rattle.links.specs.Inner.Clock.{news}
+use Rattle.links.specs.Inner.Number.{start, num}
+use Rattle.links.specs.Inner.Number as number
 use Rattle.links.proofs.Clock.{news-own, news-limit, news-mono, news-carries-earlier, relayBy-news}
 use Rattle.links.proofs.Relay.{relay-earlier}
 use Rattle.links.proofs.Number.{start-limit, num-mono}

@@ -13,6 +13,7 @@ use Rattle.bodies.proofs.BodyLaws.{edit-not-empty}
 use Rattle.bodies.proofs.LimitLaws.{waiting-edit}
 use Rattle.queues.specs.Waiting.{nextEdit}
 use Rattle.queues.proofs.WaitingLaws.{next-fits}
+use Rattle.station_spec.specs.Limits.{allowed}
 use Rattle.station_spec.specs.declared.Setup.{Setup}
 use Rattle.group_spec.specs.declared.RoundDone.{RoundDone}
 use Rattle.group_spec.specs.Calls.{groupFreshRefusal}
@@ -92,5 +93,5 @@ module _ (setup : Setup) (fresh : groupFreshRefusal setup ≡ done) (calls : Lis
             let heard = run-heard R u p l in
             let h = (hearingIn R u p) .station in
             edit-not-empty (nextEdit (h .waiting))
-            (waiting-edit (h .edition) (nextEdit (h .waiting)) (next-fits (h .edition) (h .waiting) (rw (← heard) (inside .waiting)) w));
+            (waiting-edit (allowed h) (nextEdit (h .waiting)) (next-fits (allowed h) (h .waiting) (rw (← heard) (inside .waiting)) w));
       }

@@ -1,13 +1,14 @@
 -- The records of a table that a frame may carry, test by test, and what follows: every other station accepts the frame of such a table.
 use mathlib.Core.Path.{_≡_, sym, ap, _∙_}
-use mathlib.Core.Bool.{Bool, true, false, not, _&&_, _||_}
+use mathlib.Core.Bool.{Bool, true, false, not, _||_}
 use mathlib.Core.List.{List}
 use Prim.Native.Nat.{ℕ, _*_, _-_, _<_, _≤_}
 use native.Mathlib.Omega.{arith}
 use lib.Dec.{eqb}
 use lib.ListN.{getD}
 use borrow.Author.Tests.{lt-ltb, le-leb, lt-leb, eq-eqb, ne-eqb, eqb-true, ltb-true}
-use Rattle.bodies.specs.Limits.{isEdition, insideKind, onChannel, bodyInside}
+use Rattle.bodies.specs.declared.Body.{Body}
+use Rattle.bodies.specs.Limits.{isEdition, bodyInside}
 use Rattle.bodies.specs.Refusals.{done, badNumber, badRecord, badEdition}
 use Rattle.labels.specs.Packing.{labelsInside}
 use Rattle.lists.specs.Below.{allBelow}
@@ -20,8 +21,8 @@ use Rattle.frame_spec.proofs.Check.{valid-few, valid-own}
 use Rattle.frame_spec.proofs.TableTrip.{table-accepted}
 
 -- one record
-module _ (edition n k : ℕ) (r : Record) where
-  pub other-station : (r .station ≡ k → ⊥) → false ≡ placeFits edition n k r
+module _ (inside : Body → Bool) (n k : ℕ) (r : Record) where
+  pub other-station : (r .station ≡ k → ⊥) → false ≡ placeFits inside n k r
   unfolding placeFits
   other-station d = rw (ne-eqb (r .station) k d)
 
@@ -29,45 +30,43 @@ module _ (edition n k : ℕ) (r : Record) where
     below : r .station < n
     below = omega (arith, e)
 
-    pub high-count : 2 * (n - 1) < r .count → false ≡ placeFits edition n k r
+    pub high-count : 2 * (n - 1) < r .count → false ≡ placeFits inside n k r
     unfolding placeFits recordFits
     high-count h = rw (eq-eqb (r .station) k e, lt-ltb (r .station) n below, lt-leb (r .count) (2 * (n - 1)) h)
 
     module _ (c : r .count ≤ 2 * (n - 1)) where
-      pub other-body : bodyInside edition (r .body) ≡ false → false ≡ placeFits edition n k r
-      unfolding placeFits recordFits bodyInside insideKind
+      pub other-body : inside (r .body) ≡ false → false ≡ placeFits inside n k r
+      unfolding placeFits recordFits
       other-body h =
-          rw (eq-eqb (r .station) k e, lt-ltb (r .station) n below, le-leb (r .count) (2 * (n - 1)) c)
-          (ap (λ (b : Bool). b && labelsInside n (r .labels)) (sym h))
+          rw (eq-eqb (r .station) k e, lt-ltb (r .station) n below, le-leb (r .count) (2 * (n - 1)) c, h)
 
-      pub by-labels : bodyInside edition (r .body) ≡ true → labelsInside n (r .labels) ≡ placeFits edition n k r
-      unfolding placeFits recordFits bodyInside insideKind
+      pub by-labels : inside (r .body) ≡ true → labelsInside n (r .labels) ≡ placeFits inside n k r
+      unfolding placeFits recordFits
       by-labels h =
-          rw (eq-eqb (r .station) k e, lt-ltb (r .station) n below, le-leb (r .count) (2 * (n - 1)) c)
-          (ap (λ (b : Bool). b && labelsInside n (r .labels)) (sym h))
+          rw (eq-eqb (r .station) k e, lt-ltb (r .station) n below, le-leb (r .count) (2 * (n - 1)) c, h)
 
 -- the table
 module _ (edition n sender : ℕ) (held : List Bool) (table : List Record) where
   abbrev pub fitsAt : ℕ → Bool
-  fitsAt k = not (getD held k false) || placeFits edition n k (getD table k noRecord)
+  fitsAt k = not (getD held k false) || placeFits (bodyInside edition) n k (getD table k noRecord)
 
-  pub one-fails : (k : ℕ) → k < n → fitsAt k ≡ false → false ≡ tableFits edition n sender held table
+  pub one-fails : (k : ℕ) → k < n → fitsAt k ≡ false → false ≡ tableFits (bodyInside edition) n sender held table
   unfolding tableFits
   one-fails k l h = rw (allBelow-fails n fitsAt k l h)
 
-  pub by-sender's : (k : ℕ) → k ≡ n → allBelow k fitsAt ≡ true → getD held sender false ≡ tableFits edition n sender held table
+  pub by-sender's : (k : ℕ) → k ≡ n → allBelow k fitsAt ≡ true → getD held sender false ≡ tableFits (bodyInside edition) n sender held table
   unfolding tableFits
   by-sender's k e h =
       let all : allBelow n fitsAt ≡ true = ap (λ (i : ℕ). allBelow i fitsAt) (sym e) ∙ h in
       rw all
 
   -- what a table that fits says
-  module _ (f : tableFits edition n sender held table ≡ true) where
+  module _ (f : tableFits (bodyInside edition) n sender held table ≡ true) where
     own-held : getD held sender false ≡ true
     unfolding tableFits
     own-held = and-right (allBelow n fitsAt) (getD held sender false) f
 
-    held-fits : (k : ℕ) → k < n → getD held k false ≡ true → placeFits edition n k (getD table k noRecord) ≡ true
+    held-fits : (k : ℕ) → k < n → getD held k false ≡ true → placeFits (bodyInside edition) n k (getD table k noRecord) ≡ true
     unfolding tableFits
     held-fits k l h =
         let t : fitsAt k ≡ true = allBelow-at n fitsAt (and-left (allBelow n fitsAt) (getD held sender false) f) k l in
@@ -77,13 +76,13 @@ module _ (edition n sender : ℕ) (held : List Bool) (table : List Record) where
     unfolding placeFits
     place k l h =
         let r = getD table k noRecord in
-        eqb-true (r .station) k (and-left (eqb (r .station) k) (recordFits edition n r) (held-fits k l h))
+        eqb-true (r .station) k (and-left (eqb (r .station) k) (recordFits (bodyInside edition) n r) (held-fits k l h))
 
-    fits : (k : ℕ) → k < n → getD held k false ≡ true → recordFits edition n (getD table k noRecord) ≡ true
+    fits : (k : ℕ) → k < n → getD held k false ≡ true → recordFits (bodyInside edition) n (getD table k noRecord) ≡ true
     unfolding placeFits
     fits k l h =
         let r = getD table k noRecord in
-        and-right (eqb (r .station) k) (recordFits edition n r) (held-fits k l h)
+        and-right (eqb (r .station) k) (recordFits (bodyInside edition) n r) (held-fits k l h)
 
     module _ (v : validNumber n sender ≡ true) (w : isEdition edition ≡ true) where
       -- every other station accepts the frame
@@ -112,7 +111,7 @@ module _ (edition n sender : ℕ) (held : List Bool) (table : List Record) where
     edition-buffer buffer = rw (v, no)
 
   module _ (v : validNumber n sender ≡ true) (w : isEdition edition ≡ true) where
-    module _ (f : tableFits edition n sender held table ≡ false) where
+    module _ (f : tableFits (bodyInside edition) n sender held table ≡ false) where
       pub record-answer : (room : ℕ) → record { refusal = badRecord; len = 0 } ≡ frameWritten edition n sender held table room
       unfolding frameWritten
       record-answer room = rw (v, w, f)
@@ -121,7 +120,7 @@ module _ (edition n sender : ℕ) (held : List Bool) (table : List Record) where
       unfolding frameBuffer
       record-buffer buffer = rw (v, w, f)
 
-    module _ (f : tableFits edition n sender held table ≡ true) where
+    module _ (f : tableFits (bodyInside edition) n sender held table ≡ true) where
       pub frame-answer :
           (room : ℕ) → written (frameBytes edition n sender (tableRecords n held table)) room ≡ frameWritten edition n sender held table room
       unfolding frameWritten

@@ -10,6 +10,7 @@ use lib.Dec.{ltb, eqb}
 use lib.ListN.{getD, take, drop, length, length-drop, List·getD-eq-default}
 use lib.Seq.{drop-cons, take-at, drop-at, take-all, take-add, drop-drop, getD-drop, getD-take, length-take-le}
 use borrow.Author.Tests.{lt-leb, eq-eqb, ne-eqb, ltb-true}
+use Rattle.bodies.specs.Limits.{bodyInside}
 use Rattle.bodies.specs.Refusals.{done}
 use Rattle.lists.specs.Below.{allBelow, anyBelow, tabulate}
 use Rattle.lists.proofs.Laws.{and-both, and-left, and-right, allBelow-at, allBelow-make, anyBelow-ext, anyBelow-none, length-tabulate, tabulate-ext, tabulate-map}
@@ -41,7 +42,7 @@ module _ (edition n sender : ℕ) (rs : List Record) where
   station k = (getD rs k noRecord) .station
 
   abbrev fine : ℕ → Bool
-  fine k = recordFits edition n (getD rs k noRecord) && (eqb k 0 || ltb (station (pred k)) (station k))
+  fine k = recordFits (bodyInside edition) n (getD rs k noRecord) && (eqb k 0 || ltb (station (pred k)) (station k))
 
   pub part-of-frame : (k : ℕ) → k < length rs → part (frameBytes edition n sender rs) k ≡ recordBytes n (getD rs k noRecord)
   unfolding frameBytes
@@ -52,7 +53,7 @@ module _ (edition n sender : ℕ) (rs : List Record) where
   unfolding recordBytes
   station-of-frame k h = ap (λ (p : List ℕ). getD p 0 0) (part-of-frame k h)
 
-  module _ (few : n ≤ 16) (h : recordsFit edition n sender rs ≡ true) where
+  module _ (few : n ≤ 16) (h : recordsFit (bodyInside edition) n sender rs ≡ true) where
     all-fine : allBelow (length rs) fine ≡ true
     unfolding recordsFit
     all-fine = and-left (allBelow (length rs) fine) (anyBelow (length rs) (λ k. eqb (station k) sender)) h
@@ -61,13 +62,13 @@ module _ (edition n sender : ℕ) (rs : List Record) where
     unfolding recordsFit
     one-sent = and-right (allBelow (length rs) fine) (anyBelow (length rs) (λ k. eqb (station k) sender)) h
 
-    record-fits : (k : ℕ) → k < length rs → recordFits edition n (getD rs k noRecord) ≡ true
+    record-fits : (k : ℕ) → k < length rs → recordFits (bodyInside edition) n (getD rs k noRecord) ≡ true
     record-fits k l =
-        and-left (recordFits edition n (getD rs k noRecord)) (eqb k 0 || ltb (station (pred k)) (station k)) (allBelow-at (length rs) fine all-fine k l)
+        and-left (recordFits (bodyInside edition) n (getD rs k noRecord)) (eqb k 0 || ltb (station (pred k)) (station k)) (allBelow-at (length rs) fine all-fine k l)
 
     ordered : (k : ℕ) → k < length rs → (eqb k 0 || ltb (station (pred k)) (station k)) ≡ true
     ordered k l =
-        and-right (recordFits edition n (getD rs k noRecord)) (eqb k 0 || ltb (station (pred k)) (station k)) (allBelow-at (length rs) fine all-fine k l)
+        and-right (recordFits (bodyInside edition) n (getD rs k noRecord)) (eqb k 0 || ltb (station (pred k)) (station k)) (allBelow-at (length rs) fine all-fine k l)
 
     -- reading a written frame gives back its records
     pub read-written : recordsOf (frameBytes edition n sender rs) ≡ map (framed n) rs
@@ -94,7 +95,7 @@ module _ (edition n sender : ℕ) (rs : List Record) where
         ]
 
     last-below : station (pred (length rs)) < n
-    last-below = fits-station edition n (getD rs (pred (length rs)) noRecord) (record-fits (pred (length rs)) (omega (arith, some)))
+    last-below = fits-station (bodyInside edition) n (getD rs (pred (length rs)) noRecord) (record-fits (pred (length rs)) (omega (arith, some)))
 
     pub at-most : length rs ≤ 16
     at-most = omega (arith, some, station-least (pred (length rs)) (omega (arith, some)), last-below)
@@ -156,7 +157,7 @@ module _ (edition : ℕ) (bytes : List ℕ) (n own : ℕ) (h : frameRefusal edit
   part-length k l = length-take-le 16 (drop (4 + 16 * k) bytes) (rw length-drop (omega (arith, form .long)))
 
   -- the records of an accepted frame are inside their limits, and their labels from n up are 0
-  pub accepted-fits : (k : ℕ) → k < count → recordFits edition n (recordFrom (part bytes k)) ≡ true
+  pub accepted-fits : (k : ℕ) → k < count → recordFits (bodyInside edition) n (recordFrom (part bytes k)) ≡ true
   accepted-fits k l = held-fits edition n (part bytes k) (part-inside k l)
 
   pub accepted-zeros : (k : ℕ) → k < count → (j : ℕ) → n ≤ j → j < 16 → recordLabel (recordFrom (part bytes k)) j ≡ 0

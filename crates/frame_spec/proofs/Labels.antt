@@ -5,7 +5,7 @@ use mathlib.Core.List.{List}
 use Prim.Native.Nat.{ℕ, _≤_, _<_, _^_}
 use native.Mathlib.Omega.{arith}
 use lib.ListN.{length, getD}
-use Rattle.labels.specs.Label.{allLabels}
+use Rattle.labels.proofs.LabelLaws.{allLabels}
 use Rattle.labels.specs.Packing.{labelIn, packed, labelsOver}
 use Rattle.labels.proofs.PackingLaws.{label-less, label-zero, label-ext, over-below, over-above, over-less, over-ext, over-own, zeros-make, first-whole}
 use Rattle.labels.proofs.Packing.{packed-label}

@@ -1,14 +1,15 @@
 -- One record there and back. A record inside its limits is written as bytes that are inside theirs, and read back as the frame carries it; bytes
 -- inside their limits are the bytes of the record that they hold.
 use mathlib.Core.Path.{_≡_, refl, sym, ap, _∙_}
-use mathlib.Core.Bool.{true}
+use mathlib.Core.Bool.{Bool, true}
 use mathlib.Core.List.{List, [], _∷_, _++_}
 use Prim.Native.Nat.{ℕ, _+_, _≤_, _<_}
 use native.Mathlib.Omega.{arith}
 use lib.IntN.{ℤ}
 use lib.ListN.{getD, length}
+use Rattle.bodies.specs.declared.Body.{Body}
 use Rattle.bodies.specs.Body.{kindOf, eventOf, argumentOf, channelOf, bodyOf}
-use Rattle.bodies.specs.Limits.{numbersInside, insideKind}
+use Rattle.bodies.specs.Limits.{numbersInside, insideKind, bodyInside}
 use Rattle.bodies.proofs.BodyLaws.{body-back}
 use Rattle.bodies.proofs.LimitLaws.{kind-back, event-back, argument-back, channel-back, inside-back, inside-kind, inside-channel, body-event-fits, body-argument-fits}
 use Rattle.labels.specs.Label.{isLabel}
@@ -23,15 +24,15 @@ use Rattle.frame_spec.proofs.Spelled.{spelled, spelled-is, word-back, b
 
 -- ---- a record that is written and read
 
-pub fits-station : (edition n : ℕ) (r : Record) → recordFits edition n r ≡ true → r .station < n
-fits-station edition n r h = (fits-open edition n r h) .station
+pub fits-station : (inside : Body → Bool) (n : ℕ) (r : Record) → recordFits inside n r ≡ true → r .station < n
+fits-station inside n r h = (fits-open inside n r h) .station
 
 -- what a frame carries of a record is inside the same limits
-pub framed-fits : (edition n : ℕ) (r : Record) → recordFits edition n r ≡ true → recordFits edition n (framed n r) ≡ true
+pub framed-fits : (inside : Body → Bool) (n : ℕ) (r : Record) → recordFits inside n r ≡ true → recordFits inside n (framed n r) ≡ true
 unfolding framed
-framed-fits edition n r h =
-    let f = fits-open edition n r h in
-    fits-make edition n (framed n r)
+framed-fits inside n r h =
+    let f = fits-open inside n r h in
+    fits-make inside n (framed n r)
     (record {
       station = f .station;
       count = f .count;
@@ -39,9 +40,9 @@ framed-fits edition n r h =
       labels = λ j l. ap (λ (x : ℕ). isLabel x) (framed-label n r j l) ∙ f .labels j l;
     })
 
-module _ (edition n : ℕ) (r : Record) (few : n ≤ 16) (h : recordFits edition n r ≡ true) where
+module _ (edition n : ℕ) (r : Record) (few : n ≤ 16) (h : recordFits (bodyInside edition) n r ≡ true) where
   in-kind : insideKind (r .body) ≡ true
-  in-kind = inside-kind edition (r .body) ((fits-open edition n r h) .body)
+  in-kind = inside-kind edition (r .body) ((fits-open (bodyInside edition) n r h) .body)
 
   -- the words of its bytes
   event-word : wordAt (recordBytes n r) 4 ≡ eventOf (r .body)
@@ -73,8 +74,8 @@ module _ (edition n : ℕ) (r : Record) (few : n ≤ 16) (h : recordFits edition
   pub record-accepted : bytesInside edition n (recordBytes n r) ≡ true
   unfolding recordBytes insideKind recordLabel
   record-accepted =
-      let f = fits-open edition n r h in
-      let g = fits-open edition n (framed n r) (framed-fits edition n r h) in
+      let f = fits-open (bodyInside edition) n r h in
+      let g = fits-open (bodyInside edition) n (framed n r) (framed-fits (bodyInside edition) n r h) in
       let b = r .body in
       bytes-make edition n (recordBytes n r)
       (record {
@@ -90,11 +91,11 @@ module _ (edition n : ℕ) (r : Record) (few : n ≤ 16) (h : recordFits edition
 
 -- such bytes hold a record inside its limits, whose labels from n up are 0
 module _ (edition n : ℕ) (p : List ℕ) (h : bytesInside edition n p ≡ true) where
-  pub held-fits : recordFits edition n (recordFrom p) ≡ true
+  pub held-fits : recordFits (bodyInside edition) n (recordFrom p) ≡ true
   unfolding recordFrom recordLabel
   held-fits =
       let b = bytes-open edition n p h in
-      fits-make edition n (recordFrom p)
+      fits-make (bodyInside edition) n (recordFrom p)
       (record {
         station = b .station;
         count = b .count;

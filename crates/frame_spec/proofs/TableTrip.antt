@@ -10,6 +10,8 @@ use lib.Dec.{ltb, eqb}
 use lib.ListN.{getD, length, length-append, List·getD-append}
 use lib.Seq.{getD-at}
 use borrow.Author.Tests.{lt-ltb, eq-eqb, ne-eqb}
+use Rattle.bodies.specs.declared.Body.{Body}
+use Rattle.bodies.specs.Limits.{bodyInside}
 use Rattle.bodies.specs.Refusals.{done}
 use Rattle.lists.specs.Below.{anyBelow, filterMap}
 use Rattle.lists.proofs.Laws.{and-both, allBelow-make, anyBelow-hit, filterMap-ext, map-filterMap}
@@ -22,16 +24,16 @@ use Rattle.frame_spec.proofs.RecordTrip.{framed-fits}
 use Rattle.frame_spec.proofs.FrameTrip.{read-written, written-accepted}
 
 -- records in order: each inside its limits, of stations strictly ascending and below k
-record Sorted (edition n k : ℕ) (rs : List Record) : Type 0 where
-  fine : (i : ℕ) → i < length rs → recordFits edition n (getD rs i noRecord) ≡ true
+record Sorted (inside : Body → Bool) (n k : ℕ) (rs : List Record) : Type 0 where
+  fine : (i : ℕ) → i < length rs → recordFits inside n (getD rs i noRecord) ≡ true
   below : (i : ℕ) → i < length rs → (getD rs i noRecord) .station < k
   rising : (i : ℕ) → suc i < length rs → (getD rs i noRecord) .station < (getD rs (suc i) noRecord) .station
 
-module _ (edition n k : ℕ) (rs : List Record) (s : Sorted edition n k rs) where
-  sorted-same : Sorted edition n (suc k) rs
+module _ (inside : Body → Bool) (n k : ℕ) (rs : List Record) (s : Sorted inside n k rs) where
+  sorted-same : Sorted inside n (suc k) rs
   sorted-same = record { fine = s .fine; below = λ i l. omega (arith, s .below i l); rising = s .rising }
 
-  module _ (r : Record) (fits : recordFits edition n r ≡ true) (place : r .station ≡ k) where
+  module _ (r : Record) (fits : recordFits inside n r ≡ true) (place : r .station ≡ k) where
     old-at : (i : ℕ) → i < length rs → getD (rs ++ (r ∷ [])) i noRecord ≡ getD rs i noRecord
     old-at i l = List·getD-append rs (r ∷ []) noRecord i l
 
@@ -41,7 +43,7 @@ module _ (edition n k : ℕ) (rs : List Record) (s : Sorted edition n k rs) wher
     longer : length (rs ++ (r ∷ [])) ≡ length rs + 1
     longer = length-append rs (r ∷ [])
 
-    sorted-more : Sorted edition n (suc k) (rs ++ (r ∷ []))
+    sorted-more : Sorted inside n (suc k) (rs ++ (r ∷ []))
     sorted-more =
         record {
           fine =
@@ -66,7 +68,7 @@ module _ (edition n k : ℕ) (rs : List Record) (s : Sorted edition n k rs) wher
         }
 
 -- in order and with the sender's among them they fit a frame
-module _ (edition n k sender : ℕ) (rs : List Record) (s : Sorted edition n k rs) where
+module _ (inside : Body → Bool) (n k sender : ℕ) (rs : List Record) (s : Sorted inside n k rs) where
   abbrev station : ℕ → ℕ
   station i = (getD rs i noRecord) .station
 
@@ -74,35 +76,35 @@ module _ (edition n k sender : ℕ) (rs : List Record) (s : Sorted edition n k r
   rises zero l = refl
   rises (suc i) l = rw (ne-eqb (suc i) 0 (λ e. omega arith)) (lt-ltb (station i) (station (suc i)) (s .rising i l))
 
-  sorted-fit : anyBelow (length rs) (λ i. eqb (station i) sender) ≡ true → recordsFit edition n sender rs ≡ true
+  sorted-fit : anyBelow (length rs) (λ i. eqb (station i) sender) ≡ true → recordsFit inside n sender rs ≡ true
   unfolding recordsFit
   sorted-fit one =
       and-both
-      (allBelow-make (length rs) (λ i. recordFits edition n (getD rs i noRecord) && (eqb i 0 || ltb (station (pred i)) (station i)))
+      (allBelow-make (length rs) (λ i. recordFits inside n (getD rs i noRecord) && (eqb i 0 || ltb (station (pred i)) (station i)))
       (λ i l. and-both (s .fine i l) (rises i l)))
       one
 
 -- the records of a table
 module _ (edition n sender : ℕ) (held : List Bool) (table : List Record) (few : n ≤ 16)
     (place : (k : ℕ) → k < n → getD held k false ≡ true → (getD table k noRecord) .station ≡ k)
-    (fits : (k : ℕ) → k < n → getD held k false ≡ true → recordFits edition n (getD table k noRecord) ≡ true) where
+    (fits : (k : ℕ) → k < n → getD held k false ≡ true → recordFits (bodyInside edition) n (getD table k noRecord) ≡ true) where
   abbrev below : ℕ → List Record
   below k = filterMap k (λ j. getD held j false) (λ j. framed n (getD table j noRecord))
 
-  table-sorted : (k : ℕ) → k ≤ n → Sorted edition n k (below k)
+  table-sorted : (k : ℕ) → k ≤ n → Sorted (bodyInside edition) n k (below k)
   unfolding filterMap framed
   table-sorted zero l =
       record { fine = λ i b. absurd (omega arith); below = λ i b. absurd (omega arith); rising = λ i b. absurd (omega arith) }
   table-sorted (suc k) l = go (getD held k false) refl (table-sorted k (omega arith))
     where
       go :
-          (b : Bool) → getD held k false ≡ b → Sorted edition n k (below k) →
-          Sorted edition n (suc k) (below k ++ cond b (framed n (getD table k noRecord) ∷ []) [])
+          (b : Bool) → getD held k false ≡ b → Sorted (bodyInside edition) n k (below k) →
+          Sorted (bodyInside edition) n (suc k) (below k ++ cond b (framed n (getD table k noRecord) ∷ []) [])
       go true e s =
-          sorted-more edition n k (below k) s (framed n (getD table k noRecord))
-          (framed-fits edition n (getD table k noRecord) (fits k (omega arith) e))
+          sorted-more (bodyInside edition) n k (below k) s (framed n (getD table k noRecord))
+          (framed-fits (bodyInside edition) n (getD table k noRecord) (fits k (omega arith) e))
           (place k (omega arith) e)
-      go false e s = rw (append-nil (below k)) (sorted-same edition n k (below k) s)
+      go false e s = rw (append-nil (below k)) (sorted-same (bodyInside edition) n k (below k) s)
 
   -- the record of a held station is among them
   record Among (j : ℕ) (rs : List Record) : Type 0 where
@@ -143,11 +145,11 @@ module _ (edition n sender : ℕ) (held : List Bool) (table : List Record) (few 
           })
 
   module _ (own-held : getD held sender false ≡ true) (valid : sender < n) where
-    pub table-fits : recordsFit edition n sender (tableRecords n held table) ≡ true
+    pub table-fits : recordsFit (bodyInside edition) n sender (tableRecords n held table) ≡ true
     unfolding tableRecords
     table-fits =
         let a = table-among sender own-held n valid (omega arith) in
-        sorted-fit edition n n sender (below n) (table-sorted n (omega arith))
+        sorted-fit (bodyInside edition) n n sender (below n) (table-sorted n (omega arith))
         (anyBelow-hit (length (below n)) (λ i. eqb ((getD (below n) i noRecord) .station) sender) (a .at) (a .inside) (eq-eqb _ _ (a .is)))
 
     -- the frame of a table is read as the very records that the table sent

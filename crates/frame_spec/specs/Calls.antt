@@ -4,8 +4,9 @@ use mathlib.Core.Bool.{Bool, false, cond, not, _&&_, _||_}
 use mathlib.Core.List.{List, _++_}
 use lib.ListN.{getD, drop, length, replicate}
 use lib.Dec.{ltb, eqb}
+use Rattle.bodies.specs.declared.Body.{Body}
 use Rattle.bodies.specs.Refusals.{done, badNumber, badRecord, badEdition, shortBuffer}
-use Rattle.bodies.specs.Limits.{isEdition}
+use Rattle.bodies.specs.Limits.{isEdition, bodyInside}
 use Rattle.lists.specs.Below.{allBelow, setBelow, filterMap}
 use Rattle.frame_spec.specs.declared.Record.{Record}
 use Rattle.frame_spec.specs.declared.Reading.{Reading}
@@ -40,21 +41,21 @@ bufferWith frame buffer = cond (ltb (length buffer) (length frame)) buffer (fram
 
 -- the records at the held places may stand in a frame: each is of its place's station and inside
 -- the record limits, and the sender's is among them
-unfoldable pub tableFits : ℕ → ℕ → ℕ → List Bool → List Record → Bool
-tableFits edition n sender held table =
-    allBelow n (λ k. not (getD held k false) || placeFits edition n k (getD table k noRecord)) && getD held sender false
+unfoldable pub tableFits : (Body → Bool) → ℕ → ℕ → List Bool → List Record → Bool
+tableFits inside n sender held table =
+    allBelow n (λ k. not (getD held k false) || placeFits inside n k (getD table k noRecord)) && getD held sender false
 
 -- writing a frame judges N and the sender (1), the edition (17), then the records (7), then the buffer (9)
 unfoldable pub frameWritten : ℕ → ℕ → ℕ → List Bool → List Record → ℕ → Written
 frameWritten edition n sender held table room =
     cond (not (validNumber n sender)) (record { refusal = badNumber; len = 0 })
     (cond (not (isEdition edition)) (record { refusal = badEdition; len = 0 })
-    (cond (not (tableFits edition n sender held table)) (record { refusal = badRecord; len = 0 })
+    (cond (not (tableFits (bodyInside edition) n sender held table)) (record { refusal = badRecord; len = 0 })
     (written (frameBytes edition n sender (tableRecords n held table)) room)))
 
 -- the buffer afterwards: what is refused leaves it as it was
 unfoldable pub frameBuffer : ℕ → ℕ → ℕ → List Bool → List Record → List ℕ → List ℕ
 frameBuffer edition n sender held table buffer =
-    cond (validNumber n sender && isEdition edition && tableFits edition n sender held table)
+    cond (validNumber n sender && isEdition edition && tableFits (bodyInside edition) n sender held table)
     (bufferWith (frameBytes edition n sender (tableRecords n held table)) buffer)
     buffer

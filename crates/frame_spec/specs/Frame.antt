@@ -5,6 +5,7 @@ use mathlib.Core.Bool.{Bool, not, _&&_, _||_}
 use mathlib.Core.List.{List, [], _∷_, _++_}
 use lib.ListN.{getD, take, drop, length}
 use lib.Dec.{leb, ltb, eqb}
+use Rattle.bodies.specs.declared.Body.{Body}
 use Rattle.bodies.specs.Refusals.{done, badNumber, badShape, badAddress, badRecord, badEdition, refuse}
 use Rattle.bodies.specs.Limits.{isEdition}
 use Rattle.lists.specs.Below.{allBelow, anyBelow, tabulate}
@@ -76,9 +77,9 @@ frameBytes edition n sender records = n ∷ sender ∷ length records ∷ editio
 
 -- the record limits over records that are to be written: each inside its own, stations strictly
 -- ascending, the sender's among them
-unfoldable pub recordsFit : ℕ → ℕ → ℕ → List Record → Bool
-recordsFit edition n sender rs =
+unfoldable pub recordsFit : (Body → Bool) → ℕ → ℕ → List Record → Bool
+recordsFit inside n sender rs =
     allBelow (length rs)
-    (λ k. recordFits edition n (getD rs k noRecord)
+    (λ k. recordFits inside n (getD rs k noRecord)
     && (eqb k 0 || ltb ((getD rs (pred k) noRecord) .station) ((getD rs k noRecord) .station)))
     && anyBelow (length rs) (λ k. eqb ((getD rs k noRecord) .station) sender)

@@ -4,7 +4,7 @@ use mathlib.Core.Bool.{Bool, false, _&&_, _||_}
 use mathlib.Core.List.{List, _∷_, _++_}
 use lib.ListN.{getD}
 use lib.Dec.{leb, ltb, eqb}
-use lib.IntN.{ℤ}
+use Rattle.bodies.specs.declared.Body.{Body}
 use Rattle.bodies.specs.declared.Body.the-variants.{Empty}
 use Rattle.bodies.specs.Body.{kindOf, eventOf, argumentOf, channelOf, bodyOf}
 use Rattle.bodies.specs.Limits.{numbersInside, channelInside}
@@ -45,38 +45,36 @@ countInside n count = leb count (2 * (n - 1))
 abbrev pub noRecord : Record
 noRecord = record { station = 0; count = 0; body = Empty; labels = 0 }
 
--- "Record limits", of the fields of one record of an edition among n stations: the station below n, the count by its
--- limit unless it is free, the body by the table of kinds, its channel by the edition, and the labels of the n stations
--- 0 to 2
-abbrev pub fieldsInside : ℕ → ℕ → Bool → ℕ → ℕ → ℕ → ℕ → ℤ → ℕ → ℕ → Bool
-fieldsInside edition n free station count kind event argument channel labels =
+-- "Record limits", of the fields of one record among n stations: the station below n, the count by its limit unless it
+-- is free, whether the body is inside its limits, and the labels of the n stations 0 to 2
+abbrev pub fieldsInside : ℕ → Bool → ℕ → ℕ → Bool → ℕ → Bool
+fieldsInside n free station count inside labels =
     ltb station n
     && (free || countInside n count)
-    && numbersInside kind event argument
-    && channelInside edition kind channel
+    && inside
     && labelsInside n labels
 
--- the limits of a record
-abbrev pub recordLimits : ℕ → ℕ → Bool → Record → Bool
-recordLimits edition n free r =
-    let b = r .body in
-    fieldsInside edition n free (r .station) (r .count) (kindOf b) (eventOf b) (argumentOf b) (channelOf b) (r .labels)
+-- the limits of a record, its body by the test `inside`
+abbrev pub recordLimits : (Body → Bool) → ℕ → Bool → Record → Bool
+recordLimits inside n free r = fieldsInside n free (r .station) (r .count) (inside (r .body)) (r .labels)
 
--- the limits of a record's sixteen bytes in a frame of an edition: the labels from n up are zero too
+-- the limits of a record's sixteen bytes in a frame of an edition: the body by the table of kinds, its channel by the
+-- edition, and the labels from n up are zero too
 unfoldable pub bytesInside : ℕ → ℕ → List ℕ → Bool
 bytesInside edition n bytes =
     let labels = wordAt bytes 12 in
-    fieldsInside edition n false (getD bytes 0 0) (getD bytes 1 0) (getD bytes 2 0) (wordAt bytes 4)
-    (signed (wordAt bytes 8)) (getD bytes 3 0) labels
+    fieldsInside n false (getD bytes 0 0) (getD bytes 1 0)
+    (numbersInside (getD bytes 2 0) (wordAt bytes 4) (signed (wordAt bytes 8))
+    && channelInside edition (getD bytes 2 0) (getD bytes 3 0)) labels
     && zeroFrom n labels
 
--- a record that a frame of an edition may carry
-unfoldable pub recordFits : ℕ → ℕ → Record → Bool
-recordFits edition n r = recordLimits edition n false r
+-- a record that a frame may carry
+unfoldable pub recordFits : (Body → Bool) → ℕ → Record → Bool
+recordFits inside n r = recordLimits inside n false r
 
 -- such a record, of station k
-unfoldable pub placeFits : ℕ → ℕ → ℕ → Record → Bool
-placeFits edition n k r = eqb (r .station) k && recordFits edition n r
+unfoldable pub placeFits : (Body → Bool) → ℕ → ℕ → Record → Bool
+placeFits inside n k r = eqb (r .station) k && recordFits inside n r
 
 -- the record as a frame carries it: its labels from n up are 0
 unfoldable pub framed : ℕ → Record → Record

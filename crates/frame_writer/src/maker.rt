@@ -4,6 +4,7 @@ ghost use mathlib.Core.Path.{_≡_};
 ghost use mathlib.Core.Bool.{not, _||_};
 ghost use Prim.Native.Nat.{_≤_, _<_};
 ghost use lib.ListN.{length};
+ghost use Rattle.bodies.specs.Limits.{bodyInside};
 ghost use Rattle.frame_spec.specs.Record.{placeFits};
 ghost use Rattle.frame_spec.specs.Calls.{tableFits, frameWritten, frameBuffer};
 use bodies::refusals::BAD_EDITION;
@@ -15,7 +16,7 @@ use frame_spec::Written;
 // Is this a record of station k that a frame of an edition among n stations may carry?
 fn place_fits(edition: usize, n: usize, k: usize, r: Record) -> bool
     requires { ⌜ (k < n) × (n ≤ 16) ⌝ }
-    ensures { λ b. ⌜ b ≡ placeFits edition n k r ⌝ }
+    ensures { λ b. ⌜ b ≡ placeFits (bodyInside edition) n k r ⌝ }
 {
     if r.station as usize != k {
         return false;
@@ -33,7 +34,7 @@ fn place_fits(edition: usize, n: usize, k: usize, r: Record) -> bool
 // The same, if one is held at all.
 fn held_fits(held: bool, edition: usize, n: usize, k: usize, r: Record) -> bool
     requires { ⌜ (k < n) × (n ≤ 16) ⌝ }
-    ensures { λ b. ⌜ b ≡ (not held || placeFits edition n k r) ⌝ }
+    ensures { λ b. ⌜ b ≡ (not held || placeFits (bodyInside edition) n k r) ⌝ }
 {
     if !held {
         return true;
@@ -50,7 +51,7 @@ fn table_fits(
     sender: usize,
 ) -> bool
     requires { ⌜ (n ≤ 16) × (sender < n) ⌝ }
-    ensures { λ r. ⌜ r ≡ tableFits edition n sender held table ⌝ }
+    ensures { λ r. ⌜ r ≡ tableFits (bodyInside edition) n sender held table ⌝ }
 {
     let mut k: usize = 0;
     while k < n {

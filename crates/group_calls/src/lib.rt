@@ -1,6 +1,4 @@
-// The calls of a group on its bytes, and those of its bulletins.
-
-pub mod with_bulletins;
+// The calls of a group on its bytes.
 
 ghost use mathlib.Core.Path.{_≡_};
 ghost use lib.ListN.{getD};
@@ -10,7 +8,8 @@ ghost use Rattle.group_spec.specs.Calls.{groupFreshCall};
 ghost use Rattle.station_bytes_spec.specs.Group.{encodeGroup};
 ghost use Rattle.station_bytes_spec.specs.Reports.{encodeReports};
 ghost use Rattle.station_calls.specs.Station.{namedBody};
-ghost use Rattle.group_calls.specs.Group.{groupFreshReturned, groupPostAnswer, groupPostReturned, sixteenMasks, roundAnswer, roundReturned};
+ghost use Rattle.group_calls.specs.Group.{groupFreshReturned, groupPostAnswer, groupPostReturned};
+ghost use Rattle.group_calls.specs.Group.{sixteenMasks, roundAnswer, roundReturned};
 use bodies::refusals::DONE;
 use bodies::refusals::OUTSIDE_LIMITS;
 use bodies::refusals::SHORT_BUFFER;
@@ -18,9 +17,11 @@ use group_spec::GroupAnswer;
 use group_spec::Post;
 use station_spec::Setup;
 
+// The bytes of a group.
 const GROUP_WIDTH: usize = 23872;
 
-const REPORTS_WIDTH: usize = 11264;
+// The bytes of a round's reports.
+pub const REPORTS_WIDTH: usize = 11264;
 
 // What a fresh call answered, put into a lent buffer.
 fn put_fresh(state: &mut [u8], made: GroupAnswer) -> u32
@@ -49,7 +50,8 @@ pub fn fresh(state: &mut [u8], n: u32) -> u32
 
 // Group fresh, with a limit named.
 pub fn fresh_limited(state: &mut [u8], n: u32, limit: u32) -> u32
-    ensures { λ r. ⌜ (r ≡ groupFreshReturned (groupFreshCall (record { n = n; limit = limit; edition = 0 })) (now (state .entry)))
+    ensures { λ r. ⌜ (r ≡ groupFreshReturned
+        (groupFreshCall (record { n = n; limit = limit; edition = 0 })) (now (state .entry)))
         × (now (state .exit) ≡ frontWritten r
         (encodeGroup (groupFreshCall (record { n = n; limit = limit; edition = 0 }) .group)) (now (state .entry))) ⌝ }
 {
@@ -64,7 +66,8 @@ pub fn fresh_limited(state: &mut [u8], n: u32, limit: u32) -> u32
 
 // Group fresh, with a limit and an edition named.
 pub fn fresh_edition(state: &mut [u8], n: u32, limit: u32, edition: u32) -> u32
-    ensures { λ r. ⌜ (r ≡ groupFreshReturned (groupFreshCall (record { n = n; limit = limit; edition = edition })) (now (state .entry)))
+    ensures { λ r. ⌜ (r ≡ groupFreshReturned
+        (groupFreshCall (record { n = n; limit = limit; edition = edition })) (now (state .entry)))
         × (now (state .exit) ≡ frontWritten r
         (encodeGroup (groupFreshCall (record { n = n; limit = limit; edition = edition }) .group))
         (now (state .entry))) ⌝ }
@@ -125,7 +128,7 @@ fn mask_at(masks: &[u16], k: usize) -> u16
 }
 
 // Sixteen masks, as an array; those that are not there are 0.
-fn sixteen_masks(masks: &[u16]) -> [u16; 16]
+pub fn sixteen_masks(masks: &[u16]) -> [u16; 16]
     ensures { λ r. ⌜ r ≡ sixteenMasks (now (masks .entry)) ⌝ }
 {
     let mut sixteen = [0u16; 16];

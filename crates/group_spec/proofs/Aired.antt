@@ -17,7 +17,7 @@ use Rattle.bodies.specs.declared.Body.the-variants.{Empty}
 use Rattle.bodies.specs.Body.{isEdit}
 use Rattle.lists.proofs.Later.{from-on}
 use Rattle.links.specs.Relay.{Links}
-use Rattle.links.specs.Clock.{news}
+use Rattle.links.specs.Inner.Clock.{news}
 use Rattle.lists.specs.Below.{filterMap}
 use Rattle.lists.proofs.Laws.{allBelow-at, filterMap-ext}
 use Rattle.queues.specs.declared.Slot.{Slot}

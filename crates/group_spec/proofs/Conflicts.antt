@@ -5,7 +5,7 @@ use mathlib.Core.List.{List, [], _∷_, _++_}
 use mathlib.Core.Path.{_≡_, refl, sym, subst, _∙_}
 use native.Mathlib.Omega.{arith}
 use Rattle.bodies.specs.Refusals.{done}
-use Rattle.links.specs.Log.Inside.{hearsIn-inside}
+use Rattle.links.specs.Inner.Inside.{hearsIn-inside}
 use Rattle.frame_spec.specs.Record.{framed}
 use Rattle.station_spec.specs.declared.Station.{Station}
 use Rattle.station_spec.specs.State.{recordOf}

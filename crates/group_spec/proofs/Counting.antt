@@ -12,7 +12,7 @@ use borrow.Author.Tests.{ltb-true, ltb-false}
 use lib.Dec.{ltb}
 use Rattle.lists.proofs.Later.{from-on}
 use Rattle.links.specs.Relay.{Links}
-use Rattle.links.specs.Clock.{news}
+use Rattle.links.specs.Inner.Clock.{news}
 use Rattle.links.proofs.Clock.{news-own, news-other, news-limit, news-keeps, news-carries}
 use Rattle.lists.specs.Below.{allBelow}
 use Rattle.lists.proofs.Laws.{allBelow-at, allBelow-not}

@@ -14,6 +14,7 @@ use Rattle.bodies.specs.Body.{isEdit}
 use Rattle.queues.specs.declared.Waiting.{Waiting}
 use Rattle.queues.specs.Waiting.{isDesk, otherDesk, waitingEdits, deskCount, firstDesk, nextDesk}
 use Rattle.queues.proofs.WaitingLaws.{edits-count, next-desk, other-is, first-next}
+use Rattle.station_spec.specs.Limits.{allowed}
 use Rattle.station_spec.specs.declared.Setup.{Setup}
 use Rattle.group_spec.specs.declared.Post.{Post}
 use Rattle.group_spec.specs.State.{stationAt}
@@ -47,7 +48,7 @@ module _ (n p d : ℕ) (below : p < n) (desk : isDesk d ≡ true) where
 
   -- as many wait as the list of them is long
   pub count-waits : (H : History) → Members n (H .group) → length (waits (H .group) p d) ≡ waitingAtDesk H p d
-  count-waits H c = edits-count (stationAt (H .group) p .edition) ((stationAt (H .group) p) .waiting) (c .member p below .inside .waiting) d
+  count-waits H c = edits-count (allowed (stationAt (H .group) p)) ((stationAt (H .group) p) .waiting) (c .member p below .inside .waiting) d
 
   module _ (H : History) (c : Members n (H .group)) where
     post-step : (x : Post) → Step H (next H (post x))

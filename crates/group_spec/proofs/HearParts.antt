@@ -12,7 +12,7 @@ use Rattle.bodies.specs.declared.Body.{Body}
 use Rattle.bodies.specs.Body.{isEmpty}
 use Rattle.labels.specs.Label.{successor}
 use Rattle.links.specs.Relay.{Links}
-use Rattle.links.specs.Number.{numOf, got}
+use Rattle.links.specs.Inner.Number.{numOf, got}
 use Rattle.frame_spec.specs.declared.Record.{Record}
 use Rattle.queues.specs.declared.Lane.{Lane}
 use Rattle.lists.proofs.Laws.{cond-not}

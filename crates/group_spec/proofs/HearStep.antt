@@ -13,8 +13,8 @@ use Rattle.bodies.specs.declared.Body.{Body}
 use Rattle.bodies.specs.Body.{isEmpty}
 use Rattle.labels.specs.Label.{successor}
 use Rattle.links.specs.Relay.{Links}
-use Rattle.links.specs.Clock.{news}
-use Rattle.links.specs.Number.{start, num, numOf, got, gotOf, tally}
+use Rattle.links.specs.Inner.Clock.{news}
+use Rattle.links.specs.Inner.Number.{start, num, numOf, got, gotOf, tally}
 use Rattle.links.proofs.Clock.{news-limit}
 use Rattle.links.proofs.Number.{start-limit}
 use Rattle.links.proofs.Got.{got-numOf, numOf-some, numOf-mono, got-mono, num-limit}

@@ -6,6 +6,7 @@ use mathlib.Core.List.{List, [], _∷_}
 use mathlib.Core.Path.{_≡_}
 use native.Mathlib.Omega.{arith}
 use lib.Dec.{eqb}
+use Rattle.station_spec.specs.Limits.{allowed}
 use Rattle.station_spec.specs.declared.Setup.{Setup}
 use Rattle.station_spec.specs.State.{laneAt}
 use Rattle.station_spec.proofs.LimitsLane.{lane-most}
@@ -46,7 +47,7 @@ module _ (setup : Setup) (ok : Accepts setup) (calls : List Call) where
       let member = history-members .member p l in
       let station = stationAt ((historyOf setup calls) .group) p in
       go (eqb s (station .own))
-      (lane-most (station .edition) (cond (eqb s (station .own)) 1 2) (laneAt station s) (member .inside .places s (omega (arith, member .size)) .lane))
+      (lane-most (allowed station) (cond (eqb s (station .own)) 1 2) (laneAt station s) (member .inside .places s (omega (arith, member .size)) .lane))
     where
       go : (t : Bool) → {len : ℕ} → len ≤ cond t 1 2 → len ≤ 2
       go true h = omega arith

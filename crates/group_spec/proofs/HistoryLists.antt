@@ -10,7 +10,7 @@ use borrow.Author.Tests.{eq-eqb, ne-eqb}
 use lib.ListN.{length, getD, take, replicate}
 use lib.Seq.{take-append-seam}
 use Rattle.bodies.specs.declared.Body.{Body}
-use Rattle.links.specs.Number as number
+use Rattle.links.specs.Inner.Number as number
 use Rattle.links.proofs.Number.{start-ends, start-stays, start-zero}
 use Rattle.station_spec.specs.declared.Station.{Station}
 use Rattle.station_spec.specs.declared.Taking.{Taking}

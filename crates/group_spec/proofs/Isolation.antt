@@ -11,6 +11,7 @@ use Rattle.bodies.specs.Refusals.{badNumber, notAnEdit, badDesk, badEdition, qu
 use Rattle.bodies.specs.Limits.{postable, onChannel}
 use Rattle.queues.specs.Waiting.{isDesk, hasRoom}
 use Rattle.queues.proofs.WaitingLaws.{edits-count, room-same}
+use Rattle.station_spec.specs.Limits.{allowed}
 use Rattle.station_spec.specs.Calls.{postRefusal}
 use Rattle.group_spec.specs.State.{stationAt, sizeOf}
 use Rattle.group_spec.specs.Calls.{groupPostRefusal}
@@ -30,9 +31,9 @@ isolated g h x ig ih size edition limit edits = rw (ig, ih, size) (go (ltb (x .s
         let v = (stationAt g (x .station)) .waiting in
         let w = (stationAt h (x .station)) .waiting in
         let counts =
-        sym (edits-count (stationAt g (x .station) .edition) v (member-at g ig (x .station) (omega arith) .inside .waiting) (x .desk))
+        sym (edits-count (allowed (stationAt g (x .station))) v (member-at g ig (x .station) (omega arith) .inside .waiting) (x .desk))
         ∙ ap length edits
-        ∙ edits-count (stationAt h (x .station) .edition) w (member-at h ih (x .station) below .inside .waiting) (x .desk) in
+        ∙ edits-count (allowed (stationAt h (x .station))) w (member-at h ih (x .station) below .inside .waiting) (x .desk) in
         let same : stationAt g (x .station) .edition ≡ stationAt h (x .station) .edition =
         member-at g ig (x .station) (omega arith) .edition ∙ edition ∙ sym (member-at h ih (x .station) below .edition) in
         let room = room-same v w (x .desk) limit counts in

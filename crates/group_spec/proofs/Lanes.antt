@@ -14,7 +14,7 @@ use lib.Seq.{drop-drop, drop-append-le}
 use Rattle.bodies.specs.declared.Body.{Body}
 use Rattle.bodies.specs.Body.{isEmpty}
 use Rattle.links.specs.Relay.{Links}
-use Rattle.links.specs.Clock.{news}
+use Rattle.links.specs.Inner.Clock.{news}
 use Rattle.links.proofs.Clock.{news-own, news-other, news-start}
 use Rattle.lists.specs.Below.{allBelow}
 use Rattle.lists.proofs.Laws.{cond-not, allBelow-ext, anyBelow-none}

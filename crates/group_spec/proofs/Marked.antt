@@ -136,7 +136,7 @@ framed :
     (edition channel : ℕ) (start : ℤ) → isEdition edition ≡ true → channelInside edition 2 channel ≡ true →
     insideKind (Insert channel 1 start) ≡ true →
     checkRefusal edition (insertFrame edition channel start) 2 0 ≡ done
-unfolding recordsFit recordFits insideKind labelsInside labelIn allBelow anyBelow
+unfolding recordsFit recordFits bodyInside insideKind labelsInside labelIn allBelow anyBelow
 framed edition channel start w on h =
     sym (by-frame edition (insertFrame edition channel start) 2 0 refl w)
     ∙ frames.written-accepted edition 2 1 _ (omega arith) (simp (h, on)) 0 (λ e. omega arith) (omega arith) (ltb-true edition 2 w)

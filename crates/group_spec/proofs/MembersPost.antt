@@ -11,10 +11,11 @@ use lib.ListN.{set, length-set}
 use lib.Seq.{getD-set-same, getD-set-other}
 use borrow.Author.Tests.{ltb-true}
 use Rattle.bodies.specs.Limits.{postable, onChannel, mayWait}
-use Rattle.bodies.proofs.LimitLaws.{waiting-make}
 use Rattle.bodies.specs.Refusals.{done}
 use Rattle.lists.proofs.Keeps.{set-keeps}
 use Rattle.queues.specs.Waiting.{isDesk, hasRoom}
+use Rattle.station_spec.proofs.BodyLaws.{post-allowed}
+use Rattle.station_spec.specs.Limits.{allowed}
 use Rattle.station_spec.specs.declared.Station.{Station}
 use Rattle.station_spec.specs.Calls.{posted}
 use Rattle.station_spec.proofs.Setters.{Shaped}
@@ -87,7 +88,7 @@ module _ (n : ℕ) (g : List Station) (c : Members n g) (x : Post) where
         here = rw posted-at (sym (posted-same (stationAt g (x .station)) (x .desk) (x .body) .edition))
 
     posted-member :
-        mayWait (stationAt g (x .station) .edition) (x .body) ≡ true → hasRoom (stationAt g (x .station) .waiting) (x .desk) ≡ true → (j : ℕ) → j < n → Member n (afterPost g x) j
+        mayWait (allowed (stationAt g (x .station))) (x .body) ≡ true → hasRoom (stationAt g (x .station) .waiting) (x .desk) ≡ true → (j : ℕ) → j < n → Member n (afterPost g x) j
     posted-member edit room j l =
         elim (ℕ-discrete j (x .station)) [
           | yes same ↦ subst (Member n (afterPost g x)) (sym same) here
@@ -113,7 +114,7 @@ module _ (n : ℕ) (g : List Station) (c : Members n g) (x : Post) where
             }
 
     set-members :
-        mayWait (stationAt g (x .station) .edition) (x .body) ≡ true → hasRoom (stationAt g (x .station) .waiting) (x .desk) ≡ true → Members n (afterPost g x)
+        mayWait (allowed (stationAt g (x .station))) (x .body) ≡ true → hasRoom (stationAt g (x .station) .waiting) (x .desk) ≡ true → Members n (afterPost g x)
     set-members edit room =
         record {
           low = c .low;
@@ -135,7 +136,7 @@ module _ (n : ℕ) (g : List Station) (c : Members n g) (x : Post) where
       go : (t : Bool) → eqb ((groupPostCall g x) .refusal) done ≡ t → Members n ((groupPostCall g x) .group)
       go true e =
           let a : Accepted g x = accepted g x (rw (post-refusal g x) at e) in
-          rw (post-accepted g x e) (set-members (omega (arith, a .below, c .size)) (waiting-make (stationAt g (x .station) .edition) (x .body) (a .edit) (a .channel)) (a .room))
+          rw (post-accepted g x e) (set-members (omega (arith, a .below, c .size)) (post-allowed (stationAt g (x .station)) (x .body) (a .edit) (a .channel)) (a .room))
       go false e = rw (post-refused g x e) c
 
 pub post-inside :

@@ -9,11 +9,14 @@ use native.Mathlib.Omega.{arith}
 use lib.Dec.{eqb}
 use lib.ListN.{length}
 use borrow.Author.Tests.{not-false, eqb-true}
+use Rattle.bodies.specs.declared.Body.{Body}
 use Rattle.bodies.specs.Refusals.{done}
 use Rattle.links.specs.Log.{hearsIn}
 use Rattle.lists.specs.Below.{anyBelow}
 use Rattle.lists.proofs.Laws.{anyBelow-at, length-setBelow, setBelow-inside, setBelow-above}
 use Rattle.frame_spec.specs.declared.Record.{Record}
+use Rattle.station_spec.proofs.BodyLaws.{allowed-same}
+use Rattle.station_spec.specs.Limits.{allowed}
 use Rattle.station_spec.specs.declared.Station.{Station}
 use Rattle.station_spec.specs.State.{sentRecords}
 use Rattle.station_spec.specs.Calls.{ownCountInside}
@@ -65,11 +68,12 @@ runs g masks h =
     go false b p q z = absurd (false≢true z)
 
 module _ (n : ℕ) (g : List Station) (c : Members n g) (masks : List ℕ) (counts : (k : ℕ) → k < n → ownCountInside (stationAt g k) ≡ true) where
-  carried : (i j : ℕ) → i < n → j < n → AllCarried (stationAt g i .edition) (stationAt g i .n) (sentRecords (stationAt g j))
+  carried : (i j : ℕ) → i < n → j < n → AllCarried (allowed (stationAt g i)) (stationAt g i .n) (sentRecords (stationAt g j))
   carried i j l m =
       let sent : List Record = sentRecords (stationAt g j) in
-      subst (λ (e : ℕ). AllCarried e (stationAt g i .n) sent) (c .member j m .edition ∙ sym (c .member i l .edition))
-      (subst (λ (k : ℕ). AllCarried (stationAt g j .edition) k sent) (c .member j m .size ∙ sym (c .member i l .size))
+      subst (λ (x : Body → Bool). AllCarried x (stationAt g i .n) sent)
+      (allowed-same (stationAt g j) (stationAt g i) (c .member j m .edition ∙ sym (c .member i l .edition)))
+      (subst (λ (k : ℕ). AllCarried (allowed (stationAt g j)) k sent) (c .member j m .size ∙ sym (c .member i l .size))
       (sent-carried (stationAt g j) (c .member j m .inside) (counts j m)))
 
   pub hears-below : (i j : ℕ) → i < n → j ≤ n → Hears (initialHearing (stationAt g i)) (heardBelow g masks i j)

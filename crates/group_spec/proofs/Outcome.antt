@@ -16,8 +16,8 @@ use Rattle.labels.specs.Label.{successor}
 use Rattle.labels.specs.Newer.{isNewer}
 use Rattle.labels.proofs.NewerLaws.{newer-next, newer-same, newer-past, newer-none}
 use Rattle.links.specs.Relay.{Links}
-use Rattle.links.specs.Clock.{news}
-use Rattle.links.specs.Number.{num, numOf, got, counted}
+use Rattle.links.specs.Inner.Clock.{news}
+use Rattle.links.specs.Inner.Number.{num, numOf, got, counted}
 use Rattle.links.proofs.Number.{num-positive, num-mono}
 use Rattle.links.proofs.Got.{numOf-none, numOf-some, got-own}
 use Rattle.links.proofs.Version.{numOf-close, counted-mono}

@@ -14,6 +14,7 @@ use Rattle.bodies.specs.Body.{isEmpty, isEdit}
 use Rattle.bodies.specs.Refusals.{done}
 use Rattle.lists.specs.Below.{setBelow}
 use Rattle.lists.proofs.Laws.{setBelow-inside}
+use Rattle.station_spec.specs.Limits.{allowed}
 use Rattle.station_spec.specs.declared.Setup.{Setup}
 use Rattle.station_spec.specs.declared.Station.{Station}
 use Rattle.station_spec.specs.declared.Taking.{Taking}
@@ -66,10 +67,10 @@ ownEdits g p = onlyEdits (bodies (laneAt (stationAt g p) p))
 
 posted-waits :
     (s : Station) (e : ℕ) (b : Body) (d : ℕ) → isDesk e ≡ true → isDesk d ≡ true →
-    WaitingSized (s .waiting) → waitingInside (s .edition) (s .waiting) ≡ true → hasRoom (s .waiting) e ≡ true →
+    WaitingSized (s .waiting) → waitingInside (allowed s) (s .waiting) ≡ true → hasRoom (s .waiting) e ≡ true →
     waitingEdits ((posted s e b) .waiting) d ≡ waitingEdits (s .waiting) d ++ cond (eqb e d) (b ∷ []) []
 unfolding posted
-posted-waits s e b d h k c i l = posted-edits (s .waiting) e b d h k c (room-most (s .edition) (s .waiting) e i l)
+posted-waits s e b d h k c i l = posted-edits (s .waiting) e b d h k c (room-most (allowed s) (s .waiting) e i l)
 
 posted-firsts : (s : Station) (e : ℕ) (b : Body) → firstDesk ((posted s e b) .waiting) ≡ firstDesk (s .waiting)
 unfolding posted
@@ -578,7 +579,7 @@ module _ (setup : Setup) (ok : Accepts setup) (calls : List Call) where
       λ d desk.
       ap length (posts-started p d l desk)
       ∙ length-append (postsOf p d (H .starts)) (waitingEdits w d)
-      ∙ ap (λ (k : ℕ). length (postsOf p d (H .starts)) + k) (edits-count (stationAt (H .group) p .edition) w inside d) in
+      ∙ ap (λ (k : ℕ). length (postsOf p d (H .starts)) + k) (edits-count (allowed (stationAt (H .group) p)) w inside d) in
       omega (
         arith,
         interleaved-length (postsOf p 0 (H .accepted)) (postsOf p 1 (H .accepted)) (postsAt p (H .accepted)) (interleave p (H .accepted) (whole .made)),

@@ -12,9 +12,9 @@ use borrow.Author.Tests.{lt-ltb, le-ltb, ltb-true, ltb-false}
 use lib.Dec.{leb, ltb}
 use Rattle.links.specs.Log.{hearsIn}
 use Rattle.links.specs.Relay.{Links}
-use Rattle.links.specs.Clock as clock
-use Rattle.links.specs.Clock.{latest, news}
-use Rattle.links.specs.Number.{numOf, got, counted}
+use Rattle.links.specs.Inner.Clock as clock
+use Rattle.links.specs.Inner.Clock.{latest, news}
+use Rattle.links.specs.Inner.Number.{numOf, got, counted}
 use Rattle.links.proofs.Clock.{news-own, news-limit}
 use Rattle.links.proofs.Hearing.{hearing-all}
 use Rattle.links.proofs.Got.{got-numOf, version}

@@ -8,8 +8,8 @@ use borrow.Author.Tests.{eq-eqb}
 use lib.ListN.{length}
 use lib.Dec.{eqb}
 use Rattle.links.specs.Relay.{Links}
-use Rattle.links.specs.Clock.{news}
-use Rattle.links.specs.Number.{num, numOf, got, gotOf}
+use Rattle.links.specs.Inner.Clock.{news}
+use Rattle.links.specs.Inner.Number.{num, numOf, got, gotOf}
 use Rattle.links.proofs.Clock.{news-own, news-start}
 use Rattle.links.proofs.Number.{num-zero, start-zero}
 use Rattle.links.proofs.Hearing.{counted-zero}

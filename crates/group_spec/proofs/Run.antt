@@ -9,8 +9,8 @@ use lib.Dec.{ltb, leb, eqb}
 use Rattle.bodies.specs.declared.Body.{Body}
 use Rattle.bodies.specs.Body.{isEmpty}
 use Rattle.links.specs.Relay.{Links, ofMasks}
-use Rattle.links.specs.Clock.{news}
-use Rattle.links.specs.Number as number
+use Rattle.links.specs.Inner.Clock.{news}
+use Rattle.links.specs.Inner.Number as number
 use Rattle.lists.specs.Below.{anyBelow}
 use Rattle.station_spec.specs.declared.Setup.{Setup}
 use Rattle.station_spec.specs.declared.Station.{Station}

@@ -11,9 +11,9 @@ use lib.Dec.{ltb, leb, eqb}
 use Rattle.bodies.specs.declared.Body.{Body}
 use Rattle.bodies.specs.Body.{isEmpty}
 use Rattle.links.specs.Relay.{Links}
-use Rattle.links.specs.Clock.{news}
-use Rattle.links.specs.Number as number
-use Rattle.links.specs.Number.{num, numOf, got, gotOf, counted}
+use Rattle.links.specs.Inner.Clock.{news}
+use Rattle.links.specs.Inner.Number as number
+use Rattle.links.specs.Inner.Number.{num, numOf, got, gotOf, counted}
 use Rattle.links.proofs.Clock.{news-own}
 use Rattle.links.proofs.Got.{got-numOf, got-own, numOf-some}
 use Rattle.links.proofs.Bounds.{counted-limit}

@@ -7,8 +7,8 @@ use mathlib.Core.Path.{_≡_, refl, sym, ap, _∙_, subst}
 use native.Mathlib.Omega.{arith}
 use lib.Dec.{leb}
 use Rattle.links.specs.Relay.{Links}
-use Rattle.links.specs.Clock.{news}
-use Rattle.links.specs.Number.{start, numOf, got, tally}
+use Rattle.links.specs.Inner.Clock.{news}
+use Rattle.links.specs.Inner.Number.{start, numOf, got, tally}
 use Rattle.links.proofs.Got.{num-limit}
 use Rattle.links.proofs.Bounds.{within}
 use Rattle.links.proofs.Version.{numOf-limit}

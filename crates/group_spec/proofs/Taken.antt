@@ -16,9 +16,9 @@ use Rattle.bodies.specs.declared.Body.the-variants.{Empty}
 use Rattle.bodies.specs.Body.{isEmpty}
 use Rattle.lists.proofs.Later.{from-on}
 use Rattle.links.specs.Relay.{Links}
-use Rattle.links.specs.Clock.{news}
-use Rattle.links.specs.Number.{numOf, got}
-use Rattle.links.specs.Number as number
+use Rattle.links.specs.Inner.Clock.{news}
+use Rattle.links.specs.Inner.Number.{numOf, got}
+use Rattle.links.specs.Inner.Number as number
 use Rattle.links.proofs.Clock.{news-own, news-start, news-limit, news-keeps}
 use Rattle.links.proofs.Number.{step, num-zero}
 use Rattle.links.proofs.Got.{numOf-none, numOf-some, numOf-mono, got-numOf, got-step}

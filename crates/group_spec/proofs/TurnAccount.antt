@@ -15,6 +15,7 @@ use Rattle.bodies.specs.Body.{isEmpty, isEdit}
 use Rattle.lists.specs.Below.{filterMap}
 use Rattle.lists.proofs.Laws.{allBelow-at}
 use Rattle.queues.specs.declared.Lane.{Lane}
+use Rattle.station_spec.specs.Limits.{allowed}
 use Rattle.station_spec.specs.declared.Station.{Station}
 use Rattle.station_spec.specs.declared.Taking.{Taking}
 use Rattle.queues.specs.Lane.{bodies, laneOf, pushed, popped}
@@ -70,7 +71,7 @@ module _ (s : Station) (shape : Shaped s) (c : Inside s) where
   own-most : (laneAt s (s .own)) .len ≤ 2
   own-most =
       let most : _≡_ {A = ℕ} (cond (eqb (s .own) (s .own)) 1 2) 1 = rw (eq-eqb (s .own) (s .own) refl) in
-      let one : (laneAt s (s .own)) .len ≤ 1 = lane-most (s .edition) 1 (laneAt s (s .own)) (rw most at (c .places (s .own) (c .own) .lane)) in
+      let one : (laneAt s (s .own)) .len ≤ 1 = lane-most (allowed s) 1 (laneAt s (s .own)) (rw most at (c .places (s .own) (c .own) .lane)) in
       omega arith
 
   airs-own : airs s ≡ true → 0 < (laneAt s (s .own)) .len
@@ -79,7 +80,7 @@ module _ (s : Station) (shape : Shaped s) (c : Inside s) where
       (allBelow-at (s .n) (λ k. ltb 0 ((laneAt s k) .len)) (sym (airs-each s) ∙ e) (s .own) (c .own))
 
   next-is-edit : 0 < waitingCount (s .waiting) → isEdit (nextEdit (s .waiting)) ≡ true
-  next-is-edit w = waiting-edit (s .edition) (nextEdit (s .waiting)) (next-fits (s .edition) (s .waiting) (c .waiting) w)
+  next-is-edit w = waiting-edit (allowed s) (nextEdit (s .waiting)) (next-fits (allowed s) (s .waiting) (c .waiting) w)
 
   -- the airing step
   aired-account :
@@ -109,7 +110,7 @@ module _ (s : Station) (shape : Shaped s) (c : Inside s) where
           ≡ startOf (nextDesk (s .waiting)) (startedBody s) d ++ waitingEdits (cond (startsEdit s) (withoutNext (s .waiting)) (s .waiting)) d
       go (anEdit e room w b) =
           rw (e, b, next-is-edit w)
-          (started-edits (s .edition) (s .waiting) d desk (shape .waiting) (c .waiting) w)
+          (started-edits (allowed s) (s .waiting) d desk (shape .waiting) (c .waiting) w)
       go (aNeutral e room b) = rw (e, b)
       go (nothing e b) = rw (e, b)
 

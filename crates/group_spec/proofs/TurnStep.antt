@@ -10,9 +10,9 @@ use borrow.Author.Tests.{lt-ltb, eq-eqb, ne-eqb}
 use lib.Dec.{ltb, eqb}
 use Rattle.labels.specs.Label.{successor}
 use Rattle.links.specs.Relay.{Links}
-use Rattle.links.specs.Clock.{news}
-use Rattle.links.specs.Number as number
-use Rattle.links.specs.Number.{start, num, numOf, got, gotOf, counted}
+use Rattle.links.specs.Inner.Clock.{news}
+use Rattle.links.specs.Inner.Number as number
+use Rattle.links.specs.Inner.Number.{start, num, numOf, got, gotOf, counted}
 use Rattle.links.proofs.Clock.{news-own}
 use Rattle.links.proofs.Number.{step}
 use Rattle.links.proofs.Got.{got-numOf, got-own, numOf-some}

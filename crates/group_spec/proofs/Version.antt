@@ -13,7 +13,7 @@ use lib.Dec.{ltb, eqb}
 use Rattle.bodies.specs.declared.Body.{Body}
 use Rattle.bodies.specs.Body.{isEmpty}
 use Rattle.links.specs.Relay.{Links}
-use Rattle.links.specs.Number.{start, num, numOf, got, gotOf, counted}
+use Rattle.links.specs.Inner.Number.{start, num, numOf, got, gotOf, counted}
 use Rattle.links.proofs.Number.{num-positive, same-start}
 use Rattle.links.proofs.Got.{numOf-none, numOf-some, got-own}
 use Rattle.links.proofs.Bounds.{gotOf-some}

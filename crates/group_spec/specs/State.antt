@@ -8,7 +8,7 @@ use Rattle.lists.specs.Below.{allBelow, setBelow}
 use Rattle.station_spec.specs.declared.Setup.{Setup}
 use Rattle.station_spec.specs.declared.Station.{Station}
 use Rattle.station_spec.specs.State.{aloneSetup, freshStation}
-pub use Rattle.station_spec.specs.State.{noStation}
+pub use Rattle.station_spec.specs.Absent.{noStation}
 use Rattle.station_spec.specs.Limits.{stationInside}
 
 -- the station at place k

@@ -26,12 +26,14 @@ pub record Changes (before after : List ℕ) (f : Station → Station) : Type 0 
 -- the same, where the labels of the record of station k are a word of 32 bits
 pub record ChangesAt (k : ℕ) (before after : List ℕ) (f : Station → Station) : Type 0 where
   pub encoded :
-      (s : Station) → Shaped s → (recordOf s k) .labels < 4_294_967_296 → before ≡ encodeStation s → after ≡ encodeStation (f s)
+      (s : Station) → Shaped s → (recordOf s k) .labels < 4_294_967_296 →
+      before ≡ encodeStation s → after ≡ encodeStation (f s)
 
 -- the same, where those of every record are, for a station of a group of n
 pub record ChangesOf (n : ℕ) (before after : List ℕ) (f : Station → Station) : Type 0 where
   pub encoded :
-      (s : Station) → Shaped s → s .n ≡ n → ((k : ℕ) → (recordOf s k) .labels < 4_294_967_296) → before ≡ encodeStation s →
+      (s : Station) → Shaped s → s .n ≡ n → ((k : ℕ) → (recordOf s k) .labels < 4_294_967_296) →
+      before ≡ encodeStation s →
       after ≡ encodeStation (f s)
 
 -- no record of station k is held
@@ -41,7 +43,8 @@ withoutEntry s k = withArrays s (s .acked) (s .labels) (set (s .held) k false) (
 -- the record at a place is held of station k, in the place of the old one
 abbrev pub withEntryAt : Station → ℕ → ℕ → List ℕ → ℕ → Station
 withEntryAt s n k bytes at =
-    withArrays s (s .acked) (s .labels) (set (s .held) k true) (set (s .table) k (replaced n (recordOf s k) (recordAt bytes at)))
+    withArrays s (s .acked) (s .labels) (set (s .held) k true)
+    (set (s .table) k (replaced n (recordOf s k) (recordAt bytes at)))
     (s .lanes)
 
 -- the newest records of the stations below k
@@ -52,7 +55,8 @@ entriesBelow s bytes places k =
 
 -- the numbers that were heard
 abbrev pub withNumbers : Station → Ear → Station
-withNumbers s e = withArrays (withBroadcast s (s .body) (e .count)) (e .acked) (e .labels) (s .held) (s .table) (s .lanes)
+withNumbers s e =
+    withArrays (withBroadcast s (s .body) (e .count)) (e .acked) (e .labels) (s .held) (s .table) (s .lanes)
 
 -- a body put last into the lane of station k
 abbrev pub withPushed : Station → ℕ → Body → Station

@@ -1,3 +1,1 @@
-pub mod SameBytes
-pub mod HeedCases
 pub mod RecordCases

@@ -1,11 +1,9 @@
--- The ways of one record as the code goes them: it is read from its own part of the bytes, beside
--- the one held of its station; where it is newer, its place is put down.
-use Prim.Native.Nat.{ℕ, _+_, _-_, _<_, _≤_}
+-- A newer record as the code hears it: it is read from its own part of the bytes, its place is put
+-- down, and it is acted on.
+use Prim.Native.Nat.{ℕ, _<_}
 use mathlib.Core.List.{List}
 use mathlib.Core.Path.{_≡_, sym, ap, subst, _∙_}
-use native.Mathlib.Omega.{arith}
-use lib.ListN.{getD, set, take, drop, length, length-drop}
-use lib.Seq.{length-take-le}
+use lib.ListN.{getD, set}
 use Rattle.labels.specs.declared.Age.the-variants.{Newer}
 use Rattle.frame_spec.specs.declared.Record.{Record}
 use Rattle.frame_spec.specs.Record.{recordFrom}
@@ -18,26 +16,13 @@ use Rattle.hearing_spec.specs.Promises.{HearsRecord}
 use Rattle.hearing_spec.proofs.Heeding.{noted}
 use Rattle.hearing_spec.proofs.FrameLoop.{station-at}
 use Rattle.hearing_spec.proofs.RecordSteps.{heeded}
+use Rattle.heeding.proofs.RecordParts.{partAt, read-is}
 
--- the sixteen bytes from a place on
-abbrev pub partAt : List ℕ → ℕ → List ℕ
-partAt bytes at = take (at + 16 - at) (drop at bytes)
+-- the station of the record that is read from the sixteen bytes of a place
+pub read-station : (bytes : List ℕ) (at : ℕ) (r : Record) → r ≡ recordFrom (partAt bytes at) → r .station ≡ getD bytes at 0
+read-station bytes at r read = ap (λ (q : Record). q .station) (read-is bytes at r read) ∙ station-at bytes at
 
-pub part-is : (bytes : List ℕ) (at : ℕ) → partAt bytes at ≡ take 16 (drop at bytes)
-part-is bytes at = ap (λ (m : ℕ). take m (drop at bytes)) (let z : at + 16 - at ≡ 16 = omega arith in z)
-
-pub part-long : (bytes : List ℕ) (at : ℕ) → at + 16 ≤ length bytes → length (partAt bytes at) ≡ 16
-part-long bytes at l = ap length (part-is bytes at) ∙ length-take-le 16 (drop at bytes) (omega (arith, length-drop at bytes))
-
--- the record that is read from them
-module _ (bytes : List ℕ) (at : ℕ) (r : Record) (read : r ≡ recordFrom (partAt bytes at)) where
-  pub read-is : r ≡ recordAt bytes at
-  read-is = read ∙ ap recordFrom (part-is bytes at)
-
-  pub read-station : r .station ≡ getD bytes at 0
-  read-station = ap (λ (q : Record). q .station) read-is ∙ station-at bytes at
-
--- a newer record: its place is put down, and it is acted on
+-- what the code does with it is what hearing does
 module _ (own : ℕ) (bytes : List ℕ) (at k : ℕ) (places lens taken : List ℕ) (e : Ear) (room : Room own bytes (notes places lens taken e))
     (here : RecordRoom bytes at) (k-is : k ≡ getD bytes at 0) (newer : ageAt own bytes (getD places k 0) at k ≡ Newer) (seen : Record)
     (seen-read : seen ≡ recordFrom (partAt bytes at)) where

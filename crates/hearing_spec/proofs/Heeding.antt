@@ -14,7 +14,7 @@ use lib.Seq.{getD-set-same, getD-set-other, take-suc-set}
 use borrow.Author.Tests.{eq-eqb, ne-eqb, leb-true, leb-false}
 use Rattle.bodies.specs.Refusals.{done, laneFull, refuse}
 use Rattle.labels.specs.Label.{successor}
-use Rattle.lists.specs.Below.{total}
+use Rattle.lists.specs.Inner.Total.{total}
 use Rattle.lists.proofs.Total.{total-gap, total-raised}
 use Rattle.frame_spec.specs.declared.Record.{Record}
 use Rattle.queues.specs.declared.Lane.{Lane}

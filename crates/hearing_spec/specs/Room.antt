@@ -6,7 +6,7 @@ use mathlib.Core.Bool.{true, cond}
 use mathlib.Core.List.{List}
 use lib.ListN.{getD, length}
 use lib.Dec.{eqb}
-use Rattle.lists.specs.Below.{total}
+use Rattle.lists.specs.Inner.Total.{total}
 use Rattle.frame_spec.specs.Record.{recordBytes}
 use Rattle.hearing_spec.specs.Buffer.{sizeIn, bytesAt, recordAt}
 use Rattle.hearing_spec.specs.StandsFor.{Notes, holdsAt}

@@ -1,13 +1,18 @@
 -- Laws of which lists are labels, for every number of them together.
 use Prim.Native.Nat.{ℕ, zero, suc, _≤_, _<_, zero-le, suc-le-suc}
-use mathlib.Core.Bool.{Bool, true, false}
+use mathlib.Core.Bool.{Bool, true, false, _&&_}
 use mathlib.Core.List.{List, [], _∷_}
 use mathlib.Core.Path.{_≡_, refl, sym}
 use lib.Dec.{leb}
 use lib.ListN.{length, getD}
 use borrow.Author.Tests.{leb-true, le-leb}
 use Rattle.lists.proofs.Laws.{both}
-use Rattle.labels.specs.Label.{allLabels}
+use Rattle.labels.specs.Label.{isLabel}
+
+-- every entry is 0 to 2
+unfoldable pub allLabels : List ℕ → Bool
+allLabels [] = true
+allLabels (label ∷ labels) = isLabel label && allLabels labels
 
 -- two tests that follow from each other are the same
 pub same-test : (x y : Bool) → (x ≡ true → y ≡ true) → (y ≡ true → x ≡ true) → x ≡ y

@@ -7,8 +7,7 @@ use mathlib.Core.List.{List, [], _∷_, _++_, append-nil}
 use mathlib.Core.Path.{_≡_, refl, sym, ap, _∙_}
 use lib.ListN.{length, getD, take, replicate}
 use lib.Seq.{take-nil, take-all}
-use Rattle.labels.specs.Label.{allLabels}
-use Rattle.labels.proofs.LabelLaws.{all-head, all-tail, all-at}
+use Rattle.labels.proofs.LabelLaws.{allLabels, all-head, all-tail, all-at}
 use Rattle.labels.specs.Packing.{labelIn, packed, unpacked, labelsOver}
 use Rattle.labels.proofs.PackingLaws.{label-first, label-next, over-below}
 

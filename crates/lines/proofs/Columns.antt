@@ -11,7 +11,7 @@ use Rattle.bodies.specs.declared.Body.{Body}
 use Rattle.bodies.specs.Body.{kindOf, eventOf, argumentOf}
 use Rattle.columns.specs.Writing.{natColumns, intColumns}
 use Rattle.columns.proofs.Fields.{length-columns}
-use Rattle.lines.specs.Lines.{headBytes, bodyBytes, lineBytes, placed}
+use Rattle.lines.specs.Lines.{headBytes, bodyBytes, lineBytes, lineLength, placed}
 use Rattle.lines.proofs.Placed.{placed-then}
 
 pub head-made :
@@ -73,6 +73,6 @@ pub length-body : (body : Body) → length (bodyBytes body) ≡ 21
 unfolding bodyBytes
 length-body body = simp (length-append, length-columns)
 
-pub length-line : (round letter station source : ℕ) (body : Body) → length (lineBytes round letter station source body) ≡ 35
+pub length-line : (round letter station source : ℕ) (body : Body) → length (lineBytes round letter station source body) ≡ lineLength
 unfolding lineBytes
 length-line round letter station source body = simp (length-append, length-head, length-body)

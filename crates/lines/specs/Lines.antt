@@ -34,6 +34,10 @@ bodyBytes body =
 unfoldable pub lineBytes : ℕ → ℕ → ℕ → ℕ → Body → List ℕ
 lineBytes round letter station source body = headBytes round letter station source ++ bodyBytes body
 
+-- its bytes: 14 of the head, 20 of the body and the line end
+abbrev pub lineLength : ℕ
+lineLength = 35
+
 -- the last line: E, N, D and the line end
 unfoldable pub endLine : List ℕ
 endLine = 69 ∷ 78 ∷ 68 ∷ 10 ∷ []

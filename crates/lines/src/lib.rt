@@ -5,7 +5,7 @@ ghost use mathlib.Core.Path.{_≡_};
 ghost use Prim.Native.Nat.{_+_, _-_, _≤_};
 ghost use lib.ListN.{length};
 ghost use Rattle.columns.specs.Writing.{natColumns, intColumns};
-ghost use Rattle.lines.specs.Lines.{headBytes, bodyBytes, lineBytes, endLine, placed, Put};
+ghost use Rattle.lines.specs.Lines.{headBytes, bodyBytes, lineBytes, lineLength, endLine, placed, Put};
 
 // The letter X of document 01's listing.
 pub const REFUSED: u8 = 88;
@@ -65,7 +65,7 @@ pub fn put_line(
     source: usize,
     body: Body,
 ) -> usize
-    requires { ⌜ at + 35 ≤ length (now out) ⌝ }
+    requires { ⌜ at + lineLength ≤ length (now out) ⌝ }
     ensures { λ r. ⌜ Put (now (out .entry)) (now (out .exit)) at r (lineBytes round letter station source body) ⌝ }
 {
     put_head(out, at, round, letter, station, source);

@@ -15,8 +15,8 @@ use Rattle.lists.specs.Below.{allBelow}
 use Rattle.lists.proofs.Laws.{allBelow-ext}
 use Rattle.links.specs.Log.{bit}
 use Rattle.links.specs.Relay.{Links}
-use Rattle.links.specs.Number.{ends}
-use Rattle.links.specs.Know.{knows, either, brought, learnt, newly}
+use Rattle.links.specs.Inner.Number.{ends}
+use Rattle.links.specs.Inner.Know.{knows, either, brought, learnt, newly}
 use Rattle.links.specs.Forecast.{endCount}
 use Rattle.links.proofs.Log.{bit-zero}
 use Rattle.links.proofs.Forecast.{endCount-zero, endCount-step, endCount-most, lastEnd-zero, lastEnd-step}

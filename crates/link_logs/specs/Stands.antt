@@ -6,7 +6,7 @@ use Prim.Native.Nat.{ℕ, _<_, _≤_}
 use lib.ListN.{length, getD}
 use Rattle.links.specs.Log.{bit}
 use Rattle.links.specs.Relay.{Links}
-use Rattle.links.specs.Know.{knows}
+use Rattle.links.specs.Inner.Know.{knows}
 use Rattle.links.specs.Forecast.{endCount, lastEnd}
 use Rattle.link_logs.specs.Sets.{cell}
 

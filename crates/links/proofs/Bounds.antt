@@ -8,8 +8,8 @@ use Prim.Native.Nat.{ℕ, zero, suc, _+_, _-_, _*_, _<_, _≤_}
 use native.Mathlib.Decide.{ℕ-discrete, decLe}
 use native.Mathlib.Omega.{arith}
 use Rattle.links.specs.Relay.{Links}
-use Rattle.links.specs.Clock.{news}
-use Rattle.links.specs.Number.{full, start, num, got, gotOf, tally, counted}
+use Rattle.links.specs.Inner.Clock.{news}
+use Rattle.links.specs.Inner.Number.{full, start, num, got, gotOf, tally, counted}
 use Rattle.links.proofs.Clock.{news-own, news-mono, news-carries-earlier}
 use Rattle.links.proofs.Number.{Answer, full-answer, answer-full, step, start-limit, num-start, ends-full}
 use Rattle.links.proofs.Got.{version, got-none, got-some, got-mono, got-news, began, first-number, previous, got-step}

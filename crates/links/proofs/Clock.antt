@@ -11,7 +11,7 @@ use borrow.Author.Tests.{eq-eqb, ne-eqb}
 use Rattle.lists.proofs.Later.{from-on}
 use Rattle.links.specs.Relay.{Links, Relay, direct, onward}
 use Rattle.links.specs.EndRule.{RelayBy}
-use Rattle.links.specs.Clock.{latest, news}
+use Rattle.links.specs.Inner.Clock.{latest, news}
 
 -- The largest of several, over any test and any values.
 module _ (heard : ℕ → Bool) (f : ℕ → ℕ) (x : ℕ) where

@@ -10,9 +10,10 @@ use native.Mathlib.Nat.{le-refl}
 use native.Mathlib.Omega.{arith}
 use Rattle.lists.proofs.Later.{from-on}
 use Rattle.links.specs.Relay.{Links}
-use Rattle.links.specs.EndRule.{RelayBy, Returned, AllReturned, EndsIn, Starts, at-first, after, Ended}
-use Rattle.links.specs.Clock.{news}
-use Rattle.links.specs.Number.{full, start, ends, num}
+use Rattle.links.specs.EndRule.{RelayBy, Returned, AllReturned, EndsIn, Starts, at-first, after}
+use Rattle.links.specs.Inner.Ended.{Ended}
+use Rattle.links.specs.Inner.Clock.{news}
+use Rattle.links.specs.Inner.Number.{full, start, ends, num}
 use Rattle.links.proofs.Clock.{news-mono, news-relay, relayBy-news}
 use Rattle.links.proofs.Number.{Answer, full-answer, answer-full, step, start-limit, ends-full, num-zero, start-zero, same-start, start-ends, num-ends, ends-zero}
 use Rattle.links.proofs.Bounds.{not-full}

@@ -13,9 +13,9 @@ use Rattle.lists.specs.Below.{allBelow}
 use Rattle.links.specs.Log.{bit, hearsIn, masksIn, cut}
 use Rattle.links.specs.Relay.{Links, Relay, direct, onward, ofLog}
 use Rattle.links.specs.EndRule.{RelayBy, Returned, EndsIn, Starts, at-first, after}
-use Rattle.links.specs.Clock.{latest, news}
-use Rattle.links.specs.Number.{answers, full, start, ends, num, numOf, got}
-use Rattle.links.specs.Examples.{all-five, mesh, two-rounds, one-round, one-way, listing, listing-sixteen}
+use Rattle.links.specs.Inner.Clock.{latest, news}
+use Rattle.links.specs.Inner.Number.{answers, full, start, ends, num, numOf, got}
+use Rattle.links.specs.Inner.Examples.{all-five, mesh, two-rounds, one-round, one-way, listing, listing-sixteen}
 use Rattle.links.proofs.Clock.{relay-news, news-mono}
 use Rattle.links.proofs.EndRule.{alone, num-starts, ends-rule, ends-once, never-ends}
 use Rattle.links.proofs.Log.{hearsIn-bit, hearsIn-silent, relay-in-log}

@@ -7,9 +7,10 @@ use mathlib.Core.Path.{_≡_}
 use Prim.Native.Nat.{ℕ, suc, _+_, _*_, _-_, _<_, _≤_}
 use lib.ListN.{length}
 use Rattle.links.specs.Relay.{Links, Relay, ofLog}
-use Rattle.links.specs.EndRule.{RelayBy, EndsIn, Starts, Ended}
-use Rattle.links.specs.Clock.{news}
-use Rattle.links.specs.Number.{start, ends, num, got, gotOf, counted}
+use Rattle.links.specs.EndRule.{RelayBy, EndsIn, Starts}
+use Rattle.links.specs.Inner.Ended.{Ended}
+use Rattle.links.specs.Inner.Clock.{news}
+use Rattle.links.specs.Inner.Number.{start, ends, num, got, gotOf, counted}
 use Rattle.links.proofs.Clock.{news-own, news-other, news-mono, news-carries, news-relay, relayBy-news}
 use Rattle.links.proofs.Number.{num-mono, num-start, num-before}
 use Rattle.links.proofs.Got.{got-start, got-limit, num-limit}

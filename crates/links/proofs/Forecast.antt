@@ -9,7 +9,7 @@ use native.Mathlib.Omega.{arith}
 use Rattle.lists.proofs.Later.{from-on}
 use Rattle.links.specs.Relay.{Links}
 use Rattle.links.specs.EndRule.{after}
-use Rattle.links.specs.Number.{start, ends, num}
+use Rattle.links.specs.Inner.Number.{start, ends, num}
 use Rattle.links.specs.Forecast.{endCount, lastEnd, ForecastByRelays}
 use Rattle.links.proofs.Number.{step, start-limit, num-mono, start-ends, start-stays, num-ends, num-stays, num-zero, start-zero}
 use Rattle.links.proofs.EndRule.{ends-rule, starts-num, num-starts}

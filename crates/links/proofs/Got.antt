@@ -8,8 +8,8 @@ use Prim.Native.Nat.{ℕ, zero, suc, _+_, _-_, _<_, _≤_}
 use native.Mathlib.Decide.{ℕ-discrete, decLe}
 use native.Mathlib.Omega.{arith}
 use Rattle.links.specs.Relay.{Links}
-use Rattle.links.specs.Clock.{news}
-use Rattle.links.specs.Number.{full, start, num, numOf, got}
+use Rattle.links.specs.Inner.Clock.{news}
+use Rattle.links.specs.Inner.Number.{full, start, num, numOf, got}
 use Rattle.links.proofs.Clock.{news-own, news-other, news-limit, news-mono}
 use Rattle.links.proofs.Number.{full-answer, step, start-limit, num-mono, num-positive, num-start, num-before, start-start, ends-full, num-zero}
 

@@ -7,8 +7,8 @@ use native.Mathlib.Nat.{le-refl}
 use native.Mathlib.Omega.{arith}
 use Rattle.lists.proofs.Later.{from-on}
 use Rattle.links.specs.Relay.{Links}
-use Rattle.links.specs.Clock.{latest, news, hearing}
-use Rattle.links.specs.Number.{start, ends, numOf, got, tally, counted}
+use Rattle.links.specs.Inner.Clock.{latest, news, hearing}
+use Rattle.links.specs.Inner.Number.{start, ends, numOf, got, tally, counted}
 use Rattle.links.proofs.Bounds.{counted-hearing-limit}
 use Rattle.links.proofs.Clock.{news-own, news-step, news-limit}
 use Rattle.links.proofs.Got.{got-numOf, numOf-mono}

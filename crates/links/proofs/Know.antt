@@ -10,9 +10,9 @@ use lib.Dec.{eqb, leb}
 use Rattle.lists.specs.Below.{allBelow}
 use Rattle.lists.proofs.Laws.{allBelow-ext}
 use Rattle.links.specs.Relay.{Links}
-use Rattle.links.specs.Clock.{latest, news, hearing}
-use Rattle.links.specs.Number.{answers, full, start, ends}
-use Rattle.links.specs.Know.{knows, either, brought, learnt, newly}
+use Rattle.links.specs.Inner.Clock.{latest, news, hearing}
+use Rattle.links.specs.Inner.Number.{answers, full, start, ends}
+use Rattle.links.specs.Inner.Know.{knows, either, brought, learnt, newly}
 use Rattle.links.proofs.Clock.{news-own, news-other, news-limit, news-keeps, news-mono}
 use Rattle.links.proofs.Number.{answers-out, answers-in, start-ends, start-stays, ends-full, start-limit, start-zero}
 use Rattle.links.proofs.Hearing.{hearing-all, hearing-own}

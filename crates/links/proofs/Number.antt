@@ -13,8 +13,8 @@ use lib.Dec.{eqb}
 use Rattle.lists.proofs.Laws.{allBelow-at, allBelow-make}
 use Rattle.lists.proofs.Later.{from-on}
 use Rattle.links.specs.Relay.{Links}
-use Rattle.links.specs.Clock.{news}
-use Rattle.links.specs.Number.{answers, full, start, ends, num}
+use Rattle.links.specs.Inner.Clock.{news}
+use Rattle.links.specs.Inner.Number.{answers, full, start, ends, num}
 
 module _ (L : Links) where
   -- An answer is news of a station in which it has news of s from after round t.

@@ -8,7 +8,7 @@ use native.Mathlib.Nat.{le-refl}
 use native.Mathlib.Omega.{arith}
 use Rattle.links.specs.Relay.{Links}
 use Rattle.links.specs.EndRule.{RelayBy, Returned, AllReturned, Starts, at-first, after}
-use Rattle.links.specs.Number.{start, ends, num}
+use Rattle.links.specs.Inner.Number.{start, ends, num}
 use Rattle.links.specs.Forecast.{endCount, lastEnd}
 use Rattle.links.specs.Part.{Part, EndComes, EndComesBy}
 use Rattle.links.proofs.Relay.{relay-after, relay-earlier, relay-keeps}

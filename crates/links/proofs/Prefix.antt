@@ -12,9 +12,10 @@ use Rattle.lists.specs.Below.{allBelow}
 use Rattle.lists.proofs.Laws.{allBelow-ext}
 use Rattle.links.specs.Log.{masksIn, hearsIn}
 use Rattle.links.specs.Relay.{Links, Relay, ofLog}
-use Rattle.links.specs.EndRule.{RelayBy, AllReturned, EndsIn, Starts, at-first, after, Ended}
-use Rattle.links.specs.Clock.{latest, news}
-use Rattle.links.specs.Number.{answers, full, start, ends, num, numOf, got, gotOf}
+use Rattle.links.specs.EndRule.{RelayBy, AllReturned, EndsIn, Starts, at-first, after}
+use Rattle.links.specs.Inner.Ended.{Ended}
+use Rattle.links.specs.Inner.Clock.{latest, news}
+use Rattle.links.specs.Inner.Number.{answers, full, start, ends, num, numOf, got, gotOf}
 use Rattle.links.proofs.Clock.{news-own, news-start, news-step, news-limit}
 use Rattle.links.proofs.Relay.{relay-keeps, relay-after}
 

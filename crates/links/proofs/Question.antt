@@ -15,11 +15,11 @@ use lib.Dec.{leb}
 use Rattle.lists.proofs.Later.{from-on}
 use Rattle.links.specs.Relay.{Links, ofLog}
 use Rattle.links.specs.EndRule.{RelayBy, Starts, at-first}
-use Rattle.links.specs.Number.{start, ends, num, got}
+use Rattle.links.specs.Inner.Number.{start, ends, num, got}
 use Rattle.links.specs.Question.{HasBy, BroughtIn, Answered, in-round, in-none, Extends, kept, still, now, otherwise, answerIn}
-use Rattle.links.specs.Clock.{news}
-use Rattle.links.specs.Number.{answers}
-use Rattle.links.specs.Know.{knows}
+use Rattle.links.specs.Inner.Clock.{news}
+use Rattle.links.specs.Inner.Number.{answers}
+use Rattle.links.specs.Inner.Know.{knows}
 use Rattle.links.specs.Forecast.{endCount}
 use Rattle.links.proofs.Clock.{news-own}
 use Rattle.links.proofs.Forecast.{num-endCount}

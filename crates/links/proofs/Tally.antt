@@ -7,7 +7,7 @@ use native.Mathlib.Nat.{mul-comm}
 use native.Mathlib.Omega.{arith}
 use borrow.Author.Tests.{eq-eqb, ne-eqb}
 use Rattle.lists.proofs.Total.{total-ext, total-most, total-mono, total-pins, total-gap, total-raised}
-use Rattle.links.specs.Number.{added, tally}
+use Rattle.links.specs.Inner.Number.{added, tally}
 
 added-own : (p : ℕ) (now before : ℕ → ℕ) (r : ℕ) → r ≡ p → added p now before r ≡ 0
 unfolding added

@@ -13,8 +13,8 @@ use Rattle.lists.specs.Below.{allBelow}
 use Rattle.lists.proofs.Laws.{allBelow-ext}
 use Rattle.links.specs.Relay.{Links}
 use Rattle.links.specs.EndRule.{RelayBy, Starts}
-use Rattle.links.specs.Clock.{news}
-use Rattle.links.specs.Number.{answers, full, start, ends, num, numOf, got, gotOf, counted}
+use Rattle.links.specs.Inner.Clock.{news}
+use Rattle.links.specs.Inner.Number.{answers, full, start, ends, num, numOf, got, gotOf, counted}
 use Rattle.links.proofs.Bounds.{behind, gotOf-some, gotOf-news}
 use Rattle.links.proofs.Clock.{news-other, news-carries-earlier, news-relay, relayBy-news}
 use Rattle.links.proofs.EndRule.{num-starts}

@@ -31,10 +31,3 @@ pub record EndsIn (L : Links) (s t u : ℕ) : Type 0 where
 pub data Starts (L : Links) (s : ℕ) : ℕ → ℕ → Type 0 where
   at-first : Starts L s 1 0
   after : {k t u : ℕ} → Starts L s k t → EndsIn L s t u → Starts L s (suc k) u
-
--- In round u s ends a broadcast: one that it started in some earlier round.
-pub record Ended (L : Links) (s u : ℕ) : Type 0 where
-  pub number : ℕ
-  pub started : ℕ
-  pub starts : Starts L s number started
-  pub endsIn : EndsIn L s started u

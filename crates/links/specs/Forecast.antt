@@ -4,7 +4,7 @@ use mathlib.Core.Bool.{cond}
 use Prim.Native.Nat.{ℕ, zero, suc, _≤_, _<_}
 use Rattle.links.specs.Relay.{Links}
 use Rattle.links.specs.EndRule.{EndsIn, Starts}
-use Rattle.links.specs.Number.{ends}
+use Rattle.links.specs.Inner.Number.{ends}
 
 -- How many broadcasts of s end in the rounds up to u.
 unfoldable pub endCount : Links → ℕ → ℕ → ℕ

@@ -1,10 +1,7 @@
 pub mod Log
 pub mod Relay
 pub mod EndRule
-pub mod Clock
-pub mod Number
-pub mod Know
 pub mod Forecast
 pub mod Part
 pub mod Question
-pub mod Examples
+pub mod Inner

@@ -4,7 +4,6 @@
 -- is not there hears nobody. So the sixteen masks that a round call is given, and the N masks of a
 -- script's line, are both rounds as they stand; `cut` makes a log of one long list of masks, N to a
 -- round.
-pub mod Inside
 use mathlib.Core.Bool.{Bool, _&&_, not}
 use mathlib.Core.List.{List, [], _∷_}
 use Prim.Native.Nat.{ℕ, zero, suc, _/_, _%_, _^_}

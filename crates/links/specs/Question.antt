@@ -7,7 +7,7 @@ use Prim.Native.Nat.{ℕ, zero, suc, _<_, _≤_}
 use lib.Dec.{leb}
 use Rattle.links.specs.Relay.{Links}
 use Rattle.links.specs.EndRule.{RelayBy, Starts}
-use Rattle.links.specs.Number.{got}
+use Rattle.links.specs.Inner.Number.{got}
 
 -- By round u station r has broadcast number k of s: s itself from the round on in which it starts
 -- it, another where a relay after that start has come.

@@ -4,7 +4,7 @@ use mathlib.Core.List.{List}
 use mathlib.Core.Path.{_≡_}
 use Prim.Native.Nat.{ℕ, _<_}
 use Rattle.links.specs.Log.{hearsIn, masksIn}
-use Rattle.links.specs.Log.Inside.{hearsIn-inside}
+use Rattle.links.specs.Inner.Inside.{hearsIn-inside}
 
 -- All that is known of the links: how many stations there are, and for each round, from 1 on, who
 -- hears whom. A station hears only others, and only stations below the size hear and are heard. The

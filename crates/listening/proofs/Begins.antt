@@ -10,6 +10,7 @@ use lib.ListN.{getD, length, replicate}
 use Rattle.lists.specs.Below.{setBelow}
 use Rattle.lists.proofs.Laws.{setBelow-inside, length-setBelow}
 use Rattle.queues.specs.Lane.{noLane}
+use Rattle.station_spec.specs.Limits.{allowed}
 use Rattle.station_spec.specs.declared.Station.{Station}
 use Rattle.station_spec.specs.State.{cellOf, laneAt}
 use Rattle.station_spec.specs.Hearing.{Hearing, initialHearing}
@@ -57,7 +58,7 @@ module _ (s : Station) (bytes : List ℕ) (start : ℕ) (may : MayListen s bytes
   lens-are k l = setBelow-inside 16 (λ j. (getD (s .lanes) j noLane) .len) (replicate 16 0) k 0 l (omega arith)
 
   lane-two : (k : ℕ) → k < s .n → (laneAt s k) .len ≤ 2
-  lane-two k l = go (eqb k (s .own)) (lane-most (s .edition) (cond (eqb k (s .own)) 1 2) (laneAt s k) (inside .places k l .lane))
+  lane-two k l = go (eqb k (s .own)) (lane-most (allowed s) (cond (eqb k (s .own)) 1 2) (laneAt s k) (inside .places k l .lane))
     where
       go : (t : Bool) → (laneAt s k) .len ≤ cond t 1 2 → (laneAt s k) .len ≤ 2
       go true h = omega arith

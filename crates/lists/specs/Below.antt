@@ -1,5 +1,6 @@
--- Lists that are read and changed place by place. Where N of sixteen places are in use, these say what the places below N hold, and keep the others.
-use Prim.Native.Nat.{ℕ, zero, suc, _+_}
+-- Lists that are read and changed place by place. Where N of sixteen places are in use, these say what the places
+-- below N hold, and keep the others.
+use Prim.Native.Nat.{ℕ, zero, suc}
 use mathlib.Core.Bool.{Bool, true, false, cond, _&&_, _||_}
 use mathlib.Core.List.{List, [], _∷_, _++_}
 use lib.ListN.{set}
@@ -13,11 +14,6 @@ allBelow (suc k) test = allBelow k test && test k
 unfoldable pub anyBelow : ℕ → (ℕ → Bool) → Bool
 anyBelow zero test = false
 anyBelow (suc k) test = anyBelow k test || test k
-
--- the sum of f at the places below n
-unfoldable pub total : ℕ → (ℕ → ℕ) → ℕ
-total zero f = 0
-total (suc k) f = total k f + f k
 
 module _ {A : Type 0} where
   -- the list whose places below n hold f of the place, and whose other places are those of l

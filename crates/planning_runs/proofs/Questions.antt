@@ -14,7 +14,7 @@ use lib.ListN.{getD, length}
 use Rattle.bodies.specs.Refusals.{done}
 use Rattle.labels.specs.Label.{successor}
 use Rattle.links.specs.Relay.{Links, ofLog}
-use Rattle.links.specs.Number.{got}
+use Rattle.links.specs.Inner.Number.{got}
 use Rattle.links.specs.Question.{BroughtIn, Answered, in-round, in-none, answerIn}
 use Rattle.links.proofs.Clock.{news-start}
 use Rattle.links.proofs.Got.{got-none, got-mono, got-step}

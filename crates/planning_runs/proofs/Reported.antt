@@ -10,7 +10,7 @@ use lib.ListN.{getD, length}
 use Rattle.labels.proofs.LabelLaws.{same-test}
 use Rattle.links.specs.Log.{hearsIn, masksIn, cut}
 use Rattle.links.specs.Relay.{Links, ofLog}
-use Rattle.links.specs.Number.{start, ends}
+use Rattle.links.specs.Inner.Number.{start, ends}
 use Rattle.links.specs.Forecast.{endCount, lastEnd}
 use Rattle.links.proofs.EndRule.{ends-rule}
 use Rattle.links.proofs.Forecast.{endCount-zero, endCount-step, lastEnd-zero, lastEnd-step, start-lastEnd}

@@ -4,8 +4,8 @@ use mathlib.Core.Path.{_≡_, refl}
 use lib.ListN.{replicate}
 use Rattle.lists.specs.Below.{allBelow, anyBelow, setBelow, tabulate}
 use Rattle.links.specs.Log.{bit, hearsIn, masksIn, cut}
-use Rattle.links.specs.Clock.{latest, news}
-use Rattle.links.specs.Number.{answers, full, start, ends, num, numOf, got, gotOf}
+use Rattle.links.specs.Inner.Clock.{latest, news}
+use Rattle.links.specs.Inner.Number.{answers, full, start, ends, num, numOf, got, gotOf}
 use Rattle.links.specs.Question.{otherwise, answerIn}
 use Rattle.links.specs.Forecast.{endCount, lastEnd}
 use Rattle.planning_spec.specs.declared.Arrival.the-variants.{InRound}

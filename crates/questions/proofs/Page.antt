@@ -13,7 +13,7 @@ use lib.ListN.{getD, length, set, length-set}
 use lib.Seq.{getD-set-same, getD-set-other}
 use Rattle.lists.specs.Below.{anyBelow}
 use Rattle.links.specs.Relay.{Links}
-use Rattle.links.specs.Number.{got}
+use Rattle.links.specs.Inner.Number.{got}
 use Rattle.links.specs.Question.{otherwise, answerIn}
 use Rattle.links.proofs.Question.{got-knows}
 use Rattle.link_logs.specs.Stands.{Stands}

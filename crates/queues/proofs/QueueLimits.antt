@@ -21,38 +21,38 @@ use Rattle.queues.proofs.QueueLaws.{unqueued-at}
 abbrev slotBody : Queue → ℕ → Body
 slotBody q i = (getD (q .slots) i noSlot) .body
 
-pub queue-most : (edition limit : ℕ) (q : Queue) → queueInside edition limit q ≡ true → q .len ≤ limit
+pub queue-most : (inside : Body → Bool) (limit : ℕ) (q : Queue) → queueInside inside limit q ≡ true → q .len ≤ limit
 unfolding queueInside
-queue-most edition limit q h = leb-true (q .len) limit (and-left (leb (q .len) limit) (allBelow (q .len) (λ i. mayWait edition (slotBody q i))) h)
+queue-most inside limit q h = leb-true (q .len) limit (and-left (leb (q .len) limit) (allBelow (q .len) (λ i. mayWait inside (slotBody q i))) h)
 
-pub queue-waiting : (edition limit : ℕ) (q : Queue) → queueInside edition limit q ≡ true → (i : ℕ) → i < q .len → mayWait edition (slotBody q i) ≡ true
+pub queue-waiting : (inside : Body → Bool) (limit : ℕ) (q : Queue) → queueInside inside limit q ≡ true → (i : ℕ) → i < q .len → mayWait inside (slotBody q i) ≡ true
 unfolding queueInside
-queue-waiting edition limit q h =
-    allBelow-at (q .len) (λ i. mayWait edition (slotBody q i)) (and-right (leb (q .len) limit) (allBelow (q .len) (λ i. mayWait edition (slotBody q i))) h)
+queue-waiting inside limit q h =
+    allBelow-at (q .len) (λ i. mayWait inside (slotBody q i)) (and-right (leb (q .len) limit) (allBelow (q .len) (λ i. mayWait inside (slotBody q i))) h)
 
 -- past the slots there is no body that may wait, so that no length counts more than they are
-empty-refused : (edition : ℕ) → mayWait edition (noSlot .body) ≡ false
+empty-refused : (inside : Body → Bool) → mayWait inside (noSlot .body) ≡ false
 unfolding mayWait
-empty-refused edition = refl
+empty-refused inside = refl
 
-pub queue-slots : (edition limit : ℕ) (q : Queue) → queueInside edition limit q ≡ true → q .len ≤ length (q .slots)
-queue-slots edition limit q h = go (leb (q .len) (length (q .slots))) refl
+pub queue-slots : (inside : Body → Bool) (limit : ℕ) (q : Queue) → queueInside inside limit q ≡ true → q .len ≤ length (q .slots)
+queue-slots inside limit q h = go (leb (q .len) (length (q .slots))) refl
   where
     go : (t : Bool) → leb (q .len) (length (q .slots)) ≡ t → q .len ≤ length (q .slots)
     go true e = leb-true (q .len) (length (q .slots)) e
     go false e =
         absurd
         (true≢false
-        (sym (queue-waiting edition limit q h (length (q .slots)) (leb-false (q .len) (length (q .slots)) e))
-        ∙ ap (λ (x : Slot). mayWait edition (x .body)) (List·getD-eq-default (q .slots) noSlot (omega arith))
-        ∙ empty-refused edition))
+        (sym (queue-waiting inside limit q h (length (q .slots)) (leb-false (q .len) (length (q .slots)) e))
+        ∙ ap (λ (x : Slot). mayWait inside (x .body)) (List·getD-eq-default (q .slots) noSlot (omega arith))
+        ∙ empty-refused inside))
 
-pub queue-make : (edition limit : ℕ) (q : Queue) → q .len ≤ limit → ((i : ℕ) → i < q .len → mayWait edition (slotBody q i) ≡ true) → queueInside edition limit q ≡ true
+pub queue-make : (inside : Body → Bool) (limit : ℕ) (q : Queue) → q .len ≤ limit → ((i : ℕ) → i < q .len → mayWait inside (slotBody q i) ≡ true) → queueInside inside limit q ≡ true
 unfolding queueInside
-queue-make edition limit q l h = and-both (le-leb (q .len) limit l) (allBelow-make (q .len) (λ i. mayWait edition (slotBody q i)) h)
+queue-make inside limit q l h = and-both (le-leb (q .len) limit l) (allBelow-make (q .len) (λ i. mayWait inside (slotBody q i)) h)
 
-pub queue-empty : (edition limit : ℕ) (q : Queue) → q .len ≡ 0 → queueInside edition limit q ≡ true
-queue-empty edition limit q e = queue-make edition limit q (omega (arith, e)) (λ i l. absurd (omega (arith, e)))
+pub queue-empty : (inside : Body → Bool) (limit : ℕ) (q : Queue) → q .len ≡ 0 → queueInside inside limit q ≡ true
+queue-empty inside limit q e = queue-make inside limit q (omega (arith, e)) (λ i l. absurd (omega (arith, e)))
 
 pub queued-len : (q : Queue) (b : Body) → (queued q b) .len ≡ suc (q .len)
 unfolding queued
@@ -73,25 +73,25 @@ queued-before q b i l =
     (getD-set-other (q .slots) (q .len) i (record { body = b }) noSlot (λ e. absurd (omega arith)))
 
 pub queued-inside :
-    (edition limit : ℕ) (q : Queue) (b : Body) → length (q .slots) ≡ queueCapacity → limit ≤ queueCapacity → queueInside edition limit q ≡ true → q .len < limit → mayWait edition b ≡ true →
-    queueInside edition limit (queued q b) ≡ true
-queued-inside edition limit q b shape high h l e = queue-make edition limit (queued q b) (omega (arith, queued-len q b)) each
+    (inside : Body → Bool) (limit : ℕ) (q : Queue) (b : Body) → length (q .slots) ≡ queueCapacity → limit ≤ queueCapacity → queueInside inside limit q ≡ true → q .len < limit → mayWait inside b ≡ true →
+    queueInside inside limit (queued q b) ≡ true
+queued-inside inside limit q b shape high h l e = queue-make inside limit (queued q b) (omega (arith, queued-len q b)) each
   where
-    each : (i : ℕ) → i < (queued q b) .len → mayWait edition (slotBody (queued q b) i) ≡ true
+    each : (i : ℕ) → i < (queued q b) .len → mayWait inside (slotBody (queued q b) i) ≡ true
     each i m =
         elim (ℕ-discrete i (q .len)) [
           | yes same ↦ rw (same, queued-last q b (omega arith)) e
-          | no ne ↦ rw (queued-before q b i (omega (arith, queued-len q b))) (queue-waiting edition limit q h i (omega (arith, queued-len q b)))
+          | no ne ↦ rw (queued-before q b i (omega (arith, queued-len q b))) (queue-waiting inside limit q h i (omega (arith, queued-len q b)))
         ]
 
 pub unqueued-inside :
-    (edition limit : ℕ) (q : Queue) → length (q .slots) ≡ queueCapacity → limit ≤ queueCapacity → queueInside edition limit q ≡ true → queueInside edition limit (unqueued q) ≡ true
-unqueued-inside edition limit q shape high h =
-    let most : q .len ≤ limit = queue-most edition limit q h in
+    (inside : Body → Bool) (limit : ℕ) (q : Queue) → length (q .slots) ≡ queueCapacity → limit ≤ queueCapacity → queueInside inside limit q ≡ true → queueInside inside limit (unqueued q) ≡ true
+unqueued-inside inside limit q shape high h =
+    let most : q .len ≤ limit = queue-most inside limit q h in
     let len : (unqueued q) .len ≡ q .len - 1 = unqueued-len q in
-    queue-make edition limit (unqueued q) (omega arith)
-    (λ i m. ap (λ (x : Slot). mayWait edition (x .body)) (unqueued-at q i (omega arith) (omega arith)) ∙ queue-waiting edition limit q h (suc i) (omega arith))
+    queue-make inside limit (unqueued q) (omega arith)
+    (λ i m. ap (λ (x : Slot). mayWait inside (x .body)) (unqueued-at q i (omega arith) (omega arith)) ∙ queue-waiting inside limit q h (suc i) (omega arith))
 
-pub oldest-waiting : (edition limit : ℕ) (q : Queue) → queueInside edition limit q ≡ true → 0 < q .len → mayWait edition (oldest q) ≡ true
+pub oldest-waiting : (inside : Body → Bool) (limit : ℕ) (q : Queue) → queueInside inside limit q ≡ true → 0 < q .len → mayWait inside (oldest q) ≡ true
 unfolding oldest
-oldest-waiting edition limit q h l = queue-waiting edition limit q h 0 l
+oldest-waiting inside limit q h l = queue-waiting inside limit q h 0 l

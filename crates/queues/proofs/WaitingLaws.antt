@@ -113,9 +113,9 @@ pub none-first : (limit : ℕ) → firstDesk (noneWaiting limit) ≡ 0
 unfolding firstDesk noneWaiting
 none-first limit = refl
 
-pub none-inside : (edition limit : ℕ) → limitInside limit ≡ true → waitingInside edition (noneWaiting limit) ≡ true
+pub none-inside : (inside : Body → Bool) (limit : ℕ) → limitInside limit ≡ true → waitingInside inside (noneWaiting limit) ≡ true
 unfolding waitingInside noneWaiting emptyQueue queueInside allBelow
-none-inside edition limit e = rw (e, le-leb 0 limit (omega arith))
+none-inside inside limit e = rw (e, le-leb 0 limit (omega arith))
 
 -- room for one more
 pub room-below : (w : Waiting) (d : ℕ) → deskCount w d < w .limit → hasRoom w d ≡ true
@@ -136,48 +136,48 @@ unfolding hasRoom
 room-same v w d l c = (λ i. ltb (c i) (l i))
 
 -- what is inside its limits has a limit that its arrays have room for, and queues by it
-pub inside-limit : (edition : ℕ) (w : Waiting) → waitingInside edition w ≡ true → limitInside (w .limit) ≡ true
+pub inside-limit : (inside : Body → Bool) (w : Waiting) → waitingInside inside w ≡ true → limitInside (w .limit) ≡ true
 unfolding waitingInside
-inside-limit edition w i =
-    and-left (limitInside (w .limit)) (queueInside edition (w .limit) (w .queue0) && queueInside edition (w .limit) (w .queue1)) i
+inside-limit inside w i =
+    and-left (limitInside (w .limit)) (queueInside inside (w .limit) (w .queue0) && queueInside inside (w .limit) (w .queue1)) i
 
-inside-both : (edition : ℕ) (w : Waiting) → waitingInside edition w ≡ true → (queueInside edition (w .limit) (w .queue0) ≡ true) × (queueInside edition (w .limit) (w .queue1) ≡ true)
+inside-both : (inside : Body → Bool) (w : Waiting) → waitingInside inside w ≡ true → (queueInside inside (w .limit) (w .queue0) ≡ true) × (queueInside inside (w .limit) (w .queue1) ≡ true)
 unfolding waitingInside
-inside-both edition w i =
-    both (queueInside edition (w .limit) (w .queue0)) (queueInside edition (w .limit) (w .queue1))
-    (and-right (limitInside (w .limit)) (queueInside edition (w .limit) (w .queue0) && queueInside edition (w .limit) (w .queue1)) i)
+inside-both inside w i =
+    both (queueInside inside (w .limit) (w .queue0)) (queueInside inside (w .limit) (w .queue1))
+    (and-right (limitInside (w .limit)) (queueInside inside (w .limit) (w .queue0) && queueInside inside (w .limit) (w .queue1)) i)
 
 inside-make :
-    (edition : ℕ) (w : Waiting) → limitInside (w .limit) ≡ true → (queueInside edition (w .limit) (w .queue0) ≡ true) × (queueInside edition (w .limit) (w .queue1) ≡ true) →
-    waitingInside edition w ≡ true
+    (inside : Body → Bool) (w : Waiting) → limitInside (w .limit) ≡ true → (queueInside inside (w .limit) (w .queue0) ≡ true) × (queueInside inside (w .limit) (w .queue1) ≡ true) →
+    waitingInside inside w ≡ true
 unfolding waitingInside
-inside-make edition w l p = and-both l (and-both (p .0) (p .1))
+inside-make inside w l p = and-both l (and-both (p .0) (p .1))
 
-inside-queue : (edition : ℕ) (w : Waiting) → waitingInside edition w ≡ true → (d : ℕ) → queueInside edition (w .limit) (queueOf w d) ≡ true
-inside-queue edition w i d =
-    let parts = inside-both edition w i in
-    each-queue (λ (q : Queue). queueInside edition (w .limit) q ≡ true) w (parts .0) (parts .1) d
+inside-queue : (inside : Body → Bool) (w : Waiting) → waitingInside inside w ≡ true → (d : ℕ) → queueInside inside (w .limit) (queueOf w d) ≡ true
+inside-queue inside w i d =
+    let parts = inside-both inside w i in
+    each-queue (λ (q : Queue). queueInside inside (w .limit) q ≡ true) w (parts .0) (parts .1) d
 
-pub inside-most : (edition : ℕ) (w : Waiting) → waitingInside edition w ≡ true → (d : ℕ) → deskCount w d ≤ queueCapacity
+pub inside-most : (inside : Body → Bool) (w : Waiting) → waitingInside inside w ≡ true → (d : ℕ) → deskCount w d ≤ queueCapacity
 unfolding deskCount
-inside-most edition w i d =
-    omega (arith, limit-most (w .limit) (inside-limit edition w i), queue-most edition (w .limit) (queueOf w d) (inside-queue edition w i d))
+inside-most inside w i d =
+    omega (arith, limit-most (w .limit) (inside-limit inside w i), queue-most inside (w .limit) (queueOf w d) (inside-queue inside w i d))
 
-pub room-most : (edition : ℕ) (w : Waiting) (d : ℕ) → waitingInside edition w ≡ true → hasRoom w d ≡ true → deskCount w d < queueCapacity
-room-most edition w d i h = omega (arith, limit-most (w .limit) (inside-limit edition w i), room-count w d h)
+pub room-most : (inside : Body → Bool) (w : Waiting) (d : ℕ) → waitingInside inside w ≡ true → hasRoom w d ≡ true → deskCount w d < queueCapacity
+room-most inside w d i h = omega (arith, limit-most (w .limit) (inside-limit inside w i), room-count w d h)
 
 -- how many wait
 pub count-both : (w : Waiting) → waitingCount w ≡ deskCount w 0 + deskCount w 1
 unfolding waitingCount
 count-both w = refl
 
-pub edits-count : (edition : ℕ) (w : Waiting) → waitingInside edition w ≡ true → (d : ℕ) → length (waitingEdits w d) ≡ deskCount w d
+pub edits-count : (inside : Body → Bool) (w : Waiting) → waitingInside inside w ≡ true → (d : ℕ) → length (waitingEdits w d) ≡ deskCount w d
 unfolding waitingEdits deskCount
-edits-count edition w i d = length-queueBodies (queueOf w d) (queue-slots edition (w .limit) (queueOf w d) (inside-queue edition w i d))
+edits-count inside w i d = length-queueBodies (queueOf w d) (queue-slots inside (w .limit) (queueOf w d) (inside-queue inside w i d))
 
-pub waiting-fits : (edition : ℕ) (w : Waiting) → waitingInside edition w ≡ true → (d i : ℕ) → i < deskCount w d → mayWait edition (waitingAt w d i) ≡ true
+pub waiting-fits : (inside : Body → Bool) (w : Waiting) → waitingInside inside w ≡ true → (d i : ℕ) → i < deskCount w d → mayWait inside (waitingAt w d i) ≡ true
 unfolding deskCount waitingAt
-waiting-fits edition w i d = queue-waiting edition (w .limit) (queueOf w d) (inside-queue edition w i d)
+waiting-fits inside w i d = queue-waiting inside (w .limit) (queueOf w d) (inside-queue inside w i d)
 
 -- one more of a desk, posted last
 
@@ -221,13 +221,13 @@ unfolding withPosted
 posted-limit w d b = refl
 
 pub posted-inside :
-    (edition : ℕ) (w : Waiting) (d : ℕ) (b : Body) → WaitingSized w → waitingInside edition w ≡ true → hasRoom w d ≡ true → mayWait edition b ≡ true → waitingInside edition (withPosted w d b) ≡ true
+    (inside : Body → Bool) (w : Waiting) (d : ℕ) (b : Body) → WaitingSized w → waitingInside inside w ≡ true → hasRoom w d ≡ true → mayWait inside b ≡ true → waitingInside inside (withPosted w d b) ≡ true
 unfolding withPosted
-posted-inside edition w d b c i h e =
-    let parts = inside-both edition w i in
-    inside-make edition (withQueue w d (queued (queueOf w d) b)) (inside-limit edition w i)
-    (queue-each (λ (q : Queue). queueInside edition (w .limit) q ≡ true) w d (queued (queueOf w d) b)
-    (queued-inside edition (w .limit) (queueOf w d) b (c .slots d) (limit-most (w .limit) (inside-limit edition w i)) (inside-queue edition w i d) (unfold deskCount in (room-count w d h)) e)
+posted-inside inside w d b c i h e =
+    let parts = inside-both inside w i in
+    inside-make inside (withQueue w d (queued (queueOf w d) b)) (inside-limit inside w i)
+    (queue-each (λ (q : Queue). queueInside inside (w .limit) q ≡ true) w d (queued (queueOf w d) b)
+    (queued-inside inside (w .limit) (queueOf w d) b (c .slots d) (limit-most (w .limit) (inside-limit inside w i)) (inside-queue inside w i d) (unfold deskCount in (room-count w d h)) e)
     (parts .0)
     (parts .1))
 
@@ -276,9 +276,9 @@ next-waits w l = go (ltb 0 (deskCount w (firstDesk w))) refl
     go true e = ltb-true 0 (deskCount w (firstDesk w)) e
     go false e = rest (firstDesk w) (first-desk w) (ltb-false 0 (deskCount w (firstDesk w)) e)
 
-pub next-fits : (edition : ℕ) (w : Waiting) → waitingInside edition w ≡ true → 0 < waitingCount w → mayWait edition (nextEdit w) ≡ true
+pub next-fits : (inside : Body → Bool) (w : Waiting) → waitingInside inside w ≡ true → 0 < waitingCount w → mayWait inside (nextEdit w) ≡ true
 unfolding nextEdit
-next-fits edition w i l = oldest-waiting edition (w .limit) (queueOf w (nextDesk w)) (inside-queue edition w i (nextDesk w)) (unfold deskCount in (next-waits w l))
+next-fits inside w i l = oldest-waiting inside (w .limit) (queueOf w (nextDesk w)) (inside-queue inside w i (nextDesk w)) (unfold deskCount in (next-waits w l))
 
 -- the next one started: its desk has one less, the other as many and goes first
 
@@ -312,10 +312,10 @@ started-sized w l c =
     }
 
 pub started-edits :
-    (edition : ℕ) (w : Waiting) (e : ℕ) → isDesk e ≡ true → WaitingSized w → waitingInside edition w ≡ true → 0 < waitingCount w →
+    (inside : Body → Bool) (w : Waiting) (e : ℕ) → isDesk e ≡ true → WaitingSized w → waitingInside inside w ≡ true → 0 < waitingCount w →
     waitingEdits w e ≡ cond (eqb (nextDesk w) e) (nextEdit w ∷ []) [] ++ waitingEdits (withoutNext w) e
 unfolding waitingEdits nextEdit
-started-edits edition w e k c i l =
+started-edits inside w e k c i l =
     elim (ℕ-discrete (nextDesk w) e) [
       | yes same ↦
           subst
@@ -333,7 +333,7 @@ started-edits edition w e k c i l =
     front : queueBodies (queueOf w (nextDesk w)) ≡ oldest (queueOf w (nextDesk w)) ∷ queueBodies new
     front =
         bodies-unqueued (queueOf w (nextDesk w)) (unfold deskCount in (next-waits w l))
-        (unfold deskCount in (omega (arith, inside-most edition w i (nextDesk w), c .slots (nextDesk w))))
+        (unfold deskCount in (omega (arith, inside-most inside w i (nextDesk w), c .slots (nextDesk w))))
 
 pub started-first : (w : Waiting) → firstDesk (withoutNext w) ≡ otherDesk (nextDesk w)
 unfolding firstDesk withoutNext
@@ -347,14 +347,14 @@ pub started-limit : (w : Waiting) → (withoutNext w) .limit ≡ w .limit
 unfolding withoutNext
 started-limit w = refl
 
-pub started-inside : (edition : ℕ) (w : Waiting) → WaitingSized w → waitingInside edition w ≡ true → waitingInside edition (withoutNext w) ≡ true
+pub started-inside : (inside : Body → Bool) (w : Waiting) → WaitingSized w → waitingInside inside w ≡ true → waitingInside inside (withoutNext w) ≡ true
 unfolding withoutNext
-started-inside edition w c i =
+started-inside inside w c i =
     let d = nextDesk w in
     let new = unqueued (queueOf w d) in
-    let parts = inside-both edition w i in
-    inside-make edition (withFirst (withQueue w d new) (otherDesk d)) (inside-limit edition w i)
-    (queue-each (λ (q : Queue). queueInside edition (w .limit) q ≡ true) w d new
-    (unqueued-inside edition (w .limit) (queueOf w d) (c .slots d) (limit-most (w .limit) (inside-limit edition w i)) (inside-queue edition w i d))
+    let parts = inside-both inside w i in
+    inside-make inside (withFirst (withQueue w d new) (otherDesk d)) (inside-limit inside w i)
+    (queue-each (λ (q : Queue). queueInside inside (w .limit) q ≡ true) w d new
+    (unqueued-inside inside (w .limit) (queueOf w d) (c .slots d) (limit-most (w .limit) (inside-limit inside w i)) (inside-queue inside w i d))
     (parts .0)
     (parts .1))

@@ -1,3 +1,4 @@
+pub mod Absent
 pub mod Lane
 pub mod Queue
 pub mod Waiting

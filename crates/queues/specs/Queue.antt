@@ -43,7 +43,7 @@ unqueued q =
       slots = take (q .len - 1) (drop 1 (q .slots)) ++ (noSlot ∷ drop (q .len) (q .slots));
     }
 
--- no more than a limit, and each may wait in this edition
-unfoldable pub queueInside : ℕ → ℕ → Queue → Bool
-queueInside edition limit q =
-    leb (q .len) limit && allBelow (q .len) (λ i. mayWait edition ((getD (q .slots) i noSlot) .body))
+-- no more than a limit, and each may wait
+unfoldable pub queueInside : (Body → Bool) → ℕ → Queue → Bool
+queueInside inside limit q =
+    leb (q .len) limit && allBelow (q .len) (λ i. mayWait inside ((getD (q .slots) i noSlot) .body))

@@ -3,7 +3,7 @@
 -- first where both wait.
 use Prim.Native.Nat.{ℕ, _+_}
 use mathlib.Core.Bool.{Bool, false, cond, _&&_}
-use mathlib.Core.List.{List, []}
+use mathlib.Core.List.{List}
 use lib.Dec.{leb, ltb, eqb}
 use lib.ListN.{getD}
 use Rattle.bodies.specs.declared.Body.{Body}
@@ -22,12 +22,6 @@ otherDesk desk = cond (eqb desk 0) 1 0
 -- nothing waits, with a limit, and desk 0 goes first
 unfoldable pub noneWaiting : ℕ → Waiting
 noneWaiting limit = record { limit = limit; queue0 = emptyQueue; queue1 = emptyQueue; «one_first» = false }
-
--- what a read of a station that is not there gives
-abbrev pub absentWaiting : Waiting
-absentWaiting =
-    let absent : Queue = record { len = 0; slots = [] } in
-    record { limit = 0; queue0 = absent; queue1 = absent; «one_first» = false }
 
 -- the queue of a desk
 unfoldable pub queueOf : Waiting → ℕ → Queue
@@ -93,7 +87,7 @@ nextEdit w = oldest (queueOf w (nextDesk w))
 unfoldable pub withoutNext : Waiting → Waiting
 withoutNext w = withFirst (withQueue w (nextDesk w) (unqueued (queueOf w (nextDesk w)))) (otherDesk (nextDesk w))
 
--- "Limits": the limit may be one, no more of a desk wait than the limit, and each may wait in this edition
-unfoldable pub waitingInside : ℕ → Waiting → Bool
-waitingInside edition w =
-    limitInside (w .limit) && (queueInside edition (w .limit) (w .queue0) && queueInside edition (w .limit) (w .queue1))
+-- "Limits": the limit may be one, no more of a desk wait than the limit, and each may wait
+unfoldable pub waitingInside : (Body → Bool) → Waiting → Bool
+waitingInside inside w =
+    limitInside (w .limit) && (queueInside inside (w .limit) (w .queue0) && queueInside inside (w .limit) (w .queue1))

@@ -4,6 +4,7 @@ ghost use mathlib.Core.Path.{_≡_};
 ghost use mathlib.Core.Bool.{true, cond, not};
 ghost use Prim.Native.Nat.{_≤_, _<_};
 ghost use lib.Dec.{ltb};
+ghost use Rattle.bodies.specs.Limits.{bodyInside};
 ghost use Rattle.queues.specs.Lane as laneSpec;
 ghost use Rattle.queues.specs.Queue as queueSpec;
 ghost use Rattle.queues.specs.Waiting as waitingSpec;
@@ -126,7 +127,7 @@ fn unqueued(queue: Queue) -> Queue
 // Are there no more bodies in the queue than a limit, which it has room for, and may each wait in this edition?
 fn queue_inside(queue: Queue, edition: usize, limit: usize) -> bool
     requires { ⌜ limit ≤ queueSpec.queueCapacity ⌝ }
-    ensures { λ r. ⌜ r ≡ queueSpec.queueInside edition limit queue ⌝ }
+    ensures { λ r. ⌜ r ≡ queueSpec.queueInside (bodyInside edition) limit queue ⌝ }
 {
     let len = queue.len;
     if limit < len {
@@ -269,7 +270,7 @@ pub fn without_next(waiting: Waiting) -> Waiting
 
 // Are the waiting edits inside their limits in an edition? Queues without edits are not looked at.
 pub fn waiting_inside(edition: usize, waiting: Waiting) -> bool
-    ensures { λ r. ⌜ r ≡ waitingSpec.waitingInside edition waiting ⌝ }
+    ensures { λ r. ⌜ r ≡ waitingSpec.waitingInside (bodyInside edition) waiting ⌝ }
 {
     let limit = waiting.limit;
     if !limit_inside(limit) {

@@ -4,14 +4,10 @@ ghost use mathlib.Core.Path.{_≡_};
 ghost use Rattle.frame_spec.specs.Frame.{checkRefusal};
 
 mod relay_bulletins;
-mod relay_compare;
-mod relay_contest;
-mod relay_forecast;
 mod relay_group;
-mod relay_load;
-mod relay_merge;
-mod relay_questions;
+mod relay_planning;
 mod relay_station;
+mod relay_text;
 
 // The frame check: 0, or the refusal, for any bytes and any three numbers.
 #[no_mangle]

@@ -7,7 +7,8 @@ ghost use Rattle.group_spec.specs.Calls.{groupFreshCall};
 ghost use Rattle.station_bytes_spec.specs.Group.{encodeGroup};
 ghost use Rattle.station_bytes_spec.specs.Reports.{encodeReports};
 ghost use Rattle.station_calls.specs.Station.{namedBody};
-ghost use Rattle.group_calls.specs.Group.{groupFreshReturned, groupPostAnswer, groupPostReturned, roundAnswer, roundReturned};
+ghost use Rattle.group_calls.specs.Group.{groupFreshReturned, groupPostAnswer, groupPostReturned, roundAnswer};
+ghost use Rattle.group_calls.specs.Group.{roundReturned};
 
 // Group fresh, with neither limit nor edition named: n stations, as they begin.
 #[no_mangle]
@@ -21,7 +22,8 @@ pub extern "C" fn relay_group_fresh(state: &mut [u8], n: u32) -> u32
 // Group fresh, with a limit named.
 #[no_mangle]
 pub extern "C" fn relay_group_fresh_limited(state: &mut [u8], n: u32, limit: u32) -> u32
-    ensures { λ r. ⌜ (r ≡ groupFreshReturned (groupFreshCall (record { n = n; limit = limit; edition = 0 })) (now (state .entry)))
+    ensures { λ r.
+        ⌜ (r ≡ groupFreshReturned (groupFreshCall (record { n = n; limit = limit; edition = 0 })) (now (state .entry)))
         × (now (state .exit) ≡ frontWritten r
         (encodeGroup (groupFreshCall (record { n = n; limit = limit; edition = 0 }) .group)) (now (state .entry))) ⌝ }
 {
@@ -36,7 +38,9 @@ pub extern "C" fn relay_group_fresh_edition(
     limit: u32,
     edition: u32,
 ) -> u32
-    ensures { λ r. ⌜ (r ≡ groupFreshReturned (groupFreshCall (record { n = n; limit = limit; edition = edition })) (now (state .entry)))
+    ensures { λ r.
+        ⌜ (r ≡ groupFreshReturned (groupFreshCall (record { n = n; limit = limit; edition = edition }))
+        (now (state .entry)))
         × (now (state .exit) ≡ frontWritten r
         (encodeGroup (groupFreshCall (record { n = n; limit = limit; edition = edition }) .group))
         (now (state .entry))) ⌝ }

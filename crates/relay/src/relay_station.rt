@@ -8,7 +8,8 @@ ghost use Rattle.station_spec.specs.State.{sized};
 ghost use Rattle.station_spec.specs.Calls.{freshCall, frameOf};
 ghost use Rattle.station_bytes_spec.specs.Station.{encodeStation};
 ghost use Rattle.station_bytes_spec.specs.Reports.{encodeFlags, encodeTurn};
-ghost use Rattle.station_calls.specs.Station.{stationOf, namedBody, freshReturned, postAnswer, postReturned, writeReturned, hearAnswer, hearReturned, turnAnswer, turnReturned};
+ghost use Rattle.station_calls.specs.Station.{stationOf, namedBody, freshReturned, postAnswer, postReturned};
+ghost use Rattle.station_calls.specs.Station.{writeReturned, hearAnswer, hearReturned, turnAnswer, turnReturned};
 
 // Fresh, with neither limit nor edition named: station own of n, as it begins.
 #[no_mangle]
@@ -23,9 +24,11 @@ pub extern "C" fn relay_station_fresh(state: &mut [u8], n: u32, own: u32) -> u32
 // Fresh, with a limit named.
 #[no_mangle]
 pub extern "C" fn relay_station_fresh_limited(state: &mut [u8], n: u32, own: u32, limit: u32) -> u32
-    ensures { λ r. ⌜ (r ≡ freshReturned (freshCall (record { n = n; limit = limit; edition = 0 }) own) (now (state .entry)))
+    ensures { λ r.
+        ⌜ (r ≡ freshReturned (freshCall (record { n = n; limit = limit; edition = 0 }) own) (now (state .entry)))
         × (now (state .exit) ≡ frontWritten r
-        (encodeStation (freshCall (record { n = n; limit = limit; edition = 0 }) own .station)) (now (state .entry))) ⌝ }
+        (encodeStation (freshCall (record { n = n; limit = limit; edition = 0 }) own .station))
+        (now (state .entry))) ⌝ }
 {
     station_calls::fresh_limited(state, n, own, limit)
 }
@@ -39,7 +42,8 @@ pub extern "C" fn relay_station_fresh_edition(
     limit: u32,
     edition: u32,
 ) -> u32
-    ensures { λ r. ⌜ (r ≡ freshReturned (freshCall (record { n = n; limit = limit; edition = edition }) own) (now (state .entry)))
+    ensures { λ r.
+        ⌜ (r ≡ freshReturned (freshCall (record { n = n; limit = limit; edition = edition }) own) (now (state .entry)))
         × (now (state .exit) ≡ frontWritten r
         (encodeStation (freshCall (record { n = n; limit = limit; edition = edition }) own .station))
         (now (state .entry))) ⌝ }
@@ -92,7 +96,8 @@ pub extern "C" fn relay_station_hear(state: &mut [u8], frame: &[u8], taken: &mut
 #[no_mangle]
 pub extern "C" fn relay_station_turn(state: &mut [u8], report: &mut [u8]) -> u32
     ensures { λ r. ⌜ (r ≡ turnReturned (now (state .entry)) (now (report .entry)))
-        × (now (state .exit) ≡ frontWritten r (encodeStation (turnAnswer (now (state .entry)) .station)) (now (state .entry)))
+        × (now (state .exit)
+        ≡ frontWritten r (encodeStation (turnAnswer (now (state .entry)) .station)) (now (state .entry)))
         × (now (report .exit) ≡ frontWritten r (encodeTurn (turnAnswer (now (state .entry)) .report))
         (now (report .entry))) ⌝ }
 {

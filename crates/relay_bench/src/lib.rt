@@ -237,7 +237,8 @@ fn run_bulletins(schedule: &[u8], n: usize, rounds: u32) -> u32
     low(sum)
 }
 
-// From fresh, rounds with the masks of a schedule, again and again; gives a checksum of what they report, and 0 if a number is refused.
+// From fresh, rounds with the masks of a schedule, again and again; gives a checksum of what they report, and 0 if a
+// number is refused.
 #[no_mangle]
 pub extern "C" fn relay_bench_rounds(schedule: &[u8], n: u32, rounds: u32) -> u32 {
     let len = schedule.len();
@@ -275,8 +276,9 @@ pub extern "C" fn relay_bench_bulletins(schedule: &[u8], n: u32, rounds: u32) ->
     run_bulletins(schedule, n as usize, rounds)
 }
 
-// A station's bytes, read and written again so many times, and judged each time before where a number that is not 0 says so. Gives how often that
-// was done: fewer times where the bytes are no station, and never where they are too few.
+// A station's bytes, read and written again so many times, and judged each time before where a number that is not 0
+// says so. Gives how often that was done: fewer times where the bytes are no station, and never where they are too
+// few.
 #[no_mangle]
 pub extern "C" fn relay_bench_codec(state: &mut [u8], times: u32, judged: u32) -> u32 {
     if state.len() < STATION_WIDTH {

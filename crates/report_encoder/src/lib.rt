@@ -1,10 +1,12 @@
-// What a turn and a round report, and a set of stations, written as bytes to the front of a buffer or from a place on; all other bytes are kept.
+// What a turn and a round report, and a set of stations, written as bytes to the front of a buffer or from a place
+// on; all other bytes are kept.
 
 ghost use mathlib.Core.Path.{_≡_};
 ghost use Prim.Native.Nat.{_+_, _≤_};
 ghost use lib.ListN.{length};
 ghost use lib.Seq.{sets};
-ghost use Rattle.station_bytes_spec.specs.Reports.{encodeFlags, turnWidth, encodeTurn, takingWidth, encodeTaking, reportWidth, encodeReport, reportsWidth, encodeReports};
+ghost use Rattle.station_bytes_spec.specs.Reports.{encodeFlags, turnWidth, encodeTurn, takingWidth, encodeTaking};
+ghost use Rattle.station_bytes_spec.specs.Reports.{reportWidth, encodeReport, reportsWidth, encodeReports};
 use group_spec::Report;
 use queues::Slot;
 use records::writer::put_word;

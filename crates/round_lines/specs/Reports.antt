@@ -1,7 +1,7 @@
 -- Document 01, "The relay listing": what a round prints, station by station, in the order in which
 -- a station does it: what it took (D), what it aired (A), what it ended (E), what it started (D
 -- again, with itself as the source).
-use Prim.Native.Nat.{ℕ, zero, suc, _*_}
+use Prim.Native.Nat.{ℕ, zero, suc, _+_, _*_}
 use Rattle.bodies.specs.declared.Body.the-variants.{Empty}
 use mathlib.Core.Bool.{Bool, false, cond, not, _&&_}
 use mathlib.Core.List.{List, [], _++_}
@@ -15,12 +15,21 @@ use Rattle.station_spec.specs.declared.TurnReport.{TurnReport}
 use Rattle.queues.specs.Queue.{noSlot}
 use Rattle.group_spec.specs.declared.Report.{Report}
 use Rattle.group_spec.specs.Calls.{noTaking}
-use Rattle.lines.specs.Lines.{delivered, airing, ending, lineBytes}
+use Rattle.lines.specs.Lines.{delivered, airing, ending, lineBytes, lineLength}
 
--- the most bytes that a station can print of a round: a line, of 35 bytes, for each of thirty
--- bodies taken and sixteen aired, for one ended and for one started
+-- the most bytes that a station can print of a round: a line for each of thirty bodies taken and
+-- of sixteen aired, and one for a body ended and one for a body started
+abbrev pub takenRoom : ℕ
+takenRoom = 30 * lineLength
+
+abbrev pub airedRoom : ℕ
+airedRoom = 16 * lineLength
+
+abbrev pub turnRoom : ℕ
+turnRoom = 2 * lineLength
+
 abbrev pub reportRoom : ℕ
-reportRoom = 48 * 35
+reportRoom = takenRoom + airedRoom + turnRoom
 
 -- the most bytes that a round can print: what sixteen stations can
 abbrev pub roundRoom : ℕ

@@ -9,8 +9,8 @@ ghost use Prim.Native.Nat.{_+_, _≤_};
 ghost use lib.ListN.{length};
 ghost use mathlib.Core.Bool.{_&&_};
 ghost use Rattle.bodies.specs.Body.{isEdit};
-ghost use Rattle.lines.specs.Lines.{Put};
-ghost use Rattle.round_lines.specs.Reports.{reportRoom, roundRoom};
+ghost use Rattle.lines.specs.Lines.{Put, lineLength};
+ghost use Rattle.round_lines.specs.Reports.{takenRoom, airedRoom, turnRoom, reportRoom, roundRoom};
 ghost use Rattle.round_lines.specs.Reports.{lineIf, takenText, airedText, turnText, reportText, roundText};
 
 // The letters D, A and E of document 01's listing.
@@ -34,10 +34,10 @@ fn put_line_if(
     source: usize,
     body: Body,
 ) -> usize
-    requires { ⌜ at + 35 ≤ length (now out) ⌝ }
+    requires { ⌜ at + lineLength ≤ length (now out) ⌝ }
     ensures { λ r.
         ⌜ Put (now (out .entry)) (now (out .exit)) at r (lineIf wanted round letter station source body)
-        × (r ≤ at + 35) ⌝ }
+        × (r ≤ at + lineLength) ⌝ }
 {
     if wanted {
         return lines::put_line(out, at, round, letter, station, source, body);
@@ -47,8 +47,8 @@ fn put_line_if(
 
 // A D line for each body that station p took, as heard.
 fn put_takings(out: &mut [u8], at: usize, round: u32, p: usize, report: Report) -> usize
-    requires { ⌜ at + 1050 ≤ length (now out) ⌝ }
-    ensures { λ r. ⌜ Put (now (out .entry)) (now (out .exit)) at r (takenText round p report) × (r ≤ at + 1050) ⌝ }
+    requires { ⌜ at + takenRoom ≤ length (now out) ⌝ }
+    ensures { λ r. ⌜ Put (now (out .entry)) (now (out .exit)) at r (takenText round p report) × (r ≤ at + takenRoom) ⌝ }
 {
     let len = report.takings_len;
     let takings = report.takings;
@@ -76,8 +76,8 @@ fn is_aired(aired: bool, body: Body) -> bool
 
 // An A line for each edit of the row that station p aired, by station.
 fn put_aired(out: &mut [u8], at: usize, n: usize, round: u32, p: usize, turn: TurnReport) -> usize
-    requires { ⌜ (n ≤ 16) × (at + 560 ≤ length (now out)) ⌝ }
-    ensures { λ r. ⌜ Put (now (out .entry)) (now (out .exit)) at r (airedText n round p turn) × (r ≤ at + 560) ⌝ }
+    requires { ⌜ (n ≤ 16) × (at + airedRoom ≤ length (now out)) ⌝ }
+    ensures { λ r. ⌜ Put (now (out .entry)) (now (out .exit)) at r (airedText n round p turn) × (r ≤ at + airedRoom) ⌝ }
 {
     let aired = turn.aired;
     let row = turn.row;
@@ -94,8 +94,8 @@ fn put_aired(out: &mut [u8], at: usize, n: usize, round: u32, p: usize, turn: Tu
 
 // An E line for a broadcast that ended, and a D line for what station p then started, unless that is Empty.
 fn put_turn(out: &mut [u8], at: usize, round: u32, p: usize, turn: TurnReport) -> usize
-    requires { ⌜ at + 70 ≤ length (now out) ⌝ }
-    ensures { λ r. ⌜ Put (now (out .entry)) (now (out .exit)) at r (turnText round p turn) × (r ≤ at + 70) ⌝ }
+    requires { ⌜ at + turnRoom ≤ length (now out) ⌝ }
+    ensures { λ r. ⌜ Put (now (out .entry)) (now (out .exit)) at r (turnText round p turn) × (r ≤ at + turnRoom) ⌝ }
 {
     let over = turn.ended_body;
     let end = put_line_if(out, at, turn.ended, round, ENDED, p, p, over);

@@ -45,7 +45,9 @@ judgedBelow g m =
 -- the frames of the stations below m stand in these bytes
 pub record FramesBelow (g : List Station) (m : ℕ) (bytes : List ℕ) : Type 0 where
   pub long : length bytes ≡ 4160
-  pub frame : (k : ℕ) → k < m → take (length (frameOf (stationAt g k))) (drop (frameStart k) bytes) ≡ frameOf (stationAt g k)
+  pub frame :
+      (k : ℕ) → k < m →
+      take (length (frameOf (stationAt g k))) (drop (frameStart k) bytes) ≡ frameOf (stationAt g k)
 
 -- the frames of a group of n begin at their starts, the first with n
 pub record FramesAt (n : ℕ) (bytes : List ℕ) : Type 0 where

@@ -13,7 +13,8 @@ use station_spec::Station;
 // not be written, answers why.
 fn write_part(bytes: &mut [u8], s: Station, edition: usize, n: usize, k: usize) -> u32
     requires { ⌜ length (now bytes) ≡ 4160 ⌝ }
-    ensures { λ r. ⌜ (r ≡ spec.sendRefusal edition n k s) × (now (bytes .exit) ≡ spec.bytesAfter edition n k s (now (bytes .entry))) ⌝ }
+    ensures { λ r. ⌜ (r ≡ spec.sendRefusal edition n k s)
+        × (now (bytes .exit) ≡ spec.bytesAfter edition n k s (now (bytes .entry))) ⌝ }
 {
     if !group::limits::member_inside(s, edition, n, k) {
         return OUTSIDE_LIMITS;
@@ -47,7 +48,8 @@ fn worse(a: u32, b: u32) -> u32
 pub fn send(bytes: &mut [u8], s: Station, edition: usize, n: usize, k: usize, refusal: u32) -> u32
     requires { ⌜ length (now bytes) ≡ 4160 ⌝ }
     ensures { λ r.
-        ⌜ (r ≡ spec.worse refusal (spec.sendRefusal edition n k s)) × (now (bytes .exit) ≡ spec.bytesAfter edition n k s (now (bytes .entry))) ⌝ }
+        ⌜ (r ≡ spec.worse refusal (spec.sendRefusal edition n k s))
+        × (now (bytes .exit) ≡ spec.bytesAfter edition n k s (now (bytes .entry))) ⌝ }
 {
     let judged = write_part(bytes, s, edition, n, k);
     worse(refusal, judged)

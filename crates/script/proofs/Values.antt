@@ -14,22 +14,22 @@ use mir.ValLaws.{toZ-ofZ, toZ-pos}
 use Rattle.columns.specs.declared.reader.Reading.the-variants.{Number, Malformed}
 use Rattle.columns.specs.Reading.{readColumns}
 use Rattle.columns.proofs.Only.{reads-exactly}
-use Rattle.script.specs.Line.{fieldOf}
+use Rattle.script.specs.Line.{highestNumber, fieldOf}
 
-pub field-nine : (line : List ℕ) (k : ℕ) (minus : Bool) (v : ℕ) → fieldOf line k ≡ Number minus v → v ≤ 999_999_999
+pub field-nine : (line : List ℕ) (k : ℕ) (minus : Bool) (v : ℕ) → fieldOf line k ≡ Number minus v → v ≤ highestNumber
 unfolding fieldOf
 field-nine line k minus v e = go (ltb k 16 && leb (9 * k + 10) (length line)) e
   where
-    go : (t : Bool) → cond t (readColumns (take 9 (drop (9 * k + 1) line))) Malformed ≡ Number minus v → v ≤ 999_999_999
+    go : (t : Bool) → cond t (readColumns (take 9 (drop (9 * k + 1) line))) Malformed ≡ Number minus v → v ≤ highestNumber
     go true q = omega (arith, ((reads-exactly (take 9 (drop (9 * k + 1) line)) minus v) .0 q) .1 .nine)
     go false q = let z : _≡_ {A = ℕ} 0 1 = cc in absurd (omega arith)
 
-module _ (v : ℕ) (small : v ≤ 999_999_999) where
+module _ (v : ℕ) (small : v ≤ highestNumber) where
   -- the value as a signed number
   pub positive : toZ w32 v ≡ pos v
   positive = toZ-pos w32 v (omega arith)
 
-  negative-fits : (v : ℕ) → v ≤ 999_999_999 → SFits w32 (negℤ (pos v))
+  negative-fits : (v : ℕ) → v ≤ highestNumber → SFits w32 (negℤ (pos v))
   negative-fits zero h = record { sfits = omega arith }
   negative-fits (suc v) h = record { sfits = omega arith }
 

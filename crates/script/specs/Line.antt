@@ -12,9 +12,13 @@ use Rattle.columns.specs.Reading.{readColumns}
 use Rattle.script.specs.declared.Command.{Command}
 use Rattle.script.specs.declared.Command.the-variants.{Size, Post, Round, Malformed as MalformedLine}
 
--- what a field without a number counts as: more than nine columns hold, so that it is beyond every limit
+-- the highest number that the nine columns of a field hold
+abbrev pub highestNumber : ℕ
+highestNumber = 999_999_999
+
+-- what a field without a number counts as: more than a field holds, so that it is beyond every limit
 abbrev pub noNumber : ℕ
-noNumber = 1_000_000_000
+noNumber = highestNumber + 1
 
 -- the number in nine columns, if it has no minus
 abbrev pub naturalOf : Reading → ℕ

@@ -3,8 +3,9 @@
 use columns::reader::Reading;
 ghost use mathlib.Core.Path.{_≡_};
 ghost use Prim.Native.Nat.{_≤_};
-ghost use Rattle.script.specs.Line.{isWhole, naturalOf, signedOf, wholeOf, fieldOf, shaped, sizeLine};
-ghost use Rattle.script.specs.Line.{maskAt, masksInside, postShaped, postLine, roundLine, commandOf, masksOf};
+ghost use Rattle.script.specs.Line.{highestNumber, isWhole, naturalOf, signedOf, wholeOf};
+ghost use Rattle.script.specs.Line.{fieldOf, shaped, sizeLine, postShaped, postLine};
+ghost use Rattle.script.specs.Line.{maskAt, masksInside, roundLine, commandOf, masksOf};
 
 // What a field without a number counts as: more than nine columns hold.
 const NO_NUMBER: u32 = 1_000_000_000;
@@ -72,7 +73,7 @@ fn is_whole_at(line: &[u8], k: usize) -> bool
 
 // A number behind a minus or not.
 fn signed(minus: bool, value: u32) -> i32
-    requires { ⌜ value ≤ 999_999_999 ⌝ }
+    requires { ⌜ value ≤ highestNumber ⌝ }
     ensures { λ r. ⌜ r ≡ signedOf minus value ⌝ }
 {
     if minus {

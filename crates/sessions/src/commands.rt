@@ -12,7 +12,7 @@ ghost use lib.Dec.{ltb};
 ghost use Prim.Native.Nat.{_≤_};
 ghost use lib.ListN.{length};
 ghost use Rattle.group_spec.specs.Calls.{groupFreshCall, groupPostCall};
-ghost use Rattle.lines.specs.Lines.{Put};
+ghost use Rattle.lines.specs.Lines.{Put, lineLength};
 ghost use Rattle.listing_spec.specs.Listing.{AnswersPost, postedBody, setupOf, sizedBy, refusedText};
 
 // The limit of waiting edits that a listing names.
@@ -40,7 +40,7 @@ fn named(station: usize, n: usize) -> usize
 
 // What a post's answer prints.
 fn put_post(s: Session, station: usize, refusal: u32, out: &mut [u8]) -> usize
-    requires { ⌜ 35 ≤ length (now out) ⌝ }
+    requires { ⌜ lineLength ≤ length (now out) ⌝ }
     ensures { λ r. ⌜ Put (now (out .entry)) (now (out .exit)) 0 r (refusedText (s .n) (s .rounds) station refusal) ⌝ }
 {
     if refusal == 0 {
@@ -79,7 +79,7 @@ pub fn apply_size(s: Session, n: usize) -> Applied
 
 // A post, and its refusal where it is refused.
 pub fn apply_post(s: Session, post: Post, out: &mut [u8]) -> Applied
-    requires { ⌜ 35 ≤ length (now out) ⌝ }
+    requires { ⌜ lineLength ≤ length (now out) ⌝ }
     ensures { λ r. ⌜ AnswersPost s (post .station) (groupPostCall (s .group) post)
         (now (out .entry)) (now (out .exit)) r ⌝ }
 {

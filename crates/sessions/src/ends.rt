@@ -11,7 +11,7 @@ ghost use mathlib.Core.List.{_++_};
 ghost use lib.Dec.{ltb, eqb};
 ghost use Prim.Native.Nat.{_≤_};
 ghost use lib.ListN.{length};
-ghost use Rattle.lines.specs.Lines.{Put, endLine};
+ghost use Rattle.lines.specs.Lines.{Put, lineLength, endLine};
 ghost use Rattle.listing_spec.specs.Listing.{closingRoom};
 ghost use Rattle.listing_spec.specs.Listing.{Answer, sessionBegun, halted, malformedText, restText, closed};
 
@@ -34,7 +34,7 @@ pub fn begin() -> Session
 
 // A malformed line, or a round that has no number: the reading stops.
 pub fn halt(s: Session, out: &mut [u8]) -> Applied
-    requires { ⌜ 35 ≤ length (now out) ⌝ }
+    requires { ⌜ lineLength ≤ length (now out) ⌝ }
     ensures { λ r. ⌜ Answer (halted s) (malformedText s) (now (out .entry)) (now (out .exit)) r ⌝ }
 {
     let len = lines::put_line(out, 0, s.rounds, REFUSED, 0, MALFORMED, Body::Empty);
@@ -64,8 +64,8 @@ fn is_over(stopped: bool, n: usize, rest: usize) -> bool
 
 // Malformed at the end of a script: that it breaks off in a line, or has no `N` line.
 fn put_rest(s: Session, rest: usize, out: &mut [u8]) -> usize
-    requires { ⌜ 35 ≤ length (now out) ⌝ }
-    ensures { λ r. ⌜ Put (now (out .entry)) (now (out .exit)) 0 r (restText s rest) × (r ≤ 35) ⌝ }
+    requires { ⌜ lineLength ≤ length (now out) ⌝ }
+    ensures { λ r. ⌜ Put (now (out .entry)) (now (out .exit)) 0 r (restText s rest) × (r ≤ lineLength) ⌝ }
 {
     if is_over(s.stopped, s.n, rest) {
         return 0;

@@ -14,7 +14,7 @@ use Rattle.bodies.specs.Limits.{isEdition}
 use Rattle.queues.specs.Waiting.{limitInside, hasRoom}
 use Rattle.station_spec.specs.declared.Setup.{Setup}
 use Rattle.station_spec.specs.declared.Station.{Station}
-use Rattle.station_spec.specs.Limits.{stationInside}
+use Rattle.station_spec.specs.Limits.{stationInside, allowed}
 use Rattle.station_spec.specs.Hearing.{Hearing, initialHearing, hearFrame}
 use Rattle.station_spec.specs.Turn.{afterTurn}
 use Rattle.station_spec.specs.State.{aloneSetup, freshStation}
@@ -124,7 +124,7 @@ module _ (s : Station) (shape : Shaped s) (f : Fitting s) where
     unfolding heard
     heard-keeps =
         let high = inside-open s hear-inside .high in
-        frame-keeps (initialHearing s) (recordsOf bytes) (all-fit (s .edition) (s .n) high (recordsOf bytes) (frame-carried (s .edition) (s .n) bytes records-fine) (frame-words bytes small))
+        frame-keeps (initialHearing s) (recordsOf bytes) (all-fit (allowed s) (s .n) high (recordsOf bytes) (frame-carried s bytes records-fine) (frame-words bytes small))
         (record { shape = shape; fitting = f; size = high })
 
     pub hear-again : Again ((hearCall s bytes) .station)

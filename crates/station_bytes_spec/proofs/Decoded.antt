@@ -8,6 +8,7 @@ use lib.Dec.{ltb}
 use lib.ListN.{getD, drop, length, length-take, List·getD-eq-default}
 use lib.Seq.{getD-take, getD-drop}
 use borrow.Author.Tests.{ltb-true, ltb-false}
+use Rattle.bodies.specs.declared.Body.{Body}
 use Rattle.bodies.specs.Body.{bodyOf}
 use Rattle.lists.specs.Below.{tabulate}
 use Rattle.lists.proofs.Laws.{length-tabulate, tabulate-at}
@@ -158,6 +159,6 @@ frame-words bytes h = go (getD bytes 2 0)
     ]
 
 -- with their stations below n
-pub all-fit : (edition n : ℕ) → n ≤ 16 → (rs : List Record) → AllCarried edition n rs → AllWords rs → AllFit rs
-all-fit edition n high [] c no-words = none
-all-fit edition n high (r ∷ rs) c (more-words g all) = more {r = r} {rs = rs} (omega (arith, c .0 .station)) g (all-fit edition n high rs (c .1) all)
+pub all-fit : (inside : Body → Bool) (n : ℕ) → n ≤ 16 → (rs : List Record) → AllCarried inside n rs → AllWords rs → AllFit rs
+all-fit inside n high [] c no-words = none
+all-fit inside n high (r ∷ rs) c (more-words g all) = more {r = r} {rs = rs} (omega (arith, c .0 .station)) g (all-fit inside n high rs (c .1) all)

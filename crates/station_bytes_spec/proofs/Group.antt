@@ -12,7 +12,7 @@ use borrow.Author.Tests.{eqb-true, eq-eqb}
 use Rattle.lists.specs.Below.{allBelow, tabulate}
 use Rattle.lists.proofs.Laws.{and-both, both, allBelow-at, allBelow-make, tabulate-at}
 use Rattle.station_spec.specs.declared.Station.{Station}
-use Rattle.station_spec.specs.State.{noStation}
+use Rattle.station_spec.specs.Absent.{noStation}
 use Rattle.group_spec.specs.State.{stationAt}
 use Rattle.station_bytes_spec.specs.Bytes.{span}
 use Rattle.station_bytes_spec.specs.Station.{stationWidth, encodeStation, decodeStation, isStationAt}

@@ -19,9 +19,11 @@ use Rattle.frame_spec.specs.declared.Record.{Record}
 use Rattle.frame_spec.specs.Record.{recordLabel, framed}
 use Rattle.queues.specs.Waiting.{deskCount}
 use Rattle.queues.proofs.WaitingLaws.{limit-most, inside-limit, inside-most}
+use Rattle.station_spec.specs.Limits.{allowed}
 use Rattle.station_spec.specs.declared.Setup.{Setup}
 use Rattle.station_spec.specs.declared.Station.{Station}
-use Rattle.station_spec.specs.State.{heldOf, recordOf, sentRecords, aloneSetup, freshStation, noStation}
+use Rattle.station_spec.specs.State.{heldOf, recordOf, sentRecords, aloneSetup, freshStation}
+use Rattle.station_spec.specs.Absent.{noStation}
 use Rattle.station_spec.specs.Hearing.{hearFrame}
 use Rattle.station_spec.specs.Calls.{posted}
 use Rattle.station_spec.proofs.Setters.{Shaped}
@@ -57,8 +59,8 @@ inside-bytes s i =
       n = omega (arith, i .high);
       own = omega (arith, i .own, i .high);
       edition = omega (arith, i .known);
-      count = λ d. omega (arith, inside-most (s .edition) (s .waiting) (i .waiting) d);
-      limit = omega (arith, limit-most (s .waiting .limit) (inside-limit (s .edition) (s .waiting) (i .waiting)));
+      count = λ d. omega (arith, inside-most (allowed s) (s .waiting) (i .waiting) d);
+      limit = omega (arith, limit-most (s .waiting .limit) (inside-limit (allowed s) (s .waiting) (i .waiting)));
     }
 
 fits : (s : Station) → Shaped s → Fitting s → OneByte s → StationFits s
@@ -211,7 +213,7 @@ module _ (n : ℕ) (g : List Station) (c : Kept n g) (masks : List ℕ) where
     sent-fits i j l b =
         let s = stationAt g j in
         let inside = m .member j b .inside in
-        all-fit (s .edition) (s .n) (size-of j b) (sentRecords s) (sent-carried s inside (run .counts j (omega (arith, m .size)))) (sent-words s (size-of j b) (c .fitting j (omega (arith, m .high))))
+        all-fit (allowed s) (s .n) (size-of j b) (sentRecords s) (sent-carried s inside (run .counts j (omega (arith, m .size)))) (sent-words s (size-of j b) (c .fitting j (omega (arith, m .high))))
 
     heard-keeps : (i j : ℕ) → i < n → j ≤ n → Keeps ((heardBelow g masks i j) .station)
     unfolding heardBelow

@@ -8,7 +8,7 @@ use Rattle.queues.specs.Waiting.{deskCount, waitingAt}
 use Rattle.queues.proofs.WaitingLaws.{limit-most, inside-limit, inside-most}
 use Rattle.station_spec.specs.declared.Station.{Station}
 use Rattle.station_spec.specs.State.{cellOf}
-use Rattle.station_spec.specs.Limits.{stationInside}
+use Rattle.station_spec.specs.Limits.{stationInside, allowed}
 use Rattle.station_spec.proofs.Setters.{Shaped}
 use Rattle.station_spec.proofs.StationLimits.{inside-open}
 use Rattle.station_bytes_spec.specs.Station.{encodeStation, decodeStation, isStation}
@@ -24,10 +24,10 @@ pub record Typed (s : Station) : Type 0 where
 
 module _ (s : Station) (t : Typed s) (h : stationInside s ≡ true) where
   few-wait : (d : ℕ) → deskCount (s .waiting) d < 256
-  few-wait d = omega (arith, inside-most (s .edition) (s .waiting) (inside-open s h .waiting) d)
+  few-wait d = omega (arith, inside-most (allowed s) (s .waiting) (inside-open s h .waiting) d)
 
   limit-small : s .waiting .limit < 256
-  limit-small = omega (arith, limit-most (s .waiting .limit) (inside-limit (s .edition) (s .waiting) (inside-open s h .waiting)))
+  limit-small = omega (arith, limit-most (s .waiting .limit) (inside-limit (allowed s) (s .waiting) (inside-open s h .waiting)))
 
   pub inside-fits : StationFits s
   inside-fits =

@@ -1,4 +1,5 @@
--- What a turn and a round report, as bytes, and the set of stations that a body was taken from. include/relay.h gives the place of each field.
+-- What a turn and a round report, as bytes, and the set of stations that a body was taken from. include/relay.h gives
+-- the place of each field.
 use Prim.Native.Nat.{ℕ, _+_, _*_}
 use mathlib.Core.Bool.{Bool, false}
 use mathlib.Core.List.{List, [], _∷_, _++_}

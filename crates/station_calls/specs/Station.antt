@@ -1,5 +1,6 @@
--- What the calls on a station that lies as bytes return and write. Each is the station's call of document 01 on the decoded station: bytes that are no station are
--- refused with 2 as a station outside its limits is, and a lent buffer that is too short is refused last.
+-- What the calls on a station that lies as bytes return and write. Each is the station's call of document 01 on the
+-- decoded station: bytes that are no station are refused with 2 as a station outside its limits is, and a lent buffer
+-- that is too short is refused last.
 use Prim.Native.Nat.{ℕ}
 use mathlib.Core.Bool.{cond, not}
 use mathlib.Core.List.{List, [], _∷_}
@@ -39,7 +40,8 @@ stationOf b = decodeStation b 0
 -- the body that four numbers name: Empty, which is no edit, where kind, event and argument are those of none inside its
 -- limits; a channel above 255 counts as 255, which is none of an edition
 unfoldable pub namedBody : ℕ → ℕ → ℤ → ℕ → Body
-namedBody kind event argument channel = cond (numbersInside kind event argument) (bodyOf kind event argument (asByte channel)) Empty
+namedBody kind event argument channel =
+    cond (numbersInside kind event argument) (bodyOf kind event argument (asByte channel)) Empty
 
 -- fresh, by what the station's call answers: 1, 13, 17, 9
 unfoldable pub freshReturned : StationAnswer → List ℕ → ℕ
@@ -55,7 +57,8 @@ postReturned state desk body = orElse (stationRefusal state) ((postAnswer state 
 -- write: 2, 10, 9
 unfoldable pub writeReturned : List ℕ → List ℕ → List ℕ → ℕ
 writeReturned state frame lengths =
-    orElse (stationRefusal state) (orElse ((writeCall (stationOf state) (length frame)) .refusal) (roomRefusal 1 lengths))
+    orElse (stationRefusal state)
+    (orElse ((writeCall (stationOf state) (length frame)) .refusal) (roomRefusal 1 lengths))
 
 -- hear: 2, 5, 6, 7, 14, 8, 9
 abbrev pub hearAnswer : List ℕ → List ℕ → Heard
@@ -70,4 +73,5 @@ abbrev pub turnAnswer : List ℕ → Turned
 turnAnswer state = turnCall (stationOf state)
 
 unfoldable pub turnReturned : List ℕ → List ℕ → ℕ
-turnReturned state report = orElse (stationRefusal state) (orElse ((turnAnswer state) .refusal) (roomRefusal turnWidth report))
+turnReturned state report =
+    orElse (stationRefusal state) (orElse ((turnAnswer state) .refusal) (roomRefusal turnWidth report))

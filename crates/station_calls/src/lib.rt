@@ -8,7 +8,8 @@ ghost use Rattle.station_spec.specs.State.{sized};
 ghost use Rattle.station_spec.specs.Calls.{freshCall, frameOf};
 ghost use Rattle.station_bytes_spec.specs.Station.{encodeStation};
 ghost use Rattle.station_bytes_spec.specs.Reports.{encodeFlags, encodeTurn};
-ghost use Rattle.station_calls.specs.Station.{stationOf, namedBody, freshReturned, postAnswer, postReturned, writeReturned, hearAnswer, hearReturned, turnAnswer, turnReturned};
+ghost use Rattle.station_calls.specs.Station.{stationOf, namedBody, freshReturned, postAnswer, postReturned};
+ghost use Rattle.station_calls.specs.Station.{writeReturned, hearAnswer, hearReturned, turnAnswer, turnReturned};
 use bodies::Body;
 use bodies::refusals::DONE;
 use bodies::refusals::OUTSIDE_LIMITS;
@@ -60,9 +61,11 @@ pub fn fresh(state: &mut [u8], n: u32, own: u32) -> u32
 
 // Fresh, with a limit named.
 pub fn fresh_limited(state: &mut [u8], n: u32, own: u32, limit: u32) -> u32
-    ensures { λ r. ⌜ (r ≡ freshReturned (freshCall (record { n = n; limit = limit; edition = 0 }) own) (now (state .entry)))
+    ensures { λ r.
+        ⌜ (r ≡ freshReturned (freshCall (record { n = n; limit = limit; edition = 0 }) own) (now (state .entry)))
         × (now (state .exit) ≡ frontWritten r
-        (encodeStation (freshCall (record { n = n; limit = limit; edition = 0 }) own .station)) (now (state .entry))) ⌝ }
+        (encodeStation (freshCall (record { n = n; limit = limit; edition = 0 }) own .station))
+        (now (state .entry))) ⌝ }
 {
     let setup = Setup {
         n: n as usize,
@@ -75,7 +78,8 @@ pub fn fresh_limited(state: &mut [u8], n: u32, own: u32, limit: u32) -> u32
 
 // Fresh, with a limit and an edition named.
 pub fn fresh_edition(state: &mut [u8], n: u32, own: u32, limit: u32, edition: u32) -> u32
-    ensures { λ r. ⌜ (r ≡ freshReturned (freshCall (record { n = n; limit = limit; edition = edition }) own) (now (state .entry)))
+    ensures { λ r.
+        ⌜ (r ≡ freshReturned (freshCall (record { n = n; limit = limit; edition = edition }) own) (now (state .entry)))
         × (now (state .exit) ≡ frontWritten r
         (encodeStation (freshCall (record { n = n; limit = limit; edition = edition }) own .station))
         (now (state .entry))) ⌝ }
@@ -169,7 +173,8 @@ pub fn hear(state: &mut [u8], frame: &[u8], taken: &mut [u8]) -> u32
 // Turn: the round is closed, and its report goes into a lent buffer.
 pub fn turn(state: &mut [u8], report: &mut [u8]) -> u32
     ensures { λ r. ⌜ (r ≡ turnReturned (now (state .entry)) (now (report .entry)))
-        × (now (state .exit) ≡ frontWritten r (encodeStation (turnAnswer (now (state .entry)) .station)) (now (state .entry)))
+        × (now (state .exit)
+        ≡ frontWritten r (encodeStation (turnAnswer (now (state .entry)) .station)) (now (state .entry)))
         × (now (report .exit) ≡ frontWritten r (encodeTurn (turnAnswer (now (state .entry)) .report))
         (now (report .entry))) ⌝ }
 {

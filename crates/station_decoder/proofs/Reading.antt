@@ -25,7 +25,7 @@ use Rattle.queues.specs.declared.Waiting.{Waiting}
 use Rattle.queues.specs.Lane.{noLane}
 use Rattle.queues.specs.Queue.{noSlot}
 use Rattle.station_spec.specs.declared.Station.{Station}
-use Rattle.station_spec.specs.State.{noStation}
+use Rattle.station_spec.specs.Absent.{noStation}
 use Rattle.station_bytes_spec.specs.Body.{bodyOfWords, wordsRight, decodeBody, isBody, decodeRecord, isRecord}
 use Rattle.station_bytes_spec.specs.Waiting.{decodeEdits, areEdits, secondPlace, decodeWaiting, isWaiting}
 use Rattle.station_bytes_spec.specs.Station.{cellWidth, decodeLane, decodeCell, isCell, cellIn, waitingPlace, decodeStation, isStationAt, stationWidth, isStation}

@@ -1,4 +1,5 @@
-// Stations and groups read from bytes. Bytes are judged first, and then read: reading gives a station for any bytes that are long enough.
+// Stations and groups read from bytes. Bytes are judged first, and then read: reading gives a station for any bytes
+// that are long enough.
 
 ghost use mathlib.Core.Path.{_≡_};
 ghost use mathlib.Core.Bool.{true};
@@ -6,9 +7,12 @@ ghost use Prim.Native.Nat.{ℕ, _+_, _≤_, _<_};
 ghost use lib.ListN.{length};
 ghost use Rattle.lists.specs.Below.{allBelow};
 ghost use Rattle.station_bytes_spec.specs.Bytes.{byteAt};
-ghost use Rattle.station_bytes_spec.specs.Body.{bodyOfWords, wordsRight, decodeBody, isBody, recordWidth, decodeRecord, isRecord};
-ghost use Rattle.station_bytes_spec.specs.Waiting.{editsWidth, decodeEdits, areEdits, waitingWidth, decodeWaiting, isWaiting};
-ghost use Rattle.station_bytes_spec.specs.Station.{cellWidth, decodeLane, isCell, cellsWidth, stationWidth, decodeStation, isStationAt, isStation};
+ghost use Rattle.station_bytes_spec.specs.Body.{bodyOfWords, wordsRight, decodeBody, isBody, recordWidth, decodeRecord};
+ghost use Rattle.station_bytes_spec.specs.Body.{isRecord};
+ghost use Rattle.station_bytes_spec.specs.Waiting.{editsWidth, decodeEdits, areEdits, waitingWidth, decodeWaiting};
+ghost use Rattle.station_bytes_spec.specs.Waiting.{isWaiting};
+ghost use Rattle.station_bytes_spec.specs.Station.{cellWidth, decodeLane, isCell, cellsWidth, stationWidth};
+ghost use Rattle.station_bytes_spec.specs.Station.{decodeStation, isStationAt, isStation};
 ghost use Rattle.station_bytes_spec.specs.Group.{groupWidth, decodeGroup, isGroup};
 ghost use Prim.Native.Nat.{_*_};
 use bodies::Body;

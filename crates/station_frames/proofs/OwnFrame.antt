@@ -23,6 +23,7 @@ use Rattle.frame_spec.proofs.Limits.{fits-make}
 use Rattle.frame_spec.proofs.RecordTrip.{record-read}
 use Rattle.frame_spec.proofs.FrameTrip.{part-of-frame}
 use Rattle.frame_spec.proofs.Bytes.{length-frame}
+use Rattle.station_spec.proofs.BodyLaws.{allowed-inside}
 use Rattle.station_spec.specs.declared.Station.{Station}
 use Rattle.station_spec.specs.State.{heldOf, recordOf, sentRecords}
 use Rattle.station_spec.specs.Calls.{frameOf}
@@ -78,7 +79,7 @@ read-any edition n r few below body labels =
     let plain : Record = record { station = r .station; count = 0; body = r .body; labels = r .labels } in
     let e : recordFrom (recordBytes n plain) ≡ framed n plain =
     record-read edition n plain few
-    (fits-make edition n plain (record { station = below; count = le-leb 0 (2 * (n - 1)) (omega arith); body = body; labels = labels })) in
+    (fits-make (bodyInside edition) n plain (record { station = below; count = le-leb 0 (2 * (n - 1)) (omega arith); body = body; labels = labels })) in
     λ i. record { station = r .station; count = r .count; body = (e i) .body; labels = (e i) .labels }
 
 -- ---- a frame at the beginning of bytes
@@ -177,7 +178,7 @@ module _ (s : Station) (c : Inside s) where
       let station : (sent k) .station < s .n = omega (arith, p .station) in
       record {
         back =
-            read-any (s .edition) (s .n) (sent k) (c .high) station (p .body) (λ j b. ap isLabel (framed-label (s .n) (recordOf s k) j b) ∙ p .labels j b)
+            read-any (s .edition) (s .n) (sent k) (c .high) station (allowed-inside s ((recordOf s k) .body) (p .body)) (λ j b. ap isLabel (framed-label (s .n) (recordOf s k) j b) ∙ p .labels j b)
             ∙ framed-twice (s .n) (recordOf s k);
         below = station;
       }

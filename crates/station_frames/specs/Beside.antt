@@ -39,5 +39,7 @@ pub record Acts (s : Station) (frame both places taken : List ℕ) (e : Ear) : T
 
 -- what is heard of a frame, beside the own one
 pub record HearsBeside (s : Station) (frame both places taken : List ℕ) (e : Ear) : Type 0 where
-  pub refused : (e .refusal ≡ done → ⊥) → record { refusal = e .refusal; station = s; taken = replicate 16 false } ≡ hearCall s frame
+  pub refused :
+      (e .refusal ≡ done → ⊥) →
+      record { refusal = e .refusal; station = s; taken = replicate 16 false } ≡ hearCall s frame
   pub heard : e .refusal ≡ done → Acts s frame both places taken e

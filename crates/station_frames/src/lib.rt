@@ -28,7 +28,8 @@ pub const BOTH_ROOM: usize = 520;
 
 // Write frame: the table's records into the buffer, whose bytes past the frame are kept.
 pub fn write(s: Station, buffer: &mut [u8]) -> Written
-    ensures { λ r. ⌜ (r ≡ writeCall s (length (now (buffer .entry)))) × (now (buffer .exit) ≡ bufferAfter s (now (buffer .entry))) ⌝ }
+    ensures { λ r. ⌜ (r ≡ writeCall s (length (now (buffer .entry))))
+        × (now (buffer .exit) ≡ bufferAfter s (now (buffer .entry))) ⌝ }
 {
     if !station_limits::station_inside(s) {
         return Written {

@@ -1,9 +1,11 @@
-// When a station is inside its limits. Entries from N up, places past a length, and records that are not held are not looked at.
+// When a station is inside its limits. Entries from N up, places past a length, and records that are not held are not
+// looked at.
 
 ghost use mathlib.Core.Path.{_≡_};
 ghost use mathlib.Core.Bool.{cond, not, _||_};
 ghost use Prim.Native.Nat.{_≤_, _<_};
 ghost use lib.Dec.{eqb};
+ghost use Rattle.bodies.specs.Limits.{bodyInside};
 ghost use Rattle.frame_spec.specs.Record.{countInside};
 ghost use Rattle.station_spec.specs.Limits as spec;
 use bodies::Body;
@@ -13,7 +15,7 @@ use station_spec::Station;
 
 // May a lane hold this body in an edition?
 fn takeable(edition: usize, body: Body) -> bool
-    ensures { λ r. ⌜ r ≡ spec.takeable edition body ⌝ }
+    ensures { λ r. ⌜ r ≡ spec.takeable (bodyInside edition) body ⌝ }
 {
     if bodies::is_empty(body) {
         return false;
@@ -32,7 +34,7 @@ fn lane_room(k: usize, own: usize) -> u8
 }
 
 fn lane_inside(edition: usize, most: u8, lane: Lane) -> bool
-    ensures { λ r. ⌜ r ≡ spec.laneInside edition most lane ⌝ }
+    ensures { λ r. ⌜ r ≡ spec.laneInside (bodyInside edition) most lane ⌝ }
 {
     let len = lane.len;
     if most < len {
@@ -66,7 +68,7 @@ fn count_inside(n: usize, own: usize, k: usize, count: u8) -> bool
 // Is this a record of station k, inside its limits, in the table of station own among n?
 fn record_inside(edition: usize, n: usize, own: usize, k: usize, record: Record) -> bool
     requires { ⌜ (n ≤ 16) × (k < n) ⌝ }
-    ensures { λ r. ⌜ r ≡ spec.recordInside edition n own k «record» ⌝ }
+    ensures { λ r. ⌜ r ≡ spec.recordInside (bodyInside edition) n own k «record» ⌝ }
 {
     if record.station as usize != k {
         return false;
@@ -84,7 +86,7 @@ fn record_inside(edition: usize, n: usize, own: usize, k: usize, record: Record)
 // Is the record of station k inside its limits, if one is held?
 fn held_inside(edition: usize, n: usize, own: usize, k: usize, held: bool, record: Record) -> bool
     requires { ⌜ (n ≤ 16) × (k < n) ⌝ }
-    ensures { λ r. ⌜ r ≡ (not held || spec.recordInside edition n own k «record») ⌝ }
+    ensures { λ r. ⌜ r ≡ (not held || spec.recordInside (bodyInside edition) n own k «record») ⌝ }
 {
     if !held {
         return true;
@@ -92,8 +94,8 @@ fn held_inside(edition: usize, n: usize, own: usize, k: usize, held: bool, recor
     record_inside(edition, n, own, k, record)
 }
 
-// Is what a station of number own among n has of station k inside its limits in an edition: its label, its record where one
-// is held, its lane?
+// Is what a station of number own among n has of station k inside its limits in an edition: its label, its record
+// where one is held, its lane?
 fn place_inside(
     edition: usize,
     n: usize,
@@ -105,7 +107,7 @@ fn place_inside(
     lane: Lane,
 ) -> bool
     requires { ⌜ (n ≤ 16) × (k < n) ⌝ }
-    ensures { λ r. ⌜ r ≡ spec.entryInside edition n own k label held «record» lane ⌝ }
+    ensures { λ r. ⌜ r ≡ spec.entryInside (bodyInside edition) n own k label held «record» lane ⌝ }
 {
     if 2 < label {
         return false;

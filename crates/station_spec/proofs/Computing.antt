@@ -12,13 +12,13 @@ use Rattle.queues.specs.Lane.{bodies, laneOf}
 use Rattle.queues.specs.Queue.{emptyQueue, queued, oldest, unqueued, queueBodies, queueInside}
 use Rattle.queues.specs.Waiting.{noneWaiting, queueOf, waitingEdits, deskCount, waitingCount, hasRoom, withPosted, firstDesk, nextDesk, nextEdit, withoutNext, waitingInside}
 use Rattle.station_spec.specs.State.{cellOf, withCell, withAcked, withLanes, sentRecords, freshStation}
-use Rattle.station_spec.specs.Limits.{stationInside, placeInside, recordInside, laneInside}
+use Rattle.station_spec.specs.Limits.{stationInside, placeInside, allowed, recordInside, laneInside}
 use Rattle.station_spec.specs.Hearing.{agree, replaced, heardNewer, heardAs, hearRecord, hearRecords, hearFrame}
 use Rattle.station_spec.specs.Turn.{airs, rowOf, afterAiring, broadcastEnds, startedBody, begins, takesOwn, afterEnd, ownRecord, withOwnRecord, afterTurn, turnReport}
 use Rattle.station_spec.specs.Calls.{posted, postCall, frameOf, hearCall, noTurn}
 
 unfoldable pub stationRuns : Unit {0}
-unfolding postable bodyInside insideKind numbersInside channelInside mayWait isNewer ageOf labelIn packed labelsOver labelsInside recordLabel allBelow anyBelow setBelow filterMap tabulate framed bodies laneOf emptyQueue queued oldest unqueued queueBodies queueInside noneWaiting queueOf waitingEdits deskCount waitingCount hasRoom withPosted firstDesk nextDesk nextEdit withoutNext waitingInside cellOf withCell withAcked withLanes sentRecords freshStation stationInside placeInside recordInside laneInside agree replaced heardNewer heardAs hearRecord hearRecords hearFrame airs rowOf afterAiring broadcastEnds startedBody begins takesOwn afterEnd ownRecord withOwnRecord afterTurn turnReport posted postCall noTurn
+unfolding postable bodyInside insideKind numbersInside channelInside mayWait isNewer ageOf labelIn packed labelsOver labelsInside recordLabel allBelow anyBelow setBelow filterMap tabulate framed bodies laneOf emptyQueue queued oldest unqueued queueBodies queueInside noneWaiting queueOf waitingEdits deskCount waitingCount hasRoom withPosted firstDesk nextDesk nextEdit withoutNext waitingInside cellOf withCell withAcked withLanes sentRecords freshStation stationInside placeInside allowed recordInside laneInside agree replaced heardNewer heardAs hearRecord hearRecords hearFrame airs rowOf afterAiring broadcastEnds startedBody begins takesOwn afterEnd ownRecord withOwnRecord afterTurn turnReport posted postCall noTurn
 stationRuns = tt
 
 unfoldable pub frameRuns : Unit {0}

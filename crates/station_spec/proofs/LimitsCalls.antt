@@ -8,8 +8,7 @@ use native.Mathlib.Omega.{arith}
 use lib.Dec.{ltb, eqb}
 use lib.ListN.{getD}
 use Rattle.bodies.specs.declared.Body.{Body}
-use Rattle.bodies.specs.Limits.{isEdition, postable, onChannel}
-use Rattle.bodies.proofs.LimitLaws.{waiting-make}
+use Rattle.bodies.specs.Limits.{isEdition, postable, onChannel, bodyInside}
 use borrow.Author.Tests.{eqb-true}
 use Rattle.bodies.specs.Refusals.{done}
 use Rattle.frame_spec.specs.Record as frames
@@ -22,10 +21,11 @@ use Rattle.queues.specs.Waiting.{isDesk, limitInside, hasRoom}
 use Rattle.station_spec.specs.declared.Setup.{Setup}
 use Rattle.station_spec.specs.declared.Station.{Station}
 use Rattle.station_spec.specs.declared.Heard.{Heard}
-use Rattle.station_spec.specs.Limits.{stationInside}
+use Rattle.station_spec.specs.Limits.{allowed, stationInside}
 use Rattle.station_spec.specs.Hearing.{Hearing, initialHearing, hearFrame}
 use Rattle.station_spec.specs.State.{aloneSetup}
 use Rattle.station_spec.specs.Calls.{freshCall, posted, postCall, hearCall, turnCall}
+use Rattle.station_spec.proofs.BodyLaws.{post-allowed, carried-allowed}
 use Rattle.station_spec.proofs.Setters.{Shaped}
 use Rattle.station_spec.proofs.LimitsFresh.{fresh-inside, posted-inside}
 use Rattle.station_spec.proofs.LimitsHear.{Carried}
@@ -35,32 +35,33 @@ use Rattle.station_spec.proofs.LimitsTurn.{turn-inside}
 
 -- sixteen bytes inside the record limits
 pub bytes-carried :
-    (edition n : ℕ) (bytes : List ℕ) → frames.bytesInside edition n bytes ≡ true → Carried edition n (frames.recordFrom bytes)
-bytes-carried edition n bytes h =
-    let l = fits-open edition n (frames.recordFrom bytes) (held-fits edition n bytes h) in
-    record { station = l .station; count = l .count; body = l .body; labels = l .labels }
+    (s : Station) (bytes : List ℕ) → frames.bytesInside (s .edition) (s .n) bytes ≡ true → Carried (allowed s) (s .n) (frames.recordFrom bytes)
+bytes-carried s bytes h =
+    let r = frames.recordFrom bytes in
+    let l = fits-open (bodyInside (s .edition)) (s .n) r (held-fits (s .edition) (s .n) bytes h) in
+    record { station = l .station; count = l .count; body = carried-allowed s (r .body) (l .body); labels = l .labels }
 
 -- a frame that passes the check of its records
-pub frame-carried : (edition n : ℕ) (bytes : List ℕ) → recordsInside edition bytes n ≡ true → AllCarried edition n (recordsOf bytes)
+pub frame-carried : (s : Station) (bytes : List ℕ) → recordsInside (s .edition) bytes (s .n) ≡ true → AllCarried (allowed s) (s .n) (recordsOf bytes)
 unfolding recordsInside recordsOf
-frame-carried edition n bytes h = go (getD bytes 2 0) (omega arith)
+frame-carried s bytes h = go (getD bytes 2 0) (omega arith)
   where
     fine : ℕ → Bool
-    fine k = frames.bytesInside edition n (part bytes k) && (eqb k 0 || ltb (recordStation bytes (pred k)) (recordStation bytes k))
+    fine k = frames.bytesInside (s .edition) (s .n) (part bytes k) && (eqb k 0 || ltb (recordStation bytes (pred k)) (recordStation bytes k))
 
-    each : (k : ℕ) → k < getD bytes 2 0 → Carried edition n (frames.recordFrom (part bytes k))
+    each : (k : ℕ) → k < getD bytes 2 0 → Carried (allowed s) (s .n) (frames.recordFrom (part bytes k))
     each k l =
-        bytes-carried edition n (part bytes k)
-        (and-left (frames.bytesInside edition n (part bytes k)) (eqb k 0 || ltb (recordStation bytes (pred k)) (recordStation bytes k))
+        bytes-carried s (part bytes k)
+        (and-left (frames.bytesInside (s .edition) (s .n) (part bytes k)) (eqb k 0 || ltb (recordStation bytes (pred k)) (recordStation bytes k))
         (allBelow-at (getD bytes 2 0) fine
         (and-left (allBelow (getD bytes 2 0) fine) (anyBelow (getD bytes 2 0) (λ k. eqb (recordStation bytes k) (getD bytes 1 0))) h) k l))
 
-    go : (m : ℕ) → m ≤ getD bytes 2 0 → AllCarried edition n (tabulate m (λ k. frames.recordFrom (part bytes k)))
+    go : (m : ℕ) → m ≤ getD bytes 2 0 → AllCarried (allowed s) (s .n) (tabulate m (λ k. frames.recordFrom (part bytes k)))
     go m = elim m [
       | zero ↦ λ l. unfold tabulate in tt
       | suc (j → ih) ↦
           λ l. unfold tabulate in
-          (carried-append edition n (tabulate j (λ k. frames.recordFrom (part bytes k))) (frames.recordFrom (part bytes j) ∷ [])
+          (carried-append (allowed s) (s .n) (tabulate j (λ k. frames.recordFrom (part bytes k))) (frames.recordFrom (part bytes j) ∷ [])
           (ih (omega arith)) (each j l, tt))
     ]
 
@@ -84,7 +85,7 @@ module _ (s : Station) (shape : Shaped s) (inside : stationInside s ≡ true) wh
       go :
           (k e c f : Bool) → postable b ≡ e → onChannel (s .edition) b ≡ c → hasRoom (s .waiting) d ≡ f →
           stationInside (cond (eqb (cond (not k) 15 (cond (not e) 4 (cond (not c) 17 (cond (not f) 3 0)))) 0) (posted s d b) s) ≡ true
-      go true true true true p o q = posted-inside s d b shape inside (waiting-make (s .edition) b p o) q
+      go true true true true p o q = posted-inside s d b shape inside (post-allowed s b p o) q
       go true true true false p o q = inside
       go true true false f p o q = inside
       go true false c f p o q = inside
@@ -136,6 +137,6 @@ module _ (s : Station) (shape : Shaped s) (inside : stationInside s ≡ true) wh
           stationInside (cond (eqb (cond (not a) (frameRefusal (s .edition) bytes (s .n) (s .own)) (heard .refusal)) done) (heard .station) s) ≡ true
       go true true p q =
           rw q
-          (hearFrame-inside (initialHearing s) (recordsOf bytes) shape inside (frame-carried (s .edition) (s .n) bytes (frame-fine bytes p)) (eqb-true _ done q))
+          (hearFrame-inside (initialHearing s) (recordsOf bytes) shape inside (frame-carried s bytes (frame-fine bytes p)) (eqb-true _ done q))
       go true false p q = rw q inside
       go false b p q = rw p inside

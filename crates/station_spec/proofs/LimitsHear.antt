@@ -7,8 +7,8 @@ use native.Mathlib.Decide.{ℕ-discrete}
 use native.Mathlib.Omega.{arith}
 use lib.Dec.{leb, eqb}
 use borrow.Author.Tests.{leb-false, le-leb, ne-eqb, eqb-false, not-true}
+use Rattle.bodies.specs.declared.Body.{Body}
 use Rattle.bodies.specs.Body.{isEmpty}
-use Rattle.bodies.specs.Limits.{bodyInside}
 use Rattle.labels.specs.Label.{isLabel, successor}
 use Rattle.labels.specs.Newer.{isNewer}
 use Rattle.frame_spec.specs.declared.Record.{Record}
@@ -18,19 +18,20 @@ use Rattle.lists.proofs.Keeps.{cond-keeps}
 use Rattle.station_spec.specs.declared.Station.{Station}
 use Rattle.queues.specs.Lane.{pushed}
 use Rattle.station_spec.specs.State.{Cell, cellOf, labelOf, heldOf, recordOf, laneAt, ownLabel}
-use Rattle.station_spec.specs.Limits.{laneInside, takeable}
+use Rattle.station_spec.specs.Limits.{laneInside, takeable, allowed}
 use Rattle.station_spec.specs.Hearing.{advances, takes, replaced, heardNewer}
+use Rattle.station_spec.proofs.BodyLaws.{allowed-same}
 use Rattle.station_spec.proofs.HearRecord.{accepts}
 use Rattle.station_spec.proofs.Setters.{Shaped}
 use Rattle.station_spec.proofs.LimitsLane.{pushed-inside}
 use Rattle.station_spec.proofs.StationLimits.{RecordHolds, CellHolds, Inside, inside-as}
 use Rattle.station_spec.proofs.Cells.{replaced-label, replaced-station, replaced-count, replaced-body, heard-n, heard-own, heard-edition, heard-waiting, heard-body, heard-here, heard-other}
 
--- a record that a frame of an edition among n stations may carry
-pub record Carried (edition n : ℕ) (r : Record) : Type 0 where
+-- a record that a frame among n stations may carry
+pub record Carried (inside : Body → Bool) (n : ℕ) (r : Record) : Type 0 where
   pub station : r .station < n
   pub count : countInside n (r .count) ≡ true
-  pub body : bodyInside edition (r .body) ≡ true
+  pub body : inside (r .body) ≡ true
   pub labels : (j : ℕ) → j < n → isLabel (recordLabel r j) ≡ true
 
 pub successor-label : (x : ℕ) → isLabel (successor x) ≡ true
@@ -46,13 +47,13 @@ accepts-other s r h =
     (ownLabel r) (r .count)) h))
 
 takes-takeable :
-    (edition : ℕ) (s : Station) (r : Record) → bodyInside edition (r .body) ≡ true → takes s r ≡ true → takeable edition (r .body) ≡ true
-takes-takeable edition s r b h =
+    (inside : Body → Bool) (s : Station) (r : Record) → inside (r .body) ≡ true → takes s r ≡ true → takeable inside (r .body) ≡ true
+takes-takeable inside s r b h =
     and-both (and-right (advances s r) (not (isEmpty (r .body))) h) b
 
-module _ (s : Station) (r : Record) (shape : Shaped s) (c : Inside s) (carry : Carried (s .edition) (s .n) r) where
+module _ (s : Station) (r : Record) (shape : Shaped s) (c : Inside s) (carry : Carried (allowed s) (s .n) r) where
   replaced-holds :
-      (own : ℕ) → RecordHolds (s .edition) (s .n) own (r .station) (replaced (s .n) (recordOf s (r .station)) r)
+      (own : ℕ) → RecordHolds (allowed s) (s .n) own (r .station) (replaced (s .n) (recordOf s (r .station)) r)
   replaced-holds own =
       let old = recordOf s (r .station) in
       record {
@@ -67,19 +68,19 @@ module _ (s : Station) (r : Record) (shape : Shaped s) (c : Inside s) (carry : C
       cond-or false b e = e
 
   heard-lane-inside :
-      (accepts s r ≡ true) → (takes s r && leb 2 ((laneAt s (r .station)) .len)) ≡ false → laneInside (s .edition) 2 (laneAt s (r .station)) ≡ true →
-      laneInside (s .edition) 2 (cond (takes s r) (pushed (laneAt s (r .station)) (r .body)) (laneAt s (r .station))) ≡ true
+      (accepts s r ≡ true) → (takes s r && leb 2 ((laneAt s (r .station)) .len)) ≡ false → laneInside (allowed s) 2 (laneAt s (r .station)) ≡ true →
+      laneInside (allowed s) 2 (cond (takes s r) (pushed (laneAt s (r .station)) (r .body)) (laneAt s (r .station))) ≡ true
   heard-lane-inside h full before = go (takes s r) refl
     where
-      go : (t : Bool) → takes s r ≡ t → laneInside (s .edition) 2 (cond t (pushed (laneAt s (r .station)) (r .body)) (laneAt s (r .station))) ≡ true
+      go : (t : Bool) → takes s r ≡ t → laneInside (allowed s) 2 (cond t (pushed (laneAt s (r .station)) (r .body)) (laneAt s (r .station))) ≡ true
       go true e =
           let room : (laneAt s (r .station)) .len < 2 = leb-false 2 ((laneAt s (r .station)) .len) (rw e at full) in
-          pushed-inside (s .edition) 2 (laneAt s (r .station)) (r .body) before room room (takes-takeable (s .edition) s r (carry .body) e)
+          pushed-inside (allowed s) 2 (laneAt s (r .station)) (r .body) before room room (takes-takeable (allowed s) s r (carry .body) e)
       go false e = before
 
   heard-cell :
       (accepts s r ≡ true) → (takes s r && leb 2 ((laneAt s (r .station)) .len)) ≡ false →
-      CellHolds (s .edition) (s .n) (s .own) (r .station) (cellOf (heardNewer s r) (r .station))
+      CellHolds (allowed s) (s .n) (s .own) (r .station) (cellOf (heardNewer s r) (r .station))
   heard-cell h full =
       let before = c .places (r .station) (carry .station) in
       let most : _≡_ {A = ℕ} (cond (eqb (r .station) (s .own)) 1 2) 2 = rw (ne-eqb (r .station) (s .own) (accepts-other s r h)) in
@@ -96,9 +97,9 @@ module _ (s : Station) (r : Record) (shape : Shaped s) (c : Inside s) (carry : C
       (accepts s r ≡ true) → (takes s r && leb 2 ((laneAt s (r .station)) .len)) ≡ false → Inside (heardNewer s r)
   heard-holds h full =
       let same = heard-other s r (s .own) (λ e. accepts-other s r h (sym e)) in
-      inside-as (s .edition) (s .n) (s .own) (heardNewer s r) (heard-edition s r) (heard-n s r) (heard-own s r)
+      inside-as (allowed s) (s .n) (s .own) (heardNewer s r) (allowed-same (heardNewer s r) s (heard-edition s r)) (heard-n s r) (heard-own s r)
       (record {
-        known = c .known;
+        known = omega (arith, heard-edition s r, c .known);
         low = c .low;
         high = c .high;
         own = c .own;
@@ -108,7 +109,7 @@ module _ (s : Station) (r : Record) (shape : Shaped s) (c : Inside s) (carry : C
         waiting = rw (heard-waiting s r) (c .waiting);
         places =
             λ j l. elim (ℕ-discrete j (r .station)) [
-              | yes e ↦ subst (λ (i : ℕ). CellHolds (s .edition) (s .n) (s .own) i (cellOf (heardNewer s r) i)) (sym e) (heard-cell h full)
+              | yes e ↦ subst (λ (i : ℕ). CellHolds (allowed s) (s .n) (s .own) i (cellOf (heardNewer s r) i)) (sym e) (heard-cell h full)
               | no d ↦ rw (heard-other s r j d) (c .places j l)
             ];
       })

@@ -9,15 +9,17 @@ use native.Mathlib.Omega.{arith}
 use lib.Dec.{leb, eqb}
 use lib.ListN.{length, length-append}
 use borrow.Author.Tests.{leb-false, eq-eqb, ne-eqb}
+use Rattle.bodies.specs.declared.Body.{Body}
 use Rattle.bodies.specs.Refusals.{done, laneFull, refuse}
 use Rattle.frame_spec.specs.declared.Record.{Record}
-use Rattle.lists.specs.Below.{total}
+use Rattle.lists.specs.Inner.Total.{total}
 use Rattle.lists.proofs.Keeps.{cond-keeps}
 use Rattle.lists.proofs.Total.{total-ext, total-gap, total-raised}
 use Rattle.station_spec.specs.declared.Station.{Station}
 use Rattle.station_spec.specs.State.{Cell, laneAt}
-use Rattle.station_spec.specs.Limits.{stationInside}
+use Rattle.station_spec.specs.Limits.{allowed, stationInside}
 use Rattle.station_spec.specs.Hearing.{Hearing, initialHearing, takes, overfills, heardNewer, hearRecord, hearRecords, hearFrame}
+use Rattle.station_spec.proofs.BodyLaws.{allowed-same}
 use Rattle.station_spec.proofs.HearRecord.{accepts, heardOne, stopped, hearRecord-cases, not-refused}
 use Rattle.station_spec.proofs.Setters.{Shaped}
 use Rattle.station_spec.proofs.Shape.{heardNewer-shaped}
@@ -47,7 +49,7 @@ otherLens-most s c =
       where
         go : (t : Bool) → eqb k (s .own) ≡ t → cond t 0 ((laneAt s k) .len) ≤ 2
         go true e = omega arith
-        go false e = lane-most (s .edition) 2 (laneAt s k) (rw e at (c .places k l .lane))
+        go false e = lane-most (allowed s) 2 (laneAt s k) (rw e at (c .places k l .lane))
 
 module _ (s : Station) (r : Record) (other : r .station ≡ s .own → ⊥) (shape : Shaped s) (b : r .station < 16) where
   len-same : (j : ℕ) → (j ≡ r .station → ⊥) → otherLen (s .own) (heardNewer s r) j ≡ otherLen (s .own) s j
@@ -96,10 +98,10 @@ pub record Hears (a h : Hearing) : Type 0 where
   pub inside : h .refusal ≡ done → Inside (h .station)
   pub takings : h .refusal ≡ done → length (h .takings) ≤ length (a .takings) + otherLens (h .station)
 
--- every record of a list may stand in a frame of an edition among n
-abbrev pub AllCarried : ℕ → ℕ → List Record → Type 0
-AllCarried edition n [] = Unit {0}
-AllCarried edition n (r ∷ rs) = Carried edition n r × AllCarried edition n rs
+-- every record of a list may stand in a frame among n
+abbrev pub AllCarried : (Body → Bool) → ℕ → List Record → Type 0
+AllCarried inside n [] = Unit {0}
+AllCarried inside n (r ∷ rs) = Carried inside n r × AllCarried inside n rs
 
 module _ (a : Hearing) (c : Inside (a .station)) where
   pub hears-none : Shaped (a .station) → Hears a a
@@ -116,11 +118,11 @@ module _ (a : Hearing) (c : Inside (a .station)) where
         takings = λ f. omega arith;
       }
 
-  module _ (h : Hearing) (r : Record) (hs : Hears a h) (carry : Carried (a .station .edition) (a .station .n) r) where
-    here : Carried (h .station .edition) (h .station .n) r
+  module _ (h : Hearing) (r : Record) (hs : Hears a h) (carry : Carried (allowed (a .station)) (a .station .n) r) where
+    here : Carried (allowed (h .station)) (h .station .n) r
     here =
-        subst (λ (e : ℕ). Carried e (h .station .n) r) (sym (hs .edition))
-        (subst (λ (m : ℕ). Carried (a .station .edition) m r) (sym (hs .n)) carry)
+        subst (λ (x : Body → Bool). Carried x (h .station .n) r) (sym (allowed-same (h .station) (a .station) (hs .edition)))
+        (subst (λ (m : ℕ). Carried (allowed (a .station)) m r) (sym (hs .n)) carry)
 
     below : r .station < 16
     below = omega (arith, c .high, carry .station)
@@ -185,12 +187,12 @@ module _ (a : Hearing) (c : Inside (a .station)) where
     pub hears-record : Hears a (hearRecord h r)
     hears-record = hearRecord-cases (Hears a) h r hears-newer (λ e. hears-stopped) (λ e f. hs)
 
-  pub hears-records : (h : Hearing) (rs : List Record) → Hears a h → AllCarried (a .station .edition) (a .station .n) rs → Hears a (hearRecords h rs)
+  pub hears-records : (h : Hearing) (rs : List Record) → Hears a h → AllCarried (allowed (a .station)) (a .station .n) rs → Hears a (hearRecords h rs)
   unfolding hearRecords
   hears-records h [] hs all = hs
   hears-records h (r ∷ rs) hs all = hears-records (hearRecord h r) rs (hears-record h r hs (all .0)) (all .1)
 
-  pub hears-frame : (h : Hearing) (rs : List Record) → Hears a h → AllCarried (a .station .edition) (a .station .n) rs → Hears a (hearFrame h rs)
+  pub hears-frame : (h : Hearing) (rs : List Record) → Hears a h → AllCarried (allowed (a .station)) (a .station .n) rs → Hears a (hearFrame h rs)
   unfolding hearFrame
   hears-frame h rs hs all = cond-keeps (Hears a) (eqb (h .refusal) done) (hearRecords h rs) h (hears-records h rs hs all) hs
 
@@ -209,21 +211,21 @@ pub takings-bounded : (s : Station) (h : Hearing) → Hears (initialHearing s) h
 takings-bounded s h hs f = omega (arith, hs .takings f, otherLens-most (h .station) (hs .inside f))
 
 pub hearRecord-inside :
-    (h : Hearing) (r : Record) → Shaped (h .station) → stationInside (h .station) ≡ true → Carried (h .station .edition) (h .station .n) r →
+    (h : Hearing) (r : Record) → Shaped (h .station) → stationInside (h .station) ≡ true → Carried (allowed (h .station)) (h .station .n) r →
     (hearRecord h r) .refusal ≡ done → stationInside ((hearRecord h r) .station) ≡ true
 hearRecord-inside h r shape i carry f =
     let c = inside-open (h .station) i in
     inside-make ((hearRecord h r) .station) (hears-record h c h r (hears-none h c shape) carry .inside f)
 
 pub hearRecords-inside :
-    (h : Hearing) (rs : List Record) → Shaped (h .station) → stationInside (h .station) ≡ true → AllCarried (h .station .edition) (h .station .n) rs →
+    (h : Hearing) (rs : List Record) → Shaped (h .station) → stationInside (h .station) ≡ true → AllCarried (allowed (h .station)) (h .station .n) rs →
     (hearRecords h rs) .refusal ≡ done → stationInside ((hearRecords h rs) .station) ≡ true
 hearRecords-inside h rs shape i all f =
     let c = inside-open (h .station) i in
     inside-make ((hearRecords h rs) .station) (hears-records h c h rs (hears-none h c shape) all .inside f)
 
 pub hearFrame-inside :
-    (h : Hearing) (rs : List Record) → Shaped (h .station) → stationInside (h .station) ≡ true → AllCarried (h .station .edition) (h .station .n) rs →
+    (h : Hearing) (rs : List Record) → Shaped (h .station) → stationInside (h .station) ≡ true → AllCarried (allowed (h .station)) (h .station .n) rs →
     (hearFrame h rs) .refusal ≡ done → stationInside ((hearFrame h rs) .station) ≡ true
 hearFrame-inside h rs shape i all f =
     let c = inside-open (h .station) i in
@@ -231,7 +233,7 @@ hearFrame-inside h rs shape i all f =
 
 -- the takings of one frame
 pub frame-takings-bounded :
-    (s : Station) (rs : List Record) → Shaped s → stationInside s ≡ true → AllCarried (s .edition) (s .n) rs →
+    (s : Station) (rs : List Record) → Shaped s → stationInside s ≡ true → AllCarried (allowed s) (s .n) rs →
     (hearRecords (initialHearing s) rs) .refusal ≡ done → length ((hearRecords (initialHearing s) rs) .takings) ≤ 30
 frame-takings-bounded s rs shape i all f =
     let c = inside-open s i in

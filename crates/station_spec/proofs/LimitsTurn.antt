@@ -10,7 +10,6 @@ use borrow.Author.Tests.{eq-eqb, leb-true}
 use Rattle.bodies.specs.declared.Body.{Body}
 use Rattle.bodies.specs.declared.Body.the-variants.{Empty, Neutral}
 use Rattle.bodies.specs.Body.{isEmpty}
-use Rattle.bodies.specs.Limits.{bodyInside}
 use Rattle.labels.specs.Label.{isLabel, successor}
 use Rattle.lists.proofs.Keeps.{cond-keeps}
 use Rattle.queues.specs.declared.Lane.{Lane}
@@ -20,9 +19,9 @@ use Rattle.queues.specs.Lane.{pushed, popped}
 use Rattle.queues.specs.Waiting.{nextEdit, withoutNext, waitingInside}
 use Rattle.queues.proofs.WaitingLaws as waiting
 use Rattle.station_spec.specs.State.{Cell, cellOf, labelOf, ackedOf, laneAt, withEntry, withCell}
-use Rattle.station_spec.specs.Limits.{laneInside, takeable, stationInside}
+use Rattle.station_spec.specs.Limits.{laneInside, takeable, allowed, stationInside}
 use Rattle.station_spec.specs.Turn.{airs, broadcastEnds, startsEdit, startedBody, afterEnd, ownRecord, withOwnRecord, afterTurn}
-use Rattle.station_spec.proofs.BodyLaws.{waiting-takeable, takeable-inside, empty-inside, neutral-takeable}
+use Rattle.station_spec.proofs.BodyLaws.{waiting-takeable, takeable-inside, empty-allowed, neutral-takeable, allowed-same}
 use Rattle.station_spec.proofs.Setters.{Shaped, cell-self, cell-here, cell-other}
 use Rattle.station_spec.proofs.Shape.{afterEnd-shaped}
 use Rattle.station_spec.proofs.LimitsLane.{popped-inside, pushed-inside}
@@ -34,38 +33,38 @@ use Rattle.station_spec.proofs.TurnLaws.{Start, Start.anEdit, Start.aNe
 module _ (s : Station) (shape : Shaped s) (c : Inside s) where
   -- what starts is Empty, or is put into an empty own lane, which may hold it
   pub started-cases :
-      (P : Body → Type 0) → P Empty → ((b : Body) → takeable (s .edition) b ≡ true → (laneAfter s (s .own)) .len ≡ 0 → P b) → P (startedBody s)
+      (P : Body → Type 0) → P Empty → ((b : Body) → takeable (allowed s) b ≡ true → (laneAfter s (s .own)) .len ≡ 0 → P b) → P (startedBody s)
   started-cases P none some = go (start s)
     where
       go : Start s → P (startedBody s)
       go (anEdit e room w b) =
-          subst P (sym b) (some (nextEdit (s .waiting)) (waiting-takeable (s .edition) (nextEdit (s .waiting)) (waiting.next-fits (s .edition) (s .waiting) (c .waiting) w)) room)
-      go (aNeutral e room b) = subst P (sym b) (some Neutral (neutral-takeable (s .edition)) room)
+          subst P (sym b) (some (nextEdit (s .waiting)) (waiting-takeable (allowed s) (nextEdit (s .waiting)) (waiting.next-fits (allowed s) (s .waiting) (c .waiting) w)) room)
+      go (aNeutral e room b) = subst P (sym b) (some Neutral (neutral-takeable s) room)
       go (nothing e b) = subst P (sym b) none
 
-  started-inside : bodyInside (s .edition) (startedBody s) ≡ true
-  started-inside = started-cases (λ b. bodyInside (s .edition) b ≡ true) (empty-inside (s .edition)) (λ b h room. takeable-inside (s .edition) b h)
+  started-inside : allowed s (startedBody s) ≡ true
+  started-inside = started-cases (λ b. allowed s b ≡ true) (empty-allowed s) (λ b h room. takeable-inside (allowed s) b h)
 
-  after-inside : (k most : ℕ) → k < s .n → laneInside (s .edition) most (laneAt s k) ≡ true → laneInside (s .edition) most (laneAfter s k) ≡ true
+  after-inside : (k most : ℕ) → k < s .n → laneInside (allowed s) most (laneAt s k) ≡ true → laneInside (allowed s) most (laneAfter s k) ≡ true
   after-inside k most l h =
       rw (lane-after s shape (c .high) (c .own) k l)
-      (cond-keeps (λ (x : Lane). laneInside (s .edition) most x ≡ true) (airs s) (popped (laneAt s k)) (laneAt s k) (popped-inside (s .edition) most (laneAt s k) h) h)
+      (cond-keeps (λ (x : Lane). laneInside (allowed s) most x ≡ true) (airs s) (popped (laneAt s k)) (laneAt s k) (popped-inside (allowed s) most (laneAt s k) h) h)
 
   -- the own lane gets what starts
   own-inside :
-      laneInside (s .edition) 1 (cond (isEmpty (startedBody s)) (laneAfter s (s .own)) (pushed (laneAfter s (s .own)) (startedBody s))) ≡ true
+      laneInside (allowed s) 1 (cond (isEmpty (startedBody s)) (laneAfter s (s .own)) (pushed (laneAfter s (s .own)) (startedBody s))) ≡ true
   own-inside =
       let most : _≡_ {A = ℕ} (cond (eqb (s .own) (s .own)) 1 2) 1 = rw (eq-eqb (s .own) (s .own) refl) in
-      let after : laneInside (s .edition) 1 (laneAfter s (s .own)) ≡ true =
+      let after : laneInside (allowed s) 1 (laneAfter s (s .own)) ≡ true =
       after-inside (s .own) 1 (c .own) (rw most at (c .places (s .own) (c .own) .lane)) in
       started-cases
-      (λ b. laneInside (s .edition) 1 (cond (isEmpty b) (laneAfter s (s .own)) (pushed (laneAfter s (s .own)) b)) ≡ true)
+      (λ b. laneInside (allowed s) 1 (cond (isEmpty b) (laneAfter s (s .own)) (pushed (laneAfter s (s .own)) b)) ≡ true)
       after
-      (λ b h room. cond-keeps (λ (l : Lane). laneInside (s .edition) 1 l ≡ true) (isEmpty b) (laneAfter s (s .own)) (pushed (laneAfter s (s .own)) b)
+      (λ b h room. cond-keeps (λ (l : Lane). laneInside (allowed s) 1 l ≡ true) (isEmpty b) (laneAfter s (s .own)) (pushed (laneAfter s (s .own)) b)
       after
-      (pushed-inside (s .edition) 1 (laneAfter s (s .own)) b after (omega arith) (omega arith) h))
+      (pushed-inside (allowed s) 1 (laneAfter s (s .own)) b after (omega arith) (omega arith) h))
 
-  own-cell : CellHolds (s .edition) (s .n) (s .own) (s .own) (cellOf (afterEnd s) (s .own))
+  own-cell : CellHolds (allowed s) (s .n) (s .own) (s .own) (cellOf (afterEnd s) (s .own))
   own-cell =
       let before = c .places (s .own) (c .own) in
       rw (afterEnd-cell-own s shape (c .high) (c .own))
@@ -77,17 +76,17 @@ module _ (s : Station) (shape : Shaped s) (c : Inside s) where
         lane = rw (eq-eqb (s .own) (s .own) refl) own-inside;
       })
 
-  other-cell : (k : ℕ) → k < s .n → (k ≡ s .own → ⊥) → CellHolds (s .edition) (s .n) (s .own) k (cellOf (afterEnd s) k)
+  other-cell : (k : ℕ) → k < s .n → (k ≡ s .own → ⊥) → CellHolds (allowed s) (s .n) (s .own) k (cellOf (afterEnd s) k)
   other-cell k l d =
       let before = c .places k l in
       rw (afterEnd-cell-other s shape (c .high) (c .own) k l d)
       (record { label = before .label; held = before .held; lane = after-inside k (cond (eqb k (s .own)) 1 2) l (before .lane) })
 
-  pub afterEnd-holds : InsideAs (s .edition) (s .n) (s .own) (afterEnd s)
+  pub afterEnd-holds : InsideAs (allowed s) (s .n) (s .own) (afterEnd s)
   afterEnd-holds =
       let own = afterEnd-cell-own s shape (c .high) (c .own) in
       record {
-        known = c .known;
+        known = omega (arith, afterEnd-edition s, c .known);
         low = c .low;
         high = c .high;
         own = c .own;
@@ -95,20 +94,20 @@ module _ (s : Station) (shape : Shaped s) (c : Inside s) where
         held = ap (λ (x : Cell). x .held) own ∙ c .held;
         body =
             rw (afterEnd-body s)
-            (cond-keeps (λ (b : Body). bodyInside (s .edition) b ≡ true) (broadcastEnds s) (startedBody s) (s .body) started-inside (c .body));
+            (cond-keeps (λ (b : Body). allowed s b ≡ true) (broadcastEnds s) (startedBody s) (s .body) started-inside (c .body));
         waiting =
             rw (afterEnd-waiting s)
-            (cond-keeps (λ (w : Waiting). waitingInside (s .edition) w ≡ true) (startsEdit s) (withoutNext (s .waiting)) (s .waiting)
-            (waiting.started-inside (s .edition) (s .waiting) (shape .waiting) (c .waiting)) (c .waiting));
+            (cond-keeps (λ (w : Waiting). waitingInside (allowed s) w ≡ true) (startsEdit s) (withoutNext (s .waiting)) (s .waiting)
+            (waiting.started-inside (allowed s) (s .waiting) (shape .waiting) (c .waiting)) (c .waiting));
         places =
             λ k l. elim (ℕ-discrete k (s .own)) [
-              | yes same ↦ subst (λ (j : ℕ). CellHolds (s .edition) (s .n) (s .own) j (cellOf (afterEnd s) j)) (sym same) own-cell
+              | yes same ↦ subst (λ (j : ℕ). CellHolds (allowed s) (s .n) (s .own) j (cellOf (afterEnd s) j)) (sym same) own-cell
               | no d ↦ other-cell k l d
             ];
       }
 
 module _ (s : Station) (shape : Shaped s) (c : Inside s) where
-  own-holds : RecordHolds (s .edition) (s .n) (s .own) (s .own) (ownRecord s)
+  own-holds : RecordHolds (allowed s) (s .n) (s .own) (s .own) (ownRecord s)
   unfolding ownRecord
   own-holds =
       record {
@@ -118,7 +117,7 @@ module _ (s : Station) (shape : Shaped s) (c : Inside s) where
         labels = λ j l. rw (ownRecord-label s (λ k b. omega (arith, leb-true (labelOf s k) 2 (c .places k b .label))) j l) (c .places j l .label);
       }
 
-  pub withOwnRecord-holds : InsideAs (s .edition) (s .n) (s .own) (withOwnRecord s)
+  pub withOwnRecord-holds : InsideAs (allowed s) (s .n) (s .own) (withOwnRecord s)
   unfolding withOwnRecord
   withOwnRecord-holds =
       let cell = withEntry (cellOf s (s .own)) (ownRecord s) in
@@ -126,7 +125,7 @@ module _ (s : Station) (shape : Shaped s) (c : Inside s) where
       let self = cell-self s (s .own) cell in
       let before = c .places (s .own) (c .own) in
       record {
-        known = c .known;
+        known = omega (arith, self .edition, c .known);
         low = c .low;
         high = c .high;
         own = c .own;
@@ -137,7 +136,7 @@ module _ (s : Station) (shape : Shaped s) (c : Inside s) where
         places =
             λ k l. elim (ℕ-discrete k (s .own)) [
               | yes same ↦
-                  subst (λ (j : ℕ). CellHolds (s .edition) (s .n) (s .own) j (cellOf (withOwnRecord s) j)) (sym same)
+                  subst (λ (j : ℕ). CellHolds (allowed s) (s .n) (s .own) j (cellOf (withOwnRecord s) j)) (sym same)
                   (rw own (record { label = before .label; held = λ e. own-holds; lane = before .lane }))
               | no d ↦ rw (cell-other s (s .own) cell k d) (c .places k l)
             ];
@@ -147,8 +146,8 @@ pub turn-holds : (s : Station) → Shaped s → Inside s → Inside (afterTurn s
 unfolding afterTurn
 turn-holds s shape c =
     let low : s .own < 16 = omega (arith, c .high, c .own) in
-    let p : Inside (afterEnd s) = inside-as (s .edition) (s .n) (s .own) (afterEnd s) (afterEnd-edition s) (afterEnd-n s) (afterEnd-own s) (afterEnd-holds s shape c) in
-    inside-as ((afterEnd s) .edition) ((afterEnd s) .n) ((afterEnd s) .own) (afterTurn s) (turn-edition s ∙ sym (afterEnd-edition s)) (turn-n s ∙ sym (afterEnd-n s)) (turn-own s ∙ sym (afterEnd-own s))
+    let p : Inside (afterEnd s) = inside-as (allowed s) (s .n) (s .own) (afterEnd s) (allowed-same (afterEnd s) s (afterEnd-edition s)) (afterEnd-n s) (afterEnd-own s) (afterEnd-holds s shape c) in
+    inside-as (allowed (afterEnd s)) ((afterEnd s) .n) ((afterEnd s) .own) (afterTurn s) (allowed-same (afterTurn s) (afterEnd s) (turn-edition s ∙ sym (afterEnd-edition s))) (turn-n s ∙ sym (afterEnd-n s)) (turn-own s ∙ sym (afterEnd-own s))
     (withOwnRecord-holds (afterEnd s) (afterEnd-shaped s shape) p)
 
 pub turn-inside : (s : Station) → Shaped s → stationInside s ≡ true → stationInside (afterTurn s) ≡ true

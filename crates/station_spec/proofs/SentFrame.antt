@@ -3,6 +3,7 @@
 use Prim.Native.Nat.{ℕ, _<_}
 use mathlib.Core.Bool.{true}
 use mathlib.Core.Path.{_≡_, ap}
+use Rattle.bodies.specs.Limits.{bodyInside}
 use Rattle.bodies.specs.Refusals.{done}
 use Rattle.frame_spec.specs.Record.{recordFits}
 use Rattle.frame_spec.specs.Frame.{recordsOf, frameRefusal}
@@ -13,6 +14,7 @@ use Rattle.station_spec.specs.declared.Station.{Station}
 use Rattle.station_spec.specs.State.{cellOf, heldOf, recordOf, sentRecords}
 use Rattle.station_spec.specs.Hearing.{Hearing, hearFrame}
 use Rattle.station_spec.specs.Calls.{ownCountInside, frameOf}
+use Rattle.station_spec.proofs.BodyLaws.{allowed-inside}
 use Rattle.station_spec.proofs.StationLimits.{Inside}
 use Rattle.station_spec.proofs.LimitsSent.{sent-count}
 
@@ -20,12 +22,12 @@ module _ (s : Station) (c : Inside s) (fits : ownCountInside s ≡ true) where
   pub place : (k : ℕ) → k < s .n → heldOf s k ≡ true → (recordOf s k) .station ≡ k
   place k l e = c .places k l .held e .station
 
-  pub record-fits : (k : ℕ) → k < s .n → heldOf s k ≡ true → recordFits (s .edition) (s .n) (recordOf s k) ≡ true
+  pub record-fits : (k : ℕ) → k < s .n → heldOf s k ≡ true → recordFits (bodyInside (s .edition)) (s .n) (recordOf s k) ≡ true
   unfolding cellOf
   record-fits k l e =
       let h = c .places k l .held e in
-      fits-make (s .edition) (s .n) (recordOf s k)
-      (record { station = rw (h .station) l; count = sent-count s c fits k l e; body = h .body; labels = h .labels })
+      fits-make (bodyInside (s .edition)) (s .n) (recordOf s k)
+      (record { station = rw (h .station) l; count = sent-count s c fits k l e; body = allowed-inside s ((recordOf s k) .body) (h .body); labels = h .labels })
 
   pub sent-read : recordsOf (frameOf s) ≡ sentRecords s
   unfolding cellOf sentRecords tableRecords frameOf

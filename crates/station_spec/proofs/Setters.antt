@@ -10,8 +10,7 @@ use lib.ListN.{getD, set, length, replicate, length-set, getD-replicate}
 use lib.Seq.{getD-set-same, getD-set-other, set-getD, ext-getD}
 use Rattle.bodies.specs.declared.Body.{Body}
 use Rattle.bodies.specs.declared.Body.the-variants.{Empty}
-use Rattle.labels.specs.Label.{allLabels}
-use Rattle.labels.proofs.LabelLaws.{at-all}
+use Rattle.labels.proofs.LabelLaws.{allLabels, at-all}
 use Rattle.labels.specs.Packing.{labelsOver}
 use Rattle.labels.proofs.Packing.{packed-whole}
 use Rattle.frame_spec.specs.declared.Record.{Record}

@@ -5,7 +5,8 @@ use mathlib.Core.Bool.{Bool, true, false, cond, not, _&&_, _||_, false≢true}
 use mathlib.Core.Path.{_≡_, refl, sym, subst}
 use lib.Dec.{leb, ltb, eqb}
 use borrow.Author.Tests.{leb-true, ltb-true, le-leb, lt-ltb, eqb-true, eq-eqb}
-use Rattle.bodies.specs.Limits.{isEdition, bodyInside}
+use Rattle.bodies.specs.declared.Body.{Body}
+use Rattle.bodies.specs.Limits.{isEdition}
 use Rattle.labels.specs.Label.{isLabel}
 use Rattle.frame_spec.specs.declared.Record.{Record}
 use Rattle.frame_spec.specs.Record.{recordLabel, countInside, recordLimits}
@@ -16,45 +17,45 @@ use Rattle.lists.proofs.Laws.{and-both, and-left, and-right, allBelow-at, allBe
 use Rattle.station_spec.specs.declared.Station.{Station}
 use Rattle.station_spec.specs.State.{Cell, cellOf, labelOf, ackedOf, heldOf, recordOf, laneAt}
 use Rattle.queues.specs.Waiting.{waitingInside}
-use Rattle.station_spec.specs.Limits.{laneInside, recordInside, placeInside, stationInside}
+use Rattle.station_spec.specs.Limits.{laneInside, recordInside, allowed, placeInside, stationInside}
 
 -- a record of station k inside the limits of the table of station own
-pub record RecordHolds (edition n own k : ℕ) (r : Record) : Type 0 where
+pub record RecordHolds (inside : Body → Bool) (n own k : ℕ) (r : Record) : Type 0 where
   pub station : r .station ≡ k
   pub count : (eqb k own || countInside n (r .count)) ≡ true
-  pub body : bodyInside edition (r .body) ≡ true
+  pub body : inside (r .body) ≡ true
   pub labels : (j : ℕ) → j < n → isLabel (recordLabel r j) ≡ true
 
 -- what station own has of station k, inside its limits
-pub record CellHolds (edition n own k : ℕ) (c : Cell) : Type 0 where
+pub record CellHolds (inside : Body → Bool) (n own k : ℕ) (c : Cell) : Type 0 where
   pub label : isLabel (c .label) ≡ true
-  pub held : c .held ≡ true → RecordHolds edition n own k (c .entry)
-  pub lane : laneInside edition (cond (eqb k own) 1 2) (c .lane) ≡ true
+  pub held : c .held ≡ true → RecordHolds inside n own k (c .entry)
+  pub lane : laneInside inside (cond (eqb k own) 1 2) (c .lane) ≡ true
 
 abbrev pub PlaceHolds : Station → ℕ → Type 0
-PlaceHolds s k = CellHolds (s .edition) (s .n) (s .own) k (cellOf s k)
+PlaceHolds s k = CellHolds (allowed s) (s .n) (s .own) k (cellOf s k)
 
--- a station inside the limits of station `number` among `size`, in the edition that is agreed
-pub record InsideAs (agreed size number : ℕ) (s : Station) : Type 0 where
-  pub known : agreed < 2
+-- a station inside the limits of station `number` among `size`, by a test of bodies
+pub record InsideAs (inside : Body → Bool) (size number : ℕ) (s : Station) : Type 0 where
+  pub known : s .edition < 2
   pub low : 1 ≤ size
   pub high : size ≤ 16
   pub own : number < size
   pub acked : ackedOf s number ≡ true
   pub held : heldOf s number ≡ true
-  pub body : bodyInside agreed (s .body) ≡ true
-  pub waiting : waitingInside agreed (s .waiting) ≡ true
-  pub places : (k : ℕ) → k < size → CellHolds agreed size number k (cellOf s k)
+  pub body : inside (s .body) ≡ true
+  pub waiting : waitingInside inside (s .waiting) ≡ true
+  pub places : (k : ℕ) → k < size → CellHolds inside size number k (cellOf s k)
 
 -- inside its limits
 abbrev pub Inside : Station → Type 0
-Inside s = InsideAs (s .edition) (s .n) (s .own) s
+Inside s = InsideAs (allowed s) (s .n) (s .own) s
 
 pub inside-as :
-    (edition n own : ℕ) (s : Station) → s .edition ≡ edition → s .n ≡ n → s .own ≡ own → InsideAs edition n own s → Inside s
-inside-as edition n own s g e f c =
-    subst (λ (x : ℕ). InsideAs x (s .n) (s .own) s) (sym g)
-    (subst (λ (m : ℕ). InsideAs edition m (s .own) s) (sym e) (subst (λ (p : ℕ). InsideAs edition n p s) (sym f) c))
+    (inside : Body → Bool) (n own : ℕ) (s : Station) → allowed s ≡ inside → s .n ≡ n → s .own ≡ own → InsideAs inside n own s → Inside s
+inside-as inside n own s g e f c =
+    subst (λ (x : Body → Bool). InsideAs x (s .n) (s .own) s) (sym g)
+    (subst (λ (m : ℕ). InsideAs inside m (s .own) s) (sym e) (subst (λ (p : ℕ). InsideAs inside n p s) (sym f) c))
 
 or-not-make : (a b : Bool) → (a ≡ true → b ≡ true) → (not a || b) ≡ true
 or-not-make true b h = h refl
@@ -64,35 +65,35 @@ or-not-use : (a b : Bool) → (not a || b) ≡ true → a ≡ true → b ≡ tru
 or-not-use true b h e = h
 or-not-use false b h e = absurd (false≢true e)
 
-record-open : (edition n own k : ℕ) (r : Record) → recordInside edition n own k r ≡ true → RecordHolds edition n own k r
+record-open : (inside : Body → Bool) (n own k : ℕ) (r : Record) → recordInside inside n own k r ≡ true → RecordHolds inside n own k r
 unfolding recordInside
-record-open edition n own k r h =
-    let l = limits-open edition n (eqb k own) r (and-right (eqb (r .station) k) (recordLimits edition n (eqb k own) r) h) in
+record-open inside n own k r h =
+    let l = limits-open inside n (eqb k own) r (and-right (eqb (r .station) k) (recordLimits inside n (eqb k own) r) h) in
     record {
-      station = eqb-true (r .station) k (and-left (eqb (r .station) k) (recordLimits edition n (eqb k own) r) h);
+      station = eqb-true (r .station) k (and-left (eqb (r .station) k) (recordLimits inside n (eqb k own) r) h);
       count = l .count;
       body = l .body;
       labels = l .labels;
     }
 
-record-make : (edition n own k : ℕ) (r : Record) → k < n → RecordHolds edition n own k r → recordInside edition n own k r ≡ true
+record-make : (inside : Body → Bool) (n own k : ℕ) (r : Record) → k < n → RecordHolds inside n own k r → recordInside inside n own k r ≡ true
 unfolding recordInside
-record-make edition n own k r b c =
+record-make inside n own k r b c =
     and-both (eq-eqb (r .station) k (c .station))
-    (limits-make edition n (eqb k own) r
+    (limits-make inside n (eqb k own) r
     (record { station = rw (c .station) b; count = c .count; body = c .body; labels = c .labels }))
 
 place-open : (s : Station) (k : ℕ) → placeInside s k ≡ true → PlaceHolds s k
 unfolding placeInside
 place-open s k h =
     let label = isLabel (labelOf s k) in
-    let recorded = recordInside (s .edition) (s .n) (s .own) k (recordOf s k) in
-    let lane = laneInside (s .edition) (cond (eqb k (s .own)) 1 2) (laneAt s k) in
+    let recorded = recordInside (allowed s) (s .n) (s .own) k (recordOf s k) in
+    let lane = laneInside (allowed s) (cond (eqb k (s .own)) 1 2) (laneAt s k) in
     let front : (label && (not (heldOf s k) || recorded)) ≡ true = and-left (label && (not (heldOf s k) || recorded)) lane h in
     record {
       label = and-left label (not (heldOf s k) || recorded) front;
       held =
-          λ e. record-open (s .edition) (s .n) (s .own) k (recordOf s k)
+          λ e. record-open (allowed s) (s .n) (s .own) k (recordOf s k)
           (or-not-use (heldOf s k) recorded (and-right label (not (heldOf s k) || recorded) front) e);
       lane = and-right (label && (not (heldOf s k) || recorded)) lane h;
     }
@@ -102,7 +103,7 @@ unfolding placeInside
 place-make s k b c =
     and-both
     (and-both (c .label)
-    (or-not-make (heldOf s k) (recordInside (s .edition) (s .n) (s .own) k (recordOf s k)) (λ e. record-make (s .edition) (s .n) (s .own) k (recordOf s k) b (c .held e))))
+    (or-not-make (heldOf s k) (recordInside (allowed s) (s .n) (s .own) k (recordOf s k)) (λ e. record-make (allowed s) (s .n) (s .own) k (recordOf s k) b (c .held e))))
     (c .lane)
 
 pub inside-open : (s : Station) → stationInside s ≡ true → Inside s
@@ -112,8 +113,8 @@ inside-open s h =
     let known = isEdition (s .edition) in
     let acked = ackedOf s (s .own) in
     let held = heldOf s (s .own) in
-    let body = bodyInside (s .edition) (s .body) in
-    let waiting = waitingInside (s .edition) (s .waiting) in
+    let body = allowed s (s .body) in
+    let waiting = waitingInside (allowed s) (s .waiting) in
     let places = allBelow (s .n) (placeInside s) in
     let front = valid && known && acked && held && body && waiting in
     let h₆ : front ≡ true = and-left front places h in

@@ -29,7 +29,8 @@ agree n a b = sameBody (a .body) (b .body) && allBelow n (λ j. eqb (recordLabel
 abbrev pub ageIn : Station → Record → Age
 ageIn s r =
     let k = r .station in
-    ageOf (heldOf s k) (recordLabel (recordOf s k) k) ((recordOf s k) .count) (ownLabel r) (r .count) (agree (s .n) (recordOf s k) r)
+    let h = recordOf s k in
+    ageOf (heldOf s k) (recordLabel h k) (h .count) (ownLabel r) (r .count) (agree (s .n) h r)
 
 -- the record's own label comes after this one
 abbrev pub follows : ℕ → Record → Bool
@@ -43,15 +44,10 @@ advances s r = follows (labelOf s (r .station)) r
 abbrev pub takes : Station → Record → Bool
 takes s r = advances s r && not (isEmpty (r .body))
 
--- the seen record in the place of the held one, whose labels from n up stay (lines 9 to 11)
+-- a seen record r in the place of the held one h, whose labels from n up stay (lines 9 to 11)
 unfoldable pub replaced : ℕ → Record → Record → Record
-replaced n old r =
-    record {
-      station = r .station;
-      count = r .count;
-      body = r .body;
-      labels = labelsOver n (recordLabel r) (old .labels);
-    }
+replaced n h r =
+    record { station = r .station; count = r .count; body = r .body; labels = labelsOver n (recordLabel r) (h .labels) }
 
 -- one more, and 255 stays 255
 abbrev pub saturatingSuc : ℕ → ℕ

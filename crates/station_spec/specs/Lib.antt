@@ -1,3 +1,4 @@
+pub mod Absent
 pub mod State
 pub mod Limits
 pub mod Bodies

@@ -16,30 +16,35 @@ use Rattle.station_spec.specs.declared.Station.{Station}
 use Rattle.queues.specs.Waiting.{waitingInside}
 use Rattle.station_spec.specs.State.{labelOf, ackedOf, heldOf, recordOf, laneAt}
 
--- a body that a lane may hold in an edition: inside its limits, and not Empty
-abbrev pub takeable : ℕ → Body → Bool
-takeable edition b = not (isEmpty b) && bodyInside edition b
+-- a body that a lane may hold: inside its limits, by the test `inside`, and not Empty
+abbrev pub takeable : (Body → Bool) → Body → Bool
+takeable inside b = not (isEmpty b) && inside b
 
 -- a lane of at most `most` bodies, each of which it may hold
-unfoldable pub laneInside : ℕ → ℕ → Lane → Bool
-laneInside edition most l =
+unfoldable pub laneInside : (Body → Bool) → ℕ → Lane → Bool
+laneInside inside most l =
     leb (l .len) most
-    && (eqb (l .len) 0 || takeable edition (l .first))
-    && (leb (l .len) 1 || takeable edition (l .second))
+    && (eqb (l .len) 0 || takeable inside (l .first))
+    && (leb (l .len) 1 || takeable inside (l .second))
 
 -- a record of station k in the table of station `own` among n: inside the record limits, but the
 -- own record's count is free, and may reach what a byte holds
-unfoldable pub recordInside : ℕ → ℕ → ℕ → ℕ → Record → Bool
-recordInside edition n own k r = eqb (r .station) k && recordLimits edition n (eqb k own) r
+unfoldable pub recordInside : (Body → Bool) → ℕ → ℕ → ℕ → Record → Bool
+recordInside inside n own k r = eqb (r .station) k && recordLimits inside n (eqb k own) r
 
 -- what station `own` among n has of station k: its label, its record where one is held, and its lane
-abbrev pub entryInside : ℕ → ℕ → ℕ → ℕ → ℕ → Bool → Record → Lane → Bool
-entryInside edition n own k label held r lane =
-    isLabel label && (not held || recordInside edition n own k r) && laneInside edition (cond (eqb k own) 1 2) lane
+abbrev pub entryInside : (Body → Bool) → ℕ → ℕ → ℕ → ℕ → Bool → Record → Lane → Bool
+entryInside inside n own k label held r lane =
+    isLabel label && (not held || recordInside inside n own k r) && laneInside inside (cond (eqb k own) 1 2) lane
+
+-- the bodies that a station allows: those inside their limits in its edition. No other limit of a station says how it
+-- judges a body.
+unfoldable pub allowed : Station → Body → Bool
+allowed s = bodyInside (s .edition)
 
 -- what a station has of station k
 unfoldable pub placeInside : Station → ℕ → Bool
-placeInside s k = entryInside (s .edition) (s .n) (s .own) k (labelOf s k) (heldOf s k) (recordOf s k) (laneAt s k)
+placeInside s k = entryInside (allowed s) (s .n) (s .own) k (labelOf s k) (heldOf s k) (recordOf s k) (laneAt s k)
 
 -- "Limits"
 unfoldable pub stationInside : Station → Bool
@@ -48,6 +53,6 @@ stationInside s =
     && isEdition (s .edition)
     && ackedOf s (s .own)
     && heldOf s (s .own)
-    && bodyInside (s .edition) (s .body)
-    && waitingInside (s .edition) (s .waiting)
+    && allowed s (s .body)
+    && waitingInside (allowed s) (s .waiting)
     && allBelow (s .n) (placeInside s)

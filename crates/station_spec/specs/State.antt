@@ -16,7 +16,7 @@ use Rattle.queues.specs.declared.Waiting.{Waiting}
 use Rattle.station_spec.specs.declared.Setup.{Setup}
 use Rattle.station_spec.specs.declared.Station.{Station}
 use Rattle.queues.specs.Lane.{noLane}
-use Rattle.queues.specs.Waiting.{defaultLimit, noneWaiting, absentWaiting}
+use Rattle.queues.specs.Waiting.{defaultLimit, noneWaiting}
 
 -- what a station has of station k: its label for it, whether it is acknowledged, whether the table
 -- holds a record of it, that record, and its lane
@@ -71,56 +71,34 @@ withEntry c r = record { label = c .label; acked = c .acked; held = c .held; ent
 abbrev pub withLane : Cell → Lane → Cell
 withLane c lane = record { label = c .label; acked = c .acked; held = c .held; entry = c .entry; lane = lane }
 
--- a station with other waiting edits
-abbrev pub withWaiting : Station → Waiting → Station
-withWaiting s w =
+-- a station with all else changed than its numbers n and own and its edition
+abbrev pub changed : Station → Waiting → Body → ℕ → List Bool → List ℕ → List Bool → List Record → List Lane → Station
+changed s waiting b count acked labels held table lanes =
     record {
       n = s .n;
       own = s .own;
       edition = s .edition;
-      waiting = w;
-      acked = s .acked;
-      body = s .body;
-      count = s .count;
-      labels = s .labels;
-      held = s .held;
-      table = s .table;
-      lanes = s .lanes;
-    }
-
--- with another body and count
-abbrev pub withBroadcast : Station → Body → ℕ → Station
-withBroadcast s b count =
-    record {
-      n = s .n;
-      own = s .own;
-      edition = s .edition;
-      waiting = s .waiting;
-      acked = s .acked;
+      waiting = waiting;
+      acked = acked;
       body = b;
       count = count;
-      labels = s .labels;
-      held = s .held;
-      table = s .table;
-      lanes = s .lanes;
-    }
-
--- with other arrays
-abbrev pub withArrays : Station → List Bool → List ℕ → List Bool → List Record → List Lane → Station
-withArrays s acked labels held table lanes =
-    record {
-      n = s .n;
-      own = s .own;
-      edition = s .edition;
-      waiting = s .waiting;
-      acked = acked;
-      body = s .body;
-      count = s .count;
       labels = labels;
       held = held;
       table = table;
       lanes = lanes;
     }
+
+-- with other waiting edits
+abbrev pub withWaiting : Station → Waiting → Station
+withWaiting s w = changed s w (s .body) (s .count) (s .acked) (s .labels) (s .held) (s .table) (s .lanes)
+
+-- with another body and count
+abbrev pub withBroadcast : Station → Body → ℕ → Station
+withBroadcast s b count = changed s (s .waiting) b count (s .acked) (s .labels) (s .held) (s .table) (s .lanes)
+
+-- with other arrays
+abbrev pub withArrays : Station → List Bool → List ℕ → List Bool → List Record → List Lane → Station
+withArrays s = changed s (s .waiting) (s .body) (s .count)
 
 -- with another cell for station k
 unfoldable pub withCell : Station → ℕ → Cell → Station
@@ -174,21 +152,4 @@ freshStation setup own =
       held = set (replicate 16 false) own true;
       table = set (replicate 16 noRecord) own (freshRecord own);
       lanes = replicate 16 noLane;
-    }
-
--- what is read past the end of a list of stations
-abbrev pub noStation : Station
-noStation =
-    record {
-      n = 0;
-      own = 0;
-      edition = 0;
-      waiting = absentWaiting;
-      acked = [];
-      body = Empty;
-      count = 0;
-      labels = [];
-      held = [];
-      table = [];
-      lanes = [];
     }

@@ -12,7 +12,6 @@ use Rattle.labels.specs.Label.{successor}
 use Rattle.labels.specs.Packing.{labelsOver}
 use Rattle.frame_spec.specs.declared.Record.{Record}
 use Rattle.lists.specs.Below.{allBelow, setBelow}
-use Rattle.queues.specs.declared.Lane.{Lane}
 use Rattle.queues.specs.declared.Slot.{Slot}
 use Rattle.station_spec.specs.declared.Station.{Station}
 use Rattle.station_spec.specs.declared.TurnReport.{TurnReport}
@@ -23,22 +22,14 @@ use Rattle.station_spec.specs.State.{cellOf, labelOf, ackedOf, recordOf,
 use Rattle.station_spec.specs.State.{withLabel, withEntry, withLane, withWaiting, withBroadcast}
 use Rattle.station_spec.specs.State.{withCell, withAcked, withLanes}
 
--- each of the first n lanes has a body
-abbrev pub eachHasBody : ℕ → (ℕ → Lane) → Bool
-eachHasBody n lane = allBelow n (λ k. ltb 0 ((lane k) .len))
-
--- the oldest body of each of the first n lanes
-abbrev pub oldestOfEach : ℕ → (ℕ → Lane) → List Slot
-oldestOfEach n lane = setBelow n (λ k. record { body = (lane k) .first }) (replicate 16 noSlot)
-
 -- every lane has a body, so a row is aired (source document 001, Algorithm 3, lines 5 to 9; H2:
 -- there at each delivery, here at the turn, one row)
 unfoldable pub airs : Station → Bool
-airs s = eachHasBody (s .n) (laneAt s)
+airs s = allBelow (s .n) (λ k. ltb 0 ((laneAt s k) .len))
 
--- the row
+-- the row: the oldest body of each lane
 unfoldable pub rowOf : Station → List Slot
-rowOf s = oldestOfEach (s .n) (laneAt s)
+rowOf s = setBelow (s .n) (λ k. record { body = (laneAt s k) .first }) (replicate 16 noSlot)
 
 -- the station after the airing step
 unfoldable pub afterAiring : Station → Station

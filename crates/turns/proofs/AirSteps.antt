@@ -11,7 +11,7 @@ use Rattle.queues.specs.declared.Lane.{Lane}
 use Rattle.queues.specs.declared.Slot.{Slot}
 use Rattle.queues.specs.Lane.{noLane, popped}
 use Rattle.queues.specs.Queue.{noSlot}
-use Rattle.station_spec.specs.Turn.{eachHasBody, oldestOfEach}
+use Rattle.turns.specs.Lanes.{eachHasBody, oldestOfEach}
 
 -- the bodies of the first n lanes, and the lanes without them
 abbrev pub rowFrom : ℕ → List Lane → List Slot

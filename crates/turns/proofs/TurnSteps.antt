@@ -26,7 +26,8 @@ use Rattle.queues.specs.Lane.{noLane, pushed, popped}
 use Rattle.queues.specs.Queue.{noSlot}
 use Rattle.queues.specs.Waiting.{waitingCount, nextEdit, withoutNext}
 use Rattle.station_spec.specs.State.{cellOf, labelOf, recordOf, laneAt, withEntry, withLane, withWaiting, withBroadcast, withArrays, withCell, withAcked, withLanes}
-use Rattle.station_spec.specs.Turn.{eachHasBody, oldestOfEach, airs, rowOf, afterAiring, broadcastEnds, mayStart, startsEdit, startedBody, begins, takesOwn, afterEnd, ownRecord, withOwnRecord, afterTurn, turnReport}
+use Rattle.turns.specs.Lanes.{eachHasBody, oldestOfEach}
+use Rattle.station_spec.specs.Turn.{airs, rowOf, afterAiring, broadcastEnds, mayStart, startsEdit, startedBody, begins, takesOwn, afterEnd, ownRecord, withOwnRecord, afterTurn, turnReport}
 use Rattle.station_spec.specs.Calls.{turnDone}
 use Rattle.station_spec.proofs.StationLimits.{Inside}
 use Rattle.station_spec.proofs.Setters.{cell-label, cell-entry, cell-lane}

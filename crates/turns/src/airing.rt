@@ -7,7 +7,7 @@ ghost use lib.ListN.{getD, replicate};
 ghost use Rattle.lists.specs.Below.{setBelow};
 ghost use Rattle.queues.specs.Lane.{noLane, popped};
 ghost use Rattle.queues.specs.Queue.{noSlot};
-ghost use Rattle.station_spec.specs.Turn.{eachHasBody, oldestOfEach};
+ghost use Rattle.turns.specs.Lanes.{eachHasBody, oldestOfEach};
 use bodies::Body;
 use queues::Lane;
 use queues::Slot;

@@ -3,7 +3,7 @@ use Prim.Native.Nat.{_*_, _<_}
 use mathlib.Core.Path.{sym, _∙_}
 use native.Mathlib.Omega.{arith}
 use borrow.Author.Tests.{not-true, not-false}
-use Rattle.bulletins.proofs.Free.{free-state}
+use Rattle.bulletin_sets.proofs.Free.{free-state}
 use Rattle.bulletins.proofs.Issues.{inside-high, outside, nobody, bad-event, old-tag, no-room, tagged, issue-done}
 use borrow.Author.Needs.{needs}
 use Rattle.bulletins.proofs.issue.Statement.{statement}

@@ -1,4 +1,4 @@
--- `relay_group::mask_at` meets its contract: what is read past the end is 0.
+-- `group_calls::mask_at` meets its contract: what is read past the end is 0.
 use mathlib.Core.Path.{sym}
 use lib.ListN.{List·getD-eq-default}
 use borrow.Author.Needs.{needs}

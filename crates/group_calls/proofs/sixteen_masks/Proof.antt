@@ -1,4 +1,4 @@
--- `relay_group::sixteen_masks` meets its contract: the masks before k are read.
+-- `group_calls::sixteen_masks` meets its contract: the masks before k are read.
 use mathlib.Core.Path.{_≡_}
 use Prim.Native.Nat.{_≤_, _-_}
 use native.Mathlib.Omega.{arith}

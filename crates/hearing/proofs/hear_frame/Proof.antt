@@ -18,7 +18,8 @@ use Rattle.bodies.specs.Refusals.{laneFull}
 use Rattle.hearing_spec.proofs.EqualRecords.{same-open}
 use Rattle.hearing_spec.proofs.Heeding.{after-calm}
 use Rattle.hearing_spec.proofs.RecordSteps.{passed-same, passed-older, conflicted, heeded-room}
-use Rattle.hearing.proofs.RecordCases.{part-is, part-long, read-station, ends-heeded}
+use Rattle.heeding.proofs.RecordParts.{part-is, part-long}
+use Rattle.hearing.proofs.RecordCases.{read-station, ends-heeded}
 use Rattle.hearing.proofs.hear_frame.Statement.{statement}
 use Rattle.hearing.proofs.hear_frame.Tie as tie
 

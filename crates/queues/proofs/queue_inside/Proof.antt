@@ -5,7 +5,7 @@ use mathlib.Core.Path.{_≡_, refl, sym, _∙_}
 use mathlib.Core.Bool.{true, false}
 use borrow.Author.Needs.{needs}
 use lib.ListN.{getD}
-use Rattle.bodies.specs.Limits.{mayWait}
+use Rattle.bodies.specs.Limits.{bodyInside, mayWait}
 use borrow.Author.Tests.{le-leb, lt-leb, not-true, not-false}
 use Rattle.lists.specs.Below.{allBelow}
 use Rattle.lists.proofs.Laws.{allBelow-more, allBelow-fails}
@@ -17,7 +17,7 @@ use Rattle.queues.proofs.queue_inside.Lts as lts
 use Rattle.bodies.proofs.limits.may_wait.Reads as may-wait-reads
 
 abbrev Inv-loop : tie.InvT-loop
-Inv-loop edition limit queue len i₀ i = (i ≤ len) × (len ≡ queue .len) × (len ≤ limit) × (allBelow i (λ k. mayWait edition ((getD (queue .slots) k noSlot) .body)) ≡ true)
+Inv-loop edition limit queue len i₀ i = (i ≤ len) × (len ≡ queue .len) × (len ≤ limit) × (allBelow i (λ k. mayWait (bodyInside edition) ((getD (queue .slots) k noSlot) .body)) ≡ true)
 
 abbrev μ-loop : tie.MeasureT-loop
 μ-loop edition limit queue len i₀ i = len - i
@@ -36,7 +36,7 @@ returns-2 c =
     let a = c .before .before .before in
     let q = a .before .before .before .args .t1 in
     let edition = a .before .before .before .args .edition in
-    let e : mayWait edition ((getD (q .slots) (a .before .loop .i) noSlot) .body) ≡ false = sym (c .before .may-wait .ensures) ∙ not-true _ (c .if2 .taken) in
+    let e : mayWait (bodyInside edition) ((getD (q .slots) (a .before .loop .i) noSlot) .body) ≡ false = sym (c .before .may-wait .ensures) ∙ not-true _ (c .if2 .taken) in
     rw (le-leb _ _ (a .before .loop .inv .2)) (sym (allBelow-fails (q .len) _ (a .before .loop .i) (omega arith) e))
 
 loop-again : tie.Need-loop-again Inv-loop μ-loop
@@ -44,7 +44,7 @@ loop-again c =
     let a = c .before .before .before in
     let q = a .before .before .before .args .t1 in
     let edition = a .before .before .before .args .edition in
-    let e : mayWait edition ((getD (q .slots) (a .before .loop .i) noSlot) .body) ≡ true = sym (c .before .may-wait .ensures) ∙ not-false _ (c .if2 .left) in
+    let e : mayWait (bodyInside edition) ((getD (q .slots) (a .before .loop .i) noSlot) .body) ≡ true = sym (c .before .may-wait .ensures) ∙ not-false _ (c .if2 .left) in
     (omega arith, refl, a .before .loop .inv .2, allBelow-more (a .before .loop .i) _ (a .before .loop .inv .3) e)
 
 returns-3 : tie.Need-returns-3 Inv-loop μ-loop

@@ -4,7 +4,7 @@ use Prim.Native.Nat.{_+_, _-_, _*_, _≤_}
 use native.Mathlib.Omega.{arith}
 use borrow.Author.Needs.{needs}
 use lib.ListN.{length}
-use Rattle.lines.specs.Lines.{Put}
+use Rattle.lines.specs.Lines.{Put, lineLength}
 use Rattle.round_lines.specs.Reports.{joined, editText, airedText}
 use Rattle.round_lines.proofs.Joined.{joined-none, joined-more}
 use Rattle.round_lines.proofs.put_aired.Statement.{statement}
@@ -12,7 +12,7 @@ use Rattle.round_lines.proofs.put_aired.Tie as tie
 
 abbrev Inv-loop : tie.InvT-loop
 Inv-loop out₀ at n round p aired row end₀ k₀ out end k =
-    (k ≤ n) × (length out ≡ length out₀) × (end ≤ at + 35 * k) × Put out₀ out at end (joined k (editText round p aired row))
+    (k ≤ n) × (length out ≡ length out₀) × (end ≤ at + lineLength * k) × Put out₀ out at end (joined k (editText round p aired row))
 
 abbrev μ-loop : tie.MeasureT-loop
 μ-loop out₀ at n round p aired row end₀ k₀ out end k = n - k

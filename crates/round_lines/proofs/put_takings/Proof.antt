@@ -3,7 +3,7 @@ use mathlib.Core.Path.{_≡_, refl, _∙_}
 use Prim.Native.Nat.{_+_, _-_, _*_, _≤_}
 use native.Mathlib.Omega.{arith}
 use lib.ListN.{length}
-use Rattle.lines.specs.Lines.{Put}
+use Rattle.lines.specs.Lines.{Put, lineLength}
 use Rattle.round_lines.specs.Reports.{joined, takingText, takenText}
 use Rattle.round_lines.proofs.Joined.{joined-none, joined-more}
 use Rattle.round_lines.proofs.put_takings.Statement.{statement}
@@ -11,7 +11,7 @@ use Rattle.round_lines.proofs.put_takings.Tie as tie
 
 abbrev Inv-loop : tie.InvT-loop
 Inv-loop out₀ at round p len takings end₀ k₀ out end k =
-    (k ≤ 30) × (length out ≡ length out₀) × (end ≤ at + 35 * k) × Put out₀ out at end (joined k (takingText round p len takings))
+    (k ≤ 30) × (length out ≡ length out₀) × (end ≤ at + lineLength * k) × Put out₀ out at end (joined k (takingText round p len takings))
 
 abbrev μ-loop : tie.MeasureT-loop
 μ-loop out₀ at round p len takings end₀ k₀ out end k = 30 - k

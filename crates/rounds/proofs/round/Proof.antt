@@ -81,38 +81,45 @@ returns-2 c =
     ap (refusedRound (l .refusal) (a .g)) (c .before .before .before .before .before .before .no-report .ensures)
     ∙ round-judged (a .g) (a .t2) (l .k) (l .refusal) (omega (arith, l .inv .3, c .before .loop-test .left)) (l .inv .2) (l .inv .5 .judged) (c .if2 .taken)
 
+-- the call, as it began
+abbrev call : tie.Else2 Inv-loop μ-loop Inv-loop2 μ-loop2 Inv-loop3 μ-loop3 → tie.Start Inv-loop μ-loop Inv-loop2 μ-loop2 Inv-loop3 μ-loop3
+call c = c .before .before .before .before .before .before .before
+
 -- all frames stand
-begun : (c : tie.Else2 Inv-loop μ-loop Inv-loop2 μ-loop2 Inv-loop3 μ-loop3) → Begun (c .before .before .before .before .before .before .before .args .g) (c .before .before .before .before .before .before .no-report .result) (c .before .before .loop .bytes)
+begun : (c : tie.Else2 Inv-loop μ-loop Inv-loop2 μ-loop2 Inv-loop3 μ-loop3) → Begun (call c .args .g) (c .before .before .before .before .before .before .no-report .result) (c .before .before .loop .bytes)
 begun c =
     let l = c .before .before .loop in
-    let g = c .before .before .before .before .before .before .before .args .g in
+    let g = call c .args .g in
     record {
       none-is = c .before .before .before .before .before .before .no-report .ensures;
       sent = all-sent g (l .k) (l .refusal) (l .bytes) (l .inv .5) (omega (arith, l .inv .3, c .before .loop-test .left)) (l .inv .2) (c .if2 .left);
-      shape = group-lengths g _ (c .before .before .before .before .before .before .before .good .0);
+      shape = group-lengths g _ (call c .good .0);
     }
 
 -- ---- hearing
 
 loop2-holds : tie.Need-loop2-holds Inv-loop μ-loop Inv-loop2 μ-loop2 Inv-loop3 μ-loop3
 loop2-holds c =
-    let a = c .before .before .before .before .before .before .before .args in
+    let a = call c .args in
     (omega arith, c .before .before .loop .inv .4, listening-none (a .g) (a .t2) _ _ (begun c) _ refl)
 
 module _ (c : tie.In-loop2 Inv-loop μ-loop Inv-loop2 μ-loop2 Inv-loop3 μ-loop3) where
   abbrev g : List Station
-  g = c .before .before .before .before .before .before .before .before .before .args .g
+  g = call (c .before .before) .args .g
 
   abbrev masks : List ℕ
-  masks = c .before .before .before .before .before .before .before .before .before .args .t2
+  masks = call (c .before .before) .args .t2
+
+  abbrev sent : List ℕ
+  sent = c .before .before .before .before .loop .bytes
 
   abbrev j : ℕ
   j = c .before .loop2 .j
 
-  ready : Begun g (c .before .before .before .before .before .before .before .before .no-report .result) (c .before .before .before .before .loop .bytes)
+  ready : Begun g (c .before .before .before .before .before .before .before .before .no-report .result) sent
   ready = begun (c .before .before)
 
-  heard-so-far : Listening g masks (c .before .before .before .before .loop .bytes) (c .before .loop2 .ears) (c .before .loop2 .places) (c .before .loop2 .taken) j
+  heard-so-far : Listening g masks sent (c .before .loop2 .ears) (c .before .loop2 .places) (c .before .loop2 .taken) j
   heard-so-far = c .before .loop2 .inv .2
 
   low :
@@ -123,6 +130,7 @@ module _ (c : tie.In-loop2 Inv-loop μ-loop Inv-loop2 μ-loop2 Inv-loop3 μ-loop
       × (length (c .before .loop2 .taken) ≡ 480)
       × (16 * j + 16 - 16 * j ≡ 16)
       × (30 * j + 30 - 30 * j ≡ 30)
+      × (length sent ≡ 4160)
   low =
       let l = heard-so-far in (
         omega (arith, c .loop2-test .taken, c .before .loop2 .inv .1),
@@ -132,7 +140,12 @@ module _ (c : tie.In-loop2 Inv-loop μ-loop Inv-loop2 μ-loop2 Inv-loop3 μ-loop
         l .taken-long,
         omega arith,
         omega arith,
+        c .before .before .before .before .loop .inv .5 .long,
       )
+
+-- the pass of the loop in which `listen` was called
+abbrev at-listen : tie.After-listen Inv-loop μ-loop Inv-loop2 μ-loop2 Inv-loop3 μ-loop3 → tie.In-loop2 Inv-loop μ-loop Inv-loop2 μ-loop2 Inv-loop3 μ-loop3
+at-listen c = c .before .before .before .before .before
 
 listen-requires : tie.Need-listen-requires Inv-loop μ-loop Inv-loop2 μ-loop2 Inv-loop3 μ-loop3
 listen-requires c κs =
@@ -153,16 +166,18 @@ listen-requires c κs =
 
 returns-3 : tie.Need-returns-3 Inv-loop μ-loop Inv-loop2 μ-loop2 Inv-loop3 μ-loop3
 returns-3 c =
-    let d = c .before .before .before .before .before .before .before .before .before .before in
+    let e = c .before .before .before .before .before in
+    let d = at-listen e in
     let l = low d in
-    let h = c .before .before .before .before .before .listen in
+    let h = e .listen in
     listening-stopped (g d) (masks d) _ _ (ready d) _ _ _ (j d) (heard-so-far d) (l .0) (l .1) _ _ (h .result) (h .ensures) (c .before .if3 .taken)
 
 loop2-again : tie.Need-loop2-again Inv-loop μ-loop Inv-loop2 μ-loop2 Inv-loop3 μ-loop3
 loop2-again c =
-    let d = c .before .before .before .before .before .before .before .before .before in
+    let e = c .before .before .before .before in
+    let d = at-listen e in
     let l = low d in
-    let h = c .before .before .before .before .listen in (
+    let h = e .listen in (
       omega (arith, d .loop2-test .taken),
       d .before .loop2 .inv .1,
       listening-next (g d) (masks d) _ _ (ready d) _ _ _ (j d) (heard-so-far d) (l .0) (l .1) _ _ (h .result) (h .ensures) (c .if3 .left) _ _ (l .5) (l .6),
@@ -173,16 +188,16 @@ loop2-again c =
 -- all have heard
 all-heard :
     (c : tie.After-loop2 Inv-loop μ-loop Inv-loop2 μ-loop2 Inv-loop3 μ-loop3) →
-    Listening (c .before .before .before .before .before .before .before .before .before .args .g) (c .before .before .before .before .before .before .before .before .before .args .t2) (c .before .before .before .before .loop .bytes) (c .before .loop2 .ears) (c .before .loop2 .places) (c .before .loop2 .taken)
-    (sizeOf (c .before .before .before .before .before .before .before .before .before .args .g))
+    Listening (call (c .before .before) .args .g) (call (c .before .before) .args .t2) (c .before .before .before .before .loop .bytes) (c .before .loop2 .ears) (c .before .loop2 .places) (c .before .loop2 .taken)
+    (sizeOf (call (c .before .before) .args .g))
 all-heard c =
     let l = c .before .loop2 in
-    let e : l .j ≡ sizeOf (c .before .before .before .before .before .before .before .before .before .args .g) = omega (arith, l .inv .0, c .loop2-test .left) in
+    let e : l .j ≡ sizeOf (call (c .before .before) .args .g) = omega (arith, l .inv .0, c .loop2-test .left) in
     rw e at (l .inv .2)
 
 loop3-holds : tie.Need-loop3-holds Inv-loop μ-loop Inv-loop2 μ-loop2 Inv-loop3 μ-loop3
 loop3-holds c =
-    let a = c .before .before .before .before .before .before .before .before .before .args in (
+    let a = call (c .before .before) .args in (
       omega arith,
       may-turn-all (a .g) (a .t2) _ _ (begun (c .before .before)) _ _ _ (sizeOf (a .g)) refl (all-heard c),
       turning-none _ _ _ _ _ _,
@@ -192,22 +207,8 @@ module _ (c : tie.In-loop3 Inv-loop μ-loop Inv-loop2 μ-loop2 Inv-loop3 μ-loop
   abbrev i : ℕ
   i = c .before .loop3 .i
 
-  may : MayTurn (c .before .before .before .before .before .before .before .before .before .before .before .args .g) (c .before .before .before .before .before .before .loop .bytes) (c .before .before .before .loop2 .ears) (c .before .before .before .loop2 .places) (c .before .before .before .loop2 .taken) (sizeOf (c .before .before .before .before .before .before .before .before .before .before .before .args .g))
-  may = c .before .loop3 .inv .1
-
-  low3 :
-      (i < 16)
-      × (length (c .before .before .before .loop2 .ears) ≡ 16)
-      × (length (c .before .before .before .loop2 .places) ≡ 256)
-      × (length (c .before .before .before .loop2 .taken) ≡ 480)
-      × (16 * i + 16 - 16 * i ≡ 16)
-      × (30 * i + 30 - 30 * i ≡ 30)
-  low3 = (omega (arith, c .loop3-test .taken, may .high), may .ears-long, may .places-long, may .taken-long, omega arith, omega arith)
-
--- what the loop sees
-module _ (c : tie.In-loop3 Inv-loop μ-loop Inv-loop2 μ-loop2 Inv-loop3 μ-loop3) where
   abbrev group₀ : List Station
-  group₀ = c .before .before .before .before .before .before .before .before .before .before .before .args .g
+  group₀ = call (c .before .before .before .before) .args .g
 
   abbrev bytes : List ℕ
   bytes = c .before .before .before .before .before .before .loop .bytes
@@ -225,60 +226,84 @@ module _ (c : tie.In-loop3 Inv-loop μ-loop Inv-loop2 μ-loop2 Inv-loop3 μ-loop
   group = c .before .loop3 .group
 
   abbrev heard : Ear
-  heard = getD ears (i c) noEar
+  heard = getD ears i noEar
 
-  reads : Readable bytes (part 16 (16 * i c) places) (part 30 (30 * i c) taken) (heard .len)
-  reads = may c .readable (i c) (c .loop3-test .taken)
+  may : MayTurn group₀ bytes ears places taken (sizeOf group₀)
+  may = c .before .loop3 .inv .1
+
+  low3 :
+      (i < 16)
+      × (length ears ≡ 16)
+      × (length places ≡ 256)
+      × (length taken ≡ 480)
+      × (16 * i + 16 - 16 * i ≡ 16)
+      × (30 * i + 30 - 30 * i ≡ 30)
+      × (length bytes ≡ 4160)
+  low3 =
+      let long = c .before .before .before .before .before .before .loop .inv .5 .long in
+      (omega (arith, c .loop3-test .taken, may .high), may .ears-long, may .places-long, may .taken-long, omega arith, omega arith, long)
+
+  reads : Readable bytes (part 16 (16 * i) places) (part 30 (30 * i) taken) (heard .len)
+  reads = may .readable i (c .loop3-test .taken)
 
   -- as the code has it
-  code-reads : Readable bytes (part (16 * i c + 16 - 16 * i c) (16 * i c) places) (part (30 * i c + 30 - 30 * i c) (30 * i c) taken) (heard .len)
+  code-reads : Readable bytes (part (16 * i + 16 - 16 * i) (16 * i) places) (part (30 * i + 30 - 30 * i) (30 * i) taken) (heard .len)
   code-reads =
-      subst (λ (w : ℕ). Readable bytes (part w (16 * i c) places) (part (30 * i c + 30 - 30 * i c) (30 * i c) taken) (heard .len)) (sym (low3 c .4))
-      (subst (λ (v : ℕ). Readable bytes (part 16 (16 * i c) places) (part v (30 * i c) taken) (heard .len)) (sym (low3 c .5)) reads)
+      subst (λ (w : ℕ). Readable bytes (part w (16 * i) places) (part (30 * i + 30 - 30 * i) (30 * i) taken) (heard .len)) (sym (low3 .4))
+      (subst (λ (v : ℕ). Readable bytes (part 16 (16 * i) places) (part v (30 * i) taken) (heard .len)) (sym (low3 .5)) reads)
 
   code-acts :
-      actsOn (stationAt group (i c)) bytes
-      (heardNotes (part (16 * i c + 16 - 16 * i c) (16 * i c) places) (part (30 * i c + 30 - 30 * i c) (30 * i c) taken) heard)
-      ≡ actsOn (stationAt group (i c)) bytes (heardNotes (part 16 (16 * i c) places) (part 30 (30 * i c) taken) heard)
+      actsOn (stationAt group i) bytes
+      (heardNotes (part (16 * i + 16 - 16 * i) (16 * i) places) (part (30 * i + 30 - 30 * i) (30 * i) taken) heard)
+      ≡ actsOn (stationAt group i) bytes (heardNotes (part 16 (16 * i) places) (part 30 (30 * i) taken) heard)
   code-acts t =
-      actsOn (stationAt group (i c)) bytes (heardNotes (part (low3 c .4 t) (16 * i c) places) (part (low3 c .5 t) (30 * i c) taken) heard)
+      actsOn (stationAt group i) bytes (heardNotes (part (low3 .4 t) (16 * i) places) (part (low3 .5 t) (30 * i) taken) heard)
 
-  code-takings : takingsIn bytes (part (30 * i c + 30 - 30 * i c) (30 * i c) taken) (heard .len) ≡ takingsIn bytes (part 30 (30 * i c) taken) (heard .len)
-  code-takings t = takingsIn bytes (part (low3 c .5 t) (30 * i c) taken) (heard .len)
+  code-takings : takingsIn bytes (part (30 * i + 30 - 30 * i) (30 * i) taken) (heard .len) ≡ takingsIn bytes (part 30 (30 * i) taken) (heard .len)
+  code-takings t = takingsIn bytes (part (low3 .5 t) (30 * i) taken) (heard .len)
+
+-- the pass of the loop in which `takings_of` was called, and then `acted`
+abbrev at-takings : tie.After-takings-of Inv-loop μ-loop Inv-loop2 μ-loop2 Inv-loop3 μ-loop3 → tie.In-loop3 Inv-loop μ-loop Inv-loop2 μ-loop2 Inv-loop3 μ-loop3
+at-takings c = c .before .before .before .before .before
+
+abbrev at-acted : tie.After-acted Inv-loop μ-loop Inv-loop2 μ-loop2 Inv-loop3 μ-loop3 → tie.In-loop3 Inv-loop μ-loop Inv-loop2 μ-loop2 Inv-loop3 μ-loop3
+at-acted c = at-takings (c .before .before .before .before .before .before .before)
 
 takings-of-requires : tie.Need-takings-of-requires Inv-loop μ-loop Inv-loop2 μ-loop2 Inv-loop3 μ-loop3
 takings-of-requires c κs = code-reads (c .before .before .before .before) .takings
 
 acted-requires : tie.Need-acted-requires Inv-loop μ-loop Inv-loop2 μ-loop2 Inv-loop3 μ-loop3
 acted-requires c κs =
-    let d = c .before .before .before .before .before .before .before .before .before .before .before in (
+    let d = at-takings (c .before .before .before .before .before .before) in (
       turning-size (group₀ d) (bytes d) (ears d) (places d) (taken d) _ (group d) _ (i d) (d .before .loop3 .inv .2) (may d .size (i d) (d .loop3-test .taken)),
       code-reads d,
     )
 
 take-turn-requires : tie.Need-take-turn-requires Inv-loop μ-loop Inv-loop2 μ-loop2 Inv-loop3 μ-loop3
 take-turn-requires c κs =
-    let d = c .before .before .before .before .before .before .before .before .before .before .before .before in
+    let d = at-acted c in
     turning-turns (group₀ d) (bytes d) (ears d) (places d) (taken d) _ (group d) _ (i d) (d .before .loop3 .inv .2) (c .acted .result)
     (c .acted .ensures ∙ code-acts d) (may d .inside (i d) (d .loop3-test .taken))
 
 loop3-again : tie.Need-loop3-again Inv-loop μ-loop Inv-loop2 μ-loop2 Inv-loop3 μ-loop3
 loop3-again c =
-    let d = c .before .before .before .before .before .before .before .before .before .before .before .before .before .before .before in
-    let h = c .before .before .before .acted in
+    let e = c .before .before .before in
+    let d = at-acted e in
+    let h = e .acted in
     let t = c .before .before .take-turn in (
       omega (arith, d .loop3-test .taken),
       may d,
       turning-more (group₀ d) (bytes d) (ears d) (places d) (taken d) _ (group d) _ (i d) (d .before .loop3 .inv .2) (h .result) (h .ensures ∙ code-acts d)
-          (t .result) (t .ensures) _ (c .before .before .before .before .before .before .before .before .before .before .takings-of .ensures ∙ code-takings d),
+          (t .result) (t .ensures) _ (e .before .before .before .before .before .before .before .takings-of .ensures ∙ code-takings d),
     )
 
 returns-4 : tie.Need-returns-4 Inv-loop μ-loop Inv-loop2 μ-loop2 Inv-loop3 μ-loop3
 returns-4 c =
-    let a = c .before .before .before .before .before .before .before .before .before .before .before .args in
     let l = c .before .loop3 in
     let d = c .before .before in
-    turning-done (a .g) (a .t2) _ _ (begun (d .before .before)) _ _ _ (sizeOf (a .g)) refl (all-heard d) (l .group) (l .reports) (l .i) (l .inv .2)
+    let e = d .before .before in
+    let a = call e .args in
+    turning-done (a .g) (a .t2) _ _ (begun e) _ _ _ (sizeOf (a .g)) refl (all-heard d) (l .group) (l .reports) (l .i) (l .inv .2)
     (omega (arith, l .inv .0, c .loop3-test .left))
 
 pub round-spec : {M : Type 1} → statement M
@@ -307,64 +332,64 @@ round-spec =
     (λ c. record { fits = omega (arith, c .before .before .loop .inv .5 .judged, judged-small (c .before .before .before .before .before .before .before .args .g) (c .before .before .loop .k)) })
     returns-2
     loop2-holds
-    (λ c. search needs)
-    (λ c. search needs)
-    (λ c. search needs)
-    (λ c. search needs)
-    (λ c. search needs)
-    (λ c. search needs)
-    (λ c. search needs)
-    (λ c. search needs)
-    (λ c. search needs)
-    (λ c. search needs)
-    (λ c. search needs)
-    (λ c. search needs)
-    (λ c. search needs)
-    (λ c. search needs)
-    (λ c. search needs)
-    (λ c. search needs)
-    (λ c. search needs)
+    (λ c. record { fits = omega (arith, low c) })
+    (λ c. record { fits = omega (arith, low c) })
+    (λ c. omega (arith, low (c .before)))
+    (λ c. record { fits = omega (arith, low (c .before)) })
+    (λ c. omega (arith, low (c .before)))
+    (λ c. record { fits = omega (arith, low (c .before)) })
+    (λ c. record { fits = omega (arith, low (c .before)) })
+    (λ c. omega (arith, low (c .before)))
+    (λ c. omega (arith, low (c .before)))
+    (λ c. omega (arith, low (c .before)))
+    (λ c. record { fits = omega (arith, low (c .before .before)) })
+    (λ c. record { fits = omega (arith, low (c .before .before)) })
+    (λ c. omega (arith, low (c .before .before)))
+    (λ c. omega (arith, low (c .before .before)))
+    (λ c. omega (arith, low (c .before .before)))
+    (λ c. record { fits = omega (arith, low (c .before .before .before)) })
+    (λ c. omega (arith, low (c .before .before .before)))
     listen-requires
     (λ c. search needs)
     returns-3
-    (λ c. search needs)
-    (λ c. search needs)
-    (λ c. search needs)
-    (λ c. search needs)
+    (λ c. record { fits = omega (arith, low (at-listen (c .before .before .before .before))) })
+    (λ c. omega (arith, low (at-listen (c .before .before .before .before))))
+    (λ c. record { fits = omega (arith, low (at-listen (c .before .before .before .before))) })
+    (λ c. omega (arith, at-listen (c .before .before .before .before) .loop2-test .taken))
     loop2-again
     loop3-holds
-    (λ c. search needs)
-    (λ c. search needs)
-    (λ c. search needs)
-    (λ c. search needs)
-    (λ c. search needs)
-    (λ c. search needs)
-    (λ c. search needs)
-    (λ c. search needs)
-    (λ c. search needs)
-    (λ c. search needs)
+    (λ c. record { fits = omega (arith, low3 c) })
+    (λ c. record { fits = omega (arith, low3 c) })
+    (λ c. record { fits = omega (arith, low3 c) })
+    (λ c. omega (arith, low3 c))
+    (λ c. omega (arith, low3 (c .before .before)))
+    (λ c. record { fits = omega (arith, low3 (c .before .before)) })
+    (λ c. record { fits = omega (arith, low3 (c .before .before)) })
+    (λ c. omega (arith, low3 (c .before .before)))
+    (λ c. omega (arith, low3 (c .before .before .before)))
+    (λ c. omega (arith, low3 (c .before .before .before)))
     takings-of-requires
-    (λ c. search needs)
-    (λ c. search needs)
-    (λ c. search needs)
-    (λ c. search needs)
-    (λ c. search needs)
-    (λ c. search needs)
-    (λ c. search needs)
-    (λ c. search needs)
-    (λ c. search needs)
-    (λ c. search needs)
-    (λ c. search needs)
-    (λ c. search needs)
-    (λ c. search needs)
+    (λ c. record { fits = omega (arith, low3 (at-takings c)) })
+    (λ c. omega (arith, low3 (at-takings c)))
+    (λ c. omega (arith, low3 (at-takings (c .before .before))))
+    (λ c. record { fits = omega (arith, low3 (at-takings (c .before .before))) })
+    (λ c. record { fits = omega (arith, low3 (at-takings (c .before .before))) })
+    (λ c. omega (arith, low3 (at-takings (c .before .before))))
+    (λ c. omega (arith, low3 (at-takings (c .before .before .before))))
+    (λ c. omega (arith, low3 (at-takings (c .before .before .before))))
+    (λ c. record { fits = omega (arith, low3 (at-takings (c .before .before .before .before))) })
+    (λ c. record { fits = omega (arith, low3 (at-takings (c .before .before .before .before))) })
+    (λ c. omega (arith, low3 (at-takings (c .before .before .before .before))))
+    (λ c. omega (arith, low3 (at-takings (c .before .before .before .before .before))))
+    (λ c. omega (arith, low3 (at-takings (c .before .before .before .before .before))))
     acted-requires
     take-turn-requires
-    (λ c. record { fits = omega (arith, low3 (c .before .before .before .before .before .before .before .before .before .before .before .before .before .before)) })
-    (λ c. omega (arith, low3 (c .before .before .before .before .before .before .before .before .before .before .before .before .before .before)))
-    (λ c. record { fits = omega (arith, low3 (c .before .before .before .before .before .before .before .before .before .before .before .before .before .before .before)) })
-    (λ c. omega (arith, low3 (c .before .before .before .before .before .before .before .before .before .before .before .before .before .before .before)))
-    (λ c. record { fits = omega (arith, low3 (c .before .before .before .before .before .before .before .before .before .before .before .before .before .before .before)) })
-    (λ c. omega (arith, (c .before .before .before .before .before .before .before .before .before .before .before .before .before .before .before) .loop3-test .taken))
+    (λ c. record { fits = omega (arith, low3 (at-acted (c .before .before))) })
+    (λ c. omega (arith, low3 (at-acted (c .before .before))))
+    (λ c. record { fits = omega (arith, low3 (at-acted (c .before .before .before))) })
+    (λ c. omega (arith, low3 (at-acted (c .before .before .before))))
+    (λ c. record { fits = omega (arith, low3 (at-acted (c .before .before .before))) })
+    (λ c. omega (arith, at-acted (c .before .before .before) .loop3-test .taken))
     loop3-again
     (λ c. search needs)
     returns-4)

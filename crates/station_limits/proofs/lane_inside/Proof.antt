@@ -5,6 +5,7 @@ use Prim.Native.Nat.{_≤_}
 use native.Mathlib.Omega.{arith}
 use borrow.Author.Needs.{needs}
 use borrow.Author.Tests.{le-leb, lt-leb, eq-eqb, ne-eqb, not-true, not-false}
+use Rattle.bodies.specs.Limits.{bodyInside}
 use Rattle.station_spec.specs.Limits.{laneInside, takeable}
 use Rattle.station_limits.proofs.lane_inside.Statement.{statement}
 use Rattle.station_limits.proofs.lane_inside.Tie as tie
@@ -26,14 +27,14 @@ returns-3 : tie.Need-returns-3
 unfolding laneInside
 returns-3 c =
     let b = c .before in
-    let e : takeable (b .before .before .before .args .edition) (b .before .before .before .args .lane .first) ≡ false = sym (b .takeable .ensures) ∙ not-true _ (c .if3 .taken) in
+    let e : takeable (bodyInside (b .before .before .before .args .edition)) (b .before .before .before .args .lane .first) ≡ false = sym (b .takeable .ensures) ∙ not-true _ (c .if3 .taken) in
     rw (le-leb _ _ (b .before .before .if1 .left), ne-eqb _ _ (b .before .if2 .left), e)
 
 returns-4 : tie.Need-returns-4
 unfolding laneInside
 returns-4 c =
     let b = c .before .before in
-    let e : takeable (b .before .before .before .args .edition) (b .before .before .before .args .lane .first) ≡ true = sym (b .takeable .ensures) ∙ not-false _ (c .before .if3 .left) in
+    let e : takeable (bodyInside (b .before .before .before .args .edition)) (b .before .before .before .args .lane .first) ≡ true = sym (b .takeable .ensures) ∙ not-false _ (c .before .if3 .left) in
     rw (le-leb _ _ (b .before .before .if1 .left), ne-eqb _ _ (b .before .if2 .left), e, le-leb _ _ (c .if4 .taken))
 
 takeable-requires-2 : tie.Need-takeable-requires-2
@@ -43,7 +44,7 @@ returns-5 : tie.Need-returns-5
 unfolding laneInside
 returns-5 c =
     let b = c .before .before .before in
-    let e : takeable (b .before .before .before .args .edition) (b .before .before .before .args .lane .first) ≡ true = sym (b .takeable .ensures) ∙ not-false _ (c .before .before .if3 .left) in
+    let e : takeable (bodyInside (b .before .before .before .args .edition)) (b .before .before .before .args .lane .first) ≡ true = sym (b .takeable .ensures) ∙ not-false _ (c .before .before .if3 .left) in
     rw (le-leb _ _ (b .before .before .if1 .left), ne-eqb _ _ (b .before .if2 .left), e, lt-leb _ _ (c .before .if4 .left)) (c .takeable2 .ensures)
 
 pub lane-inside-spec : {M : Type 1} → statement M

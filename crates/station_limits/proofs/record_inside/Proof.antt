@@ -1,12 +1,11 @@
 -- `station_limits::record_inside` meets its contract, test by test. The record's station is k, and so below n.
 use Prim.Native.Nat.{ℕ, _<_}
 use native.Mathlib.Omega.{arith}
-use mathlib.Core.Path.{_≡_, sym, ap, _∙_}
-use mathlib.Core.Bool.{Bool, true, false, _&&_, _||_}
+use mathlib.Core.Path.{_≡_, sym, _∙_}
+use mathlib.Core.Bool.{true, false, _||_}
 use lib.Dec.{ltb, eqb}
 use borrow.Author.Tests.{lt-ltb, eq-eqb, ne-eqb, not-true, not-false}
-use Rattle.bodies.specs.Limits.{insideKind, bodyInside}
-use Rattle.labels.specs.Packing.{labelsInside}
+use Rattle.bodies.specs.Limits.{bodyInside}
 use Rattle.frame_spec.specs.Record.{countInside}
 use Rattle.station_spec.specs.Limits.{recordInside}
 use borrow.Author.Needs.{needs}
@@ -30,26 +29,25 @@ returns-2 c =
     rw (eq-eqb _ _ s, below (a .n) (a .k) (a .«record» .station) s (omega arith), e)
 
 returns-3 : tie.Need-returns-3
-unfolding recordInside bodyInside insideKind
+unfolding recordInside
 returns-3 c =
     let b = c .before .before .before in
     let a = b .before .before .before .args in
     let e : (eqb (a .k) (a .own) || countInside (a .n) (a .«record» .count)) ≡ true = sym (b .count-inside .ensures) ∙ not-false _ (c .before .before .if2 .left) in
     let f : bodyInside (a .edition) (a .«record» .body) ≡ false = sym (c .before .body-inside .ensures) ∙ not-true _ (c .if3 .taken) in
     let s = b .before .if1 .left in
-    rw (eq-eqb _ _ s, below (a .n) (a .k) (a .«record» .station) s (omega arith), e)
-    (ap (λ (t : Bool). t && labelsInside (a .n) (a .«record» .labels)) (sym f))
+    rw (eq-eqb _ _ s, below (a .n) (a .k) (a .«record» .station) s (omega arith), e, f)
 
 returns-4 : tie.Need-returns-4
-unfolding recordInside bodyInside insideKind
+unfolding recordInside
 returns-4 c =
     let b = c .before .before .before .before in
     let a = b .before .before .before .args in
     let e : (eqb (a .k) (a .own) || countInside (a .n) (a .«record» .count)) ≡ true = sym (b .count-inside .ensures) ∙ not-false _ (c .before .before .before .if2 .left) in
     let f : bodyInside (a .edition) (a .«record» .body) ≡ true = sym (c .before .before .body-inside .ensures) ∙ not-false _ (c .before .if3 .left) in
     let s = b .before .if1 .left in
-    rw (eq-eqb _ _ s, below (a .n) (a .k) (a .«record» .station) s (omega arith), e)
-    (c .labels-inside .ensures ∙ ap (λ (t : Bool). t && labelsInside (a .n) (a .«record» .labels)) (sym f))
+    rw (eq-eqb _ _ s, below (a .n) (a .k) (a .«record» .station) s (omega arith), e, f)
+    (c .labels-inside .ensures)
 
 pub record-inside-spec : {M : Type 1} → statement M
 record-inside-spec =

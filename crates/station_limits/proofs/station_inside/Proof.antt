@@ -12,7 +12,7 @@ use Rattle.lists.proofs.Laws.{allBelow-more, allBelow-fails}
 use Rattle.station_spec.specs.declared.Station.{Station}
 use Rattle.station_spec.specs.State.{cellOf, ackedOf, heldOf}
 use Rattle.queues.specs.Waiting.{waitingInside}
-use Rattle.station_spec.specs.Limits.{placeInside, stationInside}
+use Rattle.station_spec.specs.Limits.{allowed, placeInside, stationInside}
 use Rattle.station_spec.proofs.CallSteps.{valid-parts}
 use Rattle.station_limits.proofs.station_inside.Statement.{statement}
 use Rattle.station_limits.proofs.station_inside.Tie as tie
@@ -25,7 +25,7 @@ whole s =
     && ackedOf s (s .own)
     && heldOf s (s .own)
     && bodyInside (s .edition) (s .body)
-    && waitingInside (s .edition) (s .waiting)
+    && waitingInside (bodyInside (s .edition)) (s .waiting)
 
 abbrev Inv-loop : tie.InvT-loop
 Inv-loop s n own edition k₀ k =
@@ -87,18 +87,18 @@ returns-4 c =
     rw (valid (c .before .before .before .before .before .before), known (c .before .before .before .before), acked (c .before .before), not-true (heldOf s (s .own)) (c .if4 .taken))
 
 returns-5 : tie.Need-returns-5 Inv-loop μ-loop
-unfolding stationInside
+unfolding stationInside allowed
 returns-5 c =
     let s = c .before .before .before .before .before .before .before .before .before .before .args .t1 in
     let e : bodyInside (s .edition) (s .body) ≡ false = sym (c .before .body-inside .ensures) ∙ not-true _ (c .if5 .taken) in
     rw (valid (c .before .before .before .before .before .before .before .before), known (c .before .before .before .before .before .before), acked (c .before .before .before .before), held (c .before .before), e)
 
 returns-6 : tie.Need-returns-6 Inv-loop μ-loop
-unfolding stationInside
+unfolding stationInside allowed
 returns-6 c =
     let d = c .before .before .before in
     let s = d .before .before .before .before .before .before .before .before .before .before .args .t1 in
-    let e : waitingInside (s .edition) (s .waiting) ≡ false = sym (c .before .waiting-inside .ensures) ∙ not-true _ (c .if6 .taken) in
+    let e : waitingInside (bodyInside (s .edition)) (s .waiting) ≡ false = sym (c .before .waiting-inside .ensures) ∙ not-true _ (c .if6 .taken) in
     rw (valid (d .before .before .before .before .before .before .before .before), known (d .before .before .before .before .before .before), acked (d .before .before .before .before), held (d .before .before), body d, e)
 
 loop-holds : tie.Need-loop-holds Inv-loop μ-loop
@@ -106,7 +106,7 @@ unfolding allBelow
 loop-holds c =
     let d = c .before .before .before in
     let s = d .before .before .before .before .before .before .before .before .before .before .args .t1 in
-    let e : waitingInside (s .edition) (s .waiting) ≡ true = sym (c .before .waiting-inside .ensures) ∙ not-false _ (c .if6 .left) in
+    let e : waitingInside (bodyInside (s .edition)) (s .waiting) ≡ true = sym (c .before .waiting-inside .ensures) ∙ not-false _ (c .if6 .left) in
     let w = sixteen (d .before .before .before .before .before .before .before .before) in (
       refl,
       refl,
@@ -119,23 +119,23 @@ loop-holds c =
     )
 
 returns-7 : tie.Need-returns-7 Inv-loop μ-loop
-unfolding stationInside
+unfolding stationInside allowed
 returns-7 c =
     let h = c .before .before .before .before .before .before .before in
     let s = h .before .before .before .before .before .before .before .before .before .before .before .before .before .before .args .t1 in
-    let e : placeInside s (h .loop .k) ≡ false = unfold cellOf placeInside in (sym (c .before .place-inside .ensures) ∙ not-true _ (c .if7 .taken)) in
+    let e : placeInside s (h .loop .k) ≡ false = unfold cellOf placeInside allowed in (sym (c .before .place-inside .ensures) ∙ not-true _ (c .if7 .taken)) in
     rw (h .loop .inv .6) (sym (allBelow-fails (s .n) (placeInside s) (h .loop .k) (omega arith) e))
 
 loop-again : tie.Need-loop-again Inv-loop μ-loop
 loop-again c =
     let h = c .before .before .before .before .before .before .before in
     let s = h .before .before .before .before .before .before .before .before .before .before .before .before .before .before .args .t1 in
-    let e : placeInside s (h .loop .k) ≡ true = unfold cellOf placeInside in (sym (c .before .place-inside .ensures) ∙ not-false _ (c .if7 .left)) in
+    let e : placeInside s (h .loop .k) ≡ true = unfold cellOf placeInside allowed in (sym (c .before .place-inside .ensures) ∙ not-false _ (c .if7 .left)) in
     let w = h .loop .inv in
     (refl, refl, refl, omega arith, w .4, w .5, w .6, allBelow-more (h .loop .k) (placeInside s) (w .7) e)
 
 returns-8 : tie.Need-returns-8 Inv-loop μ-loop
-unfolding stationInside
+unfolding stationInside allowed
 returns-8 c =
     let s = c .before .before .before .before .before .before .before .before .before .before .before .before .before .before .before .args .t1 in
     let e : c .before .loop .k ≡ s .n = omega arith in

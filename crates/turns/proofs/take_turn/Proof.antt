@@ -8,6 +8,7 @@ use lib.Dec.{eqb}
 use borrow.Author.Needs.{needs}
 use Rattle.lists.specs.Below.{setBelow}
 use Rattle.queues.specs.Lane.{noLane}
+use Rattle.station_spec.specs.Limits.{allowed}
 use Rattle.station_spec.specs.declared.Station.{Station}
 use Rattle.station_spec.specs.State.{cellOf}
 use Rattle.station_spec.specs.Turn.{broadcastEnds}
@@ -61,7 +62,7 @@ waiting-after-requires c κs =
     let s = station e in
     let may = eqb ((getD (e .before .before .before .air .result .left) (s .own) noLane) .len) 0 in (
       waits (e .all-acked .result) may (m .any-waits .result) (c .starts-edit .result) (waitingCount (s .waiting)) (m .any-waits .ensures) (c .starts-edit .ensures),
-      inside-most (s .edition) (s .waiting) (inside e .waiting) (nextDesk (s .waiting)),
+      inside-most (allowed s) (s .waiting) (inside e .waiting) (nextDesk (s .waiting)),
     )
 
 only-own-requires : tie.Need-only-own-requires

@@ -1,0 +1,4 @@
+pub mod Choice
+pub mod Free
+pub mod Ordering
+pub mod Pushing

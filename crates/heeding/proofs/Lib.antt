@@ -1,0 +1,3 @@
+pub mod SameBytes
+pub mod HeedCases
+pub mod RecordParts
