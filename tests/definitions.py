@@ -36,16 +36,25 @@ def definitions():
     return found
 
 
+@functools.cache
+def imported(place):
+    """Name -> the file that it is imported from, for one file."""
+    return {name.strip(): (crate, module) for crate, module, names in USE.findall(modules()[place]) for name in names.split(",")}
+
+
+def found_from(place, name):
+    """The definition that a name in a file means: of that file, or of the file that it is imported from, which may pass it on."""
+    while place in modules():
+        if (*place, name) in definitions():
+            return (*place, name)
+        place = imported(place).get(name)
+    return None
+
+
 def named_by(definition):
-    """The definitions that a definition names: of its own file, or by what the file imports."""
-    crate, module, _ = definition
-    imported = {name.strip(): (other, place) for other, place, names in USE.findall(modules()[crate, module]) for name in names.split(",")}
-    found = set()
-    for word in set(WORD.findall(" ".join(definitions()[definition]))):
-        for place in ((crate, module), imported.get(word)):
-            if place and (*place, word) in definitions():
-                found.add((*place, word))
-    return found - {definition}
+    """The definitions that a definition names."""
+    words = set(WORD.findall(" ".join(definitions()[definition])))
+    return {found_from(definition[:2], word) for word in words} - {definition, None}
 
 
 def reached(roots):
