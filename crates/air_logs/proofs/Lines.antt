@@ -11,7 +11,7 @@ use lib.Seq.{length-take-le, take-add, drop-drop, drop-cons, getD-drop}
 use borrow.Author.Tests.{eq-eqb, ne-eqb, ltb-false, not-true, not-false}
 use Rattle.columns.specs.Writing.{lead, columns, natColumns}
 use Rattle.script.specs.Line.{isNatural, isWhole}
-use Rattle.lines.specs.Lines.{endLine}
+use Rattle.listing_lines.specs.Lines.{endLine}
 use Rattle.air_logs_spec.specs.Form.{field, isLetter, isLine, sameBytes, isListing}
 use Rattle.air_logs_spec.specs.Logs.{editIn, isKept}
 use Rattle.air_logs_spec.specs.Compare.{sameEdit}

@@ -10,6 +10,10 @@ use Rattle.columns.specs.Reading.{readFrom, readColumns}
 use Rattle.air_logs_spec.specs.Form.{isListing}
 use Rattle.air_logs_spec.specs.Logs.{isKept, logOf}
 
+-- the most columns of a number in a line: those of an event, and of an argument
+abbrev pub widestColumns : ℕ
+widestColumns = 9
+
 -- '0' to '9'
 abbrev pub isDigit : ℕ → Bool
 isDigit b = leb 48 b && leb b 57

@@ -23,7 +23,7 @@ use Rattle.group_spec.proofs.Members.{Members}
 use Rattle.group_spec.proofs.MembersPost.{post-members, post-refusal}
 use Rattle.group_spec.proofs.MembersRound.{round-members}
 use Rattle.group_spec.proofs.PostsAccounted.{collect-last}
-use Rattle.lines.specs.Lines.{turnedDown}
+use Rattle.listing_lines.specs.Lines.{turnedDown}
 use Rattle.listing_spec.specs.Listing.{refusalText, refusedText}
 use Rattle.listing_spec.specs.Calls.{callText, callsText}
 use Rattle.air_logs_spec.proofs.Carried.{empty-kind}

@@ -8,7 +8,7 @@ use Rattle.bodies.specs.declared.Body.{Body}
 use Rattle.bodies.specs.declared.Body.the-variants.{Neutral, Drop, Shift}
 use Rattle.columns.specs.Reading.{started, grown, next, readFrom}
 use Rattle.columns.specs.Writing.{lead, columns, natColumns}
-use Rattle.lines.specs.Lines.{airing, delivered, headBytes, bodyBytes, lineBytes, endLine}
+use Rattle.listing_lines.specs.Lines.{airing, delivered, headBytes, bodyBytes, lineBytes, endLine}
 use Rattle.listing_spec.specs.Listing.{linesOf}
 use Rattle.air_logs_spec.specs.declared.Compared.{Compared}
 use Rattle.air_logs_spec.specs.declared.Compared.the-variants.{Equal, FirstBegins, SecondBegins, Different, Refused}

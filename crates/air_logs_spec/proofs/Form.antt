@@ -12,7 +12,7 @@ use lib.Seq.{take-at, getD-at, drop-cons, drop-drop, drop-append-add}
 use borrow.Author.Tests.{eqb-true, ne-eqb}
 use Rattle.lists.proofs.Laws.{and-left, and-right}
 use Rattle.script.specs.Line.{isNatural, isWhole}
-use Rattle.lines.specs.Lines.{endLine}
+use Rattle.listing_lines.specs.Lines.{endLine}
 use Rattle.listing_spec.specs.Listing.{Lines, rest, line, linesOf}
 use Rattle.listing_spec.proofs.LineEnds.{noEnd, noEnd-append, line-first, linesText, lines-text}
 use Rattle.air_logs_spec.specs.Form.{field, isLetter, isLine, sameBytes, isEnd, noneLeft, areListing, isListing}

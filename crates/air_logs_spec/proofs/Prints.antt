@@ -8,8 +8,8 @@ use native.Mathlib.Omega.{arith}
 use lib.Dec.{eqb}
 use Rattle.bodies.specs.declared.Body.{Body}
 use Rattle.bodies.specs.Body.{kindOf, eventOf, argumentOf}
-use Rattle.lines.specs.Lines.{airing, lineBytes, endLine}
-use Rattle.round_lines.specs.Reports.{joined}
+use Rattle.listing_lines.specs.Lines.{airing, lineBytes, endLine}
+use Rattle.listing_lines.specs.Reports.{joined}
 use Rattle.air_logs_spec.specs.Form.{isListing}
 use Rattle.air_logs_spec.specs.Logs.{Edit, isKept, logOf}
 use Rattle.air_logs_spec.proofs.Form.{before-listing, before-log, end-listing, end-log}

@@ -20,7 +20,7 @@ use Rattle.columns.proofs.RoundTrip.{read-written}
 use Rattle.columns.specs.Writing.{Fits, columns, natColumns, intColumns}
 use Rattle.columns.proofs.Fields.{length-columns}
 use Rattle.script.specs.Line.{signedOf}
-use Rattle.lines.specs.Lines.{headBytes, bodyBytes, lineBytes}
+use Rattle.listing_lines.specs.Lines.{headBytes, bodyBytes, lineBytes}
 use Rattle.air_logs_spec.specs.Form.{field, isLetter, isLine}
 use Rattle.air_logs_spec.specs.Logs.{editIn}
 

@@ -17,7 +17,7 @@ use Rattle.group_spec.proofs.Members.{Members, fresh-members}
 use Rattle.script.specs.declared.Command.{Command}
 use Rattle.script.specs.declared.Command.the-variants.{Size, Post, Round, Malformed}
 use Rattle.script.specs.Line.{commandOf, masksOf}
-use Rattle.lines.specs.Lines.{endLine}
+use Rattle.listing_lines.specs.Lines.{endLine}
 use Rattle.listing_spec.specs.Listing.{setupOf, lastRound, refusalText, Lines, rest, line, linesOf, listingOf}
 use Rattle.listing_spec.specs.Calls.{called, callsIn, sizeSaid, sizeIn, linesAfter, sizeOf, callsOf, stops, sessionOf, callsText, RunsCalls}
 use Rattle.listing_spec.proofs.Commands.{First, command-first}

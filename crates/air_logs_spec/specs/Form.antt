@@ -8,7 +8,7 @@ use lib.ListN.{getD, take, drop, length}
 use Rattle.columns.specs.declared.reader.Reading.{Reading}
 use Rattle.columns.specs.Reading.{readColumns}
 use Rattle.script.specs.Line.{isNatural, isWhole}
-use Rattle.lines.specs.Lines.{delivered, airing, ending, turnedDown, endLine}
+use Rattle.listing_lines.specs.Lines.{delivered, airing, ending, turnedDown, endLine}
 use Rattle.listing_spec.specs.Listing.{Lines, rest, line, linesOf}
 
 -- the number in the w columns from a place of a line

@@ -6,7 +6,7 @@ use lib.Dec.{eqb}
 use lib.IntN.{ℤ}
 use lib.ListN.{getD}
 use Rattle.script.specs.Line.{naturalOf, wholeOf}
-use Rattle.lines.specs.Lines.{airing}
+use Rattle.listing_lines.specs.Lines.{airing}
 use Rattle.listing_spec.specs.Listing.{Lines, rest, line, linesOf}
 use Rattle.air_logs_spec.specs.Form.{field}
 

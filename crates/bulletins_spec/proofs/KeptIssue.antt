@@ -16,7 +16,7 @@ use Rattle.links.specs.Log.{bit}
 use Rattle.links.specs.Relay.{Links}
 use Rattle.links.specs.Inner.Clock.{news}
 use Rattle.links.proofs.Clock.{news-own, news-other}
-use Rattle.link_logs.proofs.Bits.{bit-or, bit-pow}
+use Rattle.planning.proofs.Bits.{bit-or, bit-pow}
 use Rattle.bulletins_spec.specs.declared.Bulletins.{Bulletins}
 use Rattle.bulletins_spec.specs.State.{issuerOf, setOf, holds, stands, tagAt, eventAt, eventInside, bulletinsInside}
 use Rattle.bulletins_spec.specs.Calls.{freeFrom, freePlace, hasTag, hasFour, issueRefusal, issued}

@@ -16,7 +16,7 @@ use Rattle.links.specs.Inner.Clock.{news, hearing}
 use Rattle.links.specs.Inner.Know.{either}
 use Rattle.links.proofs.Clock.{news-own}
 use Rattle.links.proofs.Hearing.{hearing-all, hearing-own}
-use Rattle.link_logs.proofs.Stands.{united-bit, either-ext}
+use Rattle.planning.proofs.Stands.{united-bit, either-ext}
 use Rattle.bulletins_spec.specs.declared.Bulletins.{Bulletins}
 use Rattle.bulletins_spec.specs.State.{issuerOf, setOf, holds, stands, tagAt, eventAt, eventInside}
 use Rattle.bulletins_spec.specs.Calls.{setAfter, bulletinsAfter}

@@ -21,7 +21,7 @@ use Rattle.group_spec.proofs.Members.{Members, members-inside, fresh-me
 use Rattle.group_spec.proofs.MembersPost.{post-members}
 use Rattle.group_spec.proofs.MembersRound.{Runs, after-members}
 use Rattle.group_spec.proofs.Lanes.{never-refused, run-step}
-use Rattle.group_spec.proofs.CallRun.{runOf, callsAfter, groupAfter, group-first, group-step, posts-keep}
+use Rattle.group_spec.proofs.CallRun.{runOf, callsAfter, groupAfter, group-first, posts-keep}
 use Rattle.group_spec.proofs.HistoryRun.{Unrefused, history-group}
 use Rattle.group_spec.proofs.PostsAccounted.{posts-started, starts-aired, starts-reported, posts-counted}
 use Rattle.group_spec.proofs.HistoryInside.{lanes-bounded}

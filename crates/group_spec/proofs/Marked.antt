@@ -14,7 +14,7 @@ use Rattle.bodies.specs.declared.Body.the-variants.{Empty, Neutral, Insert}
 use Rattle.bodies.specs.Body.{isEmpty, isEdit}
 use Rattle.bodies.specs.Limits.{isEdition, postable, onChannel, channelInside, insideKind, bodyInside, numbersInside}
 use Rattle.bodies.specs.Refusals.{done, notAnEdit}
-use Rattle.bodies.proofs.LimitLaws.{postable-edit, postable-kind, postable-not-empty, inside-make, argument-outside}
+use Rattle.bodies.proofs.LimitLaws.{postable-edit, postable-kind, postable-not-empty, argument-outside}
 use Rattle.bodies.proofs.Examples as kinds
 use Rattle.labels.proofs.LabelExamples as labels
 use Rattle.labels.specs.Packing.{labelIn, labelsInside}

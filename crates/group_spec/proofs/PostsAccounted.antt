@@ -8,7 +8,7 @@ use mathlib.Core.Path.{_≡_, refl, sym, ap, subst, _∙_}
 use native.Mathlib.Decide.{ℕ-discrete}
 use native.Mathlib.Omega.{arith}
 use lib.Dec.{eqb}
-use lib.ListN.{getD, set, length, length-append, replicate, getD-replicate}
+use lib.ListN.{getD, length, length-append, replicate, getD-replicate}
 use Rattle.bodies.specs.declared.Body.{Body}
 use Rattle.bodies.specs.Body.{isEmpty, isEdit}
 use Rattle.bodies.specs.Refusals.{done}

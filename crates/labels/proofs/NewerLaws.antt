@@ -1,7 +1,7 @@
 -- What "newer" decides where the held and the seen label are those of two numbers at most one apart: the next number is newer, the one before is not, and within
 -- one number the count decides. No record is newer than itself, and whether all else is equal matters at the same label and count alone.
 use Prim.Native.Nat.{ℕ, suc, _%_}
-use mathlib.Core.Bool.{Bool, true, false, cond, _&&_, and-false}
+use mathlib.Core.Bool.{Bool, true, false, _&&_, and-false}
 use mathlib.Core.Path.{_≡_, refl, ap, _∙_}
 use native.Mathlib.Decide.{ℕ-discrete}
 use native.Mathlib.Omega.{arith}

@@ -12,8 +12,8 @@ use Rattle.group_spec.specs.Calls.{groupFreshCall, groupPostCall, roundCall}
 use Rattle.script.specs.declared.Command.{Command}
 use Rattle.script.specs.declared.Command.the-variants.{Size, Post, Round, Malformed}
 use Rattle.script.specs.Line.{commandOf, masksOf}
-use Rattle.lines.specs.Lines.{Put}
-use Rattle.lines.proofs.Placed.{put-none}
+use Rattle.listing_lines.specs.Lines.{Put}
+use Rattle.listing_lines.proofs.Placed.{put-none}
 use Rattle.listing_spec.specs.declared.Session.{Session}
 use Rattle.listing_spec.specs.declared.Applied.{Applied}
 use Rattle.listing_spec.specs.Listing.{Answer, AnswersPost, AnswersRound, after, printed, obeyed, answered, halted, malformedText, setupOf, sizedBy, postedBody}

@@ -5,7 +5,7 @@ use Prim.Native.Nat.{ℕ, zero, suc}
 use lib.IntN.{pos}
 use Rattle.bodies.specs.declared.Body.the-variants.{Empty, Neutral, Insert}
 use Rattle.columns.specs.Writing.{natColumns}
-use Rattle.lines.specs.Lines.{delivered, airing, ending, turnedDown, lineBytes, endLine}
+use Rattle.listing_lines.specs.Lines.{delivered, airing, ending, turnedDown, lineBytes, endLine}
 use Rattle.listing_spec.specs.Listing.{listingOf}
 use Rattle.listing_spec.proofs.Computing.{listingRuns}
 

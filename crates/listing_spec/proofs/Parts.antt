@@ -6,8 +6,8 @@ use native.Mathlib.Omega.{arith}
 use native.Mathlib.Numerals.{add-one}
 use lib.ListN.{length, take, drop, getD, length-append, length-drop, drop-of-length-le}
 use lib.Seq.{take-all, take-at, take-add, take-suc, length-take-le, drop-drop}
-use Rattle.lines.specs.Lines.{Put, placed}
-use Rattle.lines.proofs.Placed.{put-none, put-more}
+use Rattle.listing_lines.specs.Lines.{Put, placed}
+use Rattle.listing_lines.proofs.Placed.{put-none, put-more}
 use Rattle.listing_spec.specs.declared.Session.{Session}
 use Rattle.listing_spec.specs.declared.Applied.{Applied}
 use Rattle.listing_spec.specs.Listing.{after, printed}

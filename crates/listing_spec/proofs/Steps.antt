@@ -5,7 +5,7 @@ use Prim.Native.Nat.{ℕ, _<_}
 use native.Mathlib.Omega.{arith}
 use lib.ListN.{length, length-append}
 use borrow.Author.Tests.{ne-eqb}
-use Rattle.lines.specs.Lines.{endLine}
+use Rattle.listing_lines.specs.Lines.{endLine}
 use Rattle.listing_spec.specs.declared.Session.{Session}
 use Rattle.listing_spec.specs.Listing.{Lines, rest, line, before, sessionBegun, linesOf, listed, listingOf, after, printed, closed}
 use Rattle.listing_spec.proofs.Overlong.{printed-long, after-long, closed-some}

@@ -2,7 +2,7 @@
 -- a script makes, read off its lines alone; and that its listing is what the history of these calls
 -- gives, call by call.
 use Prim.Native.Nat.{ℕ, _+_, _≤_}
-use mathlib.Core.Bool.{Bool, true, false, cond, not}
+use mathlib.Core.Bool.{Bool, true, cond, not}
 use mathlib.Core.Path.{_≡_}
 use mathlib.Core.List.{List, [], _∷_, _++_}
 use lib.Dec.{ltb, eqb}
@@ -13,8 +13,8 @@ use Rattle.group_spec.specs.History.{Call, post, round, History, next, begun, h
 use Rattle.script.specs.declared.Command.{Command}
 use Rattle.script.specs.declared.Command.the-variants.{Size, Post, Round, Malformed}
 use Rattle.script.specs.Line.{commandOf, masksOf}
-use Rattle.lines.specs.Lines.{endLine}
-use Rattle.round_lines.specs.Reports.{roundText}
+use Rattle.listing_lines.specs.Lines.{endLine}
+use Rattle.listing_lines.specs.Reports.{roundText}
 use Rattle.listing_spec.specs.declared.Session.{Session}
 use Rattle.listing_spec.specs.Listing as listing
 use Rattle.listing_spec.specs.Listing.{setupOf, postOf, lastRound, refusalText, refusedText, after}

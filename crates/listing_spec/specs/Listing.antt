@@ -23,8 +23,8 @@ use Rattle.script.specs.declared.Command.the-variants.{Size, Post, Round, Malfo
 use Rattle.script.specs.Line.{commandOf, masksOf}
 use Rattle.listing_spec.specs.declared.Session.{Session}
 use Rattle.listing_spec.specs.declared.Applied.{Applied}
-use Rattle.lines.specs.Lines.{turnedDown, lineBytes, lineLength, endLine, Put}
-use Rattle.round_lines.specs.Reports.{roundText}
+use Rattle.listing_lines.specs.Lines.{turnedDown, lineBytes, lineLength, endLine, endLength, Put}
+use Rattle.listing_lines.specs.Reports.{roundText}
 
 -- before any line is read: no size yet, no round done
 unfoldable pub sessionBegun : Session
@@ -112,9 +112,9 @@ restText s left = cond (s .stopped || (ltb 0 (s .n) && eqb left 0)) [] (malforme
 abbrev pub closed : Session → List ℕ → List ℕ
 closed s rest = restText s (length rest)
 
--- the most bytes that the end of a script prints: a refusal, and the last line, of 4
+-- the most bytes that the end of a script prints: a refusal, and the last line
 abbrev pub closingRoom : ℕ
-closingRoom = lineLength + 4
+closingRoom = lineLength + endLength
 
 -- what a call on a session promises: the session after it, and the text put at the front of the lent buffer
 pub record Answer (after : Session) (text entry exit : List ℕ) (r : Applied) : Type 0 where

@@ -3,7 +3,7 @@ use Prim.Native.Nat.{ℕ, _+_, _≤_, _<_}
 use mathlib.Core.Path.{_≡_}
 use mathlib.Core.List.{List, _++_}
 use lib.ListN.{length, take, getD, replicate}
-use Rattle.lines.specs.Lines.{endLine, Put}
+use Rattle.listing_lines.specs.Lines.{endLine, Put}
 use Rattle.listing_spec.specs.declared.Session.{Session}
 use Rattle.listing_spec.specs.Listing.{Lines, rest, line, sessionBegun, linesOf, listed}
 use Rattle.listing_spec.specs.declared.reading.Reader.{Reader}

@@ -7,7 +7,7 @@ use mathlib.Core.List.{List, [], _∷_}
 use lib.Dec.{leb, ltb, eqb}
 use lib.ListN.{length, set}
 use Rattle.bodies.specs.Refusals.{done, badNumber, shortBuffer, refuse}
-use Rattle.lines.specs.Lines.{placed}
+use Rattle.listing_lines.specs.Lines.{placed}
 use Rattle.load_spec.specs.declared.Generated.{Generated}
 use Rattle.load_spec.specs.Draws.{afterRound}
 use Rattle.load_spec.specs.Script.{sizeLine, roundLines, textOf}

@@ -6,7 +6,7 @@ use mathlib.Core.List.{List, [], _++_}
 use lib.ListN.{length, take}
 use Rattle.bodies.specs.Refusals.{done}
 use Rattle.load_spec.specs.declared.Generated.{Generated}
-use Rattle.load_spec.specs.Script.{scriptOf}
+use Rattle.load_spec.specs.Script.{fieldWidth, postLength, scriptOf}
 use Rattle.load_spec.specs.Calls.{mostRounds, generated, bufferAfter}
 
 -- a call in a buffer: its answer, and the bytes of which the answer gives the length
@@ -38,9 +38,9 @@ pub data Calls (n : ℕ) : ℕ → ℕ → List ℕ → Type 0 where
 abbrev pub WritesWhole : Type 0
 WritesWhole = (n seed count : ℕ) (text : List ℕ) → Calls n seed count text → text ≡ scriptOf seed n count
 
--- so many bytes hold what any call writes: the posts of sixteen stations, 38 bytes each, and a line of sixteen masks
+-- so many bytes hold what any call writes: the posts of sixteen stations, and a line of sixteen masks
 abbrev pub enough : ℕ
-enough = 16 * 38 + 146
+enough = postLength * 16 + (1 + fieldWidth * 16 + 1)
 
 -- In a buffer of that many bytes no call inside the limits is refused.
 abbrev pub NeverShort : Type 0

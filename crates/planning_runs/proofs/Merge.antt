@@ -1,6 +1,5 @@
 -- Over the group's rounds: with the merged log the k-th end is reported no later than with either log alone, whatever was posted on either side. Ends that are
 -- reported are those of the links, by demand 3, and among links those with more hearings end no later.
-use mathlib.Core.Bool.{true}
 use mathlib.Core.List.{List}
 use mathlib.Core.Path.{_≡_, refl, sym, subst, _∙_}
 use Prim.Native.Nat.{ℕ, zero, suc, max, _+_, _*_, _/_, _<_, _≤_}
@@ -17,7 +16,7 @@ use Rattle.links.proofs.Forecast.{num-endCount}
 use Rattle.links.proofs.Part.{ends-part, comes-numbers}
 use Rattle.links.proofs.Prefix.{Same}
 use Rattle.station_spec.specs.declared.Setup.{Setup}
-use Rattle.group_spec.specs.History.{History, Call, historyOf, endsAt}
+use Rattle.group_spec.specs.History.{History, Call, historyOf}
 use Rattle.group_spec.specs.Demand.{Demand}
 use Rattle.group_spec.proofs.DemandThree.{demand-three}
 use Rattle.planning_spec.specs.LinkLog.{roundsOf, linksOf}

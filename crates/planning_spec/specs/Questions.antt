@@ -27,19 +27,22 @@ unfoldable pub questionAt : List ℕ → ℕ → Question
 questionAt page i =
     record { sender = getD page (3 * i) 0; receiver = getD page (3 * i + 1) 0; number = getD page (3 * i + 2) 0 }
 
--- how many questions a page has
+-- how many questions a page has, and the most that it may have
 abbrev pub questionCount : List ℕ → ℕ
 questionCount page = length page / 3
+
+abbrev pub mostQuestions : ℕ
+mostQuestions = 64
 
 -- a question that names a station not below n, or has a number below 1
 unfoldable pub isBad : ℕ → Question → Bool
 isBad n q = leb n (q .sender) || (leb n (q .receiver) || eqb (q .number) 0)
 
--- the refusals of a page: 18 for a question that is not whole, one past the 64th, or a bad one
+-- the refusals of a page: 18 for a question that is not whole, too many questions, or a bad one
 unfoldable pub pageRefusal : ℕ → List ℕ → ℕ
 pageRefusal n page =
     refuse (not (eqb (length page % 3) 0)) badQuestion
-    (refuse (ltb 64 (questionCount page)) badQuestion
+    (refuse (ltb mostQuestions (questionCount page)) badQuestion
     (refuse (anyBelow (questionCount page) (λ i. isBad n (questionAt page i))) badQuestion done))
 
 -- 1, 12, 18
@@ -50,7 +53,7 @@ questionsRefusal n log page =
 -- the first questions of a page are whole, few, name stations below n, and have numbers from 1: so they are where the
 -- page is not refused
 pub record Asked (n count : ℕ) (page : List ℕ) : Type 0 where
-  pub few : count ≤ 64
+  pub few : count ≤ mostQuestions
   pub whole : 3 * count ≤ length page
   pub senders : (i : ℕ) → i < count → questionAt page i .sender < n
   pub receivers : (i : ℕ) → i < count → questionAt page i .receiver < n
@@ -76,9 +79,9 @@ questionsCall n log page =
     cond (eqb (questionsRefusal n log page) done)
     (record {
       refusal = done;
-      answers = setBelow (questionCount page) (λ i. answerTo n log (questionAt page i)) (replicate 64 never);
+      answers = setBelow (questionCount page) (λ i. answerTo n log (questionAt page i)) (replicate mostQuestions never);
     })
-    (record { refusal = questionsRefusal n log page; answers = replicate 64 never })
+    (record { refusal = questionsRefusal n log page; answers = replicate mostQuestions never })
 
 -- The same answer said by relays alone: a reader may believe either. `call-relays` (proofs/Questions) shows that each
 -- answer of a page is such a one, and `relay-only` that no other is.

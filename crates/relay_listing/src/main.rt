@@ -2,7 +2,7 @@
 
 ghost use Prim.Native.Nat.{_≤_};
 ghost use lib.ListN.{length};
-ghost use Rattle.round_lines.specs.Reports.{roundRoom};
+ghost use Rattle.listing_lines.specs.Reports.{roundRoom};
 ghost use Rattle.listing_spec.specs.Remaining.{keptBytes};
 ghost use Rattle.relay_listing.specs.Passing.{PassesIf};
 use libc::STDERR_FILENO;

@@ -11,7 +11,7 @@ use Rattle.bodies.specs.declared.Body.{Body}
 use Rattle.bodies.specs.Refusals.{done, outsideLimits, refuse}
 use Rattle.frame_spec.specs.Frame.{validNumber, frameRefusal, recordsOf, recordsInside, shapeWrong, addressWrong}
 use Rattle.bodies.specs.Limits.{isEdition}
-use Rattle.queues.specs.Waiting.{limitInside, hasRoom}
+use Rattle.queues.specs.Waiting.{limitInside}
 use Rattle.station_spec.specs.declared.Setup.{Setup}
 use Rattle.station_spec.specs.declared.Station.{Station}
 use Rattle.station_spec.specs.Limits.{stationInside, allowed}

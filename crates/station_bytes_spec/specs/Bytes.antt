@@ -5,6 +5,10 @@ use mathlib.Core.List.{List, [], _++_}
 use lib.Dec.{eqb, ltb}
 use lib.ListN.{getD, take, drop}
 
+-- the bytes of a word
+abbrev pub wordWidth : ℕ
+wordWidth = 4
+
 -- the byte at a place
 abbrev pub byteAt : List ℕ → ℕ → ℕ
 byteAt b at = getD b at 0

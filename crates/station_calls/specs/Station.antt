@@ -3,7 +3,7 @@
 -- that is too short is refused last.
 use Prim.Native.Nat.{ℕ}
 use mathlib.Core.Bool.{cond, not}
-use mathlib.Core.List.{List, [], _∷_}
+use mathlib.Core.List.{List}
 use lib.Dec.{eqb, ltb}
 use lib.IntN.{ℤ}
 use lib.ListN.{length}

@@ -16,7 +16,7 @@ use Rattle.station_spec.specs.Bodies.{Holds}
 use Rattle.station_spec.specs.Bodies.Holds.{present, waiting, recorded, lane-first, lane-second}
 use Rattle.station_spec.specs.Calls.{postCall, writeRefusal, writeCall, hearCall, turnCall}
 use Rattle.station_spec.proofs.BodyLaws.{takeable-inside, allowed-inside}
-use Rattle.station_spec.proofs.StationLimits.{Inside, inside-open}
+use Rattle.station_spec.proofs.StationLimits.{inside-open}
 use Rattle.station_spec.proofs.LimitsLane.{lane-first as first-takeable, lane-second as second-takeable}
 
 held-allowed : (s : Station) (b : Body) → stationInside s ≡ true → Holds s b → allowed s b ≡ true

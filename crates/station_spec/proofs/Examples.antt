@@ -18,7 +18,6 @@ use Rattle.station_spec.specs.Limits.{stationInside}
 use Rattle.station_spec.proofs.HearRecord.{accepts}
 use Rattle.station_spec.specs.Calls.{posted, postCall}
 use Rattle.station_spec.proofs.CallSteps.{post-no-edit, post-full, post-done}
-use Rattle.queues.specs.Queue.{queueCapacity}
 use Rattle.queues.specs.Waiting.{isDesk, deskCount, waitingCount}
 use Rattle.queues.proofs.WaitingLaws.{room-below, room-full, posted-count}
 

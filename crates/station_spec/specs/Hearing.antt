@@ -1,6 +1,6 @@
 -- Document 01, "A station and its calls", Hear: what one record does to the hearer, and a frame's records in order.
 use Prim.Native.Nat.{ℕ, max, _+_}
-use mathlib.Core.Bool.{Bool, true, false, cond, not, _&&_, _||_}
+use mathlib.Core.Bool.{Bool, true, cond, not, _&&_, _||_}
 use mathlib.Core.List.{List, [], _∷_, _++_}
 use lib.Dec.{leb, ltb, eqb}
 use Rattle.bodies.specs.declared.Body.the-variants.{Empty}

@@ -1,6 +1,5 @@
 -- Document 01, "A station and its calls", Turn: airing, the end of the broadcast and the next
 -- start, the own record rewritten.
-use Prim.Native.Nat.{ℕ}
 use mathlib.Core.Bool.{Bool, cond, _&&_}
 use mathlib.Core.List.{List}
 use lib.ListN.{replicate}

@@ -3,8 +3,8 @@ use mathlib.Core.Path.{_≡_, sym, _∙_}
 use Prim.Native.Nat.{_<_}
 use native.Mathlib.Omega.{arith}
 use lib.ListN.{length}
-use Rattle.contest_spec.specs.Answer.{contestRefusal}
-use Rattle.contest_spec.proofs.Meaning.{unrefused-inside}
+use Rattle.contest.specs.Answer.{contestRefusal}
+use Rattle.contest.proofs.Meaning.{unrefused-inside}
 use Rattle.contest.proofs.Answers.{answer-refused, answer-none, answer-keeper, answer-breaker}
 use borrow.Author.Needs.{needs}
 use Rattle.contest.proofs.contest.Statement.{statement}

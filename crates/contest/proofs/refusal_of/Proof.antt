@@ -4,7 +4,7 @@ use Prim.Native.Nat.{_/_, _%_}
 use borrow.Author.Tests.{eq-eqb, ne-eqb, lt-ltb, le-ltb, le-leb, lt-leb}
 use borrow.Author.Needs.{needs}
 use native.Mathlib.Omega.{arith}
-use Rattle.contest_spec.specs.Answer.{contestRefusal}
+use Rattle.contest.specs.Answer.{contestRefusal}
 use Rattle.contest.proofs.refusal_of.Statement.{statement}
 use Rattle.contest.proofs.refusal_of.Tie as tie
 

@@ -7,7 +7,7 @@ use borrow.Author.Needs.{needs}
 use borrow.Author.Tests.{not-true, not-false}
 use native.Mathlib.Omega.{arith}
 use lib.ListN.{getD}
-use Rattle.bodies.specs.Limits.{numbersInside, channelInside}
+use Rattle.bodies.specs.Limits.{numbersInside}
 use Rattle.labels.specs.Packing.{wordInside}
 use Rattle.frame_spec.specs.Words.{wordAt, signed}
 use Rattle.frame_spec.proofs.Check.{judged, far, high, other-numbers, other-channel, by-labels}

@@ -5,7 +5,7 @@ use Prim.Native.Nat.{_+_, _*_, _-_, _≤_}
 use native.Mathlib.Omega.{arith}
 use lib.ListN.{length}
 use borrow.Author.Needs.{needs}
-use Rattle.lines.specs.Lines.{Put}
+use Rattle.listing_lines.specs.Lines.{Put}
 use Rattle.load_spec.specs.Draws.{steps}
 use Rattle.load_spec.specs.Script.{textOf, postLines}
 use Rattle.load_spec.proofs.Steps.{steps-none, post-drawn, steps-more, length-more, length-grows}

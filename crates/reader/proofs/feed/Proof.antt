@@ -4,7 +4,7 @@ use mathlib.Core.Path.{_≡_, refl, sym}
 use native.Mathlib.Omega.{arith}
 use lib.ListN.{length, take, length-map}
 use lib.Seq.{length-take-le}
-use Rattle.lines.proofs.Placed.{part-length, put-length}
+use Rattle.listing_lines.proofs.Placed.{part-length, put-length}
 use Rattle.listing_spec.specs.Remaining.{Listed}
 use Rattle.listing_spec.proofs.Parts.{put-fits, put-tail, listed-none, listed-held, listed-line, fed-by}
 use borrow.Author.Needs.{needs}

@@ -54,12 +54,6 @@ returns : tie.Need-returns
 unfolding numbersInside
 returns c = simp (le-ltb _ _ (c .if1 .taken))
 
-mul-row : tie.Need-mul-row
-mul-row c = search needs
-
-array-copy-out-row : tie.Need-array-copy-out-row
-array-copy-out-row c = search needs
-
 returns-2 : tie.Need-returns-2
 returns-2 c =
     let one = c .before .before .before in
@@ -94,4 +88,4 @@ returns-5 c =
 
 pub numbers-inside-spec : {M : Type 1} → statement M
 numbers-inside-spec =
-    tie.close (tie.spec returns mul-row array-copy-out-row returns-2 returns-3 returns-4 returns-5)
+    tie.close (tie.spec returns (λ c. search needs) (λ c. search needs) returns-2 returns-3 returns-4 returns-5)
