@@ -1,8 +1,9 @@
-"""The edits that the prover must refuse: the faults of each file, and the functions that a fault stands in.
+"""The edits that the prover must refuse: the faults of each file, and the functions and definitions that a fault stands in.
 
 A file of edits has replacements of text in the code or the definitions of its crate. A file without a line 'fault: NAME' has one fault, named as the file. With
-such lines it has one fault under each, all of them in the code and no two in one function; a fault in a constant counts for all functions that use it. The
-prover judges a function by its own code and the contracts of those that it calls, so it refuses the faults one by one, although the crate is proved only once.
+such lines it has one fault under each. Either all of them are in the code and no two in one function; a fault in a constant counts for all functions that use it.
+The prover judges a function by its own code and the contracts of those that it calls, so it refuses the faults one by one, although the crate is proved only once.
+Or all of them are in definitions and no two in one. The prover judges a law by what the law names, so one that reaches a single changed definition tells of that.
 """
 import pathlib
 import re
@@ -37,6 +38,11 @@ class Edit(NamedTuple):
     @property
     def name(self):
         return f"{self.crate.name}/{self.path.stem}"
+
+    @property
+    def in_definitions(self):
+        """Whether all faults are in definitions."""
+        return all(replacement.file.startswith("specs/") for fault in self.faults for replacement in fault.replacements)
 
 
 def fault_in(name, lines):
@@ -93,6 +99,15 @@ def functions_of(crate, fault):
         if constant and not within:
             within = users_of(crate, constant[1])
         found |= within or {None}
+    return found
+
+
+def definitions_of(crate, fault, laws):
+    """The definitions that a fault stands in, each as its file and name. `laws` is the crate, or a copy of it with the fault, as tests/laws.py reads it."""
+    found = set()
+    for file, old, _ in fault.replacements:
+        text = (crate / file).read_text(encoding="utf-8")
+        found |= {(file, name) for name in laws.text_at(file, 1 + text.count("\n", 0, text.index(old))).names}
     return found
 
 

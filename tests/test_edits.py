@@ -8,7 +8,8 @@ import re
 import tempfile
 import unittest
 
-from edits import ROOT, edits, functions_of, read
+from edits import ROOT, definitions_of, edits, functions_of, read
+from laws import Crate
 
 LOADER = importlib.machinery.SourceFileLoader("check_edits", str(ROOT / "tests" / "check-edits"))
 CHECK = importlib.util.module_from_spec(importlib.util.spec_from_loader("check_edits", LOADER))
@@ -81,6 +82,63 @@ def planted(crate, text):
     return read(crate / "must-fail" / "code_1.edit")
 
 
+DEFINITIONS = """-- Three numbers, the second made of the first.
+use Prim.Native.Nat.{ℕ}
+
+-- the first
+abbrev pub first : ℕ
+first = 1
+
+abbrev pub second : ℕ
+second = first + 1
+
+abbrev pub third : ℕ
+third = 3
+"""
+LAWS = """-- What they are.
+use Rattle.c.specs.Numbers.{first, second as next, third}
+
+module _ (n : ℕ) where
+  pub first-law : first ≡ 1
+  first-law = refl
+
+pub second-law : next ≡ 2
+second-law = refl
+
+pub third-law : third ≡ 3
+third-law = refl
+
+pub both-law : next + 1 ≡ 3
+both-law = step third-law
+
+pub free-law : 1 ≡ 1
+free-law = refl -- not by first
+"""
+LAWS_AT = {"first-law": 6, "second-law": 9, "third-law": 12, "both-law": 15, "free-law": 18}
+IN_DEFINITIONS = """# a fault in each of several definitions
+
+fault: other_first
+# the first is another
+file: specs/Numbers.antt
+old: first = 1
+new: first = 7
+
+fault: other_third
+# the third is another
+file: specs/Numbers.antt
+old: third = 3
+new: third = 7
+"""
+
+
+def planted_definitions(crate):
+    """An edit of a crate that has three definitions and some laws; the prover's log is of the crate itself."""
+    for file, text in (("specs/Numbers.antt", DEFINITIONS), ("proofs/Laws.antt", LAWS), ("must-fail/definitions_1.edit", IN_DEFINITIONS)):
+        (crate / file).parent.mkdir(parents=True)
+        (crate / file).write_text(text, encoding="utf-8")
+    return read(crate / "must-fail" / "definitions_1.edit")
+
+
 class TestEdits(unittest.TestCase):
     def test_each_says_what_is_wrong(self):
         found = edits()
@@ -106,10 +164,11 @@ class TestEdits(unittest.TestCase):
         names = collections.Counter((edit.crate.name, fault.name) for edit in edits() for fault in edit.faults)
         self.assertEqual([name for name, times in names.items() if times > 1], [])
 
-    def test_faults_together_stand_in_functions_of_their_own(self):
+    def test_faults_together_stand_in_functions_or_definitions_of_their_own(self):
         for edit in filter(lambda edit: edit.together, edits()):
             with self.subTest(edit=edit.name):
-                places = [functions_of(edit.crate, fault) for fault in edit.faults]
+                laws = Crate(edit.crate, edit.crate.name)
+                places = [definitions_of(edit.crate, fault, laws) if edit.in_definitions else functions_of(edit.crate, fault) for fault in edit.faults]
                 self.assertEqual([fault.name for fault, found in zip(edit.faults, places) if not found or None in found], [])
                 self.assertEqual(len(set().union(*places)), sum(map(len, places)))
 
@@ -177,6 +236,27 @@ class TestEdits(unittest.TestCase):
             errors, elsewhere = CHECK.judged(edit, FACT.replace("proofs/f", "proofs/k"), "/copy")
             self.assertEqual([error for _, error in errors], [None, None])
             self.assertEqual(len(elsewhere), 1)
+
+    def test_a_law_tells_of_the_one_changed_definition_that_it_reaches(self):
+        with tempfile.TemporaryDirectory() as folder:
+            crate = pathlib.Path(folder, "c")
+            edit = planted_definitions(crate)
+            self.assertTrue(edit.in_definitions)
+            failing = {name: f"{crate}/proofs/Laws.antt:{line}:9: error: `{name}`: expected type `x`, but this has type `y`" for name, line in LAWS_AT.items()}
+            for laws, told in ((("first-law", "third-law"), {"other_first", "other_third"}), (("second-law",), {"other_first"}), (("both-law",), set()),
+                               (("both-law", "third-law"), {"other_third"}), ((), set())):
+                errors, elsewhere = CHECK.judged(edit, "\n".join(failing[law] for law in laws), crate)
+                self.assertEqual({name for name, error in errors if CHECK.shows(error)}, told, laws)
+                self.assertEqual(elsewhere, [])
+
+    def test_a_law_that_reaches_no_changed_definition_is_told(self):
+        with tempfile.TemporaryDirectory() as folder:
+            crate = pathlib.Path(folder, "c")
+            edit = planted_definitions(crate)
+            error = f"{crate}/proofs/Laws.antt:{LAWS_AT['free-law']}:3: error: `free-law`: expected type `x`, but this has type `y`"
+            self.assertEqual(CHECK.judged(edit, error, crate), ([("other_first", None), ("other_third", None)], [error.replace(f"{crate}/", "")]))
+            self.assertEqual(CHECK.judged(edit, error + RESTS.partition("`g-spec`")[2], crate)[1], [])
+            self.assertEqual(CHECK.judged(edit, error.replace("Laws.antt", "f/Proof.antt"), crate)[1], [])
 
 
 if __name__ == "__main__":
