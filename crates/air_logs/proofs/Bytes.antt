@@ -1,4 +1,5 @@
--- Tests that go through bytes from a place on, one byte at a time: what is left to test is the next byte and what stands behind it.
+-- Tests that go through bytes from a place on, one byte at a time: what is left to test is the next
+-- byte and what stands behind it.
 use Prim.Native.Nat.{ℕ, _+_, _-_, _≤_, _<_}
 use mathlib.Core.Path.{_≡_, refl, sym, ap, _∙_}
 use mathlib.Core.Bool.{Bool, true, false, cond, _&&_}

@@ -1,5 +1,6 @@
--- Lines by their bytes: a line fails where any of its parts does, a listing is judged in steps of 35 bytes, a kept line is told by four bytes, and two edits are
--- the same exactly if the 23 bytes of their numbers are.
+-- Lines by their bytes: a line fails where any of its parts does, a listing is judged in steps of
+-- 35 bytes, a kept line is told by four bytes, and two edits are the same exactly if the 23 bytes
+-- of their numbers are.
 use Prim.Native.Nat.{ℕ, suc, _+_, _-_, _/_, _%_, _≤_, _<_}
 use mathlib.Core.Path.{_≡_, refl, sym, ap, _∙_}
 use mathlib.Core.Bool.{Bool, true, false, cond, not, _&&_, true≢false}

@@ -1,4 +1,5 @@
--- What the inner functions promise to each other: the digits of a number, and the place of a kept line in a listing.
+-- What the inner functions promise to each other: the digits of a number, and the place of a kept
+-- line in a listing.
 use Prim.Native.Nat.{ℕ, _+_, _<_, _≤_}
 use mathlib.Core.Bool.{Bool, true, false, cond, _&&_}
 use mathlib.Core.List.{List, [], _∷_}

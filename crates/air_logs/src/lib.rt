@@ -1,6 +1,6 @@
-// The comparison of two air logs (document 02, A8): the form of a listing, its lines of one station, and two logs side
-// by side. No number is worked out: it can stand in its columns in one way only, so two edits are the same exactly if
-// their bytes are.
+// The comparison of two air logs (document 02, A8): the form of a listing, its lines of one
+// station, and two logs side by side. No number is worked out: it can stand in its columns in one
+// way only, so two edits are the same exactly if their bytes are.
 
 use air_logs_spec::Compared;
 use bodies::refusals::BAD_LISTING;
@@ -305,7 +305,8 @@ fn compare_logs(first: &[u8], p: usize, second: &[u8], q: usize) -> Compared
     Compared::Equal
 }
 
-// The log of station p in one listing against that of station q in another, for any bytes and any numbers.
+// The log of station p in one listing against that of station q in another, for any bytes and any
+// numbers.
 pub fn compare(first: &[u8], p: usize, second: &[u8], q: usize) -> Compared
     ensures { λ r. ⌜ r ≡ compareCall (now (first .entry)) p (now (second .entry)) q ⌝ }
 {

@@ -1,5 +1,6 @@
--- What the calls of a list print, and what is kept of it: of station p, what the rounds of their history report that p aired. By induction on the calls; the group
--- stays inside its limits, and no round has a number above 999,999.
+-- What the calls of a list print, and what is kept of it: of station p, what the rounds of their
+-- history report that p aired. By induction on the calls; the group stays inside its limits, and no
+-- round has a number above 999,999.
 use Prim.Native.Nat.{ℕ, suc, _+_, _<_, _≤_}
 use mathlib.Core.Path.{_≡_, refl, sym, ap, _∙_}
 use mathlib.Core.Bool.{Bool, true, false, cond, not}

@@ -1,5 +1,6 @@
--- What a round of a group inside its limits reports is inside its limits: what a station took was in a record that a frame may carry, what it aired stood in a
--- lane, what it ended was its body, and what it started is Empty or may stand in a lane.
+-- What a round of a group inside its limits reports is inside its limits: what a station took was
+-- in a record that a frame may carry, what it aired stood in a lane, what it ended was its body,
+-- and what it started is Empty or may stand in a lane.
 use Prim.Native.Nat.{ℕ, zero, suc, _<_, _≤_}
 use mathlib.Core.Path.{_≡_, refl, subst}
 use mathlib.Core.Bool.{Bool, true, false, cond, false≢true}

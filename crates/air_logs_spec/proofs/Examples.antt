@@ -1,4 +1,5 @@
--- Answers of the comparison, computed: positions count from 1, rounds may differ, and the faults that document 02 names.
+-- Answers of the comparison, computed: positions count from 1, rounds may differ, and the faults
+-- that document 02 names.
 use mathlib.Core.Path.{_≡_, refl}
 use mathlib.Core.List.{List, [], _∷_, _++_}
 use Prim.Native.Nat.{ℕ}
@@ -51,7 +52,8 @@ made event argument =
 abbrev answer : List ℕ → List ℕ → Compared
 answer event argument = compareCall (made event argument) 0 (made event argument) 0
 
--- full columns and a minus in the argument are of the form; a minus in the event, a minus zero, a leading zero and blank columns are not
+-- full columns and a minus in the argument are of the form; a minus in the event, a minus zero, a
+-- leading zero and blank columns are not
 pub forms :
     (answer (natColumns 9 999_999_999) (columns true 9 99_999_999) ≡ Equal)
     × (answer (columns true 9 7) (natColumns 9 0) ≡ Refused 16)

@@ -1,5 +1,7 @@
--- The form of a listing as it grows from its end: a listing is the last line, or a line before a listing. No line has a line end in it, so the lines of the text are
--- these lines, and the two descriptions are the same; and a line has 34 bytes, so a listing can be gone through in steps of 35.
+-- The form of a listing as it grows from its end: a listing is the last line, or a line before a
+-- listing. No line has a line end in it, so the lines of the text are these lines, and the two
+-- descriptions are the same; and a line has 34 bytes, so a listing can be gone through in steps of
+-- 35.
 use Prim.Native.Nat.{ℕ, suc, _+_, _<_, _≤_}
 use mathlib.Core.Path.{_≡_, refl, sym, ap, subst, _∙_}
 use mathlib.Core.Bool.{Bool, true, false, cond, _&&_, false≢true}

@@ -1,5 +1,6 @@
--- A text of whole lines, by what it does in front of any bytes: it changes nothing in whether they are a listing, and puts its edits before theirs. So texts go one
--- behind the other, and nothing above looks at bytes.
+-- A text of whole lines, by what it does in front of any bytes: it changes nothing in whether they
+-- are a listing, and puts its edits before theirs. So texts go one behind the other, and nothing
+-- above looks at bytes.
 use Prim.Native.Nat.{ℕ, zero, suc, _<_}
 use mathlib.Core.Path.{_≡_, refl, sym, ap, subst, _∙_}
 use mathlib.Core.Bool.{true, cond, _&&_}

@@ -1,5 +1,6 @@
--- The listing of a whole script has the listing's form, and of station p the aired list of p is kept. The listing is what the script's calls print, and then a
--- refusal where the reading stops; the calls make at most 999,999 rounds.
+-- The listing of a whole script has the listing's form, and of station p the aired list of p is
+-- kept. The listing is what the script's calls print, and then a refusal where the reading stops;
+-- the calls make at most 999,999 rounds.
 use Prim.Native.Nat.{ℕ, _+_, _<_, _≤_}
 use mathlib.Core.Path.{_≡_, refl, sym, ap, _∙_}
 use mathlib.Core.Bool.{Bool, true, false, cond}

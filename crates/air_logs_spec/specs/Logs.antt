@@ -1,4 +1,5 @@
--- Document 02, A8: the air log of a station in a listing, which is what its A lines say without their rounds.
+-- Document 02, A8: the air log of a station in a listing, which is what its A lines say without
+-- their rounds.
 use Prim.Native.Nat.{ℕ}
 use mathlib.Core.Bool.{Bool, cond, _&&_}
 use mathlib.Core.List.{List, [], _∷_, _++_}

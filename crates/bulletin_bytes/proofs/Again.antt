@@ -1,5 +1,6 @@
--- Calls on bytes one after the other: what a call leaves is accepted by the next, and decoded to just the state that the call gave. The numbers fit their fields
--- from fresh on: a tag and an event have 32 bits by the types of an issue, and a union of sets of 64 places is such a set.
+-- Calls on bytes one after the other: what a call leaves is accepted by the next, and decoded to
+-- just the state that the call gave. The numbers fit their fields from fresh on: a tag and an event
+-- have 32 bits by the types of an issue, and a union of sets of 64 places is such a set.
 use mathlib.Core.Bool.{Bool, true, false, cond, not, _||_}
 use mathlib.Core.List.{List, [], _∷_}
 use mathlib.Core.Path.{_≡_, refl, sym, _∙_, subst}

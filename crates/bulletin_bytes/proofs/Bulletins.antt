@@ -1,4 +1,5 @@
--- Bulletins there and back: what was encoded is decoded as it was, and accepted bytes are the encoding of what they decode to.
+-- Bulletins there and back: what was encoded is decoded as it was, and accepted bytes are the
+-- encoding of what they decode to.
 use mathlib.Core.Bool.{true}
 use mathlib.Core.List.{List, _++_}
 use mathlib.Core.Path.{_≡_, refl, ap, ap₂, _∙_}

@@ -1,4 +1,5 @@
--- Parts written one behind the other make the encoding of the whole, and parts read from their places are what it decodes to.
+-- Parts written one behind the other make the encoding of the whole, and parts read from their
+-- places are what it decodes to.
 use mathlib.Core.List.{List, _++_}
 use mathlib.Core.Path.{_≡_, refl, ap, ap₂, _∙_}
 use Prim.Native.Nat.{ℕ, _+_, _*_, _/_, _%_}

@@ -1,5 +1,6 @@
--- Bulletins as bytes: N, the tags of all places, their events, and the sets of sixteen stations. Every field is
--- kept whole, from N up too, so that decoding is the inverse. include/relay.h gives the place of each field.
+-- Bulletins as bytes: N, the tags of all places, their events, and the sets of sixteen stations.
+-- Every field is kept whole, from N up too, so that decoding is the inverse. include/relay.h gives
+-- the place of each field.
 use Prim.Native.Nat.{ℕ, _+_, _*_, _/_, _%_}
 use mathlib.Core.Bool.{Bool, _&&_}
 use mathlib.Core.List.{List, _++_}

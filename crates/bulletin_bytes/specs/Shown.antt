@@ -1,5 +1,5 @@
--- What is shown in a round, as bytes: of each of sixteen stations how many bulletins it shows, and an entry for
--- each place: issuer, tag and event.
+-- What is shown in a round, as bytes: of each of sixteen stations how many bulletins it shows, and
+-- an entry for each place: issuer, tag and event.
 use Prim.Native.Nat.{ℕ, _+_, _*_}
 use mathlib.Core.List.{List, [], _++_}
 use lib.ListN.{getD}

@@ -1,4 +1,5 @@
-// Bulletins read from bytes and written as bytes, and what a round shows, written. All other bytes are kept.
+// Bulletins read from bytes and written as bytes, and what a round shows, written. All other bytes
+// are kept.
 
 ghost use mathlib.Core.Path.{_≡_};
 ghost use Prim.Native.Nat.{_+_, _*_, _≤_};

@@ -1,4 +1,5 @@
--- The first free place, looked for from the front: each step is a case of the definition. On the parts of a state it is the state's.
+-- The first free place, looked for from the front: each step is a case of the definition. On the
+-- parts of a state it is the state's.
 use mathlib.Core.Bool.{Bool, true, false, cond}
 use mathlib.Core.List.{List}
 use mathlib.Core.Path.{_≡_, refl, sym, ap, ap₂}

@@ -1,4 +1,5 @@
--- The four places of an issuer, ordered by six comparisons, and all places one issuer after the other.
+-- The four places of an issuer, ordered by six comparisons, and all places one issuer after the
+-- other.
 use mathlib.Core.List.{List, [], _∷_, _++_, append-assoc, List·Memᴰ, List·Memᴰ·head, List·Memᴰ·tail}
 use mathlib.Core.Path.{_≡_, refl, sym, ap, _∙_, subst}
 use Prim.Native.Nat.{ℕ, zero, suc, _+_, _*_, _-_, _<_, _≤_}

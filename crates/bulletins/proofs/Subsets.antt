@@ -1,5 +1,6 @@
--- Sets of places as numbers: two numbers with the same bits are one, so a set is in another exactly if their common part is the set itself; and the set of the
--- places at which a bulletin stands, bit by bit.
+-- Sets of places as numbers: two numbers with the same bits are one, so a set is in another exactly
+-- if their common part is the set itself; and the set of the places at which a bulletin stands, bit
+-- by bit.
 use mathlib.Core.Bool.{Bool, true, false, cond, not, _&&_, _||_, false≢true}
 use mathlib.Core.List.{List}
 use mathlib.Core.Path.{_≡_, refl, sym, ap, _∙_}

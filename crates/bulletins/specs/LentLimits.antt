@@ -1,4 +1,5 @@
--- The limits of bulletins whose parts are lent: each is that of `bulletins_spec`, of the parts alone.
+-- The limits of bulletins whose parts are lent: each is that of `bulletins_spec`, of the parts
+-- alone.
 use Prim.Native.Nat.{ℕ, zero, suc, _+_, _*_, _^_}
 use mathlib.Core.Bool.{Bool, cond, not, _&&_, _||_}
 use mathlib.Core.List.{List}

@@ -8,7 +8,8 @@ use Rattle.bulletins_spec.specs.declared.Notice.{Notice}
 use Rattle.bulletins_spec.specs.State.{issuerOf}
 use Rattle.bulletins.specs.LentLimits.{standsIn}
 
--- the first of so many places, from s on, at which no bulletin stands; one past them where each has one
+-- the first of so many places, from s on, at which no bulletin stands; one past them where each has
+-- one
 unfoldable pub freeIn : List ℕ → ℕ → ℕ → ℕ
 freeIn held zero s = s
 freeIn held (suc more) s = cond (standsIn held s) (freeIn held more (suc s)) s

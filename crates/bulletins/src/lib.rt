@@ -124,7 +124,8 @@ fn refused_round(g: [Station; 16], b: Bulletins) -> BulletinsRound
     }
 }
 
-// Round: the group's round, and on the same masks everyone takes over what those that it hears held before the round.
+// Round: the group's round, and on the same masks everyone takes over what those that it hears held
+// before the round.
 pub fn round(g: [Station; 16], b: Bulletins, masks: [u16; 16]) -> BulletinsRound
     ensures { λ r. ⌜ r ≡ bulletinsRoundCall g b masks ⌝ }
 {

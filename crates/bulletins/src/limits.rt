@@ -1,5 +1,5 @@
-// When the bulletins of a group are inside their limits (document 02, A12). Sets from N up, and tags and events of
-// places at which no bulletin stands, are not looked at.
+// When the bulletins of a group are inside their limits (document 02, A12). Sets from N up, and
+// tags and events of places at which no bulletin stands, are not looked at.
 
 ghost use mathlib.Core.Path.{_≡_};
 ghost use mathlib.Core.Bool.{cond, not, _&&_, _||_};

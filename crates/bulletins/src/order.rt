@@ -31,7 +31,8 @@ fn higher_of(tags: &[u32; 64], s: usize, r: usize) -> usize
     r
 }
 
-// The four places of an issuer, by tag: the last two are ordered, and each of the others is put among those behind it.
+// The four places of an issuer, by tag: the last two are ordered, and each of the others is put
+// among those behind it.
 fn four_by_tag(tags: &[u32; 64], issuer: usize) -> [usize; 4]
     requires { ⌜ issuer < 16 ⌝ }
     ensures { λ r. ⌜ r ≡ byTag (λ k. getD (now (tags .entry)) k 0) (fourOf issuer) ⌝ }

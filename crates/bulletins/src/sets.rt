@@ -1,4 +1,5 @@
-// The sets of bulletins that stations hold: what an issue and a round make of them, and what is shown of them.
+// The sets of bulletins that stations hold: what an issue and a round make of them, and what is
+// shown of them.
 
 ghost use mathlib.Core.Path.{_≡_};
 ghost use mathlib.Core.Bool.{cond, _&&_};

@@ -70,8 +70,8 @@ fn nothing() -> Shown
     }
 }
 
-// What a station shows whose set was `before` and is `after`: the places are gone through in their order, and what is
-// not shown leaves its entry unused for the next.
+// What a station shows whose set was `before` and is `after`: the places are gone through in their
+// order, and what is not shown leaves its entry unused for the next.
 fn shown_by(
     places: &[usize; 64],
     tags: &[u32; 64],
@@ -107,7 +107,8 @@ pub fn none_shown() -> [Shown; 16]
     [none; 16]
 }
 
-// What all stations below n show, whose sets were `before` and are `after`; where a set is as before, that is nothing.
+// What all stations below n show, whose sets were `before` and are `after`; where a set is as
+// before, that is nothing.
 pub fn all_shown(
     places: &[usize; 64],
     tags: &[u32; 64],

@@ -1,5 +1,6 @@
--- An issue that is not refused puts a bulletin at a free place of its issuer. Nobody else holds anything there, and nobody's news of the issuer is from after
--- the present round but the issuer's own.
+-- An issue that is not refused puts a bulletin at a free place of its issuer. Nobody else holds
+-- anything there, and nobody's news of the issuer is from after the present round but the issuer's
+-- own.
 use mathlib.Core.Bool.{Bool, true, false, cond, not, _&&_, _||_, false≢true}
 use mathlib.Core.Path.{_≡_, refl, sym, ap, _∙_, subst}
 use Prim.Native.Nat.{ℕ, zero, suc, _+_, _*_, _-_, _^_, _≤_, _<_}

@@ -1,5 +1,5 @@
--- One round: a station's set becomes the union of those that it hears, and its clock the latest of theirs. What stands at a place stays, for its issuer
--- held it before.
+-- One round: a station's set becomes the union of those that it hears, and its clock the latest of
+-- theirs. What stands at a place stays, for its issuer held it before.
 use mathlib.Core.Bool.{Bool, true, false, _&&_}
 use mathlib.Core.List.{List}
 use mathlib.Core.Path.{_≡_, refl, sym, ap, _∙_, subst}

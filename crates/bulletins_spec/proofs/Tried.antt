@@ -1,5 +1,5 @@
--- A list of three stations, computed: two bulletins are shown by tag and not as issued, one hop a round and once; the third has a tag of before and is
--- refused.
+-- A list of three stations, computed: two bulletins are shown by tag and not as issued, one hop a
+-- round and once; the third has a tag of before and is refused.
 use Prim.Native.Nat.{ℕ}
 use mathlib.Core.List.{List, [], _∷_}
 use mathlib.Core.Path.{_≡_, refl}

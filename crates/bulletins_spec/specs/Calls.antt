@@ -34,7 +34,8 @@ bulletinsFreshCall n =
       bulletins = freshBulletins (cond (eqb (bulletinsFreshRefusal n) done) n 1);
     }
 
--- the first of so many places, from s on, at which no bulletin stands; one past them where each has one
+-- the first of so many places, from s on, at which no bulletin stands; one past them where each has
+-- one
 unfoldable pub freeFrom : Bulletins → ℕ → ℕ → ℕ
 freeFrom B zero s = s
 freeFrom B (suc more) s = cond (stands B s) (freeFrom B more (suc s)) s

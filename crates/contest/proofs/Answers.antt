@@ -1,5 +1,5 @@
--- Each return of the call is its definition. The first pick found over the sets is the lowest of the contest over plays, since the sets after a pick stand
--- for its play (`Bridge`).
+-- Each return of the call is its definition. The first pick found over the sets is the lowest of
+-- the contest over plays, since the sets after a pick stand for its play (`Bridge`).
 use mathlib.Core.Bool.{Bool, true, false, cond}
 use mathlib.Core.List.{List, [], _∷_}
 use mathlib.Core.Path.{_≡_, refl, sym, ap, _∙_}

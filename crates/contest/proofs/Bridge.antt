@@ -1,4 +1,5 @@
--- The contest over sets of stations is the contest over plays: the sets stand for what is known after the play's log, while the first broadcast runs.
+-- The contest over sets of stations is the contest over plays: the sets stand for what is known
+-- after the play's log, while the first broadcast runs.
 use mathlib.Core.Bool.{Bool, true, false, cond, not, _&&_, _||_, true≢false}
 use mathlib.Core.List.{List, [], _∷_, _++_}
 use mathlib.Core.Logic.{⊎-elim}

@@ -10,7 +10,8 @@ use Rattle.contest.specs.Winner.{decided, still, lowest, won, keeperWins
 use Rattle.contest.specs.declared.ContestAnswer.the-variants.{Refused, Breaker, Keeper}
 use Rattle.contest.specs.Answer.{contestRefusal, contestCall}
 
--- Two stations; set 0 is silent, in set 1 they hear each other. In three rounds the keeper has two picks and needs no more.
+-- Two stations; set 0 is silent, in set 1 they hear each other. In three rounds the keeper has two
+-- picks and needs no more.
 pub three-rounds : contestCall 2 0 (0 ∷ 0 ∷ 2 ∷ 1 ∷ []) 3 ≡ Keeper 1
 unfolding contestCall contestRefusal keeperWins firstPick decided still lowest won logOf num ends full start answers news latest hearsIn masksIn bit cut allBelow anyBelow
 three-rounds = refl

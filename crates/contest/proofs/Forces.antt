@@ -1,4 +1,5 @@
--- Exactly one of the two can force the result, and the recursion tells which; and the lowest first pick.
+-- Exactly one of the two can force the result, and the recursion tells which; and the lowest first
+-- pick.
 use mathlib.Core.Bool.{Bool, true, false, true≢false}
 use mathlib.Core.List.{List, [], _∷_}
 use mathlib.Core.Logic.{_⊎_, inl, inr, ⊎-elim, _↔_}

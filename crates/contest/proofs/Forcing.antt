@@ -1,4 +1,5 @@
--- Any contest over picks: where the keeper can still force it, it has a strategy, and else the breaker has one.
+-- Any contest over picks: where the keeper can still force it, it has a strategy, and else the
+-- breaker has one.
 use mathlib.Core.Bool.{Bool, true, false, cond, not}
 use mathlib.Core.List.{List, [], _∷_, _++_}
 use mathlib.Core.Path.{_≡_, refl, sym, ap, _∙_}

@@ -1,5 +1,5 @@
--- What the answer of a contest means. A contest that is not refused is inside its limits; then the recursion decides, and `Forces` turns its decision into
--- a strategy of the winner.
+-- What the answer of a contest means. A contest that is not refused is inside its limits; then the
+-- recursion decides, and `Forces` turns its decision into a strategy of the winner.
 use mathlib.Core.Bool.{Bool, true, false, cond, not, _&&_, true≢false}
 use mathlib.Core.List.{List}
 use mathlib.Core.Path.{_≡_, refl, sym, ap, _∙_}
@@ -62,8 +62,8 @@ sets-length n masks = cut-length n (length masks / n) masks
 pub sets-some : (n s : ℕ) (masks : List ℕ) (rounds : ℕ) → InsideLimits n s (length masks) rounds → 0 < length (setsOf n masks)
 sets-some n s masks rounds inside = omega (arith, sets-length n masks, inside .some)
 
--- The theorem of the contest: the answer is the refusal that applies; or the breaker can prevent the end; or the keeper can force it, and the pick told is
--- the lowest with which it can.
+-- The theorem of the contest: the answer is the refusal that applies; or the breaker can prevent
+-- the end; or the keeper can force it, and the pick told is the lowest with which it can.
 pub answer-means : (n s : ℕ) (masks : List ℕ) (rounds : ℕ) → Means n s masks rounds (contestCall n s masks rounds)
 unfolding contestCall Means
 answer-means n s masks rounds =

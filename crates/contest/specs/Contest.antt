@@ -40,7 +40,8 @@ play keeper breaker (suc r) =
     play keeper breaker r
     ++ (cond (keeper's r) (keeper .pick (play keeper breaker r)) (breaker .pick (play keeper breaker r)) ∷ [])
 
--- the keeper can force the end: one strategy of its own reaches it against every strategy of the breaker
+-- the keeper can force the end: one strategy of its own reaches it against every strategy of the
+-- breaker
 pub record KeeperForces (n : ℕ) (sets : List (List ℕ)) (s rounds : ℕ) : Type 0 where
   pub keeper : Strategy (length sets)
   pub forces : (breaker : Strategy (length sets)) → EndsFirst n sets s (play keeper breaker rounds)
@@ -50,7 +51,8 @@ pub record KeeperForcesBy (n : ℕ) (sets : List (List ℕ)) (s rounds pick : �
   pub way : KeeperForces n sets s rounds
   pub first : way .keeper .pick [] ≡ pick
 
--- the breaker can prevent it: one strategy of its own prevents it against every strategy of the keeper
+-- the breaker can prevent it: one strategy of its own prevents it against every strategy of the
+-- keeper
 pub record BreakerForces (n : ℕ) (sets : List (List ℕ)) (s rounds : ℕ) : Type 0 where
   pub breaker : Strategy (length sets)
   pub forces : (keeper : Strategy (length sets)) → EndsFirst n sets s (play keeper breaker rounds) → ⊥

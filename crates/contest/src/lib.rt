@@ -101,7 +101,8 @@ fn wins(
     !keeper
 }
 
-// The lowest first pick from which the keeper can force the end; the number of sets where there is none.
+// The lowest first pick from which the keeper can force the end; the number of sets where there is
+// none.
 fn first_pick(masks: &[u16], n: usize, s: usize, count: usize, left: usize) -> usize
     requires { ⌜ (n ≤ mostStations) × (s < n) × (length (now masks) ≡ count * n) ⌝ }
     ensures { λ r. ⌜ r ≡ lowest count 0 (opening n s count (now (masks .entry)) left) ⌝ }

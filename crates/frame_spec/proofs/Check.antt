@@ -1,4 +1,5 @@
--- The frame check test by test: where one fails the definition's answer is known, and where all hold they say what the later tests rest on.
+-- The frame check test by test: where one fails the definition's answer is known, and where all
+-- hold they say what the later tests rest on.
 use mathlib.Core.Path.{_≡_, refl, ap, _∙_}
 use mathlib.Core.Bool.{Bool, true, false, not, _&&_, _||_}
 use mathlib.Core.List.{List}

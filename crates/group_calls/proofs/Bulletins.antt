@@ -1,5 +1,5 @@
--- The calls on bulletins that lie as bytes, return by return: what is refused leaves every buffer, and what is done leaves the encoding of what the call's definition
--- gives.
+-- The calls on bulletins that lie as bytes, return by return: what is refused leaves every buffer,
+-- and what is done leaves the encoding of what the call's definition gives.
 use mathlib.Core.Path.{_≡_, sym, ap, _∙_}
 use mathlib.Core.Bool.{Bool, true, false, cond}
 use mathlib.Core.List.{List}

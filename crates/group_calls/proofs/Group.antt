@@ -1,4 +1,5 @@
--- What the calls on a group that lies as bytes share: what fresh answered, and how long the bytes are.
+-- What the calls on a group that lies as bytes share: what fresh answered, and how long the bytes
+-- are.
 use mathlib.Core.Path.{_≡_, ap, _∙_}
 use mathlib.Core.Bool.{true}
 use mathlib.Core.List.{List}

@@ -1,6 +1,6 @@
--- What the calls on bulletins that lie as bytes return and write. Each is the call of document 02, A12, on the
--- decoded state: bytes that are none are refused with 2 as a state outside its limits is, and a lent buffer that is
--- too short is refused last.
+-- What the calls on bulletins that lie as bytes return and write. Each is the call of document 02,
+-- A12, on the decoded state: bytes that are none are refused with 2 as a state outside its limits
+-- is, and a lent buffer that is too short is refused last.
 use Prim.Native.Nat.{ℕ}
 use mathlib.Core.Bool.{not}
 use mathlib.Core.List.{List}

@@ -98,7 +98,8 @@ fn put_both(
     bulletin_bytes::put_all_shown(shown, notices);
 }
 
-// Round: the group's round, and on the same masks everyone takes over the bulletins of those that it hears.
+// Round: the group's round, and on the same masks everyone takes over the bulletins of those that
+// it hears.
 pub fn round(
     group: &mut [u8],
     state: &mut [u8],

@@ -1,5 +1,6 @@
--- A station keeps the limit that its group was given when fresh, after every list of posts and rounds: a post and a start hand the limit on, hearing leaves the
--- waiting edits as they are, and a refused call changes nothing (document 02, A2).
+-- A station keeps the limit that its group was given when fresh, after every list of posts and
+-- rounds: a post and a start hand the limit on, hearing leaves the waiting edits as they are, and a
+-- refused call changes nothing (document 02, A2).
 use Prim.Native.Nat.{ℕ, _≤_, _<_}
 use mathlib.Core.Bool.{Bool, true, false, cond}
 use mathlib.Core.List.{List, [], _∷_}

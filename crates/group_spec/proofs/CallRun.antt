@@ -1,5 +1,5 @@
--- The run of a list of calls: between two rounds the posts that stand there, and after the last of its rounds silent ones without end. A post, accepted
--- or refused, changes waiting edits only.
+-- The run of a list of calls: between two rounds the posts that stand there, and after the last of
+-- its rounds silent ones without end. A post, accepted or refused, changes waiting edits only.
 use mathlib.Core.Bool.{Bool, true, false, cond}
 use mathlib.Core.List.{List, [], _∷_}
 use mathlib.Core.Path.{_≡_, refl, _∙_}

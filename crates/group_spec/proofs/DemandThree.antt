@@ -1,5 +1,6 @@
--- Demand 3, whole. The run of a list of calls stays inside its limits round by round, since its counts are bounded and no lane overflows; so none of its rounds is
--- refused, the history of the list is that run, and each sentence is one of the facts about runs.
+-- Demand 3, whole. The run of a list of calls stays inside its limits round by round, since its
+-- counts are bounded and no lane overflows; so none of its rounds is refused, the history of the
+-- list is that run, and each sentence is one of the facts about runs.
 use Prim.Native.Nat.{ℕ, zero, suc, _*_, _-_, _≤_, _<_}
 use mathlib.Core.Bool.{true}
 use mathlib.Core.List.{List}

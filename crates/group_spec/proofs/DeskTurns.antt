@@ -1,5 +1,6 @@
--- Which desk goes first, read off the history: at each station it is the desk that did not start the last edit there, for a post leaves it and the start of an
--- edit alone moves it. So where both desks wait the next edit is of that desk.
+-- Which desk goes first, read off the history: at each station it is the desk that did not start
+-- the last edit there, for a post leaves it and the start of an edit alone moves it. So where both
+-- desks wait the next edit is of that desk.
 use Prim.Native.Nat.{ℕ, zero, suc, _≤_, _<_}
 use mathlib.Core.Bool.{Bool, true, false, cond, _&&_}
 use mathlib.Core.List.{List, [], _∷_, _++_, append-nil}

@@ -1,5 +1,6 @@
--- Fairness: a desk with something waiting sees at most one edit of the other start before its own oldest. One call starts nothing at the station, or an edit of
--- this desk, or one of the other; in the last case this desk goes first from then on, and did not before.
+-- Fairness: a desk with something waiting sees at most one edit of the other start before its own
+-- oldest. One call starts nothing at the station, or an edit of this desk, or one of the other; in
+-- the last case this desk goes first from then on, and did not before.
 use Prim.Native.Nat.{ℕ, _+_, _≤_, _<_}
 use mathlib.Core.Bool.{Bool, true, false, cond, _&&_}
 use mathlib.Core.List.{List, [], _∷_}

@@ -1,5 +1,5 @@
--- Isolation: in a group inside its limits a post is judged by its own numbers, N, the edition, the limit of its station, and
--- how many edits of its own desk wait there.
+-- Isolation: in a group inside its limits a post is judged by its own numbers, N, the edition, the
+-- limit of its station, and how many edits of its own desk wait there.
 use Prim.Native.Nat.{_<_}
 use mathlib.Core.Bool.{Bool, true, false, not}
 use mathlib.Core.Path.{_≡_, refl, sym, ap, _∙_}

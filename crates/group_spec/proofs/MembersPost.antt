@@ -1,5 +1,5 @@
--- A group post that is accepted puts an edit into the queue of one station and leaves the others; one that is refused leaves the group. So a group
--- inside its limits stays so.
+-- A group post that is accepted puts an edit into the queue of one station and leaves the others;
+-- one that is refused leaves the group. So a group inside its limits stays so.
 use Prim.Native.Nat.{ℕ, _<_}
 use mathlib.Core.Bool.{Bool, true, false, cond, not, false≢true}
 use mathlib.Core.List.{List}

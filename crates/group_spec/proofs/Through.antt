@@ -1,5 +1,6 @@
--- Hearing that goes on after a refusal. A round stops hearing at the first refused frame; the simulation follows this hearing instead, and shows that it is
--- never refused. A hearing that is not refused has stopped nowhere, so the two are then the same.
+-- Hearing that goes on after a refusal. A round stops hearing at the first refused frame; the
+-- simulation follows this hearing instead, and shows that it is never refused. A hearing that is
+-- not refused has stopped nowhere, so the two are then the same.
 use Prim.Native.Nat.{ℕ, zero, suc, _+_, _<_}
 use native.Mathlib.Nat.{zero-add, suc-add}
 use mathlib.Core.Bool.{Bool, true, false, cond}

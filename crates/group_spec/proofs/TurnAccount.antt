@@ -1,5 +1,7 @@
--- Posts in a turn: an edit that starts leaves the waiting ones of its desk for the own lane, and one that is aired leaves the own lane for the row. So what waited
--- at a desk is what started of it and then what waits, and what stood in the own lane, then what started, is the own edit of the row and then what stands in the own lane.
+-- Posts in a turn: an edit that starts leaves the waiting ones of its desk for the own lane, and
+-- one that is aired leaves the own lane for the row. So what waited at a desk is what started of it
+-- and then what waits, and what stood in the own lane, then what started, is the own edit of the
+-- row and then what stands in the own lane.
 use Prim.Native.Nat.{ℕ, zero, suc, _≤_, _<_}
 use mathlib.Core.Bool.{Bool, true, false, cond, _&&_}
 use mathlib.Core.List.{List, [], _∷_, _++_, append-nil, append-assoc}

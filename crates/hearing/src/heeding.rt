@@ -1,5 +1,5 @@
-// One record heard, on bytes and numbers alone: what is decided of it beside the one that is held of
-// its station, and what a newer one does. A record is told by its place, where its sixteen bytes
+// One record heard, on bytes and numbers alone: what is decided of it beside the one that is held
+// of its station, and what a newer one does. A record is told by its place, where its sixteen bytes
 // begin; no record begins at 0.
 //
 //   lens[k]     how many bodies lane k has

@@ -1,5 +1,6 @@
--- Two records of one station with one count, each with the bytes that are written of it, agree exactly if their bytes are the same. Bytes that are written say nothing
--- of the labels from N up, so what stands there in a table plays no part.
+-- Two records of one station with one count, each with the bytes that are written of it, agree
+-- exactly if their bytes are the same. Bytes that are written say nothing of the labels from N up,
+-- so what stands there in a table plays no part.
 use Prim.Native.Nat.{ℕ}
 use mathlib.Core.Bool.{Bool, true, false, false≢true}
 use mathlib.Core.List.{List, _∷_, _++_}

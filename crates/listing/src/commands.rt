@@ -18,7 +18,8 @@ ghost use Rattle.listing_spec.specs.Listing.{AnswersPost, postedBody, setupOf, 
 // The limit of waiting edits that a listing names.
 const LISTING_LIMIT: usize = 32;
 
-// The body that a post's numbers name, without a channel; Empty, which is no edit, where they name none.
+// The body that a post's numbers name, without a channel; Empty, which is no edit, where they name
+// none.
 pub fn posted_body(kind: u32, event: u32, argument: i32) -> Body
     ensures { λ r. ⌜ r ≡ postedBody kind event argument ⌝ }
 {

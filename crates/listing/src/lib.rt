@@ -36,7 +36,8 @@ fn after_round(s: Session, made: RoundDone, out: &mut [u8]) -> Applied
     Applied { len, session }
 }
 
-// A round's line, whose masks the group hears by; a round past the last that can be numbered stops the reading.
+// A round's line, whose masks the group hears by; a round past the last that can be numbered stops
+// the reading.
 fn apply_round(s: Session, line: &[u8], out: &mut [u8]) -> Applied
     requires { ⌜ (s .n ≤ 16) × (roundRoom ≤ length (now out)) ⌝ }
     ensures { λ r. ⌜ Answer (obeyed s (masksOf (s .n) (now (line .entry))) Command.Round)

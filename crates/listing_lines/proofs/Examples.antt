@@ -1,4 +1,5 @@
--- Two listing lines, byte by byte: a line of document 01's example, and one whose numbers fill their columns or stand behind a minus.
+-- Two listing lines, byte by byte: a line of document 01's example, and one whose numbers fill
+-- their columns or stand behind a minus.
 use mathlib.Core.List.{[], _∷_}
 use mathlib.Core.Path.{_≡_, refl}
 use lib.IntN.{pos, negsuc}

@@ -1,4 +1,5 @@
--- A text put into a buffer: its length stays, and a text put behind another makes one text of the two.
+-- A text put into a buffer: its length stays, and a text put behind another makes one text of the
+-- two.
 use mathlib.Core.Path.{_≡_, sym, ap, _∙_}
 use mathlib.Core.List.{List, [], _∷_, _++_, append-assoc, append-nil}
 use Prim.Native.Nat.{ℕ, _+_, _-_, _≤_, _<_}

@@ -52,7 +52,8 @@ takingText round p len takings k =
 unfoldable pub takenText : ℕ → ℕ → Report → List ℕ
 takenText round p r = joined 30 (takingText round p (r .«takings_len») (r .takings))
 
--- an A line for an edit of an aired row of n bodies; they come by station. A Neutral in the row has no line
+-- an A line for an edit of an aired row of n bodies; they come by station. A Neutral in the row has
+-- no line
 abbrev pub editText : ℕ → ℕ → Bool → List Slot → ℕ → List ℕ
 editText round p aired row k =
     lineIf (aired && isEdit ((getD row k noSlot) .body)) round airing p k ((getD row k noSlot) .body)

@@ -92,7 +92,8 @@ fn put_aired(out: &mut [u8], at: usize, n: usize, round: u32, p: usize, turn: Tu
     end
 }
 
-// An E line for a broadcast that ended, and a D line for what station p then started, unless that is Empty.
+// An E line for a broadcast that ended, and a D line for what station p then started, unless that
+// is Empty.
 fn put_turn(out: &mut [u8], at: usize, round: u32, p: usize, turn: TurnReport) -> usize
     requires { ⌜ at + turnRoom ≤ length (now out) ⌝ }
     ensures { λ r. ⌜ Put (now (out .entry)) (now (out .exit)) at r (turnText round p turn) × (r ≤ at + turnRoom) ⌝ }

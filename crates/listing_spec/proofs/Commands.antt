@@ -1,4 +1,5 @@
--- Which commands a line can be: before a size is known only an `N` line of 1 to 16, after that only posts and rounds.
+-- Which commands a line can be: before a size is known only an `N` line of 1 to 16, after that only
+-- posts and rounds.
 use Prim.Native.Nat.{ℕ, _≤_}
 use mathlib.Core.Path.{_≡_, refl}
 use mathlib.Core.Bool.{Bool, true, false, cond, _&&_}

@@ -1,4 +1,5 @@
--- All definitions that a computed listing goes through, named in one place: whoever says `unfolding listingRuns` has them open.
+-- All definitions that a computed listing goes through, named in one place: whoever says
+-- `unfolding listingRuns` has them open.
 use Rattle.bodies.specs.Body.{bodyOf}
 use Rattle.columns.specs.Reading.{started, grown, next, readFrom}
 use Rattle.columns.specs.Writing.{lead, columns}

@@ -1,4 +1,5 @@
--- Document 01's example: the definition gives its listing, line by line. What bytes a line has is said by Lines.
+-- Document 01's example: the definition gives its listing, line by line. What bytes a line has is
+-- said by Lines.
 use mathlib.Core.Path.{_≡_, refl}
 use mathlib.Core.List.{List, [], _∷_, _++_}
 use Prim.Native.Nat.{ℕ, zero, suc}

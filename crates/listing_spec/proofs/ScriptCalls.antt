@@ -1,5 +1,7 @@
--- The session of a script and the history of its calls go together, line by line: as long as the reading has not stopped they have the same group and the same
--- number of rounds, and what a line prints is what its call prints after that history. Where the reading stops there are no more calls, and the session stays.
+-- The session of a script and the history of its calls go together, line by line: as long as the
+-- reading has not stopped they have the same group and the same number of rounds, and what a line
+-- prints is what its call prints after that history. Where the reading stops there are no more
+-- calls, and the session stays.
 use Prim.Native.Nat.{ℕ, _+_, _≤_}
 use mathlib.Core.Path.{_≡_, refl, sym, ap, ap₂, subst, _∙_}
 use mathlib.Core.Bool.{Bool, true, false, cond, not, _&&_, _||_}
@@ -32,7 +34,8 @@ pub record Stands (s : Session) (H : History) : Type 0 where
   pub group : s .group ≡ H .group
   pub rounds : s .rounds ≡ length (H .rounds)
 
--- what lines do after a history in a group of n: their calls, whether the reading stops in them, their text, and the session after them
+-- what lines do after a history in a group of n: their calls, whether the reading stops in them,
+-- their text, and the session after them
 pub record Does (n : ℕ) (H : History) (calls : List Call) (stop : Bool) (text : List ℕ) (last : Session) : Type 0 where
   pub group : last .group ≡ (continued H calls) .group
   pub rounds : last .rounds ≡ length ((continued H calls) .rounds)

@@ -1,4 +1,5 @@
--- What is still to be listed, byte by byte: a byte joins the line that is held, one too many changes nothing, a line end prints the line, and the end closes the script.
+-- What is still to be listed, byte by byte: a byte joins the line that is held, one too many
+-- changes nothing, a line end prints the line, and the end closes the script.
 use mathlib.Core.Path.{_≡_, refl, _∙_}
 use mathlib.Core.List.{List, [], _∷_, _++_, append-assoc, append-nil}
 use Prim.Native.Nat.{ℕ, _<_}

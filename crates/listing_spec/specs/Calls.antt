@@ -80,7 +80,8 @@ sessionIn s (line l ls) = sessionIn (after s l) ls
 abbrev pub sessionOf : List ℕ → Session
 sessionOf script = sessionIn listing.sessionBegun (linesOf script)
 
--- what a call prints in a group of n, after the calls of a history: a post its refusal, a round what it reports
+-- what a call prints in a group of n, after the calls of a history: a post its refusal, a round
+-- what it reports
 unfoldable pub callText : ℕ → History → Call → List ℕ
 callText n H (post x) = refusedText n (length (H .rounds)) (x .station) ((groupPostCall (H .group) x) .refusal)
 callText n H (round masks) = roundText n (length (H .rounds) + 1) ((roundCall (H .group) masks) .reports)
@@ -101,7 +102,8 @@ pub record RunsCalls (script : List ℕ) : Type 0 where
       ++ cond (stops script) (refusalText ((sessionOf script) .rounds) 0 malformedLine) []
       ++ endLine
 
--- Every script runs its calls; one that does not begin with an `N` line makes none, and its listing is one refusal.
+-- Every script runs its calls; one that does not begin with an `N` line makes none, and its listing
+-- is one refusal.
 pub record ScriptsRun : Type 0 where
   pub runs-calls : (script : List ℕ) → 1 ≤ sizeOf script → RunsCalls script
   pub no-size :

@@ -1,4 +1,5 @@
-// A load that everyone can repeat: the lines of a script, drawn round by round and written into a lent buffer.
+// A load that everyone can repeat: the lines of a script, drawn round by round and written into a
+// lent buffer.
 
 use bodies::refusals::BAD_NUMBER;
 use bodies::refusals::DONE;
@@ -251,8 +252,8 @@ fn generate_size(out: &mut [u8], state: u32, n: usize) -> Generated
     }
 }
 
-// A call of the generator: 1, 9, or the `N` line where it is wanted, else the lines of the next round, put at the
-// front of the lent buffer.
+// A call of the generator: 1, 9, or the `N` line where it is wanted, else the lines of the next
+// round, put at the front of the lent buffer.
 pub fn generate(out: &mut [u8], state: u32, n: usize, due: u32, head: bool) -> Generated
     ensures { λ r.
         ⌜ (r ≡ generated state n due head (length (now (out .entry))))

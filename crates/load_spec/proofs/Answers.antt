@@ -1,5 +1,5 @@
--- A call by its refusal: what is refused changes nothing, and a call that is done has written its text at the front
--- of the buffer.
+-- A call by its refusal: what is refused changes nothing, and a call that is done has written its
+-- text at the front of the buffer.
 use mathlib.Core.Path.{_≡_, refl, _∙_}
 use mathlib.Core.Bool.{Bool, true, false, cond, _&&_}
 use mathlib.Core.List.{List}

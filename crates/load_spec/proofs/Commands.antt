@@ -1,5 +1,5 @@
--- What the three kinds of lines say: each field is the number that was written, and each number is inside its limits,
--- for a draw is at most 65,535.
+-- What the three kinds of lines say: each field is the number that was written, and each number is
+-- inside its limits, for a draw is at most 65,535.
 use mathlib.Core.Path.{_≡_, refl}
 use mathlib.Core.Bool.{true, false}
 use mathlib.Core.List.{List, [], _∷_}

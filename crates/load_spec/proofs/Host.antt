@@ -1,5 +1,5 @@
--- The call from C by its refusal. Where its numbers are inside and both places are lent, it is the generator's call,
--- and the two places get what that call returns.
+-- The call from C by its refusal. Where its numbers are inside and both places are lent, it is the
+-- generator's call, and the two places get what that call returns.
 use mathlib.Core.Path.{_≡_, refl, sym, ap, _∙_}
 use mathlib.Core.Bool.{Bool, true, false, cond}
 use mathlib.Core.List.{List}

@@ -1,6 +1,7 @@
--- A generated script is read to its end. Every line is one of three, and leaves a session of n stations that has not
--- stopped and whose group is inside its limits; so a post is accepted or meets a full queue. Rounds are counted by
--- the induction, which never passes the last that a listing numbers.
+-- A generated script is read to its end. Every line is one of three, and leaves a session of n
+-- stations that has not stopped and whose group is inside its limits; so a post is accepted or
+-- meets a full queue. Rounds are counted by the induction, which never passes the last that a
+-- listing numbers.
 use mathlib.Core.Path.{_≡_, refl, ap, _∙_}
 use mathlib.Core.Bool.{Bool, true, false, cond, not, _&&_, _||_}
 use mathlib.Core.List.{List, [], _∷_, _++_}

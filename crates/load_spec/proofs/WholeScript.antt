@@ -1,5 +1,5 @@
--- The calls one after the other write the whole script, by induction on the rounds due: a call writes the lines of
--- one round and leaves the state from which the others are drawn.
+-- The calls one after the other write the whole script, by induction on the rounds due: a call
+-- writes the lines of one round and leaves the state from which the others are drawn.
 use mathlib.Core.Path.{_≡_, refl, sym, ap, ap₂, subst, _∙_}
 use mathlib.Core.Bool.{Bool, true, false}
 use mathlib.Core.List.{List, [], _∷_, _++_}

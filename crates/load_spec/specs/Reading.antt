@@ -1,5 +1,5 @@
--- Document 02, A5: the listing program finds no line of a generated script malformed; full queues may still refuse
--- posts.
+-- Document 02, A5: the listing program finds no line of a generated script malformed; full queues
+-- may still refuse posts.
 use Prim.Native.Nat.{ℕ, _≤_}
 use mathlib.Core.Path.{_≡_}
 use mathlib.Core.Bool.{false}
@@ -22,14 +22,15 @@ postAnswer s (Post station kind event argument) =
 postAnswer s Round = done
 postAnswer s Malformed = done
 
--- a line is read by a reading that has not stopped and is not malformed, and a post is accepted or meets a full queue
+-- a line is read by a reading that has not stopped and is not malformed, and a post is accepted or
+-- meets a full queue
 pub record Fine (s : Session) (l : List ℕ) : Type 0 where
   pub reading : s .stopped ≡ false
   pub formed : commandOf (s .n) l ≡ Malformed → ⊥
   pub room : (postAnswer s (commandOf (s .n) l) ≡ done) ⊎ (postAnswer s (commandOf (s .n) l) ≡ queueFull)
 
--- from one session to another every line is fine, and at the end the reading has not stopped, nothing stands behind
--- the last line end, and nothing is printed for it
+-- from one session to another every line is fine, and at the end the reading has not stopped,
+-- nothing stands behind the last line end, and nothing is printed for it
 pub data Through : Session → Lines → Session → Type 0 where
   at-end : {s : Session} → s .stopped ≡ false → closed s [] ≡ [] → Through s (rest []) s
   past : {s t : Session} {ls : Lines} (l : List ℕ) → Fine s l → Through (after s l) ls t → Through s (line l ls) t

@@ -1,5 +1,5 @@
--- Document 02, A5: the script of a seed, a group's size and a number of rounds, in the form that document 01 gives
--- for the listing's input.
+-- Document 02, A5: the script of a seed, a group's size and a number of rounds, in the form that
+-- document 01 gives for the listing's input.
 use Prim.Native.Nat.{ℕ, zero, suc, _+_, _*_}
 use mathlib.Core.List.{List, [], _∷_, _++_}
 use Rattle.lists.specs.Below.{filterMap, tabulate}
@@ -31,7 +31,8 @@ sizeLine n = lineOf 78 (n ∷ [])
 abbrev pub sizeLength : ℕ
 sizeLength = 1 + fieldWidth + 1
 
--- `P`: station p posts what a draw says, an insert (kind 2) whose event is draw + 1 and whose start is the draw
+-- `P`: station p posts what a draw says, an insert (kind 2) whose event is draw + 1 and whose start
+-- is the draw
 unfoldable pub postLine : ℕ → ℕ → List ℕ
 postLine p draw = lineOf 80 (p ∷ 2 ∷ (draw + 1) ∷ draw ∷ [])
 

@@ -1,5 +1,5 @@
--- Bits of masks: of a union, of a power of two, and of a set that has all stations below n. A set is full where its lowest n bits, as a number, are
--- 2 ^ n - 1; that is one bit more at each step.
+-- Bits of masks: of a union, of a power of two, and of a set that has all stations below n. A set
+-- is full where its lowest n bits, as a number, are 2 ^ n - 1; that is one bit more at each step.
 use mathlib.Core.Bool.{Bool, true, false, _||_, _&&_, and-false}
 use mathlib.Core.Path.{_≡_, sym, ap, _∙_}
 use Prim.Native.Nat.{ℕ, zero, suc, _+_, _-_, _*_, _/_, _%_, _^_, _<_, _≤_, max, min}

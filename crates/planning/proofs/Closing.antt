@@ -1,4 +1,5 @@
--- The ends of a round, station by station. The set of s at s is as it was until s is looked at, for looking at a station changes its own column alone.
+-- The ends of a round, station by station. The set of s at s is as it was until s is looked at, for
+-- looking at a station changes its own column alone.
 use mathlib.Core.Bool.{Bool, true, false, cond, _&&_, and-true, and-false}
 use mathlib.Core.List.{List}
 use mathlib.Core.Path.{_≡_, refl, ap, ap₂, _∙_}

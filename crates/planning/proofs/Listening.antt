@@ -1,5 +1,6 @@
--- Uniting a row with the sets of those in a mask, lowest bit first. The invariant: there is a place up to which all have been heard, and what is left of the mask
--- is its bits from there up to n. The lowest of these is the next to be heard, and nobody stands between.
+-- Uniting a row with the sets of those in a mask, lowest bit first. The invariant: there is a place
+-- up to which all have been heard, and what is left of the mask is its bits from there up to n. The
+-- lowest of these is the next to be heard, and nobody stands between.
 use mathlib.Core.Bool.{Bool, true, false, cond, _&&_, not, and-false, and-true}
 use mathlib.Core.List.{List}
 use mathlib.Core.Path.{_≡_, sym, ap, _∙_}

@@ -1,5 +1,6 @@
--- The lowest bit of a mask, by its trailing zeros, and the mask without it. By induction on the number of digits: an odd mask has its lowest bit at 0, and an
--- even one has it one place above that of its half.
+-- The lowest bit of a mask, by its trailing zeros, and the mask without it. By induction on the
+-- number of digits: an odd mask has its lowest bit at 0, and an even one has it one place above
+-- that of its half.
 use mathlib.Core.Bool.{Bool, true, false, _&&_, not, and-false, and-true}
 use mathlib.Core.Path.{_≡_, refl, sym, ap, ap₂, _∙_}
 use Prim.Native.Nat.{ℕ, zero, suc, min, _+_, _-_, _*_, _/_, _%_, _^_, _<_}

@@ -1,5 +1,5 @@
--- Two masks united, with all bits taken away that are no hearing of station p, are the mask of whom p hears by either log: the bits agree below n, and there
--- are no others.
+-- Two masks united, with all bits taken away that are no hearing of station p, are the mask of whom
+-- p hears by either log: the bits agree below n, and there are no others.
 use mathlib.Core.Bool.{Bool, true, false, _||_, _&&_, not, and-false, and-true}
 use mathlib.Core.List.{List}
 use mathlib.Core.Path.{_≡_, refl, sym, ap, ap₂, _∙_}

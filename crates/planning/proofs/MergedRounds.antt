@@ -1,5 +1,6 @@
--- Writing round after round fills the buffer: after the rounds before place `at`, one round more fills it up to at + n. A place that is a multiple of n and
--- inside a log of whole rounds has a whole round before the log's end.
+-- Writing round after round fills the buffer: after the rounds before place `at`, one round more
+-- fills it up to at + n. A place that is a multiple of n and inside a log of whole rounds has a
+-- whole round before the log's end.
 use mathlib.Core.List.{List}
 use mathlib.Core.Path.{_≡_, refl, sym, ap, _∙_}
 use Prim.Native.Nat.{ℕ, zero, suc, _+_, _*_, _/_, _%_, _<_, _≤_}

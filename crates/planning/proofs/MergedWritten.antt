@@ -1,4 +1,5 @@
--- What a round writes is the merged round: by the masks where both logs have it, and where one has ended by the other's masks alone, united with themselves.
+-- What a round writes is the merged round: by the masks where both logs have it, and where one has
+-- ended by the other's masks alone, united with themselves.
 use mathlib.Core.List.{List}
 use mathlib.Core.Path.{_≡_, sym, ap, _∙_}
 use Prim.Native.Nat.{ℕ, max, _+_, _-_, _/_, _%_, _^_, _<_, _≤_}

@@ -1,5 +1,7 @@
--- A page of replies, round after round. A reply that is settled is the reply of the answer one round later (`settled-reply`), and what the sets and ends say
--- that a station has received is the number that it has got to (`received-got`). So the replies after each round are those of the answers within it.
+-- A page of replies, round after round. A reply that is settled is the reply of the answer one
+-- round later (`settled-reply`), and what the sets and ends say that a station has received is the
+-- number that it has got to (`received-got`). So the replies after each round are those of the
+-- answers within it.
 use mathlib.Core.Bool.{Bool, false, cond, _||_}
 use mathlib.Core.List.{List}
 use mathlib.Core.Option.{Option, none, some}

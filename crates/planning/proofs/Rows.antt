@@ -1,4 +1,5 @@
--- Lists, rows and columns that are changed place by place. Each record has a count of the places done, and is the invariant of the loop that does them.
+-- Lists, rows and columns that are changed place by place. Each record has a count of the places
+-- done, and is the invariant of the loop that does them.
 use mathlib.Core.Bool.{Bool, false, cond}
 use mathlib.Core.List.{List}
 use mathlib.Core.Path.{_≡_, refl, sym, ap, _∙_}

@@ -1,5 +1,6 @@
--- A round keeps the sets standing for what is known. A bit of a set that a round makes is `learnt` of the links, bit by bit; so a set at its own station
--- is full exactly where the links end a broadcast, and what `close` makes of the sets is `knows` after the round.
+-- A round keeps the sets standing for what is known. A bit of a set that a round makes is `learnt`
+-- of the links, bit by bit; so a set at its own station is full exactly where the links end a
+-- broadcast, and what `close` makes of the sets is `knows` after the round.
 use mathlib.Core.Bool.{Bool, true, false, cond, _&&_, _||_, or-false}
 use mathlib.Core.List.{List}
 use mathlib.Core.Path.{_≡_, refl, sym, ap, ap₂, _∙_}

@@ -1,5 +1,5 @@
--- Replies while the rounds of a log go, which the functions' contracts speak of: 0 for none yet, else one more than the
--- round. What a page is, and what its answers are, says `planning_spec`.
+-- Replies while the rounds of a log go, which the functions' contracts speak of: 0 for none yet,
+-- else one more than the round. What a page is, and what its answers are, says `planning_spec`.
 use mathlib.Core.Bool.{cond}
 use mathlib.Core.List.{List}
 use mathlib.Core.Option.{Option, none, some}

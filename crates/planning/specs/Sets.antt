@@ -1,5 +1,5 @@
--- Sets of stations as 16-bit masks, sixteen sets a station: the set of s at p stands at place 16 p + s. What each
--- function makes of them.
+-- Sets of stations as 16-bit masks, sixteen sets a station: the set of s at p stands at place 16 p
+-- + s. What each function makes of them.
 use mathlib.Core.Bool.{Bool, cond, _&&_}
 use mathlib.Core.List.{List}
 use mathlib.Core.Path.{_≡_}
@@ -47,8 +47,8 @@ united (suc k) heard f x = cond (heard k) (bitOr (united k heard f x) (f k)) (un
 unfoldable pub withReceiver : ℕ → ℕ → ℕ → ℕ
 withReceiver p s x = cond (bit x s) (bitOr x (2 ^ p)) x
 
--- What a round makes of the set of s at p, before the ends are looked at: the sets of those in its mask, as they
--- stood, are united. Its own bit adds nothing.
+-- What a round makes of the set of s at p, before the ends are looked at: the sets of those in its
+-- mask, as they stood, are united. Its own bit adds nothing.
 unfoldable pub learntSet : ℕ → (ℕ → ℕ) → List ℕ → ℕ → ℕ → ℕ
 learntSet n mask sets p s = withReceiver p s (united n (bit (mask p)) (λ j. cell sets j s) (cell sets p s))
 

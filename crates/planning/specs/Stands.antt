@@ -1,5 +1,5 @@
--- The sets, the counts of ends and the rounds of the last ends are those of some links after round u. Every loop over
--- the rounds of a log keeps this.
+-- The sets, the counts of ends and the rounds of the last ends are those of some links after round
+-- u. Every loop over the rounds of a log keeps this.
 use mathlib.Core.List.{List}
 use mathlib.Core.Path.{_≡_}
 use Prim.Native.Nat.{ℕ, _<_, _≤_}

@@ -10,8 +10,8 @@ use super::sets::learn;
 use bodies::refusals::DONE;
 use planning_spec::ForecastAnswer;
 
-// The forecast of a log that is not refused: the sets before round 1, and round after round what is learnt and what
-// ends.
+// The forecast of a log that is not refused: the sets before round 1, and round after round what is
+// learnt and what ends.
 fn of_rounds(log: &[u16], n: usize, rounds: usize) -> ForecastAnswer
     requires { ⌜ (logRefusal n (length (now log)) ≡ 0) × (rounds ≡ roundsOf n (now log)) ⌝ }
     ensures { λ r. ⌜ r ≡ forecastCall n (now (log .entry)) ⌝ }
@@ -33,9 +33,9 @@ fn of_rounds(log: &[u16], n: usize, rounds: usize) -> ForecastAnswer
     }
 }
 
-// For each station how many of its broadcasts end by a link log of n masks a round, and the round of the last end; 0
-// where none ends. Entries from n up are 0. 1: n is not 1 to 16. 12: the log is not whole rounds, or has more than
-// 2,048.
+// For each station how many of its broadcasts end by a link log of n masks a round, and the round
+// of the last end; 0 where none ends. Entries from n up are 0. 1: n is not 1 to 16. 12: the log is
+// not whole rounds, or has more than 2,048.
 pub fn forecast(log: &[u16], n: usize) -> ForecastAnswer
     ensures { λ r. ⌜ r ≡ forecastCall n (now (log .entry)) ⌝ }
 {

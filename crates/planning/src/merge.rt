@@ -119,10 +119,10 @@ pub fn logs_refusal(first: usize, second: usize, n: usize) -> u32
     log_refusal(second, n)
 }
 
-// The merged log of two logs of n masks a round, put into a buffer, as long as the longer one; entries of the buffer
-// past it stay. Bits that are no hearing are 0.
-// 1: n is not 1 to 16. 12: a log is not whole rounds, or has more than 2,048. 9: the buffer is shorter than the merged
-// log. A refused call changes no entry.
+// The merged log of two logs of n masks a round, put into a buffer, as long as the longer one;
+// entries of the buffer past it stay. Bits that are no hearing are 0. 1: n is not 1 to 16. 12: a
+// log is not whole rounds, or has more than 2,048. 9: the buffer is shorter than the merged log. A
+// refused call changes no entry.
 pub fn merge(first: &[u16], second: &[u16], n: usize, merged: &mut [u16]) -> MergeAnswer
     ensures { λ r. ⌜ (r ≡ mergeCall n (now (first .entry)) (now (second .entry)) (length (now (merged .entry))))
         × (now (merged .exit) ≡ frontWritten (r .refusal) (mergedLog n (now (first .entry)) (now (second .entry)))

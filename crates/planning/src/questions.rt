@@ -1,5 +1,5 @@
-// A page of questions for one log (document 02, A11): by which round has a station received a broadcast? One pass over
-// the log answers the whole page.
+// A page of questions for one log (document 02, A11): by which round has a station received a
+// broadcast? One pass over the log answers the whole page.
 ghost use mathlib.Core.Path.{_≡_};
 ghost use Prim.Native.Nat.{ℕ, _*_, _<_, _≤_};
 ghost use lib.ListN.{length, getD};
@@ -26,8 +26,8 @@ const PARTS: usize = 3;
 
 const MOST_QUESTIONS: usize = 64;
 
-// A reply after a round. While the rounds go a reply is 0 for none yet, else one more than its round; what is replied
-// stays.
+// A reply after a round. While the rounds go a reply is 0 for none yet, else one more than its
+// round; what is replied stays.
 fn settle(reply: u16, number: u32, received: u16, round: u16) -> u16
     requires { ⌜ round ≤ mostRounds ⌝ }
     ensures { λ r. ⌜ r ≡ settled reply number received round ⌝ }
@@ -41,7 +41,8 @@ fn settle(reply: u16, number: u32, received: u16, round: u16) -> u16
     round + 1
 }
 
-// How many broadcasts of s station r has received: those that ended, and the present one where r has it.
+// How many broadcasts of s station r has received: those that ended, and the present one where r
+// has it.
 fn received(sets: &[u16; 256], ends: &[u16; 16], r: usize, s: usize) -> u16
     requires { ⌜ (r < 16) × (s < 16) × (getD (now ends) s 0 < highestCount) ⌝ }
     ensures { λ x. ⌜ x ≡ receivedIn (now (sets .entry)) (now (ends .entry)) r s ⌝ }
@@ -186,9 +187,10 @@ fn answers_of(replies: [u16; 64]) -> [QuestionAnswer; 64]
     answers
 }
 
-// The answers to a page of questions for a log of n masks a round. A question is three numbers: sender, receiver, and
-// the number of the broadcast. 1: n is not 1 to 16. 12: the log is not whole rounds, or has more than 2,048. 18: a
-// question names a station not below n, has a number below 1, is not whole, or is past the 64th.
+// The answers to a page of questions for a log of n masks a round. A question is three numbers:
+// sender, receiver, and the number of the broadcast. 1: n is not 1 to 16. 12: the log is not whole
+// rounds, or has more than 2,048. 18: a question names a station not below n, has a number below 1,
+// is not whole, or is past the 64th.
 pub fn answer(log: &[u16], n: usize, page: &[u32]) -> PageAnswer
     ensures { λ r. ⌜ r ≡ questionsCall n (now (log .entry)) (now (page .entry)) ⌝ }
 {

@@ -1,5 +1,6 @@
-// What stations know of each other's broadcasts, as sets in masks: bit r of the set of s at p is 1 where p knows that
-// r has the present broadcast of s. The sets of all stand in 256 masks, the set of s at p at place 16 p + s.
+// What stations know of each other's broadcasts, as sets in masks: bit r of the set of s at p is 1
+// where p knows that r has the present broadcast of s. The sets of all stand in 256 masks, the set
+// of s at p at place 16 p + s.
 ghost use mathlib.Core.Path.{_≡_};
 ghost use Prim.Native.Nat.{ℕ, _+_, _-_, _^_, _<_, _≤_};
 ghost use lib.ListN.{length, getD};
@@ -32,8 +33,9 @@ fn below(mask: u16, n: usize) -> u16
     ((mask as u32) & ((1u32 << n) - 1)) as u16
 }
 
-// Unites a row with the sets of all stations below n in the mask, from the lowest up. There is no test of a single
-// bit: on links that change from round to round a processor would guess it wrong half of the time.
+// Unites a row with the sets of all stations below n in the mask, from the lowest up. There is no
+// test of a single bit: on links that change from round to round a processor would guess it wrong
+// half of the time.
 fn listen(row: &mut [u16; 16], before: &[u16; 256], mask: u16, n: usize)
     requires { ⌜ (n ≤ 16) × (length (now row) ≡ 16) ⌝ }
     ensures { λ _. ⌜ FirstAre 16 (now (row .entry)) (now (row .exit)) (λ s.
@@ -92,9 +94,9 @@ fn row_of(sets: &[u16; 256], p: usize) -> [u16; 16]
     row
 }
 
-// A round for all, before the ends are looked at; the masks stand in the log from `at` on. Everyone hears the sets as
-// they stood before the round. A row is a local, so that it stays in registers. The own bit of a mask adds nothing,
-// for the row begins as that of its station.
+// A round for all, before the ends are looked at; the masks stand in the log from `at` on. Everyone
+// hears the sets as they stood before the round. A row is a local, so that it stays in registers.
+// The own bit of a mask adds nothing, for the row begins as that of its station.
 pub fn learn(sets: &mut [u16; 256], log: &[u16], at: usize, n: usize)
     requires { ⌜ (n ≤ 16) × (at + n ≤ length (now log)) × (length (now sets) ≡ setCount) ⌝ }
     ensures { λ _. ⌜ Learnt n n (λ p. getD (now (log .entry)) (at + p) 0)

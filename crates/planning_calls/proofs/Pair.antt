@@ -1,5 +1,5 @@
--- Each return of a call that answers with two numbers is its definition, and so is the buffer there: as it was where the call is refused, else with its first two
--- numbers put.
+-- Each return of a call that answers with two numbers is its definition, and so is the buffer
+-- there: as it was where the call is refused, else with its first two numbers put.
 use mathlib.Core.List.{List, [], _∷_}
 use mathlib.Core.Path.{_≡_, refl, sym, ap, ap₂, _∙_}
 use Prim.Native.Nat.{ℕ, _<_, _≤_}

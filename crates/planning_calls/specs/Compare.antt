@@ -1,4 +1,5 @@
--- What `compare_into` returns and writes: the answer of the comparison as numbers (air_logs_spec/specs/Compare).
+-- What `compare_into` returns and writes: the answer of the comparison as numbers
+-- (air_logs_spec/specs/Compare).
 use mathlib.Core.List.{List}
 use Prim.Native.Nat.{ℕ}
 use Rattle.air_logs_spec.specs.Compare.{compareCall, refusalOf, outcomeOf, positionOf}

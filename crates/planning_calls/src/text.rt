@@ -1,5 +1,5 @@
-// The load generator and the comparison of two air logs on lent buffers: document 02, A5 and A8. A refused call
-// writes nothing.
+// The load generator and the comparison of two air logs on lent buffers: document 02, A5 and A8. A
+// refused call writes nothing.
 
 ghost use mathlib.Core.Path.{_≡_};
 ghost use lib.ListN.{length};
@@ -11,8 +11,8 @@ use bodies::refusals::BAD_NUMBER;
 use bodies::refusals::DONE;
 use bodies::refusals::SHORT_BUFFER;
 
-// A call of the generator: 1, 9, or 0 with the lines in the buffer, the next state in next[0] and their length in
-// next[1]. The `N` line is wanted where head is not 0.
+// A call of the generator: 1, 9, or 0 with the lines in the buffer, the next state in next[0] and
+// their length in next[1]. The `N` line is wanted where head is not 0.
 pub fn load_into(
     state: u32,
     n: u32,
@@ -55,7 +55,8 @@ fn refusal_of(answer: Compared) -> u32
     }
 }
 
-// Which of the four answers it is: 0 equal, 1 first begins second, 2 second begins first, 3 different.
+// Which of the four answers it is: 0 equal, 1 first begins second, 2 second begins first, 3
+// different.
 fn outcome_of(answer: Compared) -> u64
     ensures { λ r. ⌜ r ≡ outcomeOf answer ⌝ }
 {

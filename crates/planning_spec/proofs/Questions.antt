@@ -1,5 +1,6 @@
--- A page that is not refused has whole questions about stations below n, with numbers from 1. Each of its answers is that of its question alone, by relays
--- and by no other answer; and rounds added at the end of the log leave every answer but never, which may become one of them.
+-- A page that is not refused has whole questions about stations below n, with numbers from 1. Each
+-- of its answers is that of its question alone, by relays and by no other answer; and rounds added
+-- at the end of the log leave every answer but never, which may become one of them.
 use mathlib.Core.Bool.{Bool, true, false, cond, not, _&&_, _||_, true≢false}
 use mathlib.Core.List.{List, _++_}
 use mathlib.Core.Option.{Option}

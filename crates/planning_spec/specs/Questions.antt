@@ -1,5 +1,5 @@
--- Document 02, A11: a page of questions for one log. A page is a list of numbers, three to a question: sender, receiver
--- and the number of the broadcast.
+-- Document 02, A11: a page of questions for one log. A page is a list of numbers, three to a
+-- question: sender, receiver and the number of the broadcast.
 use mathlib.Core.Bool.{Bool, cond, not, _||_}
 use mathlib.Core.List.{List, [], _∷_}
 use mathlib.Core.Option.{Option, none, some}
@@ -50,8 +50,8 @@ unfoldable pub questionsRefusal : ℕ → List ℕ → List ℕ → ℕ
 questionsRefusal n log page =
     refuse (not (eqb (logRefusal n (length log)) done)) (logRefusal n (length log)) (pageRefusal n page)
 
--- the first questions of a page are whole, few, name stations below n, and have numbers from 1: so they are where the
--- page is not refused
+-- the first questions of a page are whole, few, name stations below n, and have numbers from 1: so
+-- they are where the page is not refused
 pub record Asked (n count : ℕ) (page : List ℕ) : Type 0 where
   pub few : count ≤ mostQuestions
   pub whole : 3 * count ≤ length page
@@ -72,8 +72,8 @@ answerTo n log q =
 abbrev pub never : QuestionAnswer
 never = record { arrival = Never }
 
--- questions: each question of the page has its own answer, whatever the others are; Never stands past the page, and
--- everywhere where it is refused
+-- questions: each question of the page has its own answer, whatever the others are; Never stands
+-- past the page, and everywhere where it is refused
 unfoldable pub questionsCall : ℕ → List ℕ → List ℕ → PageAnswer
 questionsCall n log page =
     cond (eqb (questionsRefusal n log page) done)
@@ -83,15 +83,16 @@ questionsCall n log page =
     })
     (record { refusal = questionsRefusal n log page; answers = replicate mostQuestions never })
 
--- The same answer said by relays alone: a reader may believe either. `call-relays` (proofs/Questions) shows that each
--- answer of a page is such a one, and `relay-only` that no other is.
+-- The same answer said by relays alone: a reader may believe either. `call-relays`
+-- (proofs/Questions) shows that each answer of a page is such a one, and `relay-only` that no other
+-- is.
 pub record RelayAnswer (n : ℕ) (log : List ℕ) (q : Question) (a : QuestionAnswer) : Type 0 where
   pub round : Option ℕ
   pub given : a ≡ record { arrival = arrivalOf round }
   pub by-relays : Answered (linksOf n log) (q .receiver) (q .sender) (q .number) (roundsOf n log) round
 
--- What rounds added at the end make of an answer: a round stays, and never stays or becomes one of the rounds added
--- (`call-extends`).
+-- What rounds added at the end make of an answer: a round stays, and never stays or becomes one of
+-- the rounds added (`call-extends`).
 pub record LaterAnswer (last more : ℕ) (a b : QuestionAnswer) : Type 0 where
   pub before : Option ℕ
   pub after : Option ℕ

@@ -1,4 +1,5 @@
-// The calls on bulletins that lie as bytes in the host's memory, beside their group: document 02, A12.
+// The calls on bulletins that lie as bytes in the host's memory, beside their group: document 02,
+// A12.
 
 ghost use mathlib.Core.Path.{_≡_};
 ghost use Rattle.planning_spec.specs.Merge.{frontWritten};
@@ -30,7 +31,8 @@ pub extern "C" fn relay_bulletins_issue(state: &mut [u8], issuer: u32, tag: u32,
     group_calls::bulletin_calls::issue(state, issuer, tag, event)
 }
 
-// Round: the group's round, and on the same masks everyone takes over the bulletins of those that it hears.
+// Round: the group's round, and on the same masks everyone takes over the bulletins of those that
+// it hears.
 #[no_mangle]
 pub extern "C" fn relay_bulletins_round(
     group: &mut [u8],

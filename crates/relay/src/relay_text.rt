@@ -5,8 +5,8 @@ ghost use lib.ListN.{length};
 ghost use Rattle.load_spec.specs.Calls.{wanted, hostRefusal, hostBuffer, hostPlaces};
 ghost use Rattle.planning_calls.specs.Compare.{compareReturned, compareBuffer};
 
-// A call of the generator: 1, 9, or 0 with the lines in the buffer, the next state in next[0] and their length in
-// next[1]. The `N` line is wanted where head is not 0.
+// A call of the generator: 1, 9, or 0 with the lines in the buffer, the next state in next[0] and
+// their length in next[1]. The `N` line is wanted where head is not 0.
 #[no_mangle]
 pub extern "C" fn relay_load(
     state: u32,
@@ -25,8 +25,8 @@ pub extern "C" fn relay_load(
     planning_calls::text::load_into(state, n, due, head, buffer, next)
 }
 
-// How two air logs compare, put as two numbers into a lent buffer: 0, or the refusal, and then the buffer does not
-// change.
+// How two air logs compare, put as two numbers into a lent buffer: 0, or the refusal, and then the
+// buffer does not change.
 #[no_mangle]
 pub extern "C" fn relay_compare(
     first: &[u8],

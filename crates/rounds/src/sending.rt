@@ -9,8 +9,8 @@ use bodies::refusals::OUTSIDE_LIMITS;
 use hearing_spec::FRAME_ROOM;
 use station_spec::Station;
 
-// Writes the frame of station k of a group of n in an edition into its part of the bytes; where it may
-// not be written, answers why.
+// Writes the frame of station k of a group of n in an edition into its part of the bytes; where it
+// may not be written, answers why.
 fn write_part(bytes: &mut [u8], s: Station, edition: usize, n: usize, k: usize) -> u32
     requires { ⌜ length (now bytes) ≡ spec.framesRoom ⌝ }
     ensures { λ r. ⌜ (r ≡ spec.sendRefusal edition n k s)

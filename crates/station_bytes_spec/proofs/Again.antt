@@ -1,5 +1,7 @@
--- Calls on bytes one after the other. What a call that is done leaves is accepted by the next call, and decoded to just the station that the call gave; so calls on bytes are the calls of document 01, one after the other, on the
--- station itself, and a state that the library made is never refused with 2.
+-- Calls on bytes one after the other. What a call that is done leaves is accepted by the next call,
+-- and decoded to just the station that the call gave; so calls on bytes are the calls of document
+-- 01, one after the other, on the station itself, and a state that the library made is never
+-- refused with 2.
 use mathlib.Core.Path.{_≡_, refl, sym, subst, _∙_}
 use mathlib.Core.Bool.{Bool, true, false, not, false≢true}
 use mathlib.Core.List.{List}

@@ -1,6 +1,7 @@
--- Bytes one behind the other, both ways. To decode what was encoded, `Stands` says that bytes stand in a list from a place on, and is taken apart as the
--- encoding is put together. To encode what was decoded, each part gives the span that it was read from, and spans that meet are one span. What is written
--- from a place on by two writes, the second where the first ended, is written by one.
+-- Bytes one behind the other, both ways. To decode what was encoded, `Stands` says that bytes stand
+-- in a list from a place on, and is taken apart as the encoding is put together. To encode what was
+-- decoded, each part gives the span that it was read from, and spans that meet are one span. What
+-- is written from a place on by two writes, the second where the first ended, is written by one.
 use mathlib.Core.Path.{_≡_, refl, sym, ap, ap₂, _∙_}
 use mathlib.Core.Bool.{Bool, true, false}
 use mathlib.Core.List.{List, [], _∷_, _++_}

@@ -1,5 +1,7 @@
--- A station there and back. Each part has four laws: its length; what stands in a list as its encoding is decoded to it, and is accepted; accepted bytes are the encoding of
--- what they are decoded to. The station's laws are made of those of its parts, at any place of a list, so that a group's are made of them.
+-- A station there and back. Each part has four laws: its length; what stands in a list as its
+-- encoding is decoded to it, and is accepted; accepted bytes are the encoding of what they are
+-- decoded to. The station's laws are made of those of its parts, at any place of a list, so that a
+-- group's are made of them.
 use mathlib.Core.Path.{_≡_, refl, ap, ap₂, _∙_}
 use mathlib.Core.Bool.{true, false, _&&_}
 use mathlib.Core.List.{List, [], _∷_, _++_}
@@ -125,8 +127,8 @@ module _ (l : List ℕ) (bytes : AllBytes l) (at : ℕ) (room : at + cellWidth �
 
 -- ---- the station
 
--- what the types of a station say of it, and that N, its own number, its edition, the numbers of waiting edits and their
--- limit are bytes
+-- what the types of a station say of it, and that N, its own number, its edition, the numbers of
+-- waiting edits and their limit are bytes
 pub record StationFits (s : Station) : Type 0 where
   pub n-byte : s .n < 256
   pub own-byte : s .own < 256

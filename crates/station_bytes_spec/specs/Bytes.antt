@@ -20,7 +20,8 @@ flagAt b at = eqb (byteAt b at) 1
 abbrev pub flagByte : Bool → ℕ
 flagByte flag = cond flag 1 0
 
--- a number as a byte; 255 stands for all greater ones, of which no station inside its limits has one
+-- a number as a byte; 255 stands for all greater ones, of which no station inside its limits has
+-- one
 unfoldable pub asByte : ℕ → ℕ
 asByte number = cond (ltb number 256) number 255
 

@@ -1,6 +1,6 @@
 -- What a heard frame leaves of the bytes of a station: where they are written they are those of the
--- station that the call gives, and elsewhere they were so before, for accepted bytes are the encoding
--- of what they are decoded to.
+-- station that the call gives, and elsewhere they were so before, for accepted bytes are the
+-- encoding of what they are decoded to.
 use mathlib.Core.Path.{_≡_, refl, sym, ap, _∙_}
 use mathlib.Core.Bool.{Bool, true, false}
 use mathlib.Core.List.{List}

@@ -1,5 +1,6 @@
--- A write that stays inside one cell of a station's bytes: they are then the bytes of the station with
--- that cell changed. It is shown for any part of a cell, and then for each part that hearing changes.
+-- A write that stays inside one cell of a station's bytes: they are then the bytes of the station
+-- with that cell changed. It is shown for any part of a cell, and then for each part that hearing
+-- changes.
 use mathlib.Core.Path.{_≡_, refl, sym, ap, ap₂, _∙_}
 use mathlib.Core.Bool.{Bool, false}
 use mathlib.Core.List.{List, [], _∷_, _++_, append-nil}

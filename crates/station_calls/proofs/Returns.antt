@@ -1,5 +1,6 @@
--- The returns of a call on what lies as bytes, whatever it is that is encoded: what is refused leaves every buffer, and what is done leaves the encoding of what the
--- call's definition answers. `made` is what the code was answered, and equal to that answer.
+-- The returns of a call on what lies as bytes, whatever it is that is encoded: what is refused
+-- leaves every buffer, and what is done leaves the encoding of what the call's definition answers.
+-- `made` is what the code was answered, and equal to that answer.
 use mathlib.Core.Path.{_≡_, sym, ap, _∙_}
 use mathlib.Core.Bool.{Bool, true, false, not}
 use mathlib.Core.List.{List}
@@ -59,7 +60,8 @@ module _ {A : Type 0} (refusal : A → ℕ) (part : A → List ℕ) (made answer
         (done ≡ orElse (refuse (not judged) outsideLimits done) (refusal answer)) × (l ≡ frontWritten done (part answer) b)
     over-done fine long l e = (sym (fine-too fine) ∙ state-taken judged _ h, put-same b l (omega (arith, long)) e)
 
-    -- the same, with a report into another buffer; `rest` is what that buffer and the like are refused with
+    -- the same, with a report into another buffer; `rest` is what that buffer and the like are
+    -- refused with
     module _ (report : A → List ℕ) (lent : List ℕ) (rest : ℕ) where
       abbrev returned : ℕ
       returned = orElse (refuse (not judged) outsideLimits done) (orElse (refusal answer) rest)

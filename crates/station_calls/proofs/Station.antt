@@ -1,4 +1,5 @@
--- What the calls on a station that lies as bytes share: what fresh answered, how long the bytes are, and the body that four numbers name.
+-- What the calls on a station that lies as bytes share: what fresh answered, how long the bytes
+-- are, and the body that four numbers name.
 use mathlib.Core.Path.{_≡_, ap, _∙_}
 use mathlib.Core.Bool.{true, false}
 use mathlib.Core.List.{List}

@@ -24,7 +24,8 @@ const STATION_WIDTH: usize = 1492;
 
 const TURN_WIDTH: usize = 220;
 
-// The body that four numbers name; Empty where kind, event and argument are those of none inside its limits.
+// The body that four numbers name; Empty where kind, event and argument are those of none inside
+// its limits.
 pub fn named_body(kind: u32, event: u32, argument: i32, channel: u32) -> Body
     ensures { λ r. ⌜ r ≡ namedBody kind event argument channel ⌝ }
 {
@@ -143,8 +144,8 @@ pub fn write(state: &[u8], frame: &mut [u8], lengths: &mut [u32]) -> u32
     DONE
 }
 
-// Hear: one frame's records in order; sixteen flags tell from which stations a body was taken. Of the state only what
-// hearing can change is written.
+// Hear: one frame's records in order; sixteen flags tell from which stations a body was taken. Of
+// the state only what hearing can change is written.
 pub fn hear(state: &mut [u8], frame: &[u8], taken: &mut [u8]) -> u32
     ensures { λ r. ⌜ (r ≡ hearReturned (now (state .entry)) (now (frame .entry)) (now (taken .entry)))
         × (now (state .exit) ≡ frontWritten r

@@ -1,5 +1,5 @@
-// Stations and groups read from bytes. Bytes are judged first, and then read: reading gives a station for any bytes
-// that are long enough.
+// Stations and groups read from bytes. Bytes are judged first, and then read: reading gives a
+// station for any bytes that are long enough.
 
 ghost use mathlib.Core.Path.{_≡_};
 ghost use mathlib.Core.Bool.{true};

@@ -1,4 +1,5 @@
--- Writing from a place on: a write where the one before ended makes one longer write, so that every writer leaves the encoding of what it was given.
+-- Writing from a place on: a write where the one before ended makes one longer write, so that every
+-- writer leaves the encoding of what it was given.
 use mathlib.Core.Path.{_≡_, refl, sym, ap, _∙_}
 use mathlib.Core.List.{List, [], _∷_, _++_}
 use Prim.Native.Nat.{ℕ, _+_, _*_, _≤_, _<_}
@@ -61,7 +62,8 @@ pub all-written :
     (l l₁ : List ℕ) (at n k : ℕ) (part : ℕ → List ℕ) → k ≡ n → l₁ ≡ sets l at (joinedBelow k part) → l₁ ≡ sets l at (joinedBelow n part)
 all-written l l₁ at n k part e h = h ∙ ap (λ (j : ℕ). sets l at (joinedBelow j part)) e
 
--- the parts below k, of n, are written from a place on: what a loop that writes part after part keeps
+-- the parts below k, of n, are written from a place on: what a loop that writes part after part
+-- keeps
 pub record PartsPut (n : ℕ) (part : ℕ → List ℕ) (l : List ℕ) (at k : ℕ) (l₁ : List ℕ) : Type 0 where
   pub most : k ≤ n
   pub long : length l₁ ≡ length l

@@ -1,5 +1,5 @@
-// What a turn and a round report, and a set of stations, written as bytes to the front of a buffer or from a place
-// on; all other bytes are kept.
+// What a turn and a round report, and a set of stations, written as bytes to the front of a buffer
+// or from a place on; all other bytes are kept.
 
 ghost use mathlib.Core.Path.{_≡_};
 ghost use Prim.Native.Nat.{_+_, _≤_};

@@ -1,6 +1,6 @@
--- All bodies that a station inside its limits holds are inside theirs in its edition, wherever they stand. So a
--- station that holds one outside them is outside its own, and each of its calls is refused with 2. No limit of a kind is
--- named here: the table decides.
+-- All bodies that a station inside its limits holds are inside theirs in its edition, wherever they
+-- stand. So a station that holds one outside them is outside its own, and each of its calls is
+-- refused with 2. No limit of a kind is named here: the table decides.
 use Prim.Native.Nat.{ℕ}
 use mathlib.Core.Bool.{Bool, true, false, true≢false}
 use mathlib.Core.List.{List}

@@ -1,5 +1,6 @@
--- A station while it hears. One fold carries all of it: N, the own number, the waiting edits, the body and the own lane stay; the shape and the limits
--- are kept as long as no frame is refused; and every taking stands in a lane of another station, so from silence on there are at most 30.
+-- A station while it hears. One fold carries all of it: N, the own number, the waiting edits, the
+-- body and the own lane stay; the shape and the limits are kept as long as no frame is refused; and
+-- every taking stands in a lane of another station, so from silence on there are at most 30.
 use Prim.Native.Nat.{ℕ, suc, max, _+_, _*_, _≤_, _<_}
 use mathlib.Core.Bool.{Bool, true, false, cond}
 use mathlib.Core.List.{List, [], _∷_, _++_, append-nil}

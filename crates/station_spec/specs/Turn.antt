@@ -47,8 +47,9 @@ mayStart s = eqb ((laneAt (afterAiring s) (s .own)) .len) 0
 abbrev pub startsEdit : Station → Bool
 startsEdit s = broadcastEnds s && (mayStart s && ltb 0 (waitingCount (s .waiting)))
 
--- what starts where the broadcast ends: the oldest waiting edit of the desk that is next, Neutral where none waits
--- (Algorithm 3, line 11), Empty where the own lane is not empty (Algorithm 2, lines 21 to 24)
+-- what starts where the broadcast ends: the oldest waiting edit of the desk that is next, Neutral
+-- where none waits (Algorithm 3, line 11), Empty where the own lane is not empty (Algorithm 2,
+-- lines 21 to 24)
 unfoldable pub startedBody : Station → Body
 startedBody s =
     cond (broadcastEnds s)

@@ -1,4 +1,5 @@
--- `air_logs::is_line` tests the parts of a line in their order. A part that fails is one that a line has, and where all others hold the last decides.
+-- `air_logs::is_line` tests the parts of a line in their order. A part that fails is one that a
+-- line has, and where all others hold the last decides.
 use mathlib.Core.Path.{sym, _∙_}
 use borrow.Author.Needs.{needs}
 use Rattle.air_logs.proofs.Lines.{line-fails, line-short, line-spaced, line-left, answered-no, answered-yes}

@@ -1,4 +1,5 @@
--- `air_logs::is_listing` goes from line to line. The invariant: what is left is a listing exactly if all of it is.
+-- `air_logs::is_listing` goes from line to line. The invariant: what is left is a listing exactly
+-- if all of it is.
 use Prim.Native.Nat.{ℕ, _-_, _≤_}
 use mathlib.Core.List.{List}
 use mathlib.Core.Path.{_≡_, refl, sym, ap, _∙_}

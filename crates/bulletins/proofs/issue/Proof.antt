@@ -1,4 +1,5 @@
--- `bulletins::issue` meets its contract: each return is a refusal of the definition, or the state with the bulletin.
+-- `bulletins::issue` meets its contract: each return is a refusal of the definition, or the state
+-- with the bulletin.
 use Prim.Native.Nat.{_*_, _<_}
 use mathlib.Core.Path.{sym, _∙_}
 use native.Mathlib.Omega.{arith}

@@ -1,5 +1,6 @@
--- The recursion falls with the rounds left. Its loop keeps: no pick below i settles the result for the side that picks; `Deciding` turns that into the
--- definition, at a pick that does and after the last.
+-- The recursion falls with the rounds left. Its loop keeps: no pick below i settles the result for
+-- the side that picks; `Deciding` turns that into the definition, at a pick that does and after the
+-- last.
 use Prim.Native.Nat.{ℕ, _+_, _-_, _<_, _≤_}
 use mathlib.Core.Bool.{not}
 use mathlib.Core.List.{List}

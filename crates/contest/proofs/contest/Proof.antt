@@ -1,4 +1,5 @@
--- Each return cites its law of `Answers`. A contest that gets past its refusal is inside its limits, which the first pick asks for.
+-- Each return cites its law of `Answers`. A contest that gets past its refusal is inside its
+-- limits, which the first pick asks for.
 use mathlib.Core.Path.{_≡_, sym, _∙_}
 use Prim.Native.Nat.{_<_}
 use native.Mathlib.Omega.{arith}

@@ -1,4 +1,5 @@
--- The loop keeps: from no pick below i can the keeper force the end. The pick it leaves with is then the lowest of the definition.
+-- The loop keeps: from no pick below i can the keeper force the end. The pick it leaves with is
+-- then the lowest of the definition.
 use Prim.Native.Nat.{ℕ, _-_, _<_, _≤_}
 use mathlib.Core.Bool.{false}
 use mathlib.Core.List.{[], _∷_}

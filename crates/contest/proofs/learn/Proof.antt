@@ -1,4 +1,5 @@
--- The loop keeps: the first p places hold the sets after the round, each made of the sets before it.
+-- The loop keeps: the first p places hold the sets after the round, each made of the sets before
+-- it.
 use mathlib.Core.List.{List}
 use Prim.Native.Nat.{ℕ, _-_, _≤_}
 use mathlib.Core.Path.{_≡_, refl, ap₂, _∙_}

@@ -1,4 +1,5 @@
--- The loop keeps: the set is united with those of the stations below j that p hears, all as they stood before the round.
+-- The loop keeps: the set is united with those of the stations below j that p hears, all as they
+-- stood before the round.
 use Prim.Native.Nat.{ℕ, _-_, _≤_}
 use mathlib.Core.Bool.{Bool, cond}
 use mathlib.Core.Path.{_≡_, sym, ap, ap₂, _∙_}

@@ -1,4 +1,5 @@
--- `frame_check::check_frame` meets its contract: N and the own number first, then the edition, then what `frame_refusal` says.
+-- `frame_check::check_frame` meets its contract: N and the own number first, then the edition, then
+-- what `frame_refusal` says.
 use Prim.Native.Nat.{ℕ, _<_, _≤_}
 use mathlib.Core.Path.{_≡_, _∙_}
 use mathlib.Core.Bool.{true, false}

@@ -1,4 +1,5 @@
--- `frame_check::frame_refusal` meets its contract: the three tests in their order, each as the definition has it.
+-- `frame_check::frame_refusal` meets its contract: the three tests in their order, each as the
+-- definition has it.
 use mathlib.Core.Path.{sym, _∙_}
 use native.Mathlib.Omega.{arith}
 use Rattle.frame_spec.proofs.Check.{shape, refused-shape, refused-address, accepted, refused-records}

@@ -1,5 +1,6 @@
--- `frame_check::record_inside` meets its contract: each test is one of the definition's, in its order. The body's numbers are judged by the rows of the table of
--- kinds, the argument as the signed number that its four bytes are.
+-- `frame_check::record_inside` meets its contract: each test is one of the definition's, in its
+-- order. The body's numbers are judged by the rows of the table of kinds, the argument as the
+-- signed number that its four bytes are.
 use Prim.Native.Nat.{ℕ}
 use mathlib.Core.Path.{_≡_, sym, ap, _∙_}
 use mathlib.Core.List.{List}

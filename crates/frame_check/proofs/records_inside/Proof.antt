@@ -1,5 +1,6 @@
--- `frame_check::records_inside` meets its contract. The loop's invariant is `Checked`: what the records passed so far say. Each record's part is handed on
--- whole, and its station is the part's first byte.
+-- `frame_check::records_inside` meets its contract. The loop's invariant is `Checked`: what the
+-- records passed so far say. Each record's part is handed on whole, and its station is the part's
+-- first byte.
 use mathlib.Core.Bool.{true}
 use mathlib.Core.List.{List}
 use mathlib.Core.Path.{_≡_, sym, ap, _∙_}

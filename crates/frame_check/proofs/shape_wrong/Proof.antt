@@ -1,4 +1,5 @@
--- `frame_check::shape_wrong` meets its contract: each test is one of the definition's, in its order.
+-- `frame_check::shape_wrong` meets its contract: each test is one of the definition's, in its
+-- order.
 use mathlib.Core.Path.{ap, _∙_}
 use mathlib.Core.Bool.{not}
 use Prim.Native.Nat.{ℕ, _+_, _*_}

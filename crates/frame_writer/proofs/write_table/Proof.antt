@@ -1,4 +1,5 @@
--- `frame_writer::write_table` meets its contract. The loop's invariant: the head and the records at the held places below k are written, and what stood past them is as it was.
+-- `frame_writer::write_table` meets its contract. The loop's invariant: the head and the records at
+-- the held places below k are written, and what stood past them is as it was.
 use mathlib.Core.Path.{_≡_, refl, _∙_}
 use Prim.Native.Nat.{_≤_, _-_, _+_, _*_}
 use native.Mathlib.Omega.{arith}

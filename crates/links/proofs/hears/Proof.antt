@@ -1,4 +1,5 @@
--- `links::hears` meets its contract. Each refusal of the code is a case in which the definition says no; past them only the bit decides.
+-- `links::hears` meets its contract. Each refusal of the code is a case in which the definition
+-- says no; past them only the bit decides.
 use Prim.Native.Nat.{_≤_}
 use mathlib.Core.Path.{_∙_, sym}
 use native.Mathlib.Omega.{arith}

@@ -1,4 +1,5 @@
--- `links::set_at` meets its contract: below 16 the code computes the bit as the definition does, and from 16 up a mask has no bits.
+-- `links::set_at` meets its contract: below 16 the code computes the bit as the definition does,
+-- and from 16 up a mask has no bits.
 use mathlib.Core.Path.{refl, sym}
 use native.Mathlib.Omega.{arith}
 use borrow.Author.Needs.{needs}

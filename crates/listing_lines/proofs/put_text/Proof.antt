@@ -1,4 +1,5 @@
--- `listing_lines::put_text` copies byte after byte. The invariant: the first k bytes of the text are put.
+-- `listing_lines::put_text` copies byte after byte. The invariant: the first k bytes of the text
+-- are put.
 use mathlib.Core.Path.{_≡_, refl}
 use Prim.Native.Nat.{_-_, _≤_}
 use native.Mathlib.Omega.{arith}

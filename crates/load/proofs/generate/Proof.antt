@@ -1,4 +1,5 @@
--- `load::generate` judges its numbers, and then does what is asked for: the `N` line, nothing, or a round.
+-- `load::generate` judges its numbers, and then does what is asked for: the `N` line, nothing, or a
+-- round.
 use mathlib.Core.Path.{_≡_, refl, sym, _∙_}
 use native.Mathlib.Omega.{arith}
 use borrow.Author.Needs.{needs}

@@ -1,5 +1,5 @@
--- `load::put_masks` puts mask after mask. The invariant: the state is the one before the draws of station
--- p, and the masks of the stations below p stand one behind the other.
+-- `load::put_masks` puts mask after mask. The invariant: the state is the one before the draws of
+-- station p, and the masks of the stations below p stand one behind the other.
 use mathlib.Core.Path.{_≡_, refl, _∙_}
 use Prim.Native.Nat.{_+_, _*_, _-_, _≤_}
 use native.Mathlib.Omega.{arith}

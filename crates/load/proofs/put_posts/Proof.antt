@@ -1,5 +1,6 @@
--- `load::put_posts` draws as a round does and puts post after post. The invariant: the state is the one
--- before the draws of station p, and the posts of the stations below p stand one behind the other.
+-- `load::put_posts` draws as a round does and puts post after post. The invariant: the state is the
+-- one before the draws of station p, and the posts of the stations below p stand one behind the
+-- other.
 use mathlib.Core.Path.{_≡_, refl, _∙_}
 use Prim.Native.Nat.{_+_, _*_, _-_, _≤_}
 use native.Mathlib.Omega.{arith}

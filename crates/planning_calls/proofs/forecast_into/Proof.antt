@@ -1,4 +1,5 @@
--- Each return is a case of the definition: the answer's own refusal, a buffer without room, or both buffers written.
+-- Each return is a case of the definition: the answer's own refusal, a buffer without room, or both
+-- buffers written.
 use borrow.Author.Needs.{needs}
 use Rattle.planning_spec.proofs.ForecastInto.{into-refused, into-short-ends, into-short-last, into-done}
 use Rattle.planning_calls.proofs.forecast_into.Statement.{statement}

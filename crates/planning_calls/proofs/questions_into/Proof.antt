@@ -1,4 +1,5 @@
--- Each return is a case of the definition: the page's own refusal, a buffer without room, or the answers written.
+-- Each return is a case of the definition: the page's own refusal, a buffer without room, or the
+-- answers written.
 use borrow.Author.Needs.{needs}
 use Rattle.planning_spec.proofs.QuestionsInto.{into-refused, into-short, into-few, into-done}
 use Rattle.planning_calls.proofs.questions_into.Statement.{statement}

@@ -1,4 +1,5 @@
--- `queues::without_next` removes the oldest body of the desk that is next, which has one, and lets the other go first.
+-- `queues::without_next` removes the oldest body of the desk that is next, which has one, and lets
+-- the other go first.
 use mathlib.Core.Bool.{Bool, cond}
 use mathlib.Core.Path.{_≡_, ap, _∙_}
 use native.Mathlib.Omega.{arith}

@@ -1,4 +1,5 @@
--- `reader::feed` reads line after line: what is in the buffer and what is still to be listed make up the same.
+-- `reader::feed` reads line after line: what is in the buffer and what is still to be listed make
+-- up the same.
 use Prim.Native.Nat.{_+_, _≤_, _<_, _-_}
 use mathlib.Core.Path.{_≡_, refl, sym}
 use native.Mathlib.Omega.{arith}

@@ -1,4 +1,5 @@
--- `relay_listing::pass` feeds what is left of the part until nothing is: each call reads some of it.
+-- `relay_listing::pass` feeds what is left of the part until nothing is: each call reads some of
+-- it.
 use Prim.Native.Nat.{_≤_, _-_}
 use mathlib.Core.Path.{_≡_}
 use native.Mathlib.Omega.{arith}

@@ -1,4 +1,5 @@
--- Each return is a case of the definition: no station, the station's refusal, no room, or both buffers written.
+-- Each return is a case of the definition: no station, the station's refusal, no room, or both
+-- buffers written.
 use mathlib.Core.Path.{_≡_, sym, _∙_}
 use mathlib.Core.Bool.{true}
 use native.Mathlib.Omega.{arith}

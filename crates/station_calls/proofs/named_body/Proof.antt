@@ -1,4 +1,5 @@
--- `relay_station::named_body` meets its contract: the argument is read back from its bits, and the channel is a byte.
+-- `relay_station::named_body` meets its contract: the argument is read back from its bits, and the
+-- channel is a byte.
 use mathlib.Core.Path.{sym, ap, _∙_}
 use mir.Syntax.{w32}
 use mir.ValLaws.{toZ-ofZ}

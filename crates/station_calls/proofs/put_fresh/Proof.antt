@@ -1,4 +1,5 @@
--- Each return is a case of the definition: the station's refusal, no room, or the station at the front.
+-- Each return is a case of the definition: the station's refusal, no room, or the station at the
+-- front.
 use mathlib.Core.Path.{refl}
 use borrow.Author.Needs.{needs}
 use Rattle.station_bytes_spec.specs.Station.{stationWidth}

@@ -1,4 +1,5 @@
--- `station_decoder::all_zero` meets its contract: where no bit of the bytes before i is set, they are 0.
+-- `station_decoder::all_zero` meets its contract: where no bit of the bytes before i is set, they
+-- are 0.
 use mathlib.Core.Path.{_≡_}
 use Prim.Native.Nat.{ℕ, _≤_, _<_, _-_, _+_}
 use native.Mathlib.Omega.{arith}

@@ -1,4 +1,5 @@
--- `station_decoder::body_right` meets its contract: the two zeros, and then the numbers of the body.
+-- `station_decoder::body_right` meets its contract: the two zeros, and then the numbers of the
+-- body.
 use mathlib.Core.Path.{_∙_}
 use Prim.Native.Nat.{_+_}
 use native.Mathlib.Omega.{arith}

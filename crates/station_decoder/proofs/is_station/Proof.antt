@@ -1,4 +1,5 @@
--- `station_decoder::is_station` meets its contract: the length, and then the station at its beginning.
+-- `station_decoder::is_station` meets its contract: the length, and then the station at its
+-- beginning.
 use mathlib.Core.Path.{_∙_}
 use Rattle.station_decoder.proofs.Reading.{no-station, by-station}
 use borrow.Author.Needs.{needs}

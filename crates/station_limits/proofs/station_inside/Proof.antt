@@ -1,4 +1,5 @@
--- `station_limits::station_inside` meets its contract: the station as a whole first, then place after place.
+-- `station_limits::station_inside` meets its contract: the station as a whole first, then place
+-- after place.
 use Prim.Native.Nat.{_≤_, _<_, _-_}
 use native.Mathlib.Omega.{arith}
 use mathlib.Core.Path.{_≡_, refl, sym, _∙_}

@@ -1,4 +1,5 @@
--- `station_limits::takeable` meets its contract: Empty is refused first, then the body's limits decide.
+-- `station_limits::takeable` meets its contract: Empty is refused first, then the body's limits
+-- decide.
 use mathlib.Core.Path.{sym, _∙_}
 use borrow.Author.Needs.{needs}
 use Rattle.station_limits.proofs.takeable.Statement.{statement}

@@ -1,4 +1,5 @@
--- `turns::take_turn` meets its contract: the airing step is the definition's, and then each part of the answer is.
+-- `turns::take_turn` meets its contract: the airing step is the definition's, and then each part of
+-- the answer is.
 use Prim.Native.Nat.{ℕ, _<_}
 use native.Mathlib.Omega.{arith}
 use mathlib.Core.Path.{_≡_, ap, _∙_}

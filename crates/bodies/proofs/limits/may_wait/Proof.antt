@@ -1,4 +1,5 @@
--- `bodies::limits::may_wait` meets its contract: what is no edit is refused, and of an edit `body_inside` decides.
+-- `bodies::limits::may_wait` meets its contract: what is no edit is refused, and of an edit
+-- `body_inside` decides.
 use mathlib.Core.Path.{sym, _∙_}
 use borrow.Author.Needs.{needs}
 use borrow.Author.Tests.{not-true, not-false}

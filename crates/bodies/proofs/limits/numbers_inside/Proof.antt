@@ -1,5 +1,6 @@
--- `bodies::limits::numbers_inside` meets its contract: the code's table is the definition's table, row by row, so each test is one of the
--- definition's, and a signed number reads back from its 32 bits as itself.
+-- `bodies::limits::numbers_inside` meets its contract: the code's table is the definition's table,
+-- row by row, so each test is one of the definition's, and a signed number reads back from its 32
+-- bits as itself.
 use Prim.Native.Nat.{ℕ, _<_, _≤_}
 use mathlib.Core.Bool.{true, false}
 use mathlib.Core.Path.{_≡_, sym, ap₂, _∙_}

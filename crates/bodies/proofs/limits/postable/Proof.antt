@@ -1,4 +1,5 @@
--- `bodies::limits::postable` meets its contract: what is no edit is refused, and of an edit `inside_kind` decides.
+-- `bodies::limits::postable` meets its contract: what is no edit is refused, and of an edit
+-- `inside_kind` decides.
 use mathlib.Core.Path.{sym, _∙_}
 use borrow.Author.Needs.{needs}
 use borrow.Author.Tests.{not-true, not-false}

@@ -1,6 +1,8 @@
--- The loop keeps: what the stations passed hold is in the set of what stands, and so inside its limits.
+-- The loop keeps: what the stations passed hold is in the set of what stands, and so inside its
+-- limits.
 use borrow.Author.Needs.{needs}
--- The loop keeps: what the stations passed hold is in the set of what stands, and so inside its limits.
+-- The loop keeps: what the stations passed hold is in the set of what stands, and so inside its
+-- limits.
 use Prim.Native.Nat.{ℕ, _-_, _≤_}
 use mathlib.Core.Bool.{true}
 use mathlib.Core.Path.{_≡_, refl, sym, ap, _∙_}

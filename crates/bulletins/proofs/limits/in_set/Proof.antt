@@ -1,4 +1,5 @@
--- `bulletins::limits::in_set` meets its contract: below 64 the code computes the bit as the definition does, and from 64 up a set has no bits.
+-- `bulletins::limits::in_set` meets its contract: below 64 the code computes the bit as the
+-- definition does, and from 64 up a set has no bits.
 use mathlib.Core.Path.{refl, sym}
 use native.Mathlib.Omega.{arith}
 use Rattle.links.specs.Log.{bit}

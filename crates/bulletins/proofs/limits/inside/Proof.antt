@@ -1,4 +1,5 @@
--- `bulletins::limits::inside` meets its contract: the tests are those of the definition, in an order that changes nothing.
+-- `bulletins::limits::inside` meets its contract: the tests are those of the definition, in an
+-- order that changes nothing.
 use mathlib.Core.Path.{sym, _∙_}
 use borrow.Author.Tests.{not-true, not-false}
 use Rattle.bulletins.proofs.Judging.{too-few, too-many, held-outside, own-decides}

@@ -1,4 +1,5 @@
--- The loop keeps: the notices of the places passed stand in front, and the other entries are unused.
+-- The loop keeps: the notices of the places passed stand in front, and the other entries are
+-- unused.
 use Prim.Native.Nat.{ℕ, _+_, _*_, _-_, _<_, _≤_}
 use mathlib.Core.Bool.{Bool, true, false, cond}
 use mathlib.Core.List.{List, [], _∷_, _++_}

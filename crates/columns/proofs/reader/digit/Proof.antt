@@ -1,4 +1,5 @@
--- `columns::reader::digit` gives the value of a digit: each return is one of the three places of a byte.
+-- `columns::reader::digit` gives the value of a digit: each return is one of the three places of a
+-- byte.
 use borrow.Author.Needs.{needs}
 use Rattle.columns.proofs.Digits.{digit-below, digit-above, digit-inside}
 use Rattle.columns.proofs.reader.digit.Statement.{statement}

@@ -1,4 +1,5 @@
--- `columns::reader::grow` judges a further digit: each return is one case of the definition, and nine digits fit a u32.
+-- `columns::reader::grow` judges a further digit: each return is one case of the definition, and
+-- nine digits fit a u32.
 use borrow.Author.Needs.{needs}
 use borrow.Author.Tests.{eq-eqb, ne-eqb, lt-ltb, le-ltb}
 use Rattle.columns.specs.Reading.{grown}

@@ -1,4 +1,5 @@
--- Each return is a case of the definition: the call's refusal, no room, or the bulletins written to the front.
+-- Each return is a case of the definition: the call's refusal, no room, or the bulletins written to
+-- the front.
 use mathlib.Core.List.{List}
 use Prim.Native.Nat.{ℕ}
 use borrow.Author.Needs.{needs}

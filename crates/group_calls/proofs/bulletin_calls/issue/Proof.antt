@@ -1,4 +1,5 @@
--- Each return is a case of the definition: no bulletins, the issue's refusal, or the bulletins written over their bytes.
+-- Each return is a case of the definition: no bulletins, the issue's refusal, or the bulletins
+-- written over their bytes.
 use mathlib.Core.Bool.{true}
 use mathlib.Core.List.{List}
 use mathlib.Core.Path.{_≡_, sym, ap, _∙_}

@@ -1,5 +1,6 @@
--- Each return is a case of the definition: no group, no bulletins, the round's refusal, too few masks, no room, or all buffers written. In each, `r` is where the round
--- was done, `two` and `one` are where the bytes were found to be bulletins and a group, and `s` is what the call was given.
+-- Each return is a case of the definition: no group, no bulletins, the round's refusal, too few
+-- masks, no room, or all buffers written. In each, `r` is where the round was done, `two` and `one`
+-- are where the bytes were found to be bulletins and a group, and `s` is what the call was given.
 use mathlib.Core.Path.{sym, _∙_}
 use native.Mathlib.Omega.{arith}
 use borrow.Author.Tests.{not-true, not-false}

@@ -1,5 +1,5 @@
--- `hearing::heeding::age_at` meets its contract: the hearer's own record is told by its station, and any other is
--- judged beside the held one.
+-- `hearing::heeding::age_at` meets its contract: the hearer's own record is told by its station,
+-- and any other is judged beside the held one.
 use mathlib.Core.Path.{_∙_}
 use mathlib.Core.Bool.{not}
 use lib.Dec.{eqb}

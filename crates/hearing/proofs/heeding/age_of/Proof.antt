@@ -1,4 +1,5 @@
--- `hearing::heeding::age_of` meets its contract: the decision of `labels` is given what the two records say.
+-- `hearing::heeding::age_of` meets its contract: the decision of `labels` is given what the two
+-- records say.
 use mathlib.Core.Path.{_∙_}
 use borrow.Author.Needs.{needs}
 use Rattle.labels.specs.Newer.{ageOf}

@@ -1,4 +1,5 @@
--- `labels::words::word_inside` meets its contract: its test is the one to which `inside-one` takes the definition.
+-- `labels::words::word_inside` meets its contract: its test is the one to which `inside-one` takes
+-- the definition.
 use native.Mathlib.Omega.{arith}
 use borrow.Author.Needs.{needs}
 use Rattle.labels.proofs.Word.{inside-one}

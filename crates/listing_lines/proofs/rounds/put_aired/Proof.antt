@@ -1,4 +1,5 @@
--- `listing_lines::rounds::put_aired` puts the line of edit after edit. The invariant: the texts of the row's places below k stand one behind the other.
+-- `listing_lines::rounds::put_aired` puts the line of edit after edit. The invariant: the texts of
+-- the row's places below k stand one behind the other.
 use mathlib.Core.Path.{_≡_, refl, _∙_}
 use Prim.Native.Nat.{_+_, _-_, _*_, _≤_}
 use native.Mathlib.Omega.{arith}

@@ -1,4 +1,5 @@
--- `listing_lines::rounds::put_takings` puts the line of taking after taking. The invariant: the texts of the takings below k stand one behind the other.
+-- `listing_lines::rounds::put_takings` puts the line of taking after taking. The invariant: the
+-- texts of the takings below k stand one behind the other.
 use mathlib.Core.Path.{_≡_, refl, _∙_}
 use Prim.Native.Nat.{_+_, _-_, _*_, _≤_}
 use native.Mathlib.Omega.{arith}

@@ -1,4 +1,5 @@
--- The loop keeps `Stands`: after u rounds of the log, the sets are what is known in its links, and counts and rounds are those of the ends so far.
+-- The loop keeps `Stands`: after u rounds of the log, the sets are what is known in its links, and
+-- counts and rounds are those of the ends so far.
 use Prim.Native.Nat.{ℕ, _-_, _<_, _≤_}
 use native.Mathlib.Omega.{arith}
 use mathlib.Core.Path.{_≡_, _∙_}

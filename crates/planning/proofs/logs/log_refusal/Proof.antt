@@ -1,4 +1,5 @@
--- The tests stand in the order of the definition, so each return computes once the tests on its way are known.
+-- The tests stand in the order of the definition, so each return computes once the tests on its way
+-- are known.
 use Prim.Native.Nat.{_/_, _%_}
 use borrow.Author.Tests.{eq-eqb, ne-eqb, lt-ltb, le-ltb, le-leb, lt-leb}
 use Rattle.planning_spec.specs.LinkLog.{logRefusal}

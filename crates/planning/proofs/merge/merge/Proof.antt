@@ -1,4 +1,5 @@
--- Each return is a case of the definition: the refusal of a log, a buffer without room, or the merged log written.
+-- Each return is a case of the definition: the refusal of a log, a buffer without room, or the
+-- merged log written.
 use mathlib.Core.Path.{sym, _∙_}
 use native.Mathlib.Omega.{arith}
 use Rattle.planning_spec.proofs.MergeInto.{merge-refused, merge-short, merge-done}

@@ -1,4 +1,5 @@
--- The loop keeps that the buffer is `fillFrom` up to its counter: the masks of the stations below p are written, and all others are as they were.
+-- The loop keeps that the buffer is `fillFrom` up to its counter: the masks of the stations below p
+-- are written, and all others are as they were.
 use Prim.Native.Nat.{ℕ, _+_, _-_, _≤_}
 use mathlib.Core.List.{List}
 use mathlib.Core.Path.{_≡_, refl, ap, _∙_}

@@ -1,4 +1,5 @@
--- The loop keeps that the buffer is filled with the merged masks up to place `at`, and that a round begins there.
+-- The loop keeps that the buffer is filled with the merged masks up to place `at`, and that a round
+-- begins there.
 use Prim.Native.Nat.{ℕ, _+_, _-_, _%_, _≤_}
 use mathlib.Core.List.{List}
 use mathlib.Core.Path.{_≡_, refl, ap, _∙_}

@@ -1,4 +1,5 @@
--- Each return is a case of the definition. A page that is not refused is answered over the log's rounds, and its replies are given out one by one.
+-- Each return is a case of the definition. A page that is not refused is answered over the log's
+-- rounds, and its replies are given out one by one.
 use mathlib.Core.Path.{refl, sym, _∙_}
 use Rattle.planning_spec.proofs.LinkLog.{accepted}
 use Rattle.planning_spec.proofs.Questions.{asked, taken, call-refused}

@@ -1,4 +1,5 @@
--- The loop keeps `Stands`, as the forecast's does, and `Replied`: after u rounds of the log the replies are those of the answers within them.
+-- The loop keeps `Stands`, as the forecast's does, and `Replied`: after u rounds of the log the
+-- replies are those of the answers within them.
 use Prim.Native.Nat.{ℕ, _+_, _-_, _<_, _≤_}
 use native.Mathlib.Omega.{arith}
 use mathlib.Core.Path.{_≡_, _∙_}

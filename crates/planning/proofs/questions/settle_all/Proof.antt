@@ -1,4 +1,5 @@
--- The loop keeps `Settled`: the replies before its counter are settled in the round, and the others are as they were.
+-- The loop keeps `Settled`: the replies before its counter are settled in the round, and the others
+-- are as they were.
 use Prim.Native.Nat.{_-_, _<_, _≤_}
 use mathlib.Core.Path.{_≡_}
 use native.Mathlib.Omega.{arith}

@@ -1,4 +1,5 @@
--- The loop keeps `FirstAre` up to its counter: each set before it has p where it has its own station.
+-- The loop keeps `FirstAre` up to its counter: each set before it has p where it has its own
+-- station.
 use Prim.Native.Nat.{ℕ, _-_, _≤_}
 use native.Mathlib.Omega.{arith}
 use mathlib.Core.Path.{_≡_, ap, _∙_}

@@ -1,4 +1,5 @@
--- The loop keeps `ColumnIs` up to its counter: the sets of s before it begin, and nothing else has changed.
+-- The loop keeps `ColumnIs` up to its counter: the sets of s before it begin, and nothing else has
+-- changed.
 use Prim.Native.Nat.{_-_, _≤_}
 use native.Mathlib.Omega.{arith}
 use mathlib.Core.Path.{_≡_}

@@ -1,4 +1,5 @@
--- The shift gives 2 ^ n, and nothing is lost at 32 bits; the lowest n bits of a mask fit into a mask.
+-- The shift gives 2 ^ n, and nothing is lost at 32 bits; the lowest n bits of a mask fit into a
+-- mask.
 use lib.Bits.{and-le-l}
 use lib.Pow.{pow-pos}
 use Prim.Native.Nat.{_-_, _^_}

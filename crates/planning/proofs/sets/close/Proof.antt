@@ -1,4 +1,5 @@
--- The loop keeps `Closed` up to its counter. The set of a station at itself is as it was when its turn comes, so each test is that of the sets handed in.
+-- The loop keeps `Closed` up to its counter. The set of a station at itself is as it was when its
+-- turn comes, so each test is that of the sets handed in.
 use native.Mathlib.Nat.{le-refl}
 use Prim.Native.Nat.{_-_, _<_, _≤_}
 use native.Mathlib.Omega.{arith}

@@ -1,4 +1,5 @@
--- The test is whether the set of s at s is full. Without it nothing changes; with it the column of s begins anew, and its count and round are set.
+-- The test is whether the set of s at s is full. Without it nothing changes; with it the column of
+-- s begins anew, and its count and round are set.
 use mathlib.Core.Path.{sym, _∙_}
 use borrow.Author.Needs.{needs}
 use borrow.Author.Tests.{not-true, not-false}

@@ -1,4 +1,5 @@
--- The loop keeps `Learnt` up to its counter: the rows before it are what a round makes of the sets as they stood, for `before` is never written.
+-- The loop keeps `Learnt` up to its counter: the rows before it are what a round makes of the sets
+-- as they stood, for `before` is never written.
 use Prim.Native.Nat.{ℕ, _+_, _-_, _≤_}
 use native.Mathlib.Omega.{arith}
 use mathlib.Core.Path.{_≡_, refl, ap, _∙_}

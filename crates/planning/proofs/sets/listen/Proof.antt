@@ -1,4 +1,5 @@
--- The loop keeps `Heard`: what is left of the mask is what has not been heard. It ends because a mask without its lowest bit is less.
+-- The loop keeps `Heard`: what is left of the mask is what has not been heard. It ends because a
+-- mask without its lowest bit is less.
 use Prim.Native.Nat.{_-_}
 use native.Mathlib.Omega.{arith}
 use mathlib.Core.Path.{_∙_}

@@ -1,4 +1,5 @@
--- The loop keeps `RowIs` up to its counter: the row of p holds what was handed in before it, and nothing else has changed.
+-- The loop keeps `RowIs` up to its counter: the row of p holds what was handed in before it, and
+-- nothing else has changed.
 use Prim.Native.Nat.{_-_, _<_, _≤_}
 use native.Mathlib.Omega.{arith}
 use mathlib.Core.Path.{_≡_, refl}

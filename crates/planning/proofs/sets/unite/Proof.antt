@@ -1,4 +1,5 @@
--- The loop keeps `FirstAre` up to its counter: the sets before it are united, and those from it on are as they were.
+-- The loop keeps `FirstAre` up to its counter: the sets before it are united, and those from it on
+-- are as they were.
 use Prim.Native.Nat.{ℕ, _-_, _≤_}
 use native.Mathlib.Omega.{arith}
 use mathlib.Core.Path.{_≡_, ap}

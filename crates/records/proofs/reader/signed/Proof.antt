@@ -1,4 +1,5 @@
--- `records::reader::signed` meets its contract: below 2^31 the word is the number, from there up it is the complement of what the word lacks of 2^32 - 1.
+-- `records::reader::signed` meets its contract: below 2^31 the word is the number, from there up it
+-- is the complement of what the word lacks of 2^32 - 1.
 use borrow.Author.Needs.{needs}
 use native.Mathlib.Omega.{arith}
 use Rattle.records.proofs.ReadWords.{signed-low, signed-high, signed-high-fits}

@@ -1,4 +1,5 @@
--- `records::writer::write_record` meets its contract: its sixteen stores leave the bytes of the record.
+-- `records::writer::write_record` meets its contract: its sixteen stores leave the bytes of the
+-- record.
 use mathlib.Core.Path.{_∙_}
 use native.Mathlib.Omega.{arith}
 use lib.ListN.{length-set}

@@ -1,5 +1,5 @@
--- `station::frames::hear` meets its contract: what was heard is taken into the station, and the sources
--- of the takings are told.
+-- `station::frames::hear` meets its contract: what was heard is taken into the station, and the
+-- sources of the takings are told.
 use mathlib.Core.Path.{_∙_}
 use borrow.Author.Needs.{needs}
 use Rattle.bodies.specs.Refusals.{done}

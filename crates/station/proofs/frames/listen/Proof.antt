@@ -1,5 +1,5 @@
--- `station::frames::listen` meets its contract, refusal by refusal; where none applies, the frame is
--- heard beside the own one.
+-- `station::frames::listen` meets its contract, refusal by refusal; where none applies, the frame
+-- is heard beside the own one.
 use Prim.Native.Nat.{ℕ}
 use mathlib.Core.Path.{_≡_, sym, subst, _∙_}
 use mathlib.Core.Bool.{true}

@@ -1,4 +1,5 @@
--- `station::frames::sources_of` meets its contract: the first of the thirty takings are those that were heard.
+-- `station::frames::sources_of` meets its contract: the first of the thirty takings are those that
+-- were heard.
 use Prim.Native.Nat.{ℕ, _-_}
 use mathlib.Core.Path.{_≡_, ap, _∙_}
 use mathlib.Core.List.{List, _++_}

@@ -1,4 +1,5 @@
--- `station::heard::marked` meets its contract: a place from 16 up is none, and setting it changes nothing.
+-- `station::heard::marked` meets its contract: a place from 16 up is none, and setting it changes
+-- nothing.
 use mathlib.Core.Path.{_≡_, sym}
 use native.Mathlib.Omega.{arith}
 use lib.ListN.{length}

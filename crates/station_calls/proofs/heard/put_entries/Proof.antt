@@ -1,4 +1,5 @@
--- `station_calls::heard::put_entries` meets its contract: the records of the stations before k are written.
+-- `station_calls::heard::put_entries` meets its contract: the records of the stations before k are
+-- written.
 use mathlib.Core.Path.{_≡_, refl, _∙_}
 use Prim.Native.Nat.{ℕ, _+_, _-_, _≤_, _<_}
 use native.Mathlib.Omega.{arith}

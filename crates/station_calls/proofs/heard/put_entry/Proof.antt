@@ -1,4 +1,5 @@
--- `station_calls::heard::put_entry` meets its contract: the record read, with its labels over the old ones, is written.
+-- `station_calls::heard::put_entry` meets its contract: the record read, with its labels over the
+-- old ones, is written.
 use mathlib.Core.Path.{_∙_}
 use native.Mathlib.Omega.{arith}
 use lib.ListN.{length-set}

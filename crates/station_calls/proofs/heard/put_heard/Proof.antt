@@ -1,5 +1,5 @@
--- `station_calls::heard::put_heard` meets its contract: the records, the numbers and the takings one after the
--- other make what is acted on.
+-- `station_calls::heard::put_heard` meets its contract: the records, the numbers and the takings
+-- one after the other make what is acted on.
 use native.Mathlib.Omega.{arith}
 use Rattle.station_calls.proofs.HeardLengths.{acked-long, labels-long}
 use Rattle.station_calls.proofs.HeardSteps.{heard-put}

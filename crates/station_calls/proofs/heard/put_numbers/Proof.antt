@@ -1,4 +1,5 @@
--- `station_calls::heard::put_numbers` meets its contract: the numbers of the stations before k are written.
+-- `station_calls::heard::put_numbers` meets its contract: the numbers of the stations before k are
+-- written.
 use mathlib.Core.Path.{_≡_, refl}
 use Prim.Native.Nat.{_-_, _≤_}
 use native.Mathlib.Omega.{arith}

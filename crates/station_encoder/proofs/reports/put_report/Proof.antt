@@ -1,4 +1,5 @@
--- `station_encoder::reports::put_report` meets its contract: the number of takings, then the takings before i, then the turn.
+-- `station_encoder::reports::put_report` meets its contract: the number of takings, then the
+-- takings before i, then the turn.
 use mathlib.Core.Path.{_∙_}
 use Prim.Native.Nat.{_-_, _+_}
 use native.Mathlib.Omega.{arith}

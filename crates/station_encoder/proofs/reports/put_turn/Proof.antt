@@ -1,4 +1,5 @@
--- `station_encoder::reports::put_turn` meets its contract: three writes, and then the bodies of the row before k.
+-- `station_encoder::reports::put_turn` meets its contract: three writes, and then the bodies of the
+-- row before k.
 use mathlib.Core.Path.{_∙_}
 use Prim.Native.Nat.{_-_, _+_}
 use native.Mathlib.Omega.{arith}

@@ -1,4 +1,5 @@
--- `turns::parts::only_own` meets its contract: of the places passed only the own one is acknowledged.
+-- `turns::parts::only_own` meets its contract: of the places passed only the own one is
+-- acknowledged.
 use Prim.Native.Nat.{_≤_, _-_}
 use native.Mathlib.Omega.{arith}
 use mathlib.Core.Path.{_≡_, refl, _∙_}
