@@ -4,6 +4,8 @@ import pathlib
 import re
 import subprocess
 
+import relay_command
+
 ROOT = pathlib.Path(__file__).resolve().parent.parent
 BLOCK = r"(?ms)^```(\w*)\n(.*?)^```$"
 
@@ -16,7 +18,9 @@ def commands(document):
 
 def run(test, document, folder, names):
     """Runs the commands one after another in one folder, so that one can use what those before it made, and compares
-    what they print. The folder gets links to these names of the repository's top."""
+    what they print, also on standard error. The folder gets links to these names of the repository's top."""
+    if "relay" in names:
+        relay_command.build()
     for name in names:
         pathlib.Path(folder, name).symlink_to(ROOT / name)
     for line, shown in commands(document):

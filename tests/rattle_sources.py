@@ -6,6 +6,7 @@ runs; types, indices, attributes and patterns that bind names; anything in a com
 or in the terms of a contract.
 """
 
+import os
 import pathlib
 import re
 from typing import NamedTuple
@@ -155,6 +156,9 @@ def constant_arrays(source):
 
 
 def sources(root):
-    """All Rattle sources below a folder, but for what is built."""
-    return sorted(path for path in pathlib.Path(root).rglob("*.rt")
-                  if not {"target", ".git"} & set(path.relative_to(root).parts))
+    """All Rattle sources below a folder, but for what is built: that is not looked at, for a proof may be writing there."""
+    found = []
+    for folder, below, files in os.walk(root):
+        below[:] = set(below) - {"target", ".git"}
+        found += [pathlib.Path(folder, name) for name in files if name.endswith(".rt")]
+    return sorted(found)

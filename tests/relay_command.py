@@ -11,6 +11,12 @@ ROOT = pathlib.Path(__file__).resolve().parent.parent
 sys.path.append(str(ROOT / "tools"))
 
 
+def build():
+    """Has the library and the listing program built where they are missing, so that no command that a test runs says that it does."""
+    for command in (["relay", "forecast", ROOT / "examples" / "five-stations.plan"], ["listing"]):
+        subprocess.run([ROOT / command[0], *command[1:]], stdin=subprocess.DEVNULL, stdout=subprocess.DEVNULL, check=False)
+
+
 def run(*arguments, given=b"", **options):
     """Exit status, standard output and standard error."""
     done = subprocess.run([ROOT / "relay", *arguments], input=given, capture_output=True, check=False, **options)

@@ -4,6 +4,8 @@ import pathlib
 import re
 import unittest
 
+from edits import edits
+
 ROOT = pathlib.Path(__file__).resolve().parent.parent
 DOCUMENTS = {path.name: path.read_text(encoding="utf-8") for path in sorted((ROOT / "docs").glob("*.md"))}
 FILE = r"([a-z_]+)/((?:specs|proofs)/[A-Z]\w*)"
@@ -63,20 +65,28 @@ class Cited(unittest.TestCase):
             self.assertRegex(text, rf"\b{name}\b")
 
     def test_functions(self):
+        """Functions by their path: crate, module where there is one, and name. The functions for C stand in modules of `relay` and are named without them."""
+        found = 0
         for document, text in DOCUMENTS.items():
-            for crate, name in re.findall(r"`([a-z_]+)::([a-z_]+)`", text):
-                code = "".join(path.read_text(encoding="utf-8") for path in (ROOT / "crates" / crate / "src").glob("*.rt"))
-                self.assertTrue(re.search(rf"\bfn {name}\(", code), f"{document}: {crate}::{name}")
+            for crate, module, name in re.findall(r"`([a-z_]+)::(?:([a-z_]+)::)?([a-z_]+)`", text):
+                folder = ROOT / "crates" / crate / "src"
+                if not module and (folder / f"{name}.rt").is_file():
+                    continue  # a module
+                files = folder.glob("*.rt") if crate == "relay" else [folder / f"{module or 'lib'}.rt"]
+                code = "".join(path.read_text(encoding="utf-8") for path in files if path.is_file())
+                self.assertTrue(re.search(rf"\bfn {name}\(", code), f"{document}: {crate}::{module}::{name}")
+                found += 1
+        self.assertGreater(found, 100)
 
     def test_edits(self):
-        """The wrong versions of docs/DECISIONS.md, each with the edits that stand for it, in whatever crate."""
-        edits = {path.stem for path in ROOT.glob("crates/*/must-fail*/*.edit")}
+        """The wrong versions of docs/DECISIONS.md, each with the faults of edits that stand for it, in whatever crate."""
+        faults = {fault.name for edit in edits() for fault in edit.faults}
         section = DOCUMENTS["DECISIONS.md"].split("### What refuses each wrong version")[1].split("\n## ")[0]
         rows = [row.split(". Refused by")[0] for row in section.split("\n- ")[1:]]
         named = [name for row in rows for name in re.findall(r"`(\w+)`", row)]
         self.assertGreater(len(named), 60)
         for name in named:
-            self.assertIn(name, edits)
+            self.assertIn(name, faults)
 
 
 if __name__ == "__main__":

@@ -18,7 +18,7 @@ ALLOWED = {
     "crates/bodies/src/limits.rt": {
         "KINDS": "the table of kinds: the least and the most of each kind's event and argument",
     },
-    "crates/lines/src/lib.rt": {r'b"END\n"': "the last line of a listing"},
+    "crates/listing_lines/src/lib.rt": {r'b"END\n"': "the last line of a listing"},
     "crates/relay_listing/src/main.rt": {
         r'b"relay_listing: cannot write\n"': "what the program says where a write fails",
         r'b"relay_listing: cannot read\n"': "what the program says where a read fails",
@@ -164,24 +164,24 @@ class TheTestCanFail(unittest.TestCase):
     def test_faults(self):
         with tempfile.TemporaryDirectory() as folder:
             for crate, text in (("labels", "const NEXT: [u8; 3] = [1, 2, 0];\n"),
-                                ("lines", 'fn f() { g(b"END\\n"); }\n')):
+                                ("listing_lines", 'fn f() { g(b"END\\n"); }\n')):
                 (pathlib.Path(folder) / "crates" / crate / "src").mkdir(parents=True)
                 (pathlib.Path(folder) / "crates" / crate / "src" / "lib.rt").write_text(text, encoding="utf-8")
             (pathlib.Path(folder) / "target").mkdir()
             built = pathlib.Path(folder) / "target" / "built.rt"
             built.write_text("const A: [u8; 2] = [1, 2];\n", encoding="utf-8")
-            end = {"crates/lines/src/lib.rt": {r'b"END\n"': "the last line"}}
+            end = {"crates/listing_lines/src/lib.rt": {r'b"END\n"': "the last line"}}
             listed = {"crates/labels/src/lib.rt": {"NEXT": "successors"}}
             self.assertEqual(faults(folder, end), ["crates/labels/src/lib.rt:1: constant array not on the list: NEXT"])
             self.assertEqual(faults(folder, {**end, **listed}),
                              ["crates/labels/src/lib.rt:1: constant array where labels are worked out: NEXT"])
             self.assertEqual(faults(folder, listed), [
                 "crates/labels/src/lib.rt:1: constant array where labels are worked out: NEXT",
-                r'crates/lines/src/lib.rt:1: constant array not on the list: b"END\n"'])
-            self.assertIn("crates/lines/src/lib.rt: on the list, but not there: LAST",
-                          faults(folder, {"crates/lines/src/lib.rt": {r'b"END\n"': "the last line", "LAST": "none"}}))
-            self.assertIn(r'crates/lines/src/lib.rt: without a purpose: b"END\n"',
-                          faults(folder, {"crates/lines/src/lib.rt": {r'b"END\n"': ""}}))
+                r'crates/listing_lines/src/lib.rt:1: constant array not on the list: b"END\n"'])
+            self.assertIn("crates/listing_lines/src/lib.rt: on the list, but not there: LAST",
+                          faults(folder, {"crates/listing_lines/src/lib.rt": {r'b"END\n"': "the last line", "LAST": "none"}}))
+            self.assertIn(r'crates/listing_lines/src/lib.rt: without a purpose: b"END\n"',
+                          faults(folder, {"crates/listing_lines/src/lib.rt": {r'b"END\n"': ""}}))
 
 
 if __name__ == "__main__":

@@ -22,13 +22,13 @@ def drawn(rng, count):
 
 
 class Hearings(unittest.TestCase):
-    def test_bits(self):
+    def test_digits(self):
         for n, log in drawn(random.Random("hearings"), 30):
             found = hearings(n, log)
             for i in range(n):
                 for j in range(n):
                     heard = [i != j and masks[i] >> j & 1 for masks in rounds_of(log, n)]
-                    self.assertEqual(found[i][j], sum(1 << u for u, one in enumerate(heard) if one))
+                    self.assertEqual(list(found[i][j].decode()), ["1" if one else "0" for one in heard])
 
 
 class Hops(unittest.TestCase):
@@ -64,7 +64,7 @@ class Hops(unittest.TestCase):
         for answer, start, found, words in (
                 (4, 2, one, "the library answers round 4, but the relay that was found arrives in round 5"),
                 (None, 2, one, "the library answers never, but the relay that was found arrives in round 5"),
-                (6, 2, None, "the library answers round 6, but no relay was found"),
+                (6, 2, None, "the library answers round 6, but no relay was found by then"),
                 (3, 2, [], "the library answers round 3, but the relay that was found arrives in round 2")):
             self.assertEqual(hops.fault(answer, start, found), words)
 

@@ -5,6 +5,7 @@ A fault is noticed by the random runs of demand 3, or by the named tests. The fi
 """
 
 import contextlib
+import difflib
 import io
 import re
 import sys
@@ -54,8 +55,10 @@ def first_noticed_run(runs=test_demand3, most=test_demand3.RUNS):
 
 
 def passes(test_class, name):
-    """Whether one test, run here and now, passes."""
-    return unittest.TextTestRunner(stream=io.StringIO()).run(test_class(name)).wasSuccessful()
+    """Whether one test, run here and now, passes. Nobody reads in which lines two states differ, and unittest would work
+    for minutes to tell it."""
+    with mock.patch.object(difflib, "ndiff", return_value=()):
+        return unittest.TextTestRunner(stream=io.StringIO()).run(test_class(name)).wasSuccessful()
 
 
 class Broken(unittest.TestCase):

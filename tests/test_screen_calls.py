@@ -115,6 +115,20 @@ class Look(Calls):
                 met.add(len(one["hops"]))
         self.assertTrue({0, 1, 2} <= met)
 
+    def test_edits(self):
+        """After each edit the ends and answers are those of the plan as it is now, whatever was answered before."""
+        rng = random.Random("edits")
+        n, log = 4, logs.random_log(rng, 4, 300)
+        asked = [(rng.randrange(n), rng.randrange(n), rng.randint(1, 40)) for _ in range(12)]
+        for _ in range(20):
+            log[rng.randrange(len(log))] ^= 1 << rng.randrange(n)
+            found, links = self.look((n, log), asked=asked), Links(n, forecast.rounds_of(log, n))
+            self.assertEqual(found["part"]["ends"], [forecast.end_rounds(links, s) for s in range(n)])
+            for (sender, receiver, k), one in zip(asked, found["answers"]):
+                self.assertIsNone(one["error"])
+                self.assertEqual(one["round"], questions.received(links, sender, receiver, k))
+                self.check_hops(links, sender, receiver, one)
+
     def check_hops(self, links, sender, receiver, answer):
         if answer["round"] is None or sender == receiver:
             self.assertEqual(answer["hops"], [])

@@ -1,6 +1,6 @@
 """Elements of a picture (SVG) as text."""
 
-from xml.sax.saxutils import escape
+from html import escape
 
 
 def px(value):
@@ -11,7 +11,7 @@ def tag(name, attributes, text="", inside=()):
     """One element: its attributes by name (with 'cls' for class and '_' for '-'), and its text or what is inside it."""
     head = name
     for key, value in attributes.items():
-        value = px(value) if isinstance(value, float) else escape(str(value), {'"': "&quot;"})
+        value = px(value) if isinstance(value, float) else escape(str(value), quote=False).replace('"', "&quot;")
         head += f' {key.replace("cls", "class").replace("_", "-")}="{value}"'
-    content = escape(text) + "".join(inside)
+    content = escape(text, quote=False) + "".join(inside)
     return f"<{head}>{content}</{name}>" if content else f"<{head}/>"

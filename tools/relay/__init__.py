@@ -9,7 +9,7 @@
     plans.py      link plans: the N and R lines of a script
     listings.py   listings, mapped into memory, and the words for their faults
     ends.py       the rounds of the ends in a part of a plan, asked of the library
-    hearings.py   who hears whom in which rounds, as the bits of numbers; for the next two
+    hearings.py   who hears whom in which rounds, as digits; for the next two
     hops.py       the relay that brings a broadcast, hop by hop
     delta.py      Delta of a plan
     screen        the planning screen: server.py serves it, answers.py has its calls, page.html and page.js its page

@@ -13,7 +13,7 @@ from .hearings import hearings
 def on_air_by(posted, waiting, delta, both_desks):
     """The round by which an edit is aired everywhere: one posted after so many rounds behind so many of its desk.
 
-    That it is aired by then is proved for every list of posts and rounds (crates/delivery_rules); that Delta is right is
+    That it is aired by then is proved for every list of posts and rounds (crates/delivery_spec); that Delta is right is
     tried against the model.
     """
     return posted + delta * (6 * waiting + 10 if both_desks else 3 * waiting + 7)
@@ -47,7 +47,12 @@ def least(n, log, first):
 def one_round(n, log):
     """From each station to each the rounds t, as bits, after which a relay arrives in round t + 1; -1 is all."""
     heard = hearings(n, log)
-    return [[-1 if a == b else heard[b][a] for b in range(n)] for a in range(n)]
+    return [[-1 if a == b else bits(heard[b][a]) for b in range(n)] for a in range(n)]
+
+
+def bits(digits):
+    """The number whose lowest bit is the first digit."""
+    return int(digits[::-1] or b"0", 2)
 
 
 def joined(first, second, length):

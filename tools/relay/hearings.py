@@ -1,4 +1,4 @@
-"""Whom a station hears in which rounds, as the bits of a number: bit u - 1 is round u."""
+"""Whom a station hears in which rounds, as digits: that of round u, the first being round 1, is 1 where it hears."""
 
 import sys
 
@@ -6,8 +6,8 @@ DIGITS = [bytes(ord("0") + (byte >> bit & 1) for byte in range(256)) for bit in 
 
 
 def hearings(n, log):
-    """For each station and each that it may hear the rounds in which it does; for itself none."""
-    return [[0 if heard == hearer else rounds(halves, heard) for heard in range(n)]
+    """For each station and each that it may hear the digits of all rounds; for itself none is 1."""
+    return [[b"0" * len(halves[0]) if heard == hearer else digits(halves, heard) for heard in range(n)]
             for hearer, halves in ((hearer, halved(log[hearer::n])) for hearer in range(n))]
 
 
@@ -18,7 +18,6 @@ def halved(masks):
     return data[low::2], data[not low::2]
 
 
-def rounds(halves, bit):
-    """The places of the masks that have this bit, as a number."""
-    digits = halves[bit // 8].translate(DIGITS[bit % 8])
-    return int(digits[::-1] or b"0", 2)
+def digits(halves, bit):
+    """The digit of each mask that tells whether it has this bit."""
+    return halves[bit // 8].translate(DIGITS[bit % 8])

@@ -4,6 +4,7 @@ The library answers in which round a broadcast comes and not by which way. The w
 judges it: a relay that arrives in another round is an error, and is said to be one.
 """
 
+from heapq import heappop, heappush
 from typing import NamedTuple
 
 
@@ -17,20 +18,20 @@ def relay(heard, sender, receiver, start):
     """The hops of a relay after the start that arrives at the receiver first; None where there is no relay.
 
     To the sender itself there are no hops.
-    `heard` is what `hearings` gives. Stations are gone through in the order in which relays from the sender reach them.
+    `heard` is what `hearings` gives. Stations are gone through in the order in which relays from the sender reach them;
+    of two that reach a station in one round the one that came first counts.
     """
-    came, left = {sender: Hop(start, None, sender)}, set(range(len(heard)))
-    while reached := left & came.keys():
-        station = min(reached, key=lambda one: (came[one].round, one))
+    came, coming = {}, [(start, sender, 0, None)]
+    while coming:
+        since, station, _, by = heappop(coming)
+        if station in came:
+            continue
+        came[station] = Hop(since, by, station)
         if station == receiver:
             return way(came, receiver)
-        left.remove(station)
-        since = came[station].round
-        for hearer in left:
-            later = heard[hearer][station] >> since     # bit 0 is the round after
-            number = since + (later & -later).bit_length()
-            if later and (hearer not in came or number < came[hearer].round):
-                came[hearer] = Hop(number, station, hearer)
+        for hearer, row in enumerate(heard):
+            if hearer not in came and (place := row[station].find(b"1", since)) >= 0:
+                heappush(coming, (place + 1, hearer, len(came), station))
     return None
 
 
@@ -48,5 +49,5 @@ def fault(answer, start, hops):
     arrives = start if hops == [] else hops[-1].round if hops else None
     if arrives == answer:
         return None
-    found = "no relay was found" if arrives is None else f"the relay that was found arrives in round {arrives}"
+    found = "no relay was found by then" if arrives is None else f"the relay that was found arrives in round {arrives}"
     return f"the library answers {'never' if answer is None else f'round {answer}'}, but {found}"

@@ -159,7 +159,7 @@ def forecast(n, log):
 
 def merge(n, first, second):
     """The log of two carriers together; logs are arrays of masks."""
-    merged, masks = array("H", [0] * max(len(first), len(second))), array("I", [0])
+    merged, masks = array("H", bytes(2 * max(len(first), len(second)))), array("I", [0])
     refusal = call("relay_merge", first, second, n, merged, masks)
     return refusal, merged[:masks[0]]
 

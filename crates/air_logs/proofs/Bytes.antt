@@ -1,5 +1,6 @@
--- Tests that go through bytes from a place on, one byte at a time: what is left to test is the next byte and what stands behind it.
-use Prim.Native.Nat.{ℕ, zero, _+_, _-_, _≤_, _<_}
+-- Tests that go through bytes from a place on, one byte at a time: what is left to test is the next
+-- byte and what stands behind it.
+use Prim.Native.Nat.{ℕ, _+_, _-_, _≤_, _<_}
 use mathlib.Core.Path.{_≡_, refl, sym, ap, _∙_}
 use mathlib.Core.Bool.{Bool, true, false, cond, _&&_}
 use mathlib.Core.List.{List, [], _∷_}

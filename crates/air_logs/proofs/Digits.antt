@@ -1,5 +1,6 @@
--- What is read of columns without blanks before them, by the digits alone. A number that has so many digits that nine columns hold it grows with each further
--- digit, and anything else makes it malformed for good; nothing follows a zero.
+-- What is read of columns without blanks before them, by the digits alone. A number that has so
+-- many digits that nine columns hold it grows with each further digit, and anything else makes it
+-- malformed for good; nothing follows a zero.
 use Prim.Native.Nat.{ℕ, zero, suc, _+_, _-_, _*_, _^_, _≤_, _<_}
 use mathlib.Core.Path.{_≡_, refl, sym, ap, _∙_}
 use mathlib.Core.Bool.{Bool, true, false, cond, _&&_, _||_, true≢false, false≢true}

@@ -1,5 +1,6 @@
--- Lines by their bytes: a line fails where any of its parts does, a listing is judged in steps of 35 bytes, a kept line is told by four bytes, and two edits are
--- the same exactly if the 23 bytes of their numbers are.
+-- Lines by their bytes: a line fails where any of its parts does, a listing is judged in steps of
+-- 35 bytes, a kept line is told by four bytes, and two edits are the same exactly if the 23 bytes
+-- of their numbers are.
 use Prim.Native.Nat.{ℕ, suc, _+_, _-_, _/_, _%_, _≤_, _<_}
 use mathlib.Core.Path.{_≡_, refl, sym, ap, _∙_}
 use mathlib.Core.Bool.{Bool, true, false, cond, not, _&&_, true≢false}
@@ -11,7 +12,7 @@ use lib.Seq.{length-take-le, take-add, drop-drop, drop-cons, getD-drop}
 use borrow.Author.Tests.{eq-eqb, ne-eqb, ltb-false, not-true, not-false}
 use Rattle.columns.specs.Writing.{lead, columns, natColumns}
 use Rattle.script.specs.Line.{isNatural, isWhole}
-use Rattle.lines.specs.Lines.{endLine}
+use Rattle.listing_lines.specs.Lines.{endLine}
 use Rattle.air_logs_spec.specs.Form.{field, isLetter, isLine, sameBytes, isListing}
 use Rattle.air_logs_spec.specs.Logs.{editIn, isKept}
 use Rattle.air_logs_spec.specs.Compare.{sameEdit}

@@ -1,5 +1,6 @@
--- The log from a place on in a listing: at a kept line it is that line's edit and the log behind it, at any other line the log behind it, and at the last line it
--- is empty. The comparison goes by what the two logs are.
+-- The log from a place on in a listing: at a kept line it is that line's edit and the log behind
+-- it, at any other line the log behind it, and at the last line it is empty. The comparison goes by
+-- what the two logs are.
 use Prim.Native.Nat.{ℕ, _+_, _≤_, _<_}
 use mathlib.Core.Path.{_≡_, sym, ap, _∙_}
 use mathlib.Core.Bool.{Bool, true, false, cond}

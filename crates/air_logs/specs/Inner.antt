@@ -1,4 +1,5 @@
--- What the inner functions promise to each other: the digits of a number, and the place of a kept line in a listing.
+-- What the inner functions promise to each other: the digits of a number, and the place of a kept
+-- line in a listing.
 use Prim.Native.Nat.{ℕ, _+_, _<_, _≤_}
 use mathlib.Core.Bool.{Bool, true, false, cond, _&&_}
 use mathlib.Core.List.{List, [], _∷_}
@@ -9,6 +10,10 @@ use Rattle.columns.specs.declared.reader.Reading.the-variants.{Blank}
 use Rattle.columns.specs.Reading.{readFrom, readColumns}
 use Rattle.air_logs_spec.specs.Form.{isListing}
 use Rattle.air_logs_spec.specs.Logs.{isKept, logOf}
+
+-- the most columns of a number in a line: those of an event, and of an argument
+abbrev pub widestColumns : ℕ
+widestColumns = 9
 
 -- '0' to '9'
 abbrev pub isDigit : ℕ → Bool

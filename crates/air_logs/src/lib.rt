@@ -1,6 +1,6 @@
-// The comparison of two air logs (document 02, A8): the form of a listing, its lines of one station, and two logs side
-// by side. No number is worked out: it can stand in its columns in one way only, so two edits are the same exactly if
-// their bytes are.
+// The comparison of two air logs (document 02, A8): the form of a listing, its lines of one
+// station, and two logs side by side. No number is worked out: it can stand in its columns in one
+// way only, so two edits are the same exactly if their bytes are.
 
 use air_logs_spec::Compared;
 use bodies::refusals::BAD_LISTING;
@@ -11,11 +11,12 @@ ghost use Prim.Native.Nat.{_+_, _%_, _≤_, _<_};
 ghost use lib.ListN.{length, drop};
 ghost use Rattle.columns.specs.Reading.{readColumns};
 ghost use Rattle.script.specs.Line.{isNatural, isWhole};
-ghost use Rattle.lines.specs.Lines.{endLine};
+ghost use Rattle.listing_lines.specs.Lines.{endLine};
 ghost use Rattle.air_logs_spec.specs.Form.{isLetter, isLine, sameBytes, isListing};
 ghost use Rattle.air_logs_spec.specs.Logs.{editIn, isKept, logOf};
-ghost use Rattle.air_logs_spec.specs.Compare.{sameEdit, comparedFrom, compareCall};
-ghost use Rattle.air_logs.specs.Inner.{allDigits, isPositive, isUnsigned, isSigned, Unpadded, tensOf, NextKept};
+ghost use Rattle.air_logs_spec.specs.Compare.{sameEdit, comparedFrom, compareCall, lastStation};
+ghost use Rattle.air_logs.specs.Inner.{widestColumns, allDigits, isPositive, isUnsigned, isSigned};
+ghost use Rattle.air_logs.specs.Inner.{Unpadded, tensOf, NextKept};
 
 const BLANK: u8 = 32;
 
@@ -124,7 +125,7 @@ fn unpadded(s: &[u8]) -> usize
 
 // Do these columns hold a number without a minus?
 fn is_natural(s: &[u8]) -> bool
-    requires { ⌜ length (now s) ≤ 9 ⌝ }
+    requires { ⌜ length (now s) ≤ widestColumns ⌝ }
     ensures { λ r. ⌜ r ≡ isNatural (readColumns (now (s .entry))) ⌝ }
 {
     unsigned_from(s, unpadded(s))
@@ -132,7 +133,7 @@ fn is_natural(s: &[u8]) -> bool
 
 // Do they hold a number, behind a minus or not?
 fn is_whole(s: &[u8]) -> bool
-    requires { ⌜ length (now s) ≤ 9 ⌝ }
+    requires { ⌜ length (now s) ≤ widestColumns ⌝ }
     ensures { λ r. ⌜ r ≡ isWhole (readColumns (now (s .entry))) ⌝ }
 {
     signed_from(s, unpadded(s))
@@ -237,7 +238,7 @@ fn tens(p: usize) -> u8
 
 // Is a line an A line of station p?
 fn is_kept(line: &[u8], p: usize) -> bool
-    requires { ⌜ (isLine (now line) ≡ true) × (p ≤ 15) ⌝ }
+    requires { ⌜ (isLine (now line) ≡ true) × (p ≤ lastStation) ⌝ }
     ensures { λ r. ⌜ r ≡ isKept p (now (line .entry)) ⌝ }
 {
     if line[7] != AIRED {
@@ -254,7 +255,7 @@ fn is_kept(line: &[u8], p: usize) -> bool
 
 // The place of the next kept line, or of the last line.
 fn next_kept(bytes: &[u8], from: usize, p: usize) -> usize
-    requires { ⌜ (from ≤ length (now bytes)) × (isListing (drop from (now bytes)) ≡ true) × (p ≤ 15) ⌝ }
+    requires { ⌜ (from ≤ length (now bytes)) × (isListing (drop from (now bytes)) ≡ true) × (p ≤ lastStation) ⌝ }
     ensures { λ r. ⌜ NextKept p (now (bytes .entry)) from r ⌝ }
 {
     let mut at = from;
@@ -278,7 +279,8 @@ fn same_edit(one: &[u8], other: &[u8]) -> bool
 
 // The logs of two listings that are judged.
 fn compare_logs(first: &[u8], p: usize, second: &[u8], q: usize) -> Compared
-    requires { ⌜ (isListing (now first) ≡ true) × (p ≤ 15) × (isListing (now second) ≡ true) × (q ≤ 15) ⌝ }
+    requires { ⌜ (isListing (now first) ≡ true) × (p ≤ lastStation)
+        × (isListing (now second) ≡ true) × (q ≤ lastStation) ⌝ }
     ensures { λ r. ⌜ r ≡ comparedFrom 1 (logOf p (now (first .entry))) (logOf q (now (second .entry))) ⌝ }
 {
     let mut a = next_kept(first, 0, p);
@@ -303,7 +305,8 @@ fn compare_logs(first: &[u8], p: usize, second: &[u8], q: usize) -> Compared
     Compared::Equal
 }
 
-// The log of station p in one listing against that of station q in another, for any bytes and any numbers.
+// The log of station p in one listing against that of station q in another, for any bytes and any
+// numbers.
 pub fn compare(first: &[u8], p: usize, second: &[u8], q: usize) -> Compared
     ensures { λ r. ⌜ r ≡ compareCall (now (first .entry)) p (now (second .entry)) q ⌝ }
 {

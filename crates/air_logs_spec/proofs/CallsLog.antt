@@ -1,5 +1,6 @@
--- What the calls of a list print, and what is kept of it: of station p, what the rounds of their history report that p aired. By induction on the calls; the group
--- stays inside its limits, and no round has a number above 999,999.
+-- What the calls of a list print, and what is kept of it: of station p, what the rounds of their
+-- history report that p aired. By induction on the calls; the group stays inside its limits, and no
+-- round has a number above 999,999.
 use Prim.Native.Nat.{ℕ, suc, _+_, _<_, _≤_}
 use mathlib.Core.Path.{_≡_, refl, sym, ap, _∙_}
 use mathlib.Core.Bool.{Bool, true, false, cond, not}
@@ -23,7 +24,7 @@ use Rattle.group_spec.proofs.Members.{Members}
 use Rattle.group_spec.proofs.MembersPost.{post-members, post-refusal}
 use Rattle.group_spec.proofs.MembersRound.{round-members}
 use Rattle.group_spec.proofs.PostsAccounted.{collect-last}
-use Rattle.lines.specs.Lines.{turnedDown}
+use Rattle.listing_lines.specs.Lines.{turnedDown}
 use Rattle.listing_spec.specs.Listing.{refusalText, refusedText}
 use Rattle.listing_spec.specs.Calls.{callText, callsText}
 use Rattle.air_logs_spec.proofs.Carried.{empty-kind}

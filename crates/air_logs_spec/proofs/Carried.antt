@@ -1,8 +1,9 @@
--- What a round of a group inside its limits reports is inside its limits: what a station took was in a record that a frame may carry, what it aired stood in a
--- lane, what it ended was its body, and what it started is Empty or may stand in a lane.
+-- What a round of a group inside its limits reports is inside its limits: what a station took was
+-- in a record that a frame may carry, what it aired stood in a lane, what it ended was its body,
+-- and what it started is Empty or may stand in a lane.
 use Prim.Native.Nat.{ℕ, zero, suc, _<_, _≤_}
 use mathlib.Core.Path.{_≡_, refl, subst}
-use mathlib.Core.Bool.{Bool, true, false, cond, _&&_, false≢true}
+use mathlib.Core.Bool.{Bool, true, false, cond, false≢true}
 use borrow.Author.Tests.{ltb-true}
 use mathlib.Core.List.{List, [], _∷_, _++_}
 use native.Mathlib.Omega.{arith}

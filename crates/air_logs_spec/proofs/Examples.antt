@@ -1,4 +1,5 @@
--- Answers of the comparison, computed: positions count from 1, rounds may differ, and the faults that document 02 names.
+-- Answers of the comparison, computed: positions count from 1, rounds may differ, and the faults
+-- that document 02 names.
 use mathlib.Core.Path.{_≡_, refl}
 use mathlib.Core.List.{List, [], _∷_, _++_}
 use Prim.Native.Nat.{ℕ}
@@ -8,7 +9,7 @@ use Rattle.bodies.specs.declared.Body.{Body}
 use Rattle.bodies.specs.declared.Body.the-variants.{Neutral, Drop, Shift}
 use Rattle.columns.specs.Reading.{started, grown, next, readFrom}
 use Rattle.columns.specs.Writing.{lead, columns, natColumns}
-use Rattle.lines.specs.Lines.{airing, delivered, headBytes, bodyBytes, lineBytes, endLine}
+use Rattle.listing_lines.specs.Lines.{airing, delivered, headBytes, bodyBytes, lineBytes, endLine}
 use Rattle.listing_spec.specs.Listing.{linesOf}
 use Rattle.air_logs_spec.specs.declared.Compared.{Compared}
 use Rattle.air_logs_spec.specs.declared.Compared.the-variants.{Equal, FirstBegins, SecondBegins, Different, Refused}
@@ -51,7 +52,8 @@ made event argument =
 abbrev answer : List ℕ → List ℕ → Compared
 answer event argument = compareCall (made event argument) 0 (made event argument) 0
 
--- full columns and a minus in the argument are of the form; a minus in the event, a minus zero, a leading zero and blank columns are not
+-- full columns and a minus in the argument are of the form; a minus in the event, a minus zero, a
+-- leading zero and blank columns are not
 pub forms :
     (answer (natColumns 9 999_999_999) (columns true 9 99_999_999) ≡ Equal)
     × (answer (columns true 9 7) (natColumns 9 0) ≡ Refused 16)

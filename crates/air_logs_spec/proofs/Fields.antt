@@ -1,5 +1,6 @@
--- The columns of a field hold a number exactly as it is written, and no other bytes do. So two fields of the same width have the same number exactly if they have
--- the same bytes, and no field has a line end.
+-- The columns of a field hold a number exactly as it is written, and no other bytes do. So two
+-- fields of the same width have the same number exactly if they have the same bytes, and no field
+-- has a line end.
 use Prim.Native.Nat.{ℕ, zero, suc, _<_}
 use mathlib.Core.Path.{_≡_, refl, sym, ap, subst, _∙_}
 use mathlib.Core.Bool.{Bool, true, false, _&&_, false≢true}

@@ -1,5 +1,7 @@
--- The form of a listing as it grows from its end: a listing is the last line, or a line before a listing. No line has a line end in it, so the lines of the text are
--- these lines, and the two descriptions are the same; and a line has 34 bytes, so a listing can be gone through in steps of 35.
+-- The form of a listing as it grows from its end: a listing is the last line, or a line before a
+-- listing. No line has a line end in it, so the lines of the text are these lines, and the two
+-- descriptions are the same; and a line has 34 bytes, so a listing can be gone through in steps of
+-- 35.
 use Prim.Native.Nat.{ℕ, suc, _+_, _<_, _≤_}
 use mathlib.Core.Path.{_≡_, refl, sym, ap, subst, _∙_}
 use mathlib.Core.Bool.{Bool, true, false, cond, _&&_, false≢true}
@@ -12,7 +14,7 @@ use lib.Seq.{take-at, getD-at, drop-cons, drop-drop, drop-append-add}
 use borrow.Author.Tests.{eqb-true, ne-eqb}
 use Rattle.lists.proofs.Laws.{and-left, and-right}
 use Rattle.script.specs.Line.{isNatural, isWhole}
-use Rattle.lines.specs.Lines.{endLine}
+use Rattle.listing_lines.specs.Lines.{endLine}
 use Rattle.listing_spec.specs.Listing.{Lines, rest, line, linesOf}
 use Rattle.listing_spec.proofs.LineEnds.{noEnd, noEnd-append, line-first, linesText, lines-text}
 use Rattle.air_logs_spec.specs.Form.{field, isLetter, isLine, sameBytes, isEnd, noneLeft, areListing, isListing}

@@ -1,5 +1,6 @@
--- Two logs of one listing of the base program never differ, and are never refused: by demand 3 one of two aired lists is a beginning of the other, and a log is
--- its station's aired list, or empty where the script has no such station.
+-- Two logs of one listing of the base program never differ, and are never refused: by demand 3 one
+-- of two aired lists is a beginning of the other, and a log is its station's aired list, or empty
+-- where the script has no such station.
 use Prim.Native.Nat.{ℕ, suc, _<_}
 use mathlib.Core.Path.{refl, sym, ap, subst, _∙_}
 use mathlib.Core.List.{List, [], _∷_, _++_, map, map-append}

@@ -1,5 +1,6 @@
--- Every answer of the comparison means what it says of the two logs. By induction on both, with the position of their first edits: an edit that is the same on
--- both sides is put in front of whatever the rest means.
+-- Every answer of the comparison means what it says of the two logs. By induction on both, with the
+-- position of their first edits: an edit that is the same on both sides is put in front of whatever
+-- the rest means.
 use Prim.Native.Nat.{ℕ, suc, _+_}
 use mathlib.Core.Path.{_≡_, refl, sym, ap, subst, _∙_}
 use mathlib.Core.Bool.{Bool, true, false, cond, _&&_, false≢true}

@@ -1,5 +1,6 @@
--- A text of whole lines, by what it does in front of any bytes: it changes nothing in whether they are a listing, and puts its edits before theirs. So texts go one
--- behind the other, and nothing above looks at bytes.
+-- A text of whole lines, by what it does in front of any bytes: it changes nothing in whether they
+-- are a listing, and puts its edits before theirs. So texts go one behind the other, and nothing
+-- above looks at bytes.
 use Prim.Native.Nat.{ℕ, zero, suc, _<_}
 use mathlib.Core.Path.{_≡_, refl, sym, ap, subst, _∙_}
 use mathlib.Core.Bool.{true, cond, _&&_}
@@ -8,8 +9,8 @@ use native.Mathlib.Omega.{arith}
 use lib.Dec.{eqb}
 use Rattle.bodies.specs.declared.Body.{Body}
 use Rattle.bodies.specs.Body.{kindOf, eventOf, argumentOf}
-use Rattle.lines.specs.Lines.{airing, lineBytes, endLine}
-use Rattle.round_lines.specs.Reports.{joined}
+use Rattle.listing_lines.specs.Lines.{airing, lineBytes, endLine}
+use Rattle.listing_lines.specs.Reports.{joined}
 use Rattle.air_logs_spec.specs.Form.{isListing}
 use Rattle.air_logs_spec.specs.Logs.{Edit, isKept, logOf}
 use Rattle.air_logs_spec.proofs.Form.{before-listing, before-log, end-listing, end-log}

@@ -1,5 +1,6 @@
--- What is printed reads back: a line whose numbers fit their columns has the listing's form, and its fields are its numbers. A field is found by what stands before
--- it, whose length is known, and columns are read as what was written.
+-- What is printed reads back: a line whose numbers fit their columns has the listing's form, and
+-- its fields are its numbers. A field is found by what stands before it, whose length is known, and
+-- columns are read as what was written.
 use Prim.Native.Nat.{ℕ, _^_, _<_}
 use mathlib.Core.Path.{_≡_, refl, ap, _∙_}
 use mathlib.Core.Bool.{Bool, true, false, false≢true}
@@ -20,7 +21,7 @@ use Rattle.columns.proofs.RoundTrip.{read-written}
 use Rattle.columns.specs.Writing.{Fits, columns, natColumns, intColumns}
 use Rattle.columns.proofs.Fields.{length-columns}
 use Rattle.script.specs.Line.{signedOf}
-use Rattle.lines.specs.Lines.{headBytes, bodyBytes, lineBytes}
+use Rattle.listing_lines.specs.Lines.{headBytes, bodyBytes, lineBytes}
 use Rattle.air_logs_spec.specs.Form.{field, isLetter, isLine}
 use Rattle.air_logs_spec.specs.Logs.{editIn}
 
@@ -170,7 +171,8 @@ whole-fits (pos n) h = rw (le-ltb n 0 (omega arith)) (natural-fits 9 n (omega ar
 whole-fits (negsuc n) h =
     record { some = omega arith; digits = omega arith; nine = omega arith; behind = λ q. (omega arith, omega arith) }
 
--- the lines of a listing: rounds up to 999,999, stations and sources up to 999, bodies inside their limits
+-- the lines of a listing: rounds up to 999,999, stations and sources up to 999, bodies inside their
+-- limits
 pub in-columns :
     (round letter station source : ℕ) (body : Body) → round < 1_000_000 → isLetter letter ≡ true → station < 1000 → source < 1000 →
     insideKind body ≡ true → InColumns round letter station source body

@@ -21,8 +21,8 @@ use Rattle.group_spec.specs.declared.Report.{Report}
 use Rattle.group_spec.specs.Calls.{noReport, roundCall}
 use Rattle.group_spec.specs.History.{reportIn, editsOf}
 use Rattle.group_spec.proofs.Members.{Members}
-use Rattle.lines.specs.Lines.{delivered, airing, ending}
-use Rattle.round_lines.specs.Reports.{joined, lineIf, takingText, takenText, editText, airedText, turnText, reportText, absent, roundText}
+use Rattle.listing_lines.specs.Lines.{delivered, airing, ending}
+use Rattle.listing_lines.specs.Reports.{joined, lineIf, takingText, takenText, editText, airedText, turnText, reportText, absent, roundText}
 use Rattle.air_logs_spec.specs.Form.{isLetter}
 use Rattle.air_logs_spec.specs.Logs.{Edit}
 use Rattle.air_logs_spec.proofs.ReadBack.{InColumns, in-columns}

@@ -1,5 +1,6 @@
--- The listing of a whole script has the listing's form, and of station p the aired list of p is kept. The listing is what the script's calls print, and then a
--- refusal where the reading stops; the calls make at most 999,999 rounds.
+-- The listing of a whole script has the listing's form, and of station p the aired list of p is
+-- kept. The listing is what the script's calls print, and then a refusal where the reading stops;
+-- the calls make at most 999,999 rounds.
 use Prim.Native.Nat.{ℕ, _+_, _<_, _≤_}
 use mathlib.Core.Path.{_≡_, refl, sym, ap, _∙_}
 use mathlib.Core.Bool.{Bool, true, false, cond}
@@ -17,7 +18,7 @@ use Rattle.group_spec.proofs.Members.{Members, fresh-members}
 use Rattle.script.specs.declared.Command.{Command}
 use Rattle.script.specs.declared.Command.the-variants.{Size, Post, Round, Malformed}
 use Rattle.script.specs.Line.{commandOf, masksOf}
-use Rattle.lines.specs.Lines.{endLine}
+use Rattle.listing_lines.specs.Lines.{endLine}
 use Rattle.listing_spec.specs.Listing.{setupOf, lastRound, refusalText, Lines, rest, line, linesOf, listingOf}
 use Rattle.listing_spec.specs.Calls.{called, callsIn, sizeSaid, sizeIn, linesAfter, sizeOf, callsOf, stops, sessionOf, callsText, RunsCalls}
 use Rattle.listing_spec.proofs.Commands.{First, command-first}

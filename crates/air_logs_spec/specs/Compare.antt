@@ -1,4 +1,5 @@
--- Document 02, A8: how two air logs compare, the call with its refusals, and the claim about two logs of one listing.
+-- Document 02, A8: how two air logs compare, the call with its refusals, and the claim about two
+-- logs of one listing.
 use Prim.Native.Nat.{ℕ, suc, _+_, _≤_}
 use mathlib.Core.Bool.{Bool, cond, not, _&&_, _||_}
 use mathlib.Core.List.{List, [], _∷_, _++_}
@@ -41,16 +42,16 @@ compareRefusal first p second q =
     refuse (ltb lastStation p || ltb lastStation q) badNumber
     (refuse (not (isListing first)) badListing (refuse (not (isListing second)) badListing done))
 
--- the comparison of the log of station p in the first listing with that of station q in the second; positions count
--- from 1
+-- the comparison of the log of station p in the first listing with that of station q in the second;
+-- positions count from 1
 unfoldable pub compareCall : List ℕ → ℕ → List ℕ → ℕ → Compared
 compareCall first p second q =
     cond (eqb (compareRefusal first p second q) done)
     (comparedFrom 1 (logOf p first) (logOf q second))
     (Refused (compareRefusal first p second q))
 
--- what each answer is in numbers: its refusal, 0 where there is none; which of the four answers it is, in document
--- 02's order from 0; and the position, 0 where there is none
+-- what each answer is in numbers: its refusal, 0 where there is none; which of the four answers it
+-- is, in document 02's order from 0; and the position, 0 where there is none
 abbrev pub refusalOf : Compared → ℕ
 refusalOf Equal = done
 refusalOf FirstBegins = done
@@ -106,7 +107,8 @@ Agrees SecondBegins = Unit {0}
 Agrees (Different position) = ⊥
 Agrees (Refused refusal) = ⊥
 
--- The logs of any two stations in the listing of any script fit: they never differ, and the listing is never refused.
+-- The logs of any two stations in the listing of any script fit: they never differ, and the listing
+-- is never refused.
 abbrev pub LogsFit : Type 0
 LogsFit =
     (script : List ℕ) (p q : ℕ) → p ≤ lastStation → q ≤ lastStation →

@@ -1,5 +1,5 @@
--- Document 02, A8: when bytes are a listing. Its lines, and the last one, are those of document 01, "The relay
--- listing": what lines/specs writes is read here.
+-- Document 02, A8: when bytes are a listing. Its lines, and the last one, are those of document 01,
+-- "The relay listing": what lines/specs writes is read here.
 use Prim.Native.Nat.{ℕ}
 use mathlib.Core.Bool.{Bool, true, false, cond, _&&_, _||_}
 use mathlib.Core.List.{List, [], _∷_, _++_}
@@ -8,7 +8,7 @@ use lib.ListN.{getD, take, drop, length}
 use Rattle.columns.specs.declared.reader.Reading.{Reading}
 use Rattle.columns.specs.Reading.{readColumns}
 use Rattle.script.specs.Line.{isNatural, isWhole}
-use Rattle.lines.specs.Lines.{delivered, airing, ending, turnedDown, endLine}
+use Rattle.listing_lines.specs.Lines.{delivered, airing, ending, turnedDown, endLine}
 use Rattle.listing_spec.specs.Listing.{Lines, rest, line, linesOf}
 
 -- the number in the w columns from a place of a line
@@ -19,9 +19,9 @@ field l at w = readColumns (take w (drop at l))
 abbrev pub isLetter : ℕ → Bool
 isLetter b = eqb b airing || (eqb b delivered || (eqb b ending || eqb b turnedDown))
 
--- the listing's form of a line, without its line end: round in 6 columns, a space, the letter, station in 3, source in
--- 3, kind in 2, event in 9, argument in 9. Each number is right-justified, and only the argument may have a minus;
--- values are not judged
+-- the listing's form of a line, without its line end: round in 6 columns, a space, the letter,
+-- station in 3, source in 3, kind in 2, event in 9, argument in 9. Each number is right-justified,
+-- and only the argument may have a minus; values are not judged
 unfoldable pub isLine : List ℕ → Bool
 isLine l =
     eqb (length l) 34

@@ -1,4 +1,5 @@
--- Document 02, A8: the air log of a station in a listing, which is what its A lines say without their rounds.
+-- Document 02, A8: the air log of a station in a listing, which is what its A lines say without
+-- their rounds.
 use Prim.Native.Nat.{ℕ}
 use mathlib.Core.Bool.{Bool, cond, _&&_}
 use mathlib.Core.List.{List, [], _∷_, _++_}
@@ -6,7 +7,7 @@ use lib.Dec.{eqb}
 use lib.IntN.{ℤ}
 use lib.ListN.{getD}
 use Rattle.script.specs.Line.{naturalOf, wholeOf}
-use Rattle.lines.specs.Lines.{airing}
+use Rattle.listing_lines.specs.Lines.{airing}
 use Rattle.listing_spec.specs.Listing.{Lines, rest, line, linesOf}
 use Rattle.air_logs_spec.specs.Form.{field}
 

@@ -1,5 +1,5 @@
--- The limits behind document 01's marked examples M9 and M10, for every event that the table allows, and the channels of
--- request A9. M10 is read with the numbers of request A6.
+-- The limits behind document 01's marked examples M9 and M10, for every event that the table
+-- allows, and the channels of request A9. M10 is read with the numbers of request A6.
 use Prim.Native.Nat.{ℕ, _≤_}
 use mathlib.Core.Bool.{Bool, true, false, _&&_}
 use mathlib.Core.Path.{_≡_, refl, ap}
@@ -38,7 +38,8 @@ insert-small event start least most h =
       le-leb start 2_699_999 (omega arith),
     )
 
--- request A9: the channel of an edit is 1 to 200 in edition 1 and 0 in edition 0, that of another body 0 in either
+-- request A9: the channel of an edit is 1 to 200 in edition 1 and 0 in edition 0, that of another
+-- body 0 in either
 abbrev Channels : ℕ → Type 0
 Channels channel = (channelInside 1 2 channel ≡ true) × (channelInside 0 2 channel ≡ false) × (channelInside 1 1 channel ≡ false)
 

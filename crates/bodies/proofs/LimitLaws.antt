@@ -1,6 +1,7 @@
--- Laws of the limits, for the crates above. Numbers inside their limits are those of their body, by the cases of the
--- table, since where a row's least is its most the number can be no other, and a kind without a channel has channel 0. Every limit is a number of 32 bits, and so is
--- all that lies between two of them. No law names a limit: a row can change, and the laws stand.
+-- Laws of the limits, for the crates above. Numbers inside their limits are those of their body, by
+-- the cases of the table, since where a row's least is its most the number can be no other, and a
+-- kind without a channel has channel 0. Every limit is a number of 32 bits, and so is all that lies
+-- between two of them. No law names a limit: a row can change, and the laws stand.
 use Prim.Native.Nat.{ℕ, zero, suc, _<_, _≤_}
 use native.Mathlib.Omega.{arith}
 use mathlib.Core.Bool.{Bool, true, false, cond, _&&_, false≢true}
@@ -99,7 +100,8 @@ module _ (k e : ℕ) (a : ℤ) (c : ℕ) (h : numbersInside k e a ≡ true) wher
         ((λ i. numbersInside (kind-back i) (event-back i) (argument-back i)) ∙ h)
         ((λ i. channelInside edition (kind-back i) (channel-back i)) ∙ on)
 
--- a body inside its limits is inside those of its kind and on a channel of its edition, and the other way round
+-- a body inside its limits is inside those of its kind and on a channel of its edition, and the
+-- other way round
 module _ (edition : ℕ) (b : Body) where
   pub inside-kind : bodyInside edition b ≡ true → insideKind b ≡ true
   unfolding bodyInside
@@ -149,7 +151,8 @@ module _ (b : Body) (h : insideKind b ≡ true) where
       let s = small (kindOf b) in
       between-fits (limitsOf (kindOf b) .«least_argument») (argumentOf b) (limitsOf (kindOf b) .«most_argument») (s .least) (s .most) (facts .argument)
 
--- the limits of every row have few digits: an event at most nine, an argument at most eight and its sign
+-- the limits of every row have few digits: an event at most nine, an argument at most eight and its
+-- sign
 record Short (k : ℕ) : Type 0 where
   event : limitsOf k .«most_event» < 1_000_000_000
   least : natAbs (limitsOf k .«least_argument») < 100_000_000

@@ -1,5 +1,5 @@
--- Document 01, "Bodies, labels and records", and document 02, A9: what each case of the body enum stands for, as the
--- four numbers of a record.
+-- Document 01, "Bodies, labels and records", and document 02, A9: what each case of the body enum
+-- stands for, as the four numbers of a record.
 use Prim.Native.Nat.{ℕ}
 use mathlib.Core.Bool.{Bool, cond, _&&_}
 use lib.Dec.{leb, eqb}

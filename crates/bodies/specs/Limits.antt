@@ -1,5 +1,5 @@
--- Document 01, "Bodies, labels and records", and document 02, A9: the table of kinds, the channels of an edition, and
--- when a body is inside its limits.
+-- Document 01, "Bodies, labels and records", and document 02, A9: the table of kinds, the channels
+-- of an edition, and when a body is inside its limits.
 use Prim.Native.Nat.{ℕ}
 use mathlib.Core.Bool.{Bool, cond, _&&_}
 use mathlib.Core.List.{List, [], _∷_}
@@ -64,6 +64,7 @@ bodyInside edition b = insideKind b && onChannel edition b
 unfoldable pub postable : Body → Bool
 postable b = isEdit b && insideKind b
 
--- a body that may wait: an edit inside its limits, by the test `inside` (in an edition that is `bodyInside edition`)
+-- a body that may wait: an edit inside its limits, by the test `inside` (in an edition that is
+-- `bodyInside edition`)
 unfoldable pub mayWait : (Body → Bool) → Body → Bool
 mayWait inside b = isEdit b && inside b

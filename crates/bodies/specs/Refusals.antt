@@ -29,7 +29,8 @@ badShape = 5
 abbrev pub badAddress : ℕ
 badAddress = 6
 
--- the frame has a record that breaks its limits, or its stations are not in order, or the sender's is missing
+-- the frame has a record that breaks its limits, or its stations are not in order, or the sender's
+-- is missing
 abbrev pub badRecord : ℕ
 badRecord = 7
 
@@ -65,7 +66,8 @@ conflict = 14
 abbrev pub badDesk : ℕ
 badDesk = 15
 
--- a listing has a line that is not of the listing's form, or does not end with its last line (document 02, A8)
+-- a listing has a line that is not of the listing's form, or does not end with its last line
+-- (document 02, A8)
 abbrev pub badListing : ℕ
 badListing = 16
 
@@ -83,10 +85,12 @@ badQuestion = 18
 abbrev pub alreadyIssued : ℕ
 alreadyIssued = 19
 
--- a link contest has too many stations, sets or rounds, no set, or masks that are not whole sets (document 02, A13)
+-- a link contest has too many stations, sets or rounds, no set, or masks that are not whole sets
+-- (document 02, A13)
 abbrev pub badContest : ℕ
 badContest = 20
 
--- the first refusal that applies decides: where the test holds its number is the answer, else what comes after it
+-- the first refusal that applies decides: where the test holds its number is the answer, else what
+-- comes after it
 abbrev pub refuse : Bool → ℕ → ℕ → ℕ
 refuse test number rest = cond test number rest

@@ -1,4 +1,5 @@
-// The one table of kinds with their limits, the channels of an edition, and the tests of bodies by them.
+// The one table of kinds with their limits, the channels of an edition, and the tests of bodies by
+// them.
 
 ghost use mathlib.Core.Path.{_≡_};
 ghost use Rattle.bodies.specs.Limits.{numbersInside, channelInside, onChannel};
@@ -84,7 +85,8 @@ pub fn channel_inside(edition: usize, kind: u32, channel: u8) -> bool
     channel <= 200
 }
 
-// Is the body inside the limits of its kind? Each arm names its kind, so its row is known where the program is built.
+// Is the body inside the limits of its kind? Each arm names its kind, so its row is known where the
+// program is built.
 fn inside_kind(body: Body) -> bool
     ensures { λ r. ⌜ r ≡ insideKind body ⌝ }
 {

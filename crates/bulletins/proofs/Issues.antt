@@ -12,7 +12,7 @@ use Rattle.lists.proofs.Laws.{and-left, and-right}
 use Rattle.bulletins_spec.specs.declared.Bulletins.{Bulletins}
 use Rattle.bulletins_spec.specs.declared.IssueDone.{IssueDone}
 use Rattle.bulletins_spec.specs.State.{eventInside, bulletinsInside}
-use Rattle.bulletin_limits.specs.Lent.{standsIn}
+use Rattle.bulletins.specs.LentLimits.{standsIn}
 use Rattle.bulletins_spec.specs.Calls.{freePlace, hasTag, issueRefusal, issued, issueCall, noNotice}
 
 -- a state inside its limits has no more than sixteen stations

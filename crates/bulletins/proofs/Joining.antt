@@ -11,7 +11,7 @@ use Rattle.bodies.specs.Refusals.{done, outsideLimits}
 use Rattle.links.specs.Log.{hearsIn}
 use Rattle.lists.specs.Below.{setBelow}
 use Rattle.lists.proofs.Laws.{setBelow-inside, setBelow-ext, and-left}
-use Rattle.link_logs.specs.Sets.{united}
+use Rattle.planning.specs.Sets.{united}
 use Rattle.station_spec.specs.declared.Station.{Station}
 use Rattle.group_spec.specs.declared.RoundDone.{RoundDone}
 use Rattle.group_spec.specs.State.{sizeOf}
@@ -22,8 +22,8 @@ use Rattle.bulletins_spec.specs.declared.BulletinsRound.{BulletinsRound}
 use Rattle.bulletins_spec.specs.State.{tagAt, noticeAt, bulletinsInside}
 use Rattle.bulletins_spec.specs.Order.{inOrder, picked}
 use Rattle.bulletins_spec.specs.Calls.{setAfter, bulletinsAfter, gains, shownBy, shownOf, noneShown, allShown, fits, roundPart, bulletinsRoundCall}
-use Rattle.bulletin_sets.specs.Lent.{newIn, noticeIn}
-use Rattle.bulletin_sets.proofs.Ordering.{order-length, order-below, order-front}
+use Rattle.bulletins.specs.LentSets.{newIn, noticeIn}
+use Rattle.bulletins.proofs.Ordering.{order-length, order-below, order-front}
 
 -- the bulletins of a round that is not refused, and what is shown in it
 module _ (B : Bulletins) (masks : List ℕ) (long : length (B .held) ≡ 16) (high : B .n ≤ 16) where

@@ -1,5 +1,11 @@
 // The calls on the bulletins of a group (document 02, A12).
 
+pub mod issuing;
+pub mod limits;
+pub mod order;
+pub mod sets;
+pub mod showing;
+
 ghost use mathlib.Core.Path.{_≡_};
 ghost use lib.ListN.{replicate};
 ghost use Rattle.bodies.specs.Refusals.{outsideLimits};
@@ -66,25 +72,25 @@ pub fn fresh(n: usize) -> BulletinsAnswer
 pub fn issue(b: Bulletins, issuer: usize, tag: u32, event: u32) -> IssueDone
     ensures { λ r. ⌜ r ≡ issueCall b issuer tag event ⌝ }
 {
-    if !bulletin_limits::inside(b) {
-        return bulletin_sets::issuing::refused(b, OUTSIDE_LIMITS);
+    if !limits::inside(b) {
+        return issuing::refused(b, OUTSIDE_LIMITS);
     }
     if b.n <= issuer {
-        return bulletin_sets::issuing::refused(b, BAD_NUMBER);
+        return issuing::refused(b, BAD_NUMBER);
     }
-    if !bulletin_limits::event_inside(event) {
-        return bulletin_sets::issuing::refused(b, NOT_AN_EDIT);
+    if !limits::event_inside(event) {
+        return issuing::refused(b, NOT_AN_EDIT);
     }
     let held = b.held;
     let tags = b.tags;
-    if bulletin_sets::issuing::has_tag(&held, &tags, issuer, tag) {
-        return bulletin_sets::issuing::refused(b, ALREADY_ISSUED);
+    if issuing::has_tag(&held, &tags, issuer, tag) {
+        return issuing::refused(b, ALREADY_ISSUED);
     }
-    let s = bulletin_sets::issuing::free_place(&held, issuer);
+    let s = issuing::free_place(&held, issuer);
     if s == OWN * issuer + OWN {
-        return bulletin_sets::issuing::refused(b, ALREADY_ISSUED);
+        return issuing::refused(b, ALREADY_ISSUED);
     }
-    let after = bulletin_sets::issuing::with_bulletin(b, issuer, s, tag, event);
+    let after = issuing::with_bulletin(b, issuer, s, tag, event);
     IssueDone {
         refusal: DONE,
         bulletins: after,
@@ -104,7 +110,7 @@ fn refused_round(g: [Station; 16], b: Bulletins) -> BulletinsRound
       shown = noneShown;
     } ⌝ }
 {
-    let silent = bulletin_sets::showing::none_shown();
+    let silent = showing::none_shown();
     let none = rounds::no_report();
     let reports = [none; 16];
     BulletinsRound {
@@ -118,17 +124,18 @@ fn refused_round(g: [Station; 16], b: Bulletins) -> BulletinsRound
     }
 }
 
-// Round: the group's round, and on the same masks everyone takes over what those that it hears held before the round.
+// Round: the group's round, and on the same masks everyone takes over what those that it hears held
+// before the round.
 pub fn round(g: [Station; 16], b: Bulletins, masks: [u16; 16]) -> BulletinsRound
     ensures { λ r. ⌜ r ≡ bulletinsRoundCall g b masks ⌝ }
 {
     let first = g[0];
-    if !bulletin_sets::fit(b, first.n) {
+    if !sets::fit(b, first.n) {
         return refused_round(g, b);
     }
     let done = rounds::round(g, masks);
     if done.refusal != DONE as usize {
-        let silent = bulletin_sets::showing::none_shown();
+        let silent = showing::none_shown();
         return BulletinsRound {
             round: done,
             bulletins: b,
@@ -139,9 +146,9 @@ pub fn round(g: [Station; 16], b: Bulletins, masks: [u16; 16]) -> BulletinsRound
     let before = b.held;
     let tags = b.tags;
     let events = b.events;
-    let after = bulletin_sets::held_after(&before, masks, n);
-    let places = bulletin_sets::order::order_of(&tags, n);
-    let shown = bulletin_sets::showing::all_shown(&places, &tags, &events, &before, &after, n);
+    let after = sets::held_after(&before, masks, n);
+    let places = order::order_of(&tags, n);
+    let shown = showing::all_shown(&places, &tags, &events, &before, &after, n);
     BulletinsRound {
         round: done,
         bulletins: Bulletins {

@@ -1,4 +1,5 @@
--- One bulletin over one round. It is held by those whose news of its issuer is from after the round of issue; who hears one of them has such news too.
+-- One bulletin over one round. It is held by those whose news of its issuer is from after the round
+-- of issue; who hears one of them has such news too.
 use mathlib.Core.Bool.{Bool, true, false, cond, _&&_, _||_}
 use mathlib.Core.Path.{_≡_, refl, sym, ap, _∙_}
 use Prim.Native.Nat.{ℕ, zero, suc, max, _<_}

@@ -1,5 +1,6 @@
--- The state after u rounds, by the clocks: a station holds the bulletin at a place exactly if one stands there and its news of the issuer is from after the
--- round of issue, T s. With it the state is inside its limits.
+-- The state after u rounds, by the clocks: a station holds the bulletin at a place exactly if one
+-- stands there and its news of the issuer is from after the round of issue, T s. With it the state
+-- is inside its limits.
 use mathlib.Core.Bool.{Bool, true, false, not, _&&_, _||_, false≢true}
 use mathlib.Core.List.{List, _++_}
 use mathlib.Core.Path.{_≡_, refl, sym, ap, _∙_}

@@ -1,5 +1,6 @@
--- An issue that is not refused puts a bulletin at a free place of its issuer. Nobody else holds anything there, and nobody's news of the issuer is from after
--- the present round but the issuer's own.
+-- An issue that is not refused puts a bulletin at a free place of its issuer. Nobody else holds
+-- anything there, and nobody's news of the issuer is from after the present round but the issuer's
+-- own.
 use mathlib.Core.Bool.{Bool, true, false, cond, not, _&&_, _||_, false≢true}
 use mathlib.Core.Path.{_≡_, refl, sym, ap, _∙_, subst}
 use Prim.Native.Nat.{ℕ, zero, suc, _+_, _*_, _-_, _^_, _≤_, _<_}
@@ -16,7 +17,7 @@ use Rattle.links.specs.Log.{bit}
 use Rattle.links.specs.Relay.{Links}
 use Rattle.links.specs.Inner.Clock.{news}
 use Rattle.links.proofs.Clock.{news-own, news-other}
-use Rattle.link_logs.proofs.Bits.{bit-or, bit-pow}
+use Rattle.planning.proofs.Bits.{bit-or, bit-pow}
 use Rattle.bulletins_spec.specs.declared.Bulletins.{Bulletins}
 use Rattle.bulletins_spec.specs.State.{issuerOf, setOf, holds, stands, tagAt, eventAt, eventInside, bulletinsInside}
 use Rattle.bulletins_spec.specs.Calls.{freeFrom, freePlace, hasTag, hasFour, issueRefusal, issued}

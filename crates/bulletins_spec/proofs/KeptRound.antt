@@ -1,5 +1,5 @@
--- One round: a station's set becomes the union of those that it hears, and its clock the latest of theirs. What stands at a place stays, for its issuer
--- held it before.
+-- One round: a station's set becomes the union of those that it hears, and its clock the latest of
+-- theirs. What stands at a place stays, for its issuer held it before.
 use mathlib.Core.Bool.{Bool, true, false, _&&_}
 use mathlib.Core.List.{List}
 use mathlib.Core.Path.{_≡_, refl, sym, ap, _∙_, subst}
@@ -16,7 +16,7 @@ use Rattle.links.specs.Inner.Clock.{news, hearing}
 use Rattle.links.specs.Inner.Know.{either}
 use Rattle.links.proofs.Clock.{news-own}
 use Rattle.links.proofs.Hearing.{hearing-all, hearing-own}
-use Rattle.link_logs.proofs.Stands.{united-bit, either-ext}
+use Rattle.planning.proofs.Stands.{united-bit, either-ext}
 use Rattle.bulletins_spec.specs.declared.Bulletins.{Bulletins}
 use Rattle.bulletins_spec.specs.State.{issuerOf, setOf, holds, stands, tagAt, eventAt, eventInside}
 use Rattle.bulletins_spec.specs.Calls.{setAfter, bulletinsAfter}

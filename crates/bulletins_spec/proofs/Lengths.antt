@@ -1,4 +1,5 @@
--- The lengths that the arrays of a state have by their types, out of what owning it tells: each array says how many entries it has.
+-- The lengths that the arrays of a state have by their types, out of what owning it tells: each
+-- array says how many entries it has.
 use mathlib.Core.List.{List}
 use mathlib.Core.Path.{_≡_}
 use lib.ListN.{length, length-map}

@@ -1,5 +1,6 @@
--- Places by issuer and then by tag. `inserted` passes on the higher of two tags, so it loses and adds no place and keeps a list ordered; and so the list
--- of all places has each place of an issuer below n once, lower issuers first and of one issuer lower tags first.
+-- Places by issuer and then by tag. `inserted` passes on the higher of two tags, so it loses and
+-- adds no place and keeps a list ordered; and so the list of all places has each place of an issuer
+-- below n once, lower issuers first and of one issuer lower tags first.
 use mathlib.Core.List.{List, [], _∷_, _++_, List·Memᴰ, List·Memᴰ·head, List·Memᴰ·tail, List·Memᴰ·cases-cons, List·Memᴰ·append-cases, List·Memᴰ·eq-of-singleton, List·Memᴰ·not-nil, Memᴰ·append-left, Memᴰ·append-right}
 use mathlib.Core.Logic.{_⊎_, inl, inr}
 use mathlib.Core.Path.{_≡_, refl, sym, ap, _∙_}

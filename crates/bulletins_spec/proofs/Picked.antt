@@ -1,4 +1,5 @@
--- What is picked from a list of places: the places that pass the test, in their order; and a list of notices in an answer is read back as it was.
+-- What is picked from a list of places: the places that pass the test, in their order; and a list
+-- of notices in an answer is read back as it was.
 use mathlib.Core.Bool.{Bool, true, false, cond, false≢true}
 use mathlib.Core.List.{List, [], _∷_, _++_, List·Memᴰ, List·Memᴰ·head, List·Memᴰ·tail, List·Memᴰ·cases-cons, List·Memᴰ·not-nil}
 use mathlib.Core.Logic.{_⊎_, inl, inr}

@@ -1,5 +1,6 @@
--- What is known after a list of issues, posts and rounds: the state by the clocks, the accepted issues by their places, and what every round showed. Here one
--- round more: it shows what its sets gain, and by the clocks that is what is due.
+-- What is known after a list of issues, posts and rounds: the state by the clocks, the accepted
+-- issues by their places, and what every round showed. Here one round more: it shows what its sets
+-- gain, and by the clocks that is what is due.
 use mathlib.Core.Bool.{Bool, true, false, not, _&&_, false≢true}
 use mathlib.Core.List.{List, [], _∷_, _++_, map, List·Memᴰ, Memᴰ·cast}
 use mathlib.Core.Logic.{inl, inr, _↔_}

@@ -1,5 +1,5 @@
--- An issue more, accepted or refused, and the beginning. An accepted bulletin has been shown by no round, for nobody's news of another is from after the
--- present round.
+-- An issue more, accepted or refused, and the beginning. An accepted bulletin has been shown by no
+-- round, for nobody's news of another is from after the present round.
 use mathlib.Core.Bool.{Bool, true, false, cond, false≢true}
 use mathlib.Core.List.{List, [], _∷_, _++_, map-append, append-nil, List·Memᴰ, List·Memᴰ·head, List·Memᴰ·tail, List·Memᴰ·append-cases, List·Memᴰ·eq-of-singleton, List·Memᴰ·not-nil, Memᴰ·cast, Memᴰ·append-left, Memᴰ·append-right}
 use mathlib.Core.Logic.{inl, inr, _↔_}

@@ -1,11 +1,11 @@
--- A list of three stations, computed: two bulletins are shown by tag and not as issued, one hop a round and once; the third has a tag of before and is
--- refused.
+-- A list of three stations, computed: two bulletins are shown by tag and not as issued, one hop a
+-- round and once; the third has a tag of before and is refused.
 use Prim.Native.Nat.{ℕ}
 use mathlib.Core.List.{List, [], _∷_}
 use mathlib.Core.Path.{_≡_, refl}
 use Rattle.links.specs.Log.{bit, hearsIn}
 use Rattle.lists.specs.Below.{allBelow, anyBelow, setBelow}
-use Rattle.link_logs.specs.Sets.{united}
+use Rattle.planning.specs.Sets.{united}
 use Rattle.bulletins_spec.specs.declared.Bulletins.{Bulletins}
 use Rattle.bulletins_spec.specs.declared.Notice.{Notice}
 use Rattle.bulletins_spec.specs.State.{bulletinsInside, freshBulletins}

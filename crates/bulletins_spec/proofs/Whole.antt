@@ -1,4 +1,5 @@
--- A12, whole: the induction over the list, the group's part through demand 3 alone, and the clocks read as relays.
+-- A12, whole: the induction over the list, the group's part through demand 3 alone, and the clocks
+-- read as relays.
 use mathlib.Core.Bool.{Bool, true, false, not, _||_}
 use mathlib.Core.List.{List, [], _∷_, _++_, map, List·Memᴰ·cases-cons, List·Memᴰ, List·Memᴰ·not-nil, Memᴰ·map, Memᴰ·of-map, Memᴰ·cast}
 use mathlib.Core.Logic.{_⊎_, inl, inr}

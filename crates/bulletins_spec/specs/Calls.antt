@@ -8,7 +8,7 @@ use lib.ListN.{length, replicate, set, take}
 use Rattle.bodies.specs.Refusals.{done, badNumber, outsideLimits, notAnEdit, alreadyIssued, refuse}
 use Rattle.links.specs.Log.{bit, hearsIn}
 use Rattle.lists.specs.Below.{anyBelow, setBelow}
-use Rattle.link_logs.specs.Sets.{united}
+use Rattle.planning.specs.Sets.{united}
 use Rattle.station_spec.specs.declared.Station.{Station}
 use Rattle.group_spec.specs.declared.RoundDone.{RoundDone}
 use Rattle.group_spec.specs.State.{sizeOf}
@@ -19,7 +19,7 @@ use Rattle.bulletins_spec.specs.declared.Shown.{Shown}
 use Rattle.bulletins_spec.specs.declared.BulletinsAnswer.{BulletinsAnswer}
 use Rattle.bulletins_spec.specs.declared.IssueDone.{IssueDone}
 use Rattle.bulletins_spec.specs.declared.BulletinsRound.{BulletinsRound}
-use Rattle.bulletins_spec.specs.State.{setOf, holds, stands, tagAt, noticeAt}
+use Rattle.bulletins_spec.specs.State.{quota, allPlaces, setOf, holds, stands, tagAt, noticeAt}
 use Rattle.bulletins_spec.specs.State.{eventInside, bulletinsInside, freshBulletins}
 use Rattle.bulletins_spec.specs.Order.{inOrder, picked}
 
@@ -34,21 +34,22 @@ bulletinsFreshCall n =
       bulletins = freshBulletins (cond (eqb (bulletinsFreshRefusal n) done) n 1);
     }
 
--- the first of so many places, from s on, at which no bulletin stands; one past them where each has one
+-- the first of so many places, from s on, at which no bulletin stands; one past them where each has
+-- one
 unfoldable pub freeFrom : Bulletins → ℕ → ℕ → ℕ
 freeFrom B zero s = s
 freeFrom B (suc more) s = cond (stands B s) (freeFrom B more (suc s)) s
 
 abbrev pub freePlace : Bulletins → ℕ → ℕ
-freePlace B i = freeFrom B 4 (4 * i)
+freePlace B i = freeFrom B quota (quota * i)
 
 -- a bulletin of i has that tag
 unfoldable pub hasTag : Bulletins → ℕ → ℕ → Bool
-hasTag B i tag = anyBelow 4 (λ k. stands B (4 * i + k) && eqb (tagAt B (4 * i + k)) tag)
+hasTag B i tag = anyBelow quota (λ k. stands B (quota * i + k) && eqb (tagAt B (quota * i + k)) tag)
 
 -- i has issued four
 abbrev pub hasFour : Bulletins → ℕ → Bool
-hasFour B i = eqb (freePlace B i) (4 * i + 4)
+hasFour B i = eqb (freePlace B i) (quota * i + quota)
 
 -- issue: 2, 1, 4, 19
 unfoldable pub issueRefusal : Bulletins → ℕ → ℕ → ℕ → ℕ
@@ -98,7 +99,7 @@ unfoldable pub shownBy : Bulletins → List ℕ → ℕ → List Notice
 shownBy B masks p = picked (gains B masks p) (noticeAt B) (inOrder (tagAt B) (B .n))
 
 unfoldable pub shownOf : List Notice → Shown
-shownOf l = record { len = length l; notices = l ++ replicate (64 - length l) noNotice }
+shownOf l = record { len = length l; notices = l ++ replicate (allPlaces - length l) noNotice }
 
 abbrev pub notices : Shown → List Notice
 notices x = take (x .len) (x .notices)

@@ -26,7 +26,8 @@ pub record Due (L : Links) (issues : List Issued) (p u : ℕ) (b : Notice) : Typ
   pub accepted : List·Memᴰ (record { notice = b; after = after }) issues
   pub when : ((p ≡ b .issuer) × (u ≡ after)) ⊎ ((p ≡ b .issuer → ⊥) × FirstBy L (b .issuer) after p u)
 
--- station p shows b in round u: the report of that round says so, or the answer to an issue at p after u rounds
+-- station p shows b in round u: the report of that round says so, or the answer to an issue at p
+-- after u rounds
 pub data Shows (H : History) (p u : ℕ) (b : Notice) : Type 0 where
   reported : List·Memᴰ b (shownIn (H .rounds) p u) → Shows H p u b
   answered : List·Memᴰ (record { station = p; after = u; notice = b }) (H .answers) → Shows H p u b

@@ -25,7 +25,8 @@ callsOf [] = []
 callsOf (call c ∷ rest) = c ∷ callsOf rest
 callsOf (issue i tag event ∷ rest) = callsOf rest
 
--- an accepted issue: the bulletin, and the round of issue, which is the number of rounds done by then
+-- an accepted issue: the bulletin, and the round of issue, which is the number of rounds done by
+-- then
 pub record Issued : Type 0 where
   pub notice : Notice
   pub after : ℕ

@@ -9,9 +9,16 @@ use Rattle.lists.specs.Below.{allBelow}
 use Rattle.bulletins_spec.specs.declared.Bulletins.{Bulletins}
 use Rattle.bulletins_spec.specs.declared.Notice.{Notice}
 
+-- how many bulletins an issuer may issue, each at a place of its own; and the places of all sixteen
+abbrev pub quota : ℕ
+quota = 4
+
+abbrev pub allPlaces : ℕ
+allPlaces = quota * 16
+
 -- the issuer whose place s is
 abbrev pub issuerOf : ℕ → ℕ
-issuerOf s = s / 4
+issuerOf s = s / quota
 
 -- the set of station p, and whether p holds the bulletin at place s
 abbrev pub setOf : Bulletins → ℕ → ℕ
@@ -49,15 +56,15 @@ otherTag B s r = eqb r s || (not (stands B r) || not (eqb (tagAt B r) (tagAt B s
 -- the bulletin at place s has an event inside its limits and a tag that no other of its issuer has
 abbrev pub ownInside : Bulletins → ℕ → Bool
 ownInside B s =
-    not (stands B s) || (eventInside (eventAt B s) && allBelow 4 (λ k. otherTag B s (4 * issuerOf s + k)))
+    not (stands B s) || (eventInside (eventAt B s) && allBelow quota (λ k. otherTag B s (quota * issuerOf s + k)))
 
 -- the state is inside its limits. That a station holds a bulletin once, that the issuer's has the
 -- same event, and that an issuer has at most four is so in every state of this form
 unfoldable pub bulletinsInside : Bulletins → Bool
 bulletinsInside B =
     (leb 1 (B .n) && leb (B .n) 16) &&
-    (allBelow (B .n) (λ p. allBelow 64 (heldInside B p)) && allBelow (4 * B .n) (ownInside B))
+    (allBelow (B .n) (λ p. allBelow allPlaces (heldInside B p)) && allBelow (quota * B .n) (ownInside B))
 
 -- nobody holds anything
 unfoldable pub freshBulletins : ℕ → Bulletins
-freshBulletins n = record { n = n; tags = replicate 64 0; events = replicate 64 0; held = replicate 16 0 }
+freshBulletins n = record { n = n; tags = replicate allPlaces 0; events = replicate allPlaces 0; held = replicate 16 0 }

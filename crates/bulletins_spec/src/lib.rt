@@ -1,11 +1,12 @@
-// Bulletins (document 02, A12): the state beside a group, and the answers of its calls. The definitions of the calls,
-// their laws and the theorem stand beside; there is no code.
+// Bulletins (document 02, A12): the state beside a group, and the answers of its calls. The
+// definitions of the calls, their laws and the theorem stand beside; there is no code.
 
 use group_spec::RoundDone;
 
-// The bulletins of a group, and who holds them. An issuer has four places, issuer i those from 4 * i on, each with a
-// tag and an event. Bit s of a station's set says that the station holds the bulletin at place s. Where the issuer does
-// not hold it there is none, and the tag and the event say nothing.
+// The bulletins of a group, and who holds them. An issuer has four places, issuer i those from 4 *
+// i on, each with a tag and an event. Bit s of a station's set says that the station holds the
+// bulletin at place s. Where the issuer does not hold it there is none, and the tag and the event
+// say nothing.
 pub struct Bulletins {
     pub n: usize,
     pub tags: [u32; 64],

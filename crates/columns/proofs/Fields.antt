@@ -1,4 +1,5 @@
--- What stands in the columns: its length, the minus set into blanks, and one digit more from the right.
+-- What stands in the columns: its length, the minus set into blanks, and one digit more from the
+-- right.
 use mathlib.Core.Path.{_≡_, refl, ap, _∙_}
 use mathlib.Core.Bool.{Bool, true, false, cond}
 use mathlib.Core.List.{List, [], _∷_, _++_, append-assoc}

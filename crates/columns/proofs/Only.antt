@@ -1,4 +1,5 @@
--- Only a number's own columns are read as that number. By the last byte: what was read before it is the columns of what was read so far.
+-- Only a number's own columns are read as that number. By the last byte: what was read before it is
+-- the columns of what was read so far.
 use mathlib.Core.Path.{_≡_, refl, ap, _∙_}
 use mathlib.Core.Bool.{Bool, true, false, cond, _||_, _&&_, false≢true}
 use mathlib.Core.List.{List, [], _∷_, _++_, append-nil}
@@ -129,7 +130,8 @@ read-are bytes w r [] h = rw (append-nil, add-zero) h
 read-are bytes w r (b ∷ rest) h =
     rw (← append-snoc bytes b rest, add-suc, ← suc-add) (read-are (bytes ++ (b ∷ [])) (suc w) (next r b) rest (step bytes w r b h))
 
--- Bytes are read as a number exactly if they are that number's columns and it fits them; so a malformed field is one that no number writes.
+-- Bytes are read as a number exactly if they are that number's columns and it fits them; so a
+-- malformed field is one that no number writes.
 pub reads-exactly :
     (bytes : List ℕ) (minus : Bool) (v : ℕ) →
     (readColumns bytes ≡ Number minus v) ↔ ((bytes ≡ columns minus (length bytes) v) × Fits minus (length bytes) v)

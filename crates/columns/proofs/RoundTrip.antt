@@ -1,4 +1,5 @@
--- Reading and writing are inverse. Both laws go by the last column: what stands before it is the columns of the number without its last digit.
+-- Reading and writing are inverse. Both laws go by the last column: what stands before it is the
+-- columns of the number without its last digit.
 use mathlib.Core.Path.{_≡_, refl, ap, _∙_}
 use mathlib.Core.Bool.{Bool, true, false, cond}
 use mathlib.Core.List.{[], _∷_, _++_}

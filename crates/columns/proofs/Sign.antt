@@ -1,4 +1,5 @@
--- A signed number read back from its 32 bits, and its magnitude as the code makes it: -1 less a negative number is not negative, and 1 more is the magnitude.
+-- A signed number read back from its 32 bits, and its magnitude as the code makes it: -1 less a
+-- negative number is not negative, and 1 more is the magnitude.
 use mathlib.Core.Path.{_≡_, ap}
 use mathlib.Core.Bool.{true, false}
 use Prim.Native.Nat.{_+_, _-_}

@@ -8,7 +8,8 @@ use lib.Dec.{ltb}
 use lib.IntN.{ℤ, pos, natAbs}
 use lib.Signed.{ltZ}
 
--- what stands in the w columns before the first digit: blanks, or blanks with a minus in the last of them
+-- what stands in the w columns before the first digit: blanks, or blanks with a minus in the last
+-- of them
 unfoldable pub lead : Bool → ℕ → List ℕ
 lead false w = replicate w 32
 lead true zero = []
@@ -28,7 +29,8 @@ natColumns w v = columns false w v
 abbrev pub intColumns : ℕ → ℤ → List ℕ
 intColumns w z = columns (ltZ z (pos 0)) w (natAbs z)
 
--- a number of at most nine digits fits w columns; a minus takes a column of its own, and stands before no zero
+-- a number of at most nine digits fits w columns; a minus takes a column of its own, and stands
+-- before no zero
 pub record Fits (minus : Bool) (w v : ℕ) : Type 0 where
   pub some : 0 < w
   pub digits : v < 10 ^ w

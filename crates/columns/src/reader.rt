@@ -4,7 +4,8 @@ ghost use mathlib.Core.Path.{_≡_};
 ghost use Prim.Native.Nat.{_≤_};
 ghost use Rattle.columns.specs.Reading.{digitOf, started, grown, next, readColumns};
 
-// What is read so far: blanks only, a minus, a number behind a minus or not, or no number in its columns.
+// What is read so far: blanks only, a minus, a number behind a minus or not, or no number in its
+// columns.
 pub enum Reading {
     Blank,
     Minus,

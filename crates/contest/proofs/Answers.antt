@@ -1,5 +1,5 @@
--- Each return of the call is its definition. The first pick found over the sets is the lowest of the contest over plays, since the sets after a pick stand
--- for its play (`Bridge`).
+-- Each return of the call is its definition. The first pick found over the sets is the lowest of
+-- the contest over plays, since the sets after a pick stand for its play (`Bridge`).
 use mathlib.Core.Bool.{Bool, true, false, cond}
 use mathlib.Core.List.{List, [], _∷_}
 use mathlib.Core.Path.{_≡_, refl, sym, ap, _∙_}
@@ -8,13 +8,13 @@ use native.Mathlib.Omega.{arith}
 use borrow.Author.Tests.{eq-eqb, ne-eqb}
 use lib.ListN.{length}
 use Rattle.bodies.specs.Refusals.{done}
-use Rattle.contest_spec.specs.declared.ContestAnswer.the-variants.{Refused, Breaker, Keeper}
-use Rattle.contest_spec.specs.Winner.{still, lowest, won, keeperWins, firstPick}
-use Rattle.contest_spec.specs.Answer.{contestRefusal, setsOf, contestCall}
-use Rattle.contest_spec.proofs.Lowest.{lowest-ext}
-use Rattle.contest_spec.proofs.Forces.{pick-wins, no-rounds}
-use Rattle.contest_spec.proofs.Meaning.{InsideLimits, sets-length, sets-some}
-use Rattle.contest.specs.KnownSets.{after, maskOf, begun, opening}
+use Rattle.contest.specs.declared.ContestAnswer.the-variants.{Refused, Breaker, Keeper}
+use Rattle.contest.specs.Winner.{still, lowest, won, keeperWins, firstPick}
+use Rattle.contest.specs.Answer.{contestRefusal, setsOf, contestCall}
+use Rattle.contest.proofs.Lowest.{lowest-ext}
+use Rattle.contest.proofs.Forces.{pick-wins, no-rounds}
+use Rattle.contest.proofs.Meaning.{InsideLimits, sets-length, sets-some}
+use Rattle.contest.specs.Inner.KnownSets.{after, maskOf, begun, opening}
 use Rattle.contest.proofs.Bridge.{behind-step, begun-bits, begun-won, wins-still}
 
 module _ (n s : ℕ) (masks : List ℕ) (rounds : ℕ) (inside : InsideLimits n s (length masks) rounds) where

@@ -1,4 +1,5 @@
--- The contest over sets of stations is the contest over plays: the sets stand for what is known after the play's log, while the first broadcast runs.
+-- The contest over sets of stations is the contest over plays: the sets stand for what is known
+-- after the play's log, while the first broadcast runs.
 use mathlib.Core.Bool.{Bool, true, false, cond, not, _&&_, _||_, true≢false}
 use mathlib.Core.List.{List, [], _∷_, _++_}
 use mathlib.Core.Logic.{⊎-elim}
@@ -10,26 +11,26 @@ use borrow.Author.Tests.{eq-eqb, ne-eqb, lt-ltb, le-ltb, ltb-true, ltb-false}
 use lib.Dec.{eqb, ltb}
 use lib.ListN.{length, getD, set, replicate, length-append, length-set}
 use lib.Seq.{getD-append-add, getD-set-same, getD-set-other}
-use Rattle.lists.specs.Below.{allBelow, anyBelow, setBelow}
+use Rattle.lists.specs.Below.{allBelow}
 use Rattle.lists.proofs.Laws.{allBelow-ext, setBelow-inside, length-setBelow}
-use Rattle.links.specs.Log.{bit, hearsIn, masksIn, cut}
+use Rattle.links.specs.Log.{bit, masksIn, cut}
 use Rattle.links.specs.Relay.{Links, ofLog}
 use Rattle.links.specs.Inner.Clock.{news}
 use Rattle.links.specs.Inner.Number.{answers, start, ends, num}
 use Rattle.links.specs.Inner.Know.{knows, either, brought, learnt, newly}
 use Rattle.links.proofs.Clock.{news-limit}
-use Rattle.links.proofs.Log.{bit-zero, hearsIn-own, hearsIn-bit, cut-mask, cut-length}
+use Rattle.links.proofs.Log.{hearsIn-own, hearsIn-bit, cut-mask}
 use Rattle.links.proofs.Number.{step, num-mono, num-positive, num-zero}
 use Rattle.links.proofs.Prefix.{Same, news-same, answers-same, start-same, num-same, same-append}
 use Rattle.links.proofs.Know.{knows-zero, knows-step, ends-learnt}
 use Rattle.planning_spec.specs.LinkLog.{maskHears}
-use Rattle.link_logs.specs.Sets.{united, withReceiver, firstSet, isFull}
-use Rattle.link_logs.proofs.Bits.{isFull-bits}
-use Rattle.link_logs.proofs.Stands.{united-bit, either-ext, withReceiver-bit, firstSet-bit}
-use Rattle.contest_spec.specs.Contest.{logOf, keeper's}
-use Rattle.contest_spec.specs.Winner.{decided, still, won}
-use Rattle.contest_spec.proofs.Forcing.{still-step, still-end}
-use Rattle.contest.specs.KnownSets.{learntOne, after, maskOf, begun, winsFrom}
+use Rattle.planning.specs.Sets.{united, firstSet, isFull}
+use Rattle.planning.proofs.Bits.{isFull-bits}
+use Rattle.planning.proofs.Stands.{united-bit, either-ext, withReceiver-bit, firstSet-bit}
+use Rattle.contest.specs.Contest.{logOf, keeper's}
+use Rattle.contest.specs.Winner.{decided, still, won}
+use Rattle.contest.proofs.Forcing.{still-step, still-end}
+use Rattle.contest.specs.Inner.KnownSets.{learntOne, after, maskOf, begun, winsFrom}
 use Rattle.contest.proofs.Deciding.{outcome, wins-over, wins-none, wins-more, decided-hit, decided-none, decided-ext}
 
 pub log-append : (sets : List (List ℕ)) (a b : List ℕ) → logOf sets (a ++ b) ≡ logOf sets a ++ logOf sets b

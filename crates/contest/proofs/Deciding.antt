@@ -1,15 +1,14 @@
 -- What a loop over picks decides.
-use mathlib.Core.Bool.{Bool, true, false, cond, not, _||_, Bool·beq, true≢false}
+use mathlib.Core.Bool.{Bool, true, false, not, Bool·beq, true≢false}
 use mathlib.Core.List.{List}
 use mathlib.Core.Path.{_≡_, refl, sym, ap, _∙_}
-use Prim.Native.Nat.{ℕ, zero, suc, _+_, _-_, _*_, _<_, _≤_}
+use Prim.Native.Nat.{ℕ, zero, suc, _-_, _*_, _<_}
 use native.Mathlib.Omega.{arith}
 use lib.ListN.{getD}
-use Rattle.lists.specs.Below.{allBelow, anyBelow}
 use Rattle.lists.proofs.Laws.{allBelow-make, allBelow-fails, anyBelow-hit, anyBelow-none, allBelow-ext, anyBelow-ext}
-use Rattle.link_logs.specs.Sets.{isFull}
-use Rattle.contest_spec.specs.Winner.{decided}
-use Rattle.contest.specs.KnownSets.{after, maskOf, begun, winsFrom, opening}
+use Rattle.planning.specs.Sets.{isFull}
+use Rattle.contest.specs.Winner.{decided}
+use Rattle.contest.specs.Inner.KnownSets.{after, maskOf, begun, winsFrom, opening}
 
 -- `==` of two bools.
 pub same-true : (a b : Bool) → Bool·beq a b ≡ true → a ≡ b

@@ -1,1 +1,4 @@
-pub mod KnownSets
+pub mod Contest
+pub mod Winner
+pub mod Answer
+pub mod Inner

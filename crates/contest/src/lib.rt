@@ -1,17 +1,26 @@
 // The link contest (document 02, A13). Of one station s, the set at place p has the stations of
 // which p knows that they have the broadcast of s.
+
 ghost use mathlib.Core.Path.{_≡_};
 ghost use mathlib.Core.Bool.{cond, false};
 ghost use Prim.Native.Nat.{_+_, _*_, _<_, _≤_};
 ghost use lib.ListN.{length};
 ghost use lib.Bits.{bitOr};
-ghost use Rattle.contest_spec.specs.Winner.{lowest};
-ghost use Rattle.contest_spec.specs.Answer.{contestRefusal, contestCall};
-ghost use Rattle.contest.specs.KnownSets.{learntOne, after, maskOf, begun, winsFrom, opening};
+ghost use Rattle.contest.specs.Contest.{mostStations};
+ghost use Rattle.contest.specs.Winner.{lowest};
+ghost use Rattle.contest.specs.Answer.{contestRefusal, contestCall};
+ghost use Rattle.contest.specs.Inner.KnownSets.{learntOne, after, maskOf, begun, winsFrom, opening};
 use bodies::refusals::BAD_CONTEST;
 use bodies::refusals::BAD_NUMBER;
 use bodies::refusals::DONE;
-use contest_spec::ContestAnswer;
+
+// Who can force the result: the breaker, or the keeper with the lowest first pick from which it
+// still can; or why the contest is refused.
+pub enum ContestAnswer {
+    Refused { number: u32 },
+    Breaker,
+    Keeper { pick: u32 },
+}
 
 // No group has more stations.
 const PLACES: usize = 16;
@@ -35,21 +44,21 @@ fn joined(set: u16, more: u16, heard: bool) -> u16
 
 // The set at p after a round in which p has this mask.
 fn learn_one(know: &[u16; 4], mask: u16, n: usize, p: usize, s: usize) -> u16
-    requires { ⌜ (n ≤ 4) × (p < n) × (s < n) ⌝ }
+    requires { ⌜ (n ≤ mostStations) × (p < n) × (s < n) ⌝ }
     ensures { λ r. ⌜ r ≡ learntOne n s mask (now (know .entry)) p ⌝ }
 {
     let mut set = know[p];
     let mut j: usize = 0;
     while j < n {
-        set = joined(set, know[j], link_logs::mask_hears(mask, p, j));
+        set = joined(set, know[j], planning::logs::mask_hears(mask, p, j));
         j += 1;
     }
-    link_logs::sets::with_receiver(set, s, p)
+    planning::sets::with_receiver(set, s, p)
 }
 
 // The sets after a round whose masks stand from `at` on.
 fn learn(know: [u16; 4], masks: &[u16], at: usize, n: usize, s: usize) -> [u16; 4]
-    requires { ⌜ (n ≤ 4) × (s < n) × (at + n ≤ length (now masks)) ⌝ }
+    requires { ⌜ (n ≤ mostStations) × (s < n) × (at + n ≤ length (now masks)) ⌝ }
     ensures { λ r. ⌜ r ≡ after n s (maskOf (now (masks .entry)) at) know ⌝ }
 {
     let mut next = know;
@@ -72,10 +81,10 @@ fn wins(
     left: usize,
     keeper: bool,
 ) -> bool
-    requires { ⌜ (n ≤ 4) × (s < n) × (length (now masks) ≡ count * n) ⌝ }
+    requires { ⌜ (n ≤ mostStations) × (s < n) × (length (now masks) ≡ count * n) ⌝ }
     ensures { λ r. ⌜ r ≡ winsFrom n s count (now (masks .entry)) left keeper know ⌝ }
 {
-    if link_logs::sets::is_full(know[s], n) {
+    if planning::sets::is_full(know[s], n) {
         return true;
     }
     if left == 0 {
@@ -92,13 +101,14 @@ fn wins(
     !keeper
 }
 
-// The lowest first pick from which the keeper can force the end; the number of sets where there is none.
+// The lowest first pick from which the keeper can force the end; the number of sets where there is
+// none.
 fn first_pick(masks: &[u16], n: usize, s: usize, count: usize, left: usize) -> usize
-    requires { ⌜ (n ≤ 4) × (s < n) × (length (now masks) ≡ count * n) ⌝ }
+    requires { ⌜ (n ≤ mostStations) × (s < n) × (length (now masks) ≡ count * n) ⌝ }
     ensures { λ r. ⌜ r ≡ lowest count 0 (opening n s count (now (masks .entry)) left) ⌝ }
 {
     let mut know = [0u16; 4];
-    know[s] = link_logs::sets::first_set(s, s);
+    know[s] = planning::sets::first_set(s, s);
     let mut i: usize = 0;
     while i < count {
         let next = learn(know, masks, i * n, n, s);

@@ -1,6 +1,6 @@
--- Every accepted edit is aired everywhere, in time. Within the delay everybody has aired the rows that its station had,
--- and three delays more bring each a row. Its station had started one body more than rows at most, and the edit is
--- among the next 2 i + 2; so 2 i + 3 rows more have it.
+-- Every accepted edit is aired everywhere, in time. Within the delay everybody has aired the rows
+-- that its station had, and three delays more bring each a row. Its station had started one body
+-- more than rows at most, and the edit is among the next 2 i + 2; so 2 i + 3 rows more have it.
 use Prim.Native.Nat.{ℕ, _+_, _*_, _≤_, _<_}
 use mathlib.Core.Bool.{Bool, true, cond}
 use mathlib.Core.List.{List, [], _∷_, _++_}

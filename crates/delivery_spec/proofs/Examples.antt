@@ -1,5 +1,5 @@
--- The assumption can be met, so that nothing here is said of nothing: all hear all, a station alone, and two stations
--- that hear each other in ten rounds, both desks posting.
+-- The assumption can be met, so that nothing here is said of nothing: all hear all, a station
+-- alone, and two stations that hear each other in ten rounds, both desks posting.
 use Prim.Native.Nat.{ℕ, zero, suc, _+_, _*_, _≤_, _<_}
 use mathlib.Core.Bool.{true}
 use mathlib.Core.List.{List, [], _∷_, _++_}
@@ -40,8 +40,8 @@ near-all L from to h =
           };
     }
 
--- A station alone airs every post that it accepts, behind i others of its desk within 6 i + 10 rounds, with no word on
--- links.
+-- A station alone airs every post that it accepts, behind i others of its desk within 6 i + 10
+-- rounds, with no word on links.
 pub alone-airs :
     (before : List Call) (x : Post) (after : List Call) →
     let H₀ = historyOf (sized 1) before in
@@ -55,7 +55,8 @@ alone-airs before x after taken room =
     0
     (omega arith)
 
--- two stations that hear each other; desk 1 of station 0 has posted, and then desk 0 does, with the same body
+-- two stations that hear each other; desk 1 of station 0 has posted, and then desk 0 does, with the
+-- same body
 abbrev of-desk : ℕ → Post
 of-desk desk = record { station = 0; desk = desk; body = Drop 0 7 }
 
@@ -101,7 +102,8 @@ two-air q l = (
     near = near-all (ofLog 2 (replicate 10 both)) 0 10 ten-hears
 
 pub record Computed : Type 0 where
-  -- desk 0 goes first; by round 3 its edit is aired at both, by round 5 the other's, and by then there are two rows
+  -- desk 0 goes first; by round 3 its edit is aired at both, by round 5 the other's, and by then
+  -- there are two rows
   pub third :
       tabulate 2 (λ q. tabulate (length (airedList 2 (upTo 3 run) q)) (airedEdit 2 (upTo 3 run) q))
       ≡ (edit 0 ∷ []) ∷ (edit 0 ∷ []) ∷ []

@@ -1,6 +1,7 @@
--- Rows come on: where every two stations have a relay within so many rounds, whatever all have aired, they have aired
--- one row more within three times as many. The broadcast of each ends within twice as many, and where all its own
--- bodies are aired by then it starts one; a relay more brings it to all.
+-- Rows come on: where every two stations have a relay within so many rounds, whatever all have
+-- aired, they have aired one row more within three times as many. The broadcast of each ends within
+-- twice as many, and where all its own bodies are aired by then it starts one; a relay more brings
+-- it to all.
 use mathlib.Core.Bool.{Bool, true, false, cond}
 use mathlib.Core.Path.{_≡_, refl, sym, ap, subst, _∙_}
 use Prim.Native.Nat.{ℕ, zero, suc, min, _+_, _*_, _-_, _≤_, _<_}
@@ -107,8 +108,8 @@ module _ (R : Run) where
         )
 
     module _ (delay from last : ℕ) (near : Near L delay from last) where
-      -- The broadcast that a station has ends within twice the delay, for what is later than now is later than its
-      -- start.
+      -- The broadcast that a station has ends within twice the delay, for what is later than now is
+      -- later than its start.
       ends-soon : (u s : ℕ) → s < R .n → from ≤ u → u + 2 * delay ≤ last
           → (w : ℕ) × (u ≤ w) × (suc w ≤ u + 2 * delay) × (number.ends L (suc w) s ≡ true)
       ends-soon u s ls f l =
@@ -207,7 +208,8 @@ module _ (R : Run) where
                 (λ q lq. rows-within u k m f (omega arith) all q lq) p lp,
           ))
 
-      -- What one has aired, all have aired within the delay: whoever hears of it then has all that it aired with.
+      -- What one has aired, all have aired within the delay: whoever hears of it then has all that
+      -- it aired with.
       pub rows-caught :
           (u p q : ℕ) → p < R .n → q < R .n → from ≤ u → u + delay ≤ last → rowsBy R u p ≤ rowsBy R (u + delay) q
       rows-caught u p q lp lq f l =

@@ -1,5 +1,5 @@
--- The first rounds of a history are those of its run: what is aired by the end of a round, how many rows, and that what
--- waits is never Empty.
+-- The first rounds of a history are those of its run: what is aired by the end of a round, how many
+-- rows, and that what waits is never Empty.
 use Prim.Native.Nat.{ℕ, zero, suc, _≤_, _<_}
 use mathlib.Core.Bool.{cond}
 use mathlib.Core.List.{List, [], _∷_}

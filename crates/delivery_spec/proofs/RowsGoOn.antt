@@ -1,5 +1,5 @@
--- Rows over a list of calls: with good links everybody catches up within the delay and airs one more within three; with
--- any links two stations are one row apart at most.
+-- Rows over a list of calls: with good links everybody catches up within the delay and airs one
+-- more within three; with any links two stations are one row apart at most.
 use Prim.Native.Nat.{ℕ, _+_, _*_}
 use native.Mathlib.Omega.{arith}
 use lib.ListN.{length}

@@ -1,6 +1,7 @@
--- When an accepted edit starts. While it waits every body that its station starts is an edit, and the other desk starts
--- at most one edit more than its own desk does; so behind i others of its desk it is at most body number 2 i + 2 from
--- its post on, and number i + 1 where the other desk starts none.
+-- When an accepted edit starts. While it waits every body that its station starts is an edit, and
+-- the other desk starts at most one edit more than its own desk does; so behind i others of its
+-- desk it is at most body number 2 i + 2 from its post on, and number i + 1 where the other desk
+-- starts none.
 use Prim.Native.Nat.{ℕ, _+_, _-_, _≤_, _<_}
 use mathlib.Core.Bool.{true}
 use mathlib.Core.List.{List, [], _∷_, _++_}

@@ -1,5 +1,5 @@
--- Bounds that look better are false: short runs, computed, in which news has the delay and an edit is not aired by
--- then, and one in which twice the delay brings no row.
+-- Bounds that look better are false: short runs, computed, in which news has the delay and an edit
+-- is not aired by then, and one in which twice the delay brings no row.
 use Prim.Native.Nat.{ℕ, zero, suc, _+_, _-_, _≤_, _<_}
 use mathlib.Core.Bool.{Bool, true, false, cond, not, _&&_, true≢false}
 use mathlib.Core.List.{List, [], _∷_, _++_, map}
@@ -106,8 +106,8 @@ rounds log = map round log
 abbrev by : ℕ → ℕ → Post
 by station desk = record { station = station; desk = desk; body = Drop 0 7 }
 
--- D(3 i + 4) for a desk alone: station 0 of three posts after two rounds, behind nothing, and by round 2 + 2 × 4
--- station 2 has aired nothing
+-- D(3 i + 4) for a desk alone: station 0 of three posts after two rounds, behind nothing, and by
+-- round 2 + 2 × 4 station 2 has aired nothing
 abbrev alone-before : List (List ℕ)
 alone-before = (2 ∷ 5 ∷ 1 ∷ []) ∷ (6 ∷ 1 ∷ 2 ∷ []) ∷ []
 
@@ -124,8 +124,8 @@ alone-calls = rounds alone-before
 unfoldable pub alone : History
 alone = historyOf (sized 3) (alone-calls ++ (post (by 0 0) ∷ rounds alone-after))
 
--- D(6 i + 5): desk 0 of station 1 of two posts three edits after three rounds, and then desk 1 one, behind nothing of
--- its own
+-- D(6 i + 5): desk 0 of station 1 of two posts three edits after three rounds, and then desk 1 one,
+-- behind nothing of its own
 abbrev both-before : List (List ℕ)
 both-before = (2 ∷ 0 ∷ []) ∷ (0 ∷ 0 ∷ []) ∷ (0 ∷ 1 ∷ []) ∷ []
 
@@ -142,8 +142,8 @@ both-calls = rounds both-before ++ replicate 3 (post (by 1 0))
 unfoldable pub both : History
 both = historyOf (sized 2) (both-calls ++ (post (by 1 1) ∷ rounds both-after))
 
--- D(3 i + 7) beside a busy desk: two stations that hear each other in every round, so that D is 1; seven edits of desk
--- 1 wait, and five of desk 0 before the sixth
+-- D(3 i + 7) beside a busy desk: two stations that hear each other in every round, so that D is 1;
+-- seven edits of desk 1 wait, and five of desk 0 before the sixth
 abbrev pair : List ℕ
 pair = 2 ∷ 1 ∷ []
 

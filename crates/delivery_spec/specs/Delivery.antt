@@ -1,5 +1,5 @@
--- Beyond documents 01 and 02: every accepted edit is aired at every station, and by when, where the links are good
--- enough from its post on. Which edit is which is told as in A14.
+-- Beyond documents 01 and 02: every accepted edit is aired at every station, and by when, where the
+-- links are good enough from its post on. Which edit is which is told as in A14.
 use Prim.Native.Nat.{ℕ, zero, suc, _+_, _*_, _≤_, _<_}
 use mathlib.Core.Bool.{cond}
 use mathlib.Core.List.{List, _∷_, _++_}
@@ -17,8 +17,8 @@ use Rattle.group_spec.specs.Demand.{Begins}
 use Rattle.group_spec.specs.Desks.{waitingAtDesk}
 use Rattle.group_spec.specs.Replies.{Edit, editAfter, AiredAt}
 
--- from one round to another: after every round of these that leaves room for it, each two stations have a relay that
--- arrives within so many rounds, one at least
+-- from one round to another: after every round of these that leaves room for it, each two stations
+-- have a relay that arrives within so many rounds, one at least
 pub record Near (L : Links) (delay from to : ℕ) : Type 0 where
   pub some : 1 ≤ delay
   pub relays :
@@ -40,8 +40,8 @@ pub record AiredBy (n : ℕ) (H : History) (v q : ℕ) (e : Edit) : Type 0 where
   pub entry : ℕ
   pub aired : AiredAt n (upTo v H) q entry e
 
--- the post x, accepted after the history H₀ behind i waiting edits of its desk: where the links are good enough and the
--- rounds are as many, all stations have aired it by these rounds
+-- the post x, accepted after the history H₀ behind i waiting edits of its desk: where the links are
+-- good enough and the rounds are as many, all stations have aired it by these rounds
 pub record Delivered (n delay : ℕ) (H₀ H : History) (x : Post) : Type 0 where
   pub in-time :
       let i = waitingAtDesk H₀ (x .station) (x .desk) in

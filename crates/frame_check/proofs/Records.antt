@@ -1,5 +1,6 @@
--- The check of a frame's records one after the other: after k of them all k are inside their limits, `found` says whether the sender's was among
--- them, and the next one's station is at least `least`.
+-- The check of a frame's records one after the other: after k of them all k are inside their
+-- limits, `found` says whether the sender's was among them, and the next one's station is at least
+-- `least`.
 use mathlib.Core.Path.{_≡_, refl, ap, ap₂}
 use mathlib.Core.Bool.{Bool, true, false, _&&_, _||_}
 use mathlib.Core.List.{List}

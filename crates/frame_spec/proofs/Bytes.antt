@@ -1,4 +1,5 @@
--- The bytes of records: sixteen to a record, one record after the other, and the same whether the labels from n up are 0 or not.
+-- The bytes of records: sixteen to a record, one record after the other, and the same whether the
+-- labels from n up are 0 or not.
 use mathlib.Core.Path.{_≡_, refl, sym, ap, _∙_}
 use mathlib.Core.List.{List, [], _∷_, _++_, append-assoc}
 use Prim.Native.Nat.{ℕ, _+_, _*_}

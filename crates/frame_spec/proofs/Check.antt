@@ -1,5 +1,6 @@
--- The frame check test by test: where one fails the definition's answer is known, and where all hold they say what the later tests rest on.
-use mathlib.Core.Path.{_≡_, refl, sym, ap, _∙_}
+-- The frame check test by test: where one fails the definition's answer is known, and where all
+-- hold they say what the later tests rest on.
+use mathlib.Core.Path.{_≡_, refl, ap, _∙_}
 use mathlib.Core.Bool.{Bool, true, false, not, _&&_, _||_}
 use mathlib.Core.List.{List}
 use Prim.Native.Nat.{ℕ, _+_, _*_, _-_, _<_, _≤_}
@@ -14,7 +15,7 @@ use borrow.Author.Tests.{leb-true, ltb-true, ltb-false, eqb-true, eqb-false, not
 use Rattle.bodies.specs.Refusals.{done, badNumber, badShape, badAddress, badRecord, badEdition, refuse}
 use Rattle.bodies.specs.Limits.{isEdition, numbersInside, channelInside}
 use Rattle.lists.proofs.Laws.{and-left, and-right, or-left, or-right}
-use Rattle.labels.specs.Packing.{labelsInside, zeroFrom, wordInside}
+use Rattle.labels.specs.Packing.{wordInside}
 use Rattle.frame_spec.specs.Words.{wordAt, signed}
 use Rattle.frame_spec.specs.Record.{bytesInside}
 use Rattle.frame_spec.specs.Frame.{shapeWrong, addressWrong, recordsInside, validNumber, frameRefusal, checkRefusal}

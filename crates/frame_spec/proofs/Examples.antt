@@ -1,5 +1,5 @@
--- A frame of one record byte by byte, in any edition and channel: where each field stands, which byte of a field comes
--- first, and how a negative number and the labels are written.
+-- A frame of one record byte by byte, in any edition and channel: where each field stands, which
+-- byte of a field comes first, and how a negative number and the labels are written.
 use mathlib.Core.List.{List, [], _∷_}
 use mathlib.Core.Path.{_≡_, refl}
 use Prim.Native.Nat.{ℕ}

@@ -1,4 +1,5 @@
--- The records of a table that a frame may carry, test by test, and what follows: every other station accepts the frame of such a table.
+-- The records of a table that a frame may carry, test by test, and what follows: every other
+-- station accepts the frame of such a table.
 use mathlib.Core.Path.{_≡_, sym, ap, _∙_}
 use mathlib.Core.Bool.{Bool, true, false, not, _||_}
 use mathlib.Core.List.{List}

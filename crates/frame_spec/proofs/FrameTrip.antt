@@ -1,5 +1,6 @@
--- A frame there and back, for every N. Record k of a written frame stands in part k, so each test of the check is one of the limits of the records;
--- and the parts of an accepted frame are the bytes of the records that they hold, one after the other.
+-- A frame there and back, for every N. Record k of a written frame stands in part k, so each test
+-- of the check is one of the limits of the records; and the parts of an accepted frame are the
+-- bytes of the records that they hold, one after the other.
 use mathlib.Core.Path.{_≡_, refl, sym, ap, _∙_}
 use mathlib.Core.Bool.{Bool, true, false, _&&_, _||_, true≢false}
 use mathlib.Core.List.{List, [], _∷_, _++_, map, append-nil}
@@ -198,7 +199,8 @@ module _ (edition : ℕ) (bytes : List ℕ) (n own : ℕ) (h : frameRefusal edit
         ∙ sym (take-add (16 * c) 16 (drop 4 bytes))
         ∙ ap (λ (j : ℕ). take j (drop 4 bytes)) e
 
-    -- writing the records of an accepted frame, with its edition, N and sender, gives its bytes again
+    -- writing the records of an accepted frame, with its edition, N and sender, gives its bytes
+    -- again
     pub write-read : frameBytes edition n (getD bytes 1 0) (recordsOf bytes) ≡ bytes
     unfolding frameBytes recordsOf
     write-read =

@@ -1,4 +1,5 @@
--- The labels of a record: each is one of its word's, and a word that is put together of labels has these. Nothing above looks into the word.
+-- The labels of a record: each is one of its word's, and a word that is put together of labels has
+-- these. Nothing above looks into the word.
 use mathlib.Core.Bool.{true}
 use mathlib.Core.Path.{_≡_, refl, ap, _∙_}
 use mathlib.Core.List.{List}
@@ -28,7 +29,8 @@ pub labels-of : (n : ℕ) (r : Record) (old : ℕ) → labelsOver n (labelIn (r 
 unfolding recordLabel
 labels-of n r old = refl
 
--- of a record whose labels are put over an old record's those below n are the new ones, and the others the old ones
+-- of a record whose labels are put over an old record's those below n are the new ones, and the
+-- others the old ones
 module _ (n : ℕ) (label : ℕ → ℕ) (fits : (j : ℕ) → j < n → label j < 4) (r : Record) where
   pub label-below : (old k : ℕ) → r .labels ≡ labelsOver n label old → k < n → recordLabel r k ≡ label k
   unfolding recordLabel

@@ -1,5 +1,5 @@
--- The record limits as facts: what the one test says of a record's fields, of a record and of sixteen bytes, and the other way round. Laws about the
--- limits are proved on the facts.
+-- The record limits as facts: what the one test says of a record's fields, of a record and of
+-- sixteen bytes, and the other way round. Laws about the limits are proved on the facts.
 use Prim.Native.Nat.{ℕ, _<_}
 use mathlib.Core.Bool.{Bool, true, false, _&&_, _||_}
 use mathlib.Core.List.{List}

@@ -1,6 +1,6 @@
--- A frame whose shape and address are right is refused with 7 if the body of any of its records is outside the limits of
--- its kind. For if the records were inside their limits, so would be the numbers of each body. No limit of a kind is
--- named: the table decides.
+-- A frame whose shape and address are right is refused with 7 if the body of any of its records is
+-- outside the limits of its kind. For if the records were inside their limits, so would be the
+-- numbers of each body. No limit of a kind is named: the table decides.
 use Prim.Native.Nat.{ℕ, _<_}
 use mathlib.Core.Bool.{Bool, true, false, true≢false}
 use mathlib.Core.List.{List}

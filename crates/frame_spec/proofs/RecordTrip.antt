@@ -1,6 +1,7 @@
--- One record there and back. A record inside its limits is written as bytes that are inside theirs, and read back as the frame carries it; bytes
--- inside their limits are the bytes of the record that they hold.
-use mathlib.Core.Path.{_≡_, refl, sym, ap, _∙_}
+-- One record there and back. A record inside its limits is written as bytes that are inside theirs,
+-- and read back as the frame carries it; bytes inside their limits are the bytes of the record that
+-- they hold.
+use mathlib.Core.Path.{_≡_, sym, ap, _∙_}
 use mathlib.Core.Bool.{Bool, true}
 use mathlib.Core.List.{List, [], _∷_, _++_}
 use Prim.Native.Nat.{ℕ, _+_, _≤_, _<_}

@@ -1,4 +1,5 @@
--- Words and lists spelled out byte by byte: a word is its four bytes, a signed number its word, and a list its entries.
+-- Words and lists spelled out byte by byte: a word is its four bytes, a signed number its word, and
+-- a list its entries.
 use mathlib.Core.Path.{_≡_, refl, ap, _∙_}
 use mathlib.Core.Bool.{Bool, true, false}
 use lib.Dec.{ltb}

@@ -1,5 +1,6 @@
--- The frame of a table there and back: the records at the held places are in order and the sender's is among them, so the frame is accepted and read
--- as the very records that were written. By induction over the places, each held one adding a record of a higher station.
+-- The frame of a table there and back: the records at the held places are in order and the sender's
+-- is among them, so the frame is accepted and read as the very records that were written. By
+-- induction over the places, each held one adding a record of a higher station.
 use mathlib.Core.Path.{_≡_, refl, sym, _∙_}
 use mathlib.Core.Bool.{Bool, true, false, cond, _&&_, _||_}
 use mathlib.Core.List.{List, [], _∷_, _++_, append-nil}

@@ -1,4 +1,5 @@
--- Document 01, "Frame bytes" and "Turned down": reading a whole frame, and writing one into a lent buffer.
+-- Document 01, "Frame bytes" and "Turned down": reading a whole frame, and writing one into a lent
+-- buffer.
 use Prim.Native.Nat.{ℕ}
 use mathlib.Core.Bool.{Bool, false, cond, not, _&&_, _||_}
 use mathlib.Core.List.{List, _++_}
@@ -35,7 +36,8 @@ written frame room =
     cond (ltb room (length frame)) (record { refusal = shortBuffer; len = 0 })
     (record { refusal = done; len = length frame })
 
--- the buffer afterwards: as it was where it is shorter than the frame, else the frame and then what stood past it
+-- the buffer afterwards: as it was where it is shorter than the frame, else the frame and then what
+-- stood past it
 unfoldable pub bufferWith : List ℕ → List ℕ → List ℕ
 bufferWith frame buffer = cond (ltb (length buffer) (length frame)) buffer (frame ++ drop (length frame) buffer)
 
@@ -45,7 +47,8 @@ unfoldable pub tableFits : (Body → Bool) → ℕ → ℕ → List Bool → Lis
 tableFits inside n sender held table =
     allBelow n (λ k. not (getD held k false) || placeFits inside n k (getD table k noRecord)) && getD held sender false
 
--- writing a frame judges N and the sender (1), the edition (17), then the records (7), then the buffer (9)
+-- writing a frame judges N and the sender (1), the edition (17), then the records (7), then the
+-- buffer (9)
 unfoldable pub frameWritten : ℕ → ℕ → ℕ → List Bool → List Record → ℕ → Written
 frameWritten edition n sender held table room =
     cond (not (validNumber n sender)) (record { refusal = badNumber; len = 0 })

@@ -8,7 +8,8 @@ use lib.ListN.{getD, length}
 use Rattle.bodies.specs.Refusals.{done, badNumber, badShape, badAddress, badRecord, refuse}
 use Rattle.frame_spec.specs.Frame.{validNumber, recordsInside, checkRefusal}
 
--- its 5: too short for a frame; no record, or more than 16; byte 3 not zero; or not as long as so many records are
+-- its 5: too short for a frame; no record, or more than 16; byte 3 not zero; or not as long as so
+-- many records are
 unfoldable pub oldShapeWrong : List ℕ → Bool
 oldShapeWrong bytes =
     ltb (length bytes) 4
@@ -34,7 +35,8 @@ oldRefusal bytes n own =
 abbrev pub OldReceivers : Type 0
 OldReceivers = (bytes : List ℕ) (n own : ℕ) → checkRefusal 1 bytes n own ≡ done → oldRefusal bytes n own ≡ badShape
 
--- edition 0 remains: what is no frame of edition 1, a new receiver judges in edition 0 as an old one does
+-- edition 0 remains: what is no frame of edition 1, a new receiver judges in edition 0 as an old
+-- one does
 abbrev pub EditionZeroRemains : Type 0
 EditionZeroRemains =
     (bytes : List ℕ) (n own : ℕ) → (getD bytes 3 0 ≡ 1 → ⊥) → checkRefusal 0 bytes n own ≡ oldRefusal bytes n own

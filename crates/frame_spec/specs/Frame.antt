@@ -20,7 +20,8 @@ validNumber n own = (leb 1 n && leb n 16) && ltb own n
 abbrev pub part : List ℕ → ℕ → List ℕ
 part bytes k = take 16 (drop (4 + 16 * k) bytes)
 
--- 5: too short for a frame; no record, or more than 16; byte 3 no edition; or not as long as so many records are
+-- 5: too short for a frame; no record, or more than 16; byte 3 no edition; or not as long as so
+-- many records are
 unfoldable pub shapeWrong : List ℕ → Bool
 shapeWrong bytes =
     ltb (length bytes) 4
@@ -41,7 +42,8 @@ addressWrong edition bytes n own =
 abbrev pub recordStation : List ℕ → ℕ → ℕ
 recordStation bytes k = getD (part bytes k) 0 0
 
--- the record limits over a whole frame: each inside its own, stations strictly ascending, the sender's among them
+-- the record limits over a whole frame: each inside its own, stations strictly ascending, the
+-- sender's among them
 unfoldable pub recordsInside : ℕ → List ℕ → ℕ → Bool
 recordsInside edition bytes n =
     allBelow (getD bytes 2 0)

@@ -45,8 +45,9 @@ countInside n count = leb count (2 * (n - 1))
 abbrev pub noRecord : Record
 noRecord = record { station = 0; count = 0; body = Empty; labels = 0 }
 
--- "Record limits", of the fields of one record among n stations: the station below n, the count by its limit unless it
--- is free, whether the body is inside its limits, and the labels of the n stations 0 to 2
+-- "Record limits", of the fields of one record among n stations: the station below n, the count by
+-- its limit unless it is free, whether the body is inside its limits, and the labels of the n
+-- stations 0 to 2
 abbrev pub fieldsInside : ℕ → Bool → ℕ → ℕ → Bool → ℕ → Bool
 fieldsInside n free station count inside labels =
     ltb station n
@@ -58,8 +59,8 @@ fieldsInside n free station count inside labels =
 abbrev pub recordLimits : (Body → Bool) → ℕ → Bool → Record → Bool
 recordLimits inside n free r = fieldsInside n free (r .station) (r .count) (inside (r .body)) (r .labels)
 
--- the limits of a record's sixteen bytes in a frame of an edition: the body by the table of kinds, its channel by the
--- edition, and the labels from n up are zero too
+-- the limits of a record's sixteen bytes in a frame of an edition: the body by the table of kinds,
+-- its channel by the edition, and the labels from n up are zero too
 unfoldable pub bytesInside : ℕ → ℕ → List ℕ → Bool
 bytesInside edition n bytes =
     let labels = wordAt bytes 12 in

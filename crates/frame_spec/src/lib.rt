@@ -3,7 +3,8 @@
 
 use bodies::Body;
 
-// A record: the station it is of, its count, its body and its labels, that of station k at bits 2k and 2k + 1.
+// A record: the station it is of, its count, its body and its labels, that of station k at bits 2k
+// and 2k + 1.
 pub struct Record {
     pub station: u8,
     pub count: u8,

@@ -1,4 +1,5 @@
--- The records of a table as a frame: how many they are, and the bytes once the places below k are written.
+-- The records of a table as a frame: how many they are, and the bytes once the places below k are
+-- written.
 use mathlib.Core.Path.{_≡_, refl, sym, ap, ap₂, _∙_}
 use mathlib.Core.Bool.{Bool, true, false, cond}
 use mathlib.Core.List.{List, [], _∷_, _++_, append-nil, append-assoc}

@@ -35,7 +35,8 @@ fn held_count(held: [bool; 16], n: usize) -> usize
     count
 }
 
-// The frame of an edition that a sender among n stations makes of the records at the held places of a table.
+// The frame of an edition that a sender among n stations makes of the records at the held places of
+// a table.
 pub fn write_table(
     buffer: &mut [u8],
     held: [bool; 16],

@@ -83,7 +83,8 @@ pub fn fresh(n: usize) -> GroupAnswer
     fresh_limited(setup)
 }
 
-// Group post: one more waiting edit of the post's desk at its station, where the station does not refuse it.
+// Group post: one more waiting edit of the post's desk at its station, where the station does not
+// refuse it.
 pub fn post(g: [Station; 16], post: Post) -> GroupAnswer
     ensures { λ r. ⌜ r ≡ groupPostCall g post ⌝ }
 {

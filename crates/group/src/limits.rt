@@ -23,7 +23,8 @@ pub fn member_inside(s: Station, edition: usize, n: usize, k: usize) -> bool
     station_limits::station_inside(s)
 }
 
-// Is each station of the group inside its limits, of the group's N and edition, and its number its place?
+// Is each station of the group inside its limits, of the group's N and edition, and its number its
+// place?
 pub fn group_inside(g: [Station; 16]) -> bool
     ensures { λ r. ⌜ r ≡ groupInside g ⌝ }
 {

@@ -1,2 +1,3 @@
+pub mod Bulletins
 pub mod Group
 pub mod RoundRefusals

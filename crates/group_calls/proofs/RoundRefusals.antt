@@ -1,7 +1,8 @@
--- What refuses a round is a small number: that of the group, of a count, or of the first refused frame, and what refuses a frame is one of the list too. So it fits the number that C gets.
-use mathlib.Core.Path.{_≡_, refl, sym}
-use mathlib.Core.Bool.{Bool, true, false, cond, not}
-use mathlib.Core.List.{List, [], _∷_, _++_}
+-- What refuses a round is a small number: that of the group, of a count, or of the first refused
+-- frame, and what refuses a frame is one of the list too. So it fits the number that C gets.
+use mathlib.Core.Path.{_≡_, refl}
+use mathlib.Core.Bool.{Bool, true, false, not}
+use mathlib.Core.List.{List, [], _∷_}
 use Prim.Native.Nat.{ℕ, zero, suc, max, _<_}
 use native.Mathlib.Omega.{arith}
 use lib.Dec.{eqb}

@@ -1,6 +1,6 @@
--- What the calls on a group that lies as bytes return and write. Each is the group's call of document 01 on the
--- decoded group: bytes that are no group are refused with 2 as a group outside its limits is, and a lent buffer that
--- is too short is refused last.
+-- What the calls on a group that lies as bytes return and write. Each is the group's call of
+-- document 01 on the decoded group: bytes that are no group are refused with 2 as a group outside
+-- its limits is, and a lent buffer that is too short is refused last.
 use Prim.Native.Nat.{ℕ}
 use mathlib.Core.Bool.{not}
 use mathlib.Core.List.{List}

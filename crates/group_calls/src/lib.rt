@@ -1,4 +1,6 @@
-// The calls of a group on its bytes.
+// The calls of a group on its bytes; in `bulletin_calls`, those of its bulletins.
+
+pub mod bulletin_calls;
 
 ghost use mathlib.Core.Path.{_≡_};
 ghost use lib.ListN.{getD};
@@ -167,6 +169,6 @@ pub fn round(state: &mut [u8], masks: &[u16], reports: &mut [u8]) -> u32
     let after = done.group;
     let told = done.reports;
     station_encoder::put_group(state, after);
-    report_encoder::put_reports(reports, told);
+    station_encoder::reports::put_reports(reports, told);
     DONE
 }

@@ -1,5 +1,6 @@
--- A station keeps the limit that its group was given when fresh, after every list of posts and rounds: a post and a start hand the limit on, hearing leaves the
--- waiting edits as they are, and a refused call changes nothing (document 02, A2).
+-- A station keeps the limit that its group was given when fresh, after every list of posts and
+-- rounds: a post and a start hand the limit on, hearing leaves the waiting edits as they are, and a
+-- refused call changes nothing (document 02, A2).
 use Prim.Native.Nat.{ℕ, _≤_, _<_}
 use mathlib.Core.Bool.{Bool, true, false, cond}
 use mathlib.Core.List.{List, [], _∷_}
@@ -13,14 +14,12 @@ use Rattle.queues.specs.declared.Waiting.{Waiting}
 use Rattle.queues.specs.Waiting.{noneWaiting, withPosted, withoutNext}
 use Rattle.station_spec.specs.declared.Setup.{Setup}
 use Rattle.station_spec.specs.declared.Station.{Station}
-use Rattle.station_spec.specs.State.{freshStation}
-use Rattle.station_spec.specs.Hearing.{initialHearing}
-use Rattle.station_spec.specs.Turn.{startsEdit, afterTurn}
+use Rattle.station_spec.specs.Turn.{startsEdit}
 use Rattle.station_spec.specs.Calls.{posted}
 use Rattle.station_spec.proofs.Setters.{fresh-self}
 use Rattle.station_spec.proofs.TurnCells.{turn-waiting}
 use Rattle.group_spec.specs.declared.Post.{Post}
-use Rattle.group_spec.specs.State.{stationAt, sizeOf}
+use Rattle.group_spec.specs.State.{stationAt}
 use Rattle.group_spec.specs.Calls.{groupFreshRefusal, afterPost, groupPostCall, heard, roundRefusal, roundCall}
 use Rattle.group_spec.specs.History.{History, Call, Call.post, Call.round, next, begun, continued, historyOf}
 use Rattle.group_spec.proofs.Setups.{accepts}

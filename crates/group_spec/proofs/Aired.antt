@@ -1,5 +1,6 @@
--- Row k of every station is the k-th body that each station started, for a lane's oldest body is the first of its source's that is not aired. So every
--- aired list is a beginning of one list of rows, and of two aired lists one is a beginning of the other.
+-- Row k of every station is the k-th body that each station started, for a lane's oldest body is
+-- the first of its source's that is not aired. So every aired list is a beginning of one list of
+-- rows, and of two aired lists one is a beginning of the other.
 use mathlib.Core.Bool.{Bool, true, false, cond}
 use mathlib.Core.Logic.{_⊎_, inl, inr}
 use mathlib.Core.List.{List, [], _++_, append-nil}
@@ -37,7 +38,8 @@ use Rattle.group_spec.proofs.Taken.{version-begins, length-version}
 use Rattle.group_spec.proofs.Counting.{reached}
 use Rattle.group_spec.proofs.Lanes.{hearing-holds, airs-exactly}
 
--- the k-th body that each station has started by round u: the edits among them, each with its source
+-- the k-th body that each station has started by round u: the edits among them, each with its
+-- source
 unfoldable pub rowBy : Run → ℕ → ℕ → List Taking
 rowBy R u k =
     filterMap

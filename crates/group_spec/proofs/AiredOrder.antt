@@ -1,6 +1,6 @@
--- What any station airs of a sender is a beginning of the edits that the sender started: its rows have the first bodies that the sender started, in order.
+-- What any station airs of a sender is a beginning of the edits that the sender started: its rows
+-- have the first bodies that the sender started, in order.
 use Prim.Native.Nat.{ℕ, zero, suc, _<_}
-use mathlib.Core.Bool.{Bool, true, false, cond}
 use mathlib.Core.List.{List, [], _∷_, _++_, append-nil, append-assoc}
 use mathlib.Core.Path.{_≡_, refl, sym, ap, _∙_}
 use native.Mathlib.Omega.{arith}

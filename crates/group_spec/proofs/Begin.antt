@@ -1,4 +1,5 @@
--- Beginnings of lists: a list begins itself and whatever is put after it, a beginning of a beginning is one, and its entries are the list's.
+-- Beginnings of lists: a list begins itself and whatever is put after it, a beginning of a
+-- beginning is one, and its entries are the list's.
 use mathlib.Core.List.{List, [], _++_, append-nil, append-assoc}
 use mathlib.Core.Path.{_≡_, refl, sym, ap, _∙_}
 use Prim.Native.Nat.{ℕ, _≤_, _<_}

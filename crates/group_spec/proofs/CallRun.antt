@@ -1,15 +1,14 @@
--- The run of a list of calls: between two rounds the posts that stand there, and after the last of its rounds silent ones without end. A post, accepted
--- or refused, changes waiting edits only.
+-- The run of a list of calls: between two rounds the posts that stand there, and after the last of
+-- its rounds silent ones without end. A post, accepted or refused, changes waiting edits only.
 use mathlib.Core.Bool.{Bool, true, false, cond}
 use mathlib.Core.List.{List, [], _∷_}
 use mathlib.Core.Path.{_≡_, refl, _∙_}
-use Prim.Native.Nat.{ℕ, zero, suc, _≤_}
+use Prim.Native.Nat.{ℕ, zero, suc}
 use native.Mathlib.Decide.{ℕ-discrete, decLe}
 use native.Mathlib.Omega.{arith}
 use lib.Dec.{eqb}
 use lib.ListN.{length, set, length-set}
 use lib.Seq.{getD-set-same, getD-set-other, set-out}
-use Rattle.bodies.specs.declared.Body.{Body}
 use Rattle.bodies.specs.Refusals.{done}
 use Rattle.station_spec.specs.declared.Setup.{Setup}
 use Rattle.station_spec.specs.declared.Station.{Station}

@@ -1,4 +1,5 @@
--- The answers of group fresh, group post and round, each with the tests on its way decided: of several refusals that apply the first in its order is answered.
+-- The answers of group fresh, group post and round, each with the tests on its way decided: of
+-- several refusals that apply the first in its order is answered.
 use Prim.Native.Nat.{ℕ, _≤_, _<_}
 use mathlib.Core.Path.{_≡_, refl, ap}
 use mathlib.Core.Bool.{Bool, true, false, cond, not, _&&_}

@@ -1,4 +1,5 @@
--- All definitions that a computed run of a group goes through, named in one place: whoever says `unfolding groupRuns` has them open.
+-- All definitions that a computed run of a group goes through, named in one place: whoever says
+-- `unfolding groupRuns` has them open.
 use Rattle.links.specs.Log.{bit, hearsIn}
 use Rattle.station_spec.proofs.Computing.{stationRuns}
 use Rattle.group_spec.specs.State.{groupInside, freshGroup}

@@ -1,5 +1,6 @@
--- Request A4 over every list of calls: a round after the list is a round of the run of the list with that round put last. There each hearer stands for versions,
--- so no record that it hears conflicts with what it holds, frame by frame.
+-- Request A4 over every list of calls: a round after the list is a round of the run of the list
+-- with that round put last. There each hearer stands for versions, so no record that it hears
+-- conflicts with what it holds, frame by frame.
 use Prim.Native.Nat.{ℕ, suc, _+_, _-_, _<_}
 use mathlib.Core.List.{List, [], _∷_, _++_}
 use mathlib.Core.Path.{_≡_, refl, sym, subst, _∙_}

@@ -1,5 +1,5 @@
--- Calls after calls: what a history has of rounds, accepted posts, starts and aired edits stays at the beginning of
--- what any further calls leave.
+-- Calls after calls: what a history has of rounds, accepted posts, starts and aired edits stays at
+-- the beginning of what any further calls leave.
 use mathlib.Core.List.{List, [], _∷_, _++_}
 use mathlib.Core.Path.{_≡_, refl}
 use Prim.Native.Nat.{ℕ}

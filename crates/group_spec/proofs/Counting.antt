@@ -1,6 +1,8 @@
--- Counting alone, with no lane in sight: how many bodies each station has started, and how many rows it has aired. A station starts a body only where
--- it has aired all of its own, and it airs a row where it has one more of everybody than it has aired. So nobody is more than one body ahead of its
--- rows; and who hears of a body has, with it, all that its sender had aired with, and airs as many rows in that same turn.
+-- Counting alone, with no lane in sight: how many bodies each station has started, and how many
+-- rows it has aired. A station starts a body only where it has aired all of its own, and it airs a
+-- row where it has one more of everybody than it has aired. So nobody is more than one body ahead
+-- of its rows; and who hears of a body has, with it, all that its sender had aired with, and airs
+-- as many rows in that same turn.
 use mathlib.Core.Bool.{Bool, true, false, cond}
 use mathlib.Core.Logic.{_⊎_, inl, inr, ⊎-elim}
 use mathlib.Core.Path.{_≡_, refl}
@@ -22,7 +24,8 @@ unfoldable pub shown : (ℕ → ℕ → ℕ) → ℕ → ℕ → ℕ
 shown made s zero = 0
 shown made s (suc w) = made w s
 
--- what p has taken of s in round u + 1 once it has heard: what s had started as its news shows it, and of itself what it had started by round u
+-- what p has taken of s in round u + 1 once it has heard: what s had started as its news shows it,
+-- and of itself what it had started by round u
 abbrev pub reached : Links → (ℕ → ℕ → ℕ) → ℕ → ℕ → ℕ → ℕ
 reached L made u p s = shown made s (min (suc u) (news L (suc u) p s))
 
@@ -30,8 +33,9 @@ reached L made u p s = shown made s (min (suc u) (news L (suc u) p s))
 abbrev pub airsRow : Links → (ℕ → ℕ → ℕ) → (ℕ → ℕ → ℕ) → ℕ → ℕ → Bool
 airsRow L made rows u p = allBelow (L .size) (λ s. ltb (rows u p) (reached L made u p s))
 
--- the two rules, in the rounds up to `last`: `made u s` bodies were started by s and `rows u p` rows aired by p by the end of round u; a body starts only
--- where none of its station's own is left to air, and a row is aired exactly where there is one more of everybody
+-- the two rules, in the rounds up to `last`: `made u s` bodies were started by s and `rows u p`
+-- rows aired by p by the end of round u; a body starts only where none of its station's own is left
+-- to air, and a row is aired exactly where there is one more of everybody
 pub record Counting (L : Links) (made rows : ℕ → ℕ → ℕ) (last : ℕ) : Type 0 where
   pub made-zero : (s : ℕ) → s < L .size → made 0 s ≡ 0
   pub rows-zero : (p : ℕ) → p < L .size → rows 0 p ≡ 0

@@ -1,5 +1,6 @@
--- Demand 3, whole. The run of a list of calls stays inside its limits round by round, since its counts are bounded and no lane overflows; so none of its rounds is
--- refused, the history of the list is that run, and each sentence is one of the facts about runs.
+-- Demand 3, whole. The run of a list of calls stays inside its limits round by round, since its
+-- counts are bounded and no lane overflows; so none of its rounds is refused, the history of the
+-- list is that run, and each sentence is one of the facts about runs.
 use Prim.Native.Nat.{ℕ, zero, suc, _*_, _-_, _≤_, _<_}
 use mathlib.Core.Bool.{true}
 use mathlib.Core.List.{List}
@@ -21,7 +22,7 @@ use Rattle.group_spec.proofs.Members.{Members, members-inside, fresh-me
 use Rattle.group_spec.proofs.MembersPost.{post-members}
 use Rattle.group_spec.proofs.MembersRound.{Runs, after-members}
 use Rattle.group_spec.proofs.Lanes.{never-refused, run-step}
-use Rattle.group_spec.proofs.CallRun.{runOf, callsAfter, groupAfter, group-first, group-step, posts-keep}
+use Rattle.group_spec.proofs.CallRun.{runOf, callsAfter, groupAfter, group-first, posts-keep}
 use Rattle.group_spec.proofs.HistoryRun.{Unrefused, history-group}
 use Rattle.group_spec.proofs.PostsAccounted.{posts-started, starts-aired, starts-reported, posts-counted}
 use Rattle.group_spec.proofs.HistoryInside.{lanes-bounded}

@@ -1,12 +1,12 @@
--- Which desk goes first, read off the history: at each station it is the desk that did not start the last edit there, for a post leaves it and the start of an
--- edit alone moves it. So where both desks wait the next edit is of that desk.
+-- Which desk goes first, read off the history: at each station it is the desk that did not start
+-- the last edit there, for a post leaves it and the start of an edit alone moves it. So where both
+-- desks wait the next edit is of that desk.
 use Prim.Native.Nat.{ℕ, zero, suc, _≤_, _<_}
 use mathlib.Core.Bool.{Bool, true, false, cond, _&&_}
 use mathlib.Core.List.{List, [], _∷_, _++_, append-nil}
 use mathlib.Core.Path.{_≡_, refl, sym, ap, subst, _∙_}
 use native.Mathlib.Decide.{ℕ-discrete}
 use native.Mathlib.Omega.{arith}
-use lib.Dec.{eqb}
 use borrow.Author.Tests.{eq-eqb, ne-eqb}
 use Rattle.bodies.specs.declared.Body.{Body}
 use Rattle.bodies.specs.Body.{isEdit}
@@ -20,7 +20,7 @@ use Rattle.station_spec.proofs.Setters.{fresh-self}
 use Rattle.group_spec.specs.declared.Post.{Post}
 use Rattle.group_spec.specs.State.{stationAt, sizeOf}
 use Rattle.group_spec.specs.Calls.{roundCall}
-use Rattle.group_spec.specs.History.{History, Call, Call.post, Call.round, next, begun, continued, historyOf, reportIn, startsIn, postsOf}
+use Rattle.group_spec.specs.History.{History, Call, Call.post, Call.round, next, begun, continued, historyOf, reportIn, startsIn}
 use Rattle.group_spec.specs.Desks.{waitingAtDesk, startsOf, firstAfter}
 use Rattle.group_spec.proofs.Setups.{Accepts}
 use Rattle.group_spec.proofs.Members.{Members, fresh-at}

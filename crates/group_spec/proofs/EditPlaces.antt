@@ -1,5 +1,5 @@
--- An edit told by station, desk and number has one place at most in a list of posts, and one in the list of its
--- source's entries; what begins another list has the same edits in the same places.
+-- An edit told by station, desk and number has one place at most in a list of posts, and one in the
+-- list of its source's entries; what begins another list has the same edits in the same places.
 use Prim.Native.Nat.{ℕ, suc, _<_}
 use mathlib.Core.Bool.{Bool, true, false, cond, _&&_}
 use mathlib.Core.List.{List, [], _∷_, _++_, map, append-assoc}

@@ -1,4 +1,5 @@
--- A group has one edition from fresh: every post and round leaves each station its edition (document 02, A9).
+-- A group has one edition from fresh: every post and round leaves each station its edition
+-- (document 02, A9).
 use Prim.Native.Nat.{ℕ, _<_}
 use mathlib.Core.Bool.{Bool, true, false}
 use mathlib.Core.List.{List, [], _∷_}

@@ -1,8 +1,9 @@
--- Fairness: a desk with something waiting sees at most one edit of the other start before its own oldest. One call starts nothing at the station, or an edit of
--- this desk, or one of the other; in the last case this desk goes first from then on, and did not before.
+-- Fairness: a desk with something waiting sees at most one edit of the other start before its own
+-- oldest. One call starts nothing at the station, or an edit of this desk, or one of the other; in
+-- the last case this desk goes first from then on, and did not before.
 use Prim.Native.Nat.{ℕ, _+_, _≤_, _<_}
 use mathlib.Core.Bool.{Bool, true, false, cond, _&&_}
-use mathlib.Core.List.{List, [], _∷_, _++_}
+use mathlib.Core.List.{List, [], _∷_}
 use mathlib.Core.Path.{_≡_, refl, sym, ap, subst, _∙_}
 use native.Mathlib.Decide.{ℕ-discrete}
 use native.Mathlib.Omega.{arith}
@@ -12,13 +13,13 @@ use borrow.Author.Tests.{eq-eqb, ne-eqb}
 use Rattle.bodies.specs.declared.Body.{Body}
 use Rattle.bodies.specs.Body.{isEdit}
 use Rattle.queues.specs.declared.Waiting.{Waiting}
-use Rattle.queues.specs.Waiting.{isDesk, otherDesk, waitingEdits, deskCount, firstDesk, nextDesk}
+use Rattle.queues.specs.Waiting.{isDesk, otherDesk, deskCount, firstDesk, nextDesk}
 use Rattle.queues.proofs.WaitingLaws.{edits-count, next-desk, other-is, first-next}
 use Rattle.station_spec.specs.Limits.{allowed}
 use Rattle.station_spec.specs.declared.Setup.{Setup}
 use Rattle.group_spec.specs.declared.Post.{Post}
 use Rattle.group_spec.specs.State.{stationAt}
-use Rattle.group_spec.specs.Calls.{groupPostCall, roundCall}
+use Rattle.group_spec.specs.Calls.{roundCall}
 use Rattle.group_spec.specs.History.{History, Call, Call.post, Call.round, next, continued, historyOf, reportIn, postsOf}
 use Rattle.group_spec.specs.Desks.{waitingAtDesk, startsOf}
 use Rattle.group_spec.proofs.Setups.{Accepts}

@@ -1,4 +1,5 @@
--- The refusal of the first station that has one: it is done exactly where every station's is, and else it is that of some station.
+-- The refusal of the first station that has one: it is done exactly where every station's is, and
+-- else it is that of some station.
 use Prim.Native.Nat.{ℕ, zero, suc, _<_}
 use mathlib.Core.Bool.{Bool, true, false, cond, false≢true}
 use mathlib.Core.Path.{_≡_, refl, sym, _∙_}

@@ -1,10 +1,11 @@
--- What the run of a list of calls gives of demand 3: no round is refused where the group stays inside its limits and the own counts fit a frame, and
--- then the sentences about what is taken, aired and held in lanes, and the end rule.
+-- What the run of a list of calls gives of demand 3: no round is refused where the group stays
+-- inside its limits and the own counts fit a frame, and then the sentences about what is taken,
+-- aired and held in lanes, and the end rule.
 use mathlib.Core.Bool.{true, false, not}
 use mathlib.Core.Logic.{_⊎_, _↔_}
 use mathlib.Core.List.{List}
 use mathlib.Core.Path.{_≡_, refl, ap, _∙_}
-use Prim.Native.Nat.{ℕ, suc, _≤_, _<_}
+use Prim.Native.Nat.{ℕ, suc, _<_}
 use native.Mathlib.Omega.{arith}
 use lib.ListN.{getD, length}
 use Rattle.bodies.specs.Refusals.{done}

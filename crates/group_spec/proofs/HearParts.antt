@@ -1,5 +1,6 @@
--- The parts of one step of hearing, as facts about single values: the acknowledgement, the label, the count, the lane and what is taken, and the record
--- put in the place of the held one. b says each time whether the record advances the cell.
+-- The parts of one step of hearing, as facts about single values: the acknowledgement, the label,
+-- the count, the lane and what is taken, and the record put in the place of the held one. b says
+-- each time whether the record advances the cell.
 use Prim.Native.Nat.{ℕ, suc, _+_, _%_, _≤_, _<_}
 use mathlib.Core.Bool.{Bool, true, false, cond, not, _&&_, _||_, or-true}
 use mathlib.Core.List.{List, [], _∷_, _++_, append-nil}
@@ -26,7 +27,8 @@ use Rattle.group_spec.proofs.Run.{Run, linksOf}
 use Rattle.group_spec.proofs.Version.{Stands, Caught, shown, caught-same}
 use Rattle.group_spec.proofs.Standing.{Formed}
 
--- an acknowledgement at most two behind, read modulo 3, is one of this very broadcast; and one that was there is still one
+-- an acknowledgement at most two behind, read modulo 3, is one of this very broadcast; and one that
+-- was there is still one
 pub acked-mod : (g₀ g m : ℕ) → g₀ ≤ g → g ≤ m → m ≤ g + 2 → (eqb g₀ m || eqb (g % 3) (m % 3)) ≡ eqb g m
 acked-mod g₀ g m a b c =
     elim (ℕ-discrete g m) [

@@ -1,5 +1,6 @@
--- One step of hearing: a cell that stands for version v, given a record of version w + 1, stands for the later of the two, and the number rises, by one,
--- exactly if the record advances it; label, count, lane, taking and overflow all hang on that one test.
+-- One step of hearing: a cell that stands for version v, given a record of version w + 1, stands
+-- for the later of the two, and the number rises, by one, exactly if the record advances it; label,
+-- count, lane, taking and overflow all hang on that one test.
 use Prim.Native.Nat.{ℕ, suc, max, _+_, _%_, _≤_, _<_}
 use mathlib.Core.Bool.{Bool, true, false, cond, not, _&&_, _||_, or-false}
 use mathlib.Core.List.{List, [], _∷_, _++_, append-nil}

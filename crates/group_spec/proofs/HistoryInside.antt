@@ -1,5 +1,5 @@
--- After every list of calls the group is a group of n inside its limits: the fresh one is, and each call keeps it so, refused or not. So no lane holds
--- more than two.
+-- After every list of calls the group is a group of n inside its limits: the fresh one is, and each
+-- call keeps it so, refused or not. So no lane holds more than two.
 use Prim.Native.Nat.{ℕ, _≤_, _<_}
 use mathlib.Core.Bool.{Bool, true, false, cond}
 use mathlib.Core.List.{List, [], _∷_}

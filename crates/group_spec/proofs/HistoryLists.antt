@@ -1,5 +1,5 @@
--- The lists of a history are those of its run by the end of its last round: each is collected round after round, and what a round reports of a station
--- is what the run has of it.
+-- The lists of a history are those of its run by the end of its last round: each is collected round
+-- after round, and what a round reports of a station is what the run has of it.
 use mathlib.Core.Bool.{Bool, true, false, cond}
 use mathlib.Core.List.{List, [], _++_}
 use mathlib.Core.Path.{_≡_, refl, sym, ap, _∙_}

@@ -1,5 +1,6 @@
--- From a list of calls to its run: if no round is refused then the history's group, log and rounds are those of the run. One induction over the calls,
--- with what is still to come; a post goes on to the next round's group, a round is the run's next one.
+-- From a list of calls to its run: if no round is refused then the history's group, log and rounds
+-- are those of the run. One induction over the calls, with what is still to come; a post goes on to
+-- the next round's group, a round is the run's next one.
 use mathlib.Core.List.{List, [], _∷_, _++_}
 use mathlib.Core.Path.{_≡_, refl, sym, ap, ap₂, subst, fun-ext, _∙_}
 use Prim.Native.Nat.{ℕ, zero, suc, _+_, _-_, _≤_, _<_}

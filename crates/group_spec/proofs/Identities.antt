@@ -1,6 +1,6 @@
--- Every entry of an aired list is one accepted post. Entry k of a source is the k-th edit that the source started, for
--- aired lists begin the starts; that start is number j of its desk's starts, and so number j of its desk's accepted
--- posts, for the starts of a desk begin these.
+-- Every entry of an aired list is one accepted post. Entry k of a source is the k-th edit that the
+-- source started, for aired lists begin the starts; that start is number j of its desk's starts,
+-- and so number j of its desk's accepted posts, for the starts of a desk begin these.
 use Prim.Native.Nat.{ℕ, zero, suc, _≤_, _<_}
 use mathlib.Core.Bool.{Bool, true, false, cond}
 use mathlib.Core.Logic.{⊎-elim}

@@ -1,5 +1,5 @@
--- Posts of two desks at one station: where each post is of desk 0 or 1, the bodies at the station are those of the one desk and those of the other, each in its
--- order, and so many.
+-- Posts of two desks at one station: where each post is of desk 0 or 1, the bodies at the station
+-- are those of the one desk and those of the other, each in its order, and so many.
 use Prim.Native.Nat.{ℕ, zero, suc, _+_}
 use mathlib.Core.Bool.{Bool, true, false, cond, _&&_}
 use mathlib.Core.List.{List, [], _∷_, _++_}

@@ -1,7 +1,7 @@
--- Isolation: in a group inside its limits a post is judged by its own numbers, N, the edition, the limit of its station, and
--- how many edits of its own desk wait there.
-use Prim.Native.Nat.{ℕ, _<_}
-use mathlib.Core.Bool.{Bool, true, false, cond, not}
+-- Isolation: in a group inside its limits a post is judged by its own numbers, N, the edition, the
+-- limit of its station, and how many edits of its own desk wait there.
+use Prim.Native.Nat.{_<_}
+use mathlib.Core.Bool.{Bool, true, false, not}
 use mathlib.Core.Path.{_≡_, refl, sym, ap, _∙_}
 use native.Mathlib.Omega.{arith}
 use lib.Dec.{ltb}
@@ -9,7 +9,7 @@ use lib.ListN.{length}
 use borrow.Author.Tests.{ltb-true}
 use Rattle.bodies.specs.Refusals.{badNumber, notAnEdit, badDesk, badEdition, queueFull, done, refuse}
 use Rattle.bodies.specs.Limits.{postable, onChannel}
-use Rattle.queues.specs.Waiting.{isDesk, hasRoom}
+use Rattle.queues.specs.Waiting.{isDesk}
 use Rattle.queues.proofs.WaitingLaws.{edits-count, room-same}
 use Rattle.station_spec.specs.Limits.{allowed}
 use Rattle.station_spec.specs.Calls.{postRefusal}

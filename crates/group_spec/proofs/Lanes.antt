@@ -1,5 +1,6 @@
--- The lanes of a run: a lane holds what was taken beyond the rows aired, round after round. The counts of bodies and rows then follow the two rules of
--- counting, so no lane has more than one body after a round or two while hearing, and no hearing is ever refused.
+-- The lanes of a run: a lane holds what was taken beyond the rows aired, round after round. The
+-- counts of bodies and rows then follow the two rules of counting, so no lane has more than one
+-- body after a round or two while hearing, and no hearing is ever refused.
 use mathlib.Core.Bool.{Bool, true, false, cond, not, _&&_, true≢false}
 use mathlib.Core.Logic.{_⊎_, inl, inr}
 use mathlib.Core.List.{List, [], _∷_, _++_, append-nil}
@@ -370,7 +371,8 @@ module _ (R : Run) where
       go true false = refl
       go false b = refl
 
-  -- What a station hears in a round of the run is therefore what the definition of a round has it hear.
+  -- What a station hears in a round of the run is therefore what the definition of a round has it
+  -- hear.
   pub run-heard : (u p : ℕ) → p < R .n → heard (R .ready u) (R .masks (suc u)) p ≡ hearingIn R u p
   run-heard u p lp = below-through (R .ready u) (R .masks (suc u)) p (sizeOf (R .ready u)) (through-done u p lp)
 
@@ -386,7 +388,8 @@ module _ (R : Run) where
   pub airs-exactly : (u p : ℕ) → p < R .n → airs ((hearingIn R u p) .station) ≡ airsRow L (madeBy R) (rowsBy R) u p
   airs-exactly u p lp = airs-row u p lp (carried u)
 
-  -- After the airing step of its turn the own lane holds what the station started beyond the rows aired.
+  -- After the airing step of its turn the own lane holds what the station started beyond the rows
+  -- aired.
   pub own-aired : (u p : ℕ) → p < R .n → (laneAfter ((hearingIn R u p) .station) p) .len ≡ madeBy R u p - rowsBy R (suc u) p
   own-aired u p lp =
       has-aired u p p lp lp (carried u) .many

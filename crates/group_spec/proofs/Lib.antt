@@ -13,7 +13,8 @@ pub mod Takings
 pub mod Interleaving
 pub mod TurnAccount
 pub mod PostsAccounted
--- the simulation: what a record stands for, one record heard, a round heard, a turn, all rounds of a run
+-- the simulation: what a record stands for, one record heard, a round heard, a turn, all rounds of
+-- a run
 pub mod Through
 pub mod Run
 pub mod Version

@@ -1,4 +1,5 @@
--- The lists of demand 3 by time: what a station started, took and aired by the end of round u of a run, each round adding at the end.
+-- The lists of demand 3 by time: what a station started, took and aired by the end of round u of a
+-- run, each round adding at the end.
 use mathlib.Core.Bool.{cond}
 use mathlib.Core.List.{List, [], _++_}
 use Prim.Native.Nat.{ℕ, zero, suc}

@@ -1,5 +1,5 @@
--- Document 01's marked examples M1 to M12, of the definitions. Those of labels, words, frames and posts are shown in the crates below;
--- a group of one computes, once its edit is known to be one.
+-- Document 01's marked examples M1 to M12, of the definitions. Those of labels, words, frames and
+-- posts are shown in the crates below; a group of one computes, once its edit is known to be one.
 use Prim.Native.Nat.{ℕ, _<_}
 use mathlib.Core.Bool.{true, false}
 use mathlib.Core.List.{List, [], _∷_}
@@ -14,7 +14,7 @@ use Rattle.bodies.specs.declared.Body.the-variants.{Empty, Neutral, Insert}
 use Rattle.bodies.specs.Body.{isEmpty, isEdit}
 use Rattle.bodies.specs.Limits.{isEdition, postable, onChannel, channelInside, insideKind, bodyInside, numbersInside}
 use Rattle.bodies.specs.Refusals.{done, notAnEdit}
-use Rattle.bodies.proofs.LimitLaws.{postable-edit, postable-kind, postable-not-empty, inside-make, argument-outside}
+use Rattle.bodies.proofs.LimitLaws.{postable-edit, postable-kind, postable-not-empty, argument-outside}
 use Rattle.bodies.proofs.Examples as kinds
 use Rattle.labels.proofs.LabelExamples as labels
 use Rattle.labels.specs.Packing.{labelIn, labelsInside}
@@ -124,7 +124,8 @@ module _ (b : Body) (e : postable b ≡ true) (on : onChannel 0 b ≡ true) wher
     unfolding before groupRuns
     aired = rw (post-first, turn-two) (simp kind (refl, refl, refl, refl, refl))
 
--- of two posts to a station with room, one that may be posted and one not, the first is taken and the second gives 4
+-- of two posts to a station with room, one that may be posted and one not, the first is taken and
+-- the second gives 4
 posts :
     (s : Station) (d : ℕ) → stationInside s ≡ true → isDesk d ≡ true → deskCount (s .waiting) d < s .waiting .limit → (a b : Body) → postable a ≡ true → onChannel (s .edition) a ≡ true →
     postable b ≡ false →

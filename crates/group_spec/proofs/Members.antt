@@ -1,5 +1,5 @@
--- The limits of a group as facts about its stations, and the other way round; the fresh group is inside them. The group's arrays have their lengths by
--- type, and every call keeps them.
+-- The limits of a group as facts about its stations, and the other way round; the fresh group is
+-- inside them. The group's arrays have their lengths by type, and every call keeps them.
 use Prim.Native.Nat.{ℕ, _≤_, _<_}
 use mathlib.Core.Bool.{true, _&&_}
 use mathlib.Core.List.{List}

@@ -1,5 +1,5 @@
--- A group post that is accepted puts an edit into the queue of one station and leaves the others; one that is refused leaves the group. So a group
--- inside its limits stays so.
+-- A group post that is accepted puts an edit into the queue of one station and leaves the others;
+-- one that is refused leaves the group. So a group inside its limits stays so.
 use Prim.Native.Nat.{ℕ, _<_}
 use mathlib.Core.Bool.{Bool, true, false, cond, not, false≢true}
 use mathlib.Core.List.{List}
@@ -7,7 +7,7 @@ use mathlib.Core.Path.{_≡_, refl, sym, ap, subst, _∙_}
 use native.Mathlib.Decide.{ℕ-discrete}
 use native.Mathlib.Omega.{arith}
 use lib.Dec.{eqb, ltb}
-use lib.ListN.{set, length-set}
+use lib.ListN.{length-set}
 use lib.Seq.{getD-set-same, getD-set-other}
 use borrow.Author.Tests.{ltb-true}
 use Rattle.bodies.specs.Limits.{postable, onChannel, mayWait}

@@ -1,5 +1,5 @@
--- A round that is not refused leaves every station inside its limits: each hears records that a frame may carry, no frame is refused, and it takes
--- its turn. A refused round leaves the group.
+-- A round that is not refused leaves every station inside its limits: each hears records that a
+-- frame may carry, no frame is refused, and it takes its turn. A refused round leaves the group.
 use Prim.Native.Nat.{ℕ, zero, suc, _≤_, _<_}
 use mathlib.Core.Bool.{Bool, true, false, cond, not, false≢true}
 use mathlib.Core.List.{List}

@@ -1,7 +1,9 @@
--- What "newer" decides. The versions of a station that are in flight in one round have numbers at most one apart, so labels modulo 3 tell the same, the
--- next and the previous number apart; and within one number a later version has no smaller count. So a station heeds a record exactly if the record
--- is later than what the cell stands for, or else the cell stands for it already; and it advances exactly if its number is the next one. Records with the same
--- number and count show the same, so none conflicts.
+-- What "newer" decides. The versions of a station that are in flight in one round have numbers at
+-- most one apart, so labels modulo 3 tell the same, the next and the previous number apart; and
+-- within one number a later version has no smaller count. So a station heeds a record exactly if
+-- the record is later than what the cell stands for, or else the cell stands for it already; and it
+-- advances exactly if its number is the next one. Records with the same number and count show the
+-- same, so none conflicts.
 use Prim.Native.Nat.{ℕ, zero, suc, max, _%_, _≤_, _<_}
 use mathlib.Core.Bool.{Bool, true, false, not, and-false}
 use mathlib.Core.Logic.{inl, inr}

@@ -1,4 +1,5 @@
--- Entries picked from a list by a test, in their order: how many stand before a place, and the place of each.
+-- Entries picked from a list by a test, in their order: how many stand before a place, and the
+-- place of each.
 use Prim.Native.Nat.{ℕ, zero, suc, _+_, _-_, _≤_, _<_}
 use mathlib.Core.Bool.{Bool, true, false, cond}
 use mathlib.Core.List.{List, [], _∷_, _++_, append-assoc}

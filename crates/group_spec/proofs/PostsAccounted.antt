@@ -1,6 +1,8 @@
--- Accepted posts are all accounted for, after every list of calls: of each desk, in their order, the first started, and the last wait; of those that started, of
--- both desks, the first were aired, and the last stand in the own lane. One invariant is carried from call to call: the group is inside its limits, each post
--- is of a desk, and the lists agree. A post adds one waiting edit; a turn moves edits on; a refused call changes nothing.
+-- Accepted posts are all accounted for, after every list of calls: of each desk, in their order,
+-- the first started, and the last wait; of those that started, of both desks, the first were aired,
+-- and the last stand in the own lane. One invariant is carried from call to call: the group is
+-- inside its limits, each post is of a desk, and the lists agree. A post adds one waiting edit; a
+-- turn moves edits on; a refused call changes nothing.
 use Prim.Native.Nat.{ℕ, _+_, _≤_, _<_}
 use mathlib.Core.Bool.{Bool, true, false, cond}
 use mathlib.Core.List.{List, [], _∷_, _++_, append-nil, append-assoc}
@@ -8,7 +10,7 @@ use mathlib.Core.Path.{_≡_, refl, sym, ap, subst, _∙_}
 use native.Mathlib.Decide.{ℕ-discrete}
 use native.Mathlib.Omega.{arith}
 use lib.Dec.{eqb}
-use lib.ListN.{getD, set, length, length-append, replicate, getD-replicate}
+use lib.ListN.{getD, length, length-append, replicate, getD-replicate}
 use Rattle.bodies.specs.declared.Body.{Body}
 use Rattle.bodies.specs.Body.{isEmpty, isEdit}
 use Rattle.bodies.specs.Refusals.{done}
@@ -486,7 +488,8 @@ kept-next n H (round masks) c =
           ∙ sym (started-round H masks p);
     }
 
--- how many bodies a call starts at a station, and how many of them are edits: as many, while edits wait
+-- how many bodies a call starts at a station, and how many of them are edits: as many, while edits
+-- wait
 pub bodies-next :
     (n : ℕ) (H : History) (call : Call) → Members n (H .group) → (p : ℕ) → p < n → 0 < waitingCount (stationAt (H .group) p .waiting) →
     (length (started (next H call) p) + length (postsAt p (H .starts)) ≡ length (started H p) + length (postsAt p ((next H call) .starts)))

@@ -1,6 +1,6 @@
--- Replies stay behind what they reply to. What a station has aired before a post are edits that were accepted before
--- it, so the post is none of them; of two aired lists one begins the other, so every list that has the post has all
--- these entries before it.
+-- Replies stay behind what they reply to. What a station has aired before a post are edits that
+-- were accepted before it, so the post is none of them; of two aired lists one begins the other, so
+-- every list that has the post has all these entries before it.
 use Prim.Native.Nat.{ℕ, _≤_, _<_}
 use mathlib.Core.List.{List, _∷_, _++_}
 use mathlib.Core.Path.{_≡_, refl, sym, subst, _∙_}

@@ -1,5 +1,5 @@
--- A run in which every body is the same: two desks of station 0 post, station 1 replies once it has aired the first,
--- and each entry is told apart, at both stations.
+-- A run in which every body is the same: two desks of station 0 post, station 1 replies once it has
+-- aired the first, and each entry is told apart, at both stations.
 use Prim.Native.Nat.{ℕ}
 use mathlib.Core.List.{List, [], _∷_, _++_}
 use mathlib.Core.Path.{_≡_, refl}

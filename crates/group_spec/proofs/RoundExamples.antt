@@ -1,5 +1,7 @@
--- Rounds of three stations whose tables do not fit together, computed, as no run from fresh has them. What a record is, is judged against the table as it stands when
--- its frame is heard, so that one conflicts with another that came earlier in the same round; a round that is refused changes nothing.
+-- Rounds of three stations whose tables do not fit together, computed, as no run from fresh has
+-- them. What a record is, is judged against the table as it stands when its frame is heard, so that
+-- one conflicts with another that came earlier in the same round; a round that is refused changes
+-- nothing.
 use Prim.Native.Nat.{ℕ}
 use mathlib.Core.Bool.{true}
 use mathlib.Core.List.{List, [], _∷_}
@@ -53,7 +55,8 @@ one-frame = with-record (with-record full 0 1 0 (Drop 0 4) (0 ∷ 1 ∷ 0 ∷ []
 
 pub record FalseRounds : Type 0 where
   pub inside : (groupInside two-faces ≡ true) × (groupInside full-and-faces ≡ true) × (groupInside one-frame ≡ true)
-  -- station 0 hears station 1 or 2 alone, or both one after the other: the second record conflicts with the first
+  -- station 0 hears station 1 or 2 alone, or both one after the other: the second record conflicts
+  -- with the first
   pub one-face : (roundRefusal two-faces (2 ∷ 0 ∷ 0 ∷ []) ≡ done) × (roundRefusal two-faces (4 ∷ 0 ∷ 0 ∷ []) ≡ done)
   pub both-faces : roundRefusal two-faces (6 ∷ 0 ∷ 0 ∷ []) ≡ conflict
   -- nothing changes

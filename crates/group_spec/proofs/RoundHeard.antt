@@ -1,5 +1,6 @@
--- A whole round's hearing. A frame carries of each station of which its sender holds a record that very record, so hearing it lifts each cell to the
--- later of its version and the sender's; and the senders of the mask, one after the other, lift it to the latest of all, which is the clock.
+-- A whole round's hearing. A frame carries of each station of which its sender holds a record that
+-- very record, so hearing it lifts each cell to the later of its version and the sender's; and the
+-- senders of the mask, one after the other, lift it to the latest of all, which is the clock.
 use Prim.Native.Nat.{ℕ, zero, suc, max, _≤_, _<_}
 use mathlib.Core.Bool.{Bool, true, false, cond, _&&_}
 use mathlib.Core.List.{[], _∷_}

@@ -1,5 +1,5 @@
--- All rounds: the fresh group is as round 0 leaves it, what happens between two rounds touches no cell, and a round's hearing and turn lead on. One
--- induction over the rounds.
+-- All rounds: the fresh group is as round 0 leaves it, what happens between two rounds touches no
+-- cell, and a round's hearing and turn lead on. One induction over the rounds.
 use Prim.Native.Nat.{ℕ, zero, suc, _%_, _<_}
 use mathlib.Core.Path.{_≡_, refl, sym, ap, _∙_, subst}
 use native.Mathlib.Decide.{ℕ-discrete}

@@ -1,5 +1,7 @@
--- A run by time: the group after each round, and what the simulation shows of each round. Between two rounds anything may happen to the waiting edits and
--- to nothing else, so that posts, accepted or refused, play no part in it. Rounds here are never refused; that none is in a history is shown from this.
+-- A run by time: the group after each round, and what the simulation shows of each round. Between
+-- two rounds anything may happen to the waiting edits and to nothing else, so that posts, accepted
+-- or refused, play no part in it. Rounds here are never refused; that none is in a history is shown
+-- from this.
 use Prim.Native.Nat.{ℕ, suc, pred, _≤_, _<_}
 use mathlib.Core.Bool.{Bool, cond, not, _&&_}
 use mathlib.Core.List.{List, []}
@@ -61,7 +63,8 @@ rises R u p s = ltb (number.got (linksOf R) u p s) (number.got (linksOf R) (suc 
 abbrev pub comes : Run → ℕ → ℕ → ℕ → Bool
 comes R u p s = rises R u p s && not (isEmpty (bodyAt R s (news (linksOf R) (suc u) p s)))
 
--- what the simulation shows of every round: which bodies are taken, what becomes of the lanes, and who ends
+-- what the simulation shows of every round: which bodies are taken, what becomes of the lanes, and
+-- who ends
 pub record Simulated (R : Run) : Type 0 where
   pub ends :
       (u s : ℕ) → s < R .n → turn.broadcastEnds ((hearingIn R u s) .station) ≡ number.ends (linksOf R) (suc u) s

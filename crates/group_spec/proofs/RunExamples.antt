@@ -1,4 +1,5 @@
--- Runs of one, two and three stations, computed. They show that demand 3 is not empty: edits are taken, aired and ended at every station.
+-- Runs of one, two and three stations, computed. They show that demand 3 is not empty: edits are
+-- taken, aired and ended at every station.
 use Prim.Native.Nat.{ℕ, suc}
 use mathlib.Core.List.{[], _∷_}
 use mathlib.Core.Path.{_≡_, refl}
@@ -43,10 +44,12 @@ pub record Runs : Type 0 where
   -- everyone hears everyone
   pub two : seen 2 (run 2 4 (2 ∷ 1 ∷ [])) ≡ mesh 2
   pub three : seen 3 (run 3 4 (6 ∷ 5 ∷ 3 ∷ [])) ≡ mesh 3
-  -- the chain: the two ends, two links from each other, need four rounds for a broadcast and the middle two; the same is aired everywhere
+  -- the chain: the two ends, two links from each other, need four rounds for a broadcast and the
+  -- middle two; the same is aired everywhere
   pub chain-airs : tabulate 3 (airedList 3 chain) ≡ replicate 3 (edits 3)
   pub chain-ends : tabulate 3 (λ s. filterMap 8 (λ u. endsAt chain s (suc u)) suc) ≡ (4 ∷ 8 ∷ []) ∷ (2 ∷ 4 ∷ 6 ∷ 8 ∷ []) ∷ (4 ∷ 8 ∷ []) ∷ []
-  -- two desks: a fresh station gives way to desk 0, then to desk 1, and then desk 0 waits alone; all is aired in the order started
+  -- two desks: a fresh station gives way to desk 0, then to desk 1, and then desk 0 waits alone;
+  -- all is aired in the order started
   pub desks-start : twoDesks .starts ≡ of-desk 0 1 ∷ of-desk 1 0 ∷ of-desk 0 2 ∷ of-desk 0 3 ∷ []
   pub desks-aired : takingsOf 0 (airedList 1 twoDesks 0) ≡ edit 1 ∷ edit 0 ∷ edit 2 ∷ edit 3 ∷ []
 

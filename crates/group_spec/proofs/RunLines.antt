@@ -40,8 +40,8 @@ edits n = tabulate n (λ k. record { source = k; body = edit k })
 unfoldable pub run : ℕ → ℕ → List ℕ → History
 run n rounds masks = historyOf (sized n) (tabulate n (λ k. post (record { station = k; desk = 0; body = edit k })) ++ replicate rounds (round masks))
 
--- what is read off a run in which everyone hears everyone: the lines of rounds 2 to 4 and what is aired, station by station. One value, so that a run
--- is computed once
+-- what is read off a run in which everyone hears everyone: the lines of rounds 2 to 4 and what is
+-- aired, station by station. One value, so that a run is computed once
 pub record Seen : Type 0 where
   pub second : List (List Line)
   pub third : List (List Line)
@@ -57,7 +57,8 @@ seen n H =
       airs = tabulate n (airedList n H);
     }
 
--- with one edit of each of n stations: round 2 ends Empty and starts the edits, round 3 takes those of the others and airs all, round 4 ends them
+-- with one edit of each of n stations: round 2 ends Empty and starts the edits, round 3 takes those
+-- of the others and airs all, round 4 ends them
 abbrev pub mesh : ℕ → Seen
 mesh n =
     record {

@@ -1,4 +1,5 @@
--- What fresh accepts: N from 1 to 16, a limit of waiting edits from 1 to 32, and an edition of 0 or 1.
+-- What fresh accepts: N from 1 to 16, a limit of waiting edits from 1 to 32, and an edition of 0 or
+-- 1.
 use Prim.Native.Nat.{ℕ, _≤_, _<_}
 use mathlib.Core.Bool.{Bool, true, false, not, cond, _&&_}
 use mathlib.Core.Path.{_≡_, refl}

@@ -1,5 +1,6 @@
--- The simulation: what the rounds of a run do is what the clocks and the broadcast numbers say. The invariant of all rounds gives the table, the labels,
--- the acknowledgements and the counts; the hearing of each round gives the takings, the lanes and the overflow, and its turn the ends.
+-- The simulation: what the rounds of a run do is what the clocks and the broadcast numbers say. The
+-- invariant of all rounds gives the table, the labels, the acknowledgements and the counts; the
+-- hearing of each round gives the takings, the lanes and the overflow, and its turn the ends.
 use Prim.Native.Nat.{ℕ, suc, pred, _*_, _-_, _%_, _≤_, _<_}
 use mathlib.Core.Bool.{Bool, true, false, cond, not, _&&_}
 use mathlib.Core.List.{[]}
@@ -62,7 +63,8 @@ module _ (R : Run) where
     pub ready-formed : Formed R p (stationAt (R .ready u) p)
     ready-formed = ready-all R u p lp .formed
 
-    -- the table: nothing is held of a station of which there is no news, and else that station's own record as the round of the news left it
+    -- the table: nothing is held of a station of which there is no news, and else that station's
+    -- own record as the round of the news left it
     pub table-none : (q : ℕ) → q < R .n → news L u p q ≡ 0 → heldOf (stationAt (R .after u) p) q ≡ false
     table-none q l e = after-all R u p lp .cells q l .is-held ∙ le-ltb 0 (news L u p q) (omega arith)
 

@@ -1,5 +1,6 @@
--- The invariant of a round's hearing: of every station the hearer's cell stands for some version, and the count, the lanes, the takings and whether a
--- lane overflowed are what those versions say. Versions are a function of the station, compared place by place.
+-- The invariant of a round's hearing: of every station the hearer's cell stands for some version,
+-- and the count, the lanes, the takings and whether a lane overflowed are what those versions say.
+-- Versions are a function of the station, compared place by place.
 use Prim.Native.Nat.{ℕ, suc, _*_, _-_, _≤_, _<_}
 use mathlib.Core.Bool.{Bool, _&&_}
 use mathlib.Core.Logic.{inl, inr}

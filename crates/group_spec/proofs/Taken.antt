@@ -1,5 +1,6 @@
--- What p has taken of s is what s had started as p's news of it shows it, so a beginning of what s has started. From one version of s to a later
--- one whose number is at most one higher, at most one body comes: that of the later version.
+-- What p has taken of s is what s had started as p's news of it shows it, so a beginning of what s
+-- has started. From one version of s to a later one whose number is at most one higher, at most one
+-- body comes: that of the later version.
 use mathlib.Core.Bool.{Bool, true, false, cond}
 use mathlib.Core.Logic.{_⊎_, inl, inr, ⊎-elim}
 use mathlib.Core.List.{List, [], _∷_, _++_, append-nil}
@@ -70,7 +71,8 @@ module _ (R : Run) where
   unfolding startedBy
   startedBy-none s = refl
 
-  -- One round: a broadcast ends and the body that s has then is what it started, or s starts nothing and keeps its body.
+  -- One round: a broadcast ends and the body that s has then is what it started, or s starts
+  -- nothing and keeps its body.
   abbrev body : ℕ → ℕ → Body
   body u s = (stationAt (R .after u) s) .body
 

@@ -1,5 +1,5 @@
--- The bodies of one station in a list of takings or of posts: those of two lists one after the other, of a single entry, and of what is gathered with its
--- place as station.
+-- The bodies of one station in a list of takings or of posts: those of two lists one after the
+-- other, of a single entry, and of what is gathered with its place as station.
 use Prim.Native.Nat.{ℕ, zero, suc, _≤_, _<_}
 use mathlib.Core.Bool.{Bool, true, false, cond, _&&_}
 use mathlib.Core.List.{List, [], _∷_, _++_, append-nil, append-assoc, map, map-append}
@@ -110,7 +110,8 @@ pub post-here : (x : Post) → postsAt (x .station) (x ∷ []) ≡ x .body ∷ [
 unfolding postsAt
 post-here x = rw (eq-eqb (x .station) (x .station) refl)
 
--- what is gathered with its place as station, and a desk for each: the bodies of one place, and those of one desk there
+-- what is gathered with its place as station, and a desk for each: the bodies of one place, and
+-- those of one desk there
 module _ (test : ℕ → Bool) (desk : ℕ → ℕ) (body : ℕ → Body) where
   abbrev postAt : ℕ → Post
   postAt k = record { station = k; desk = desk k; body = body k }

@@ -1,14 +1,13 @@
--- Hearing that goes on after a refusal. A round stops hearing at the first refused frame; the simulation follows this hearing instead, and shows that it is
--- never refused. A hearing that is not refused has stopped nowhere, so the two are then the same.
+-- Hearing that goes on after a refusal. A round stops hearing at the first refused frame; the
+-- simulation follows this hearing instead, and shows that it is never refused. A hearing that is
+-- not refused has stopped nowhere, so the two are then the same.
 use Prim.Native.Nat.{ℕ, zero, suc, _+_, _<_}
 use native.Mathlib.Nat.{zero-add, suc-add}
 use mathlib.Core.Bool.{Bool, true, false, cond}
-use mathlib.Core.List.{List, [], _∷_}
-use mathlib.Core.Path.{_≡_, refl, sym, ap, _∙_}
-use native.Mathlib.Omega.{arith}
-use lib.Dec.{eqb}
+use mathlib.Core.List.{List}
+use mathlib.Core.Path.{_≡_, refl, ap}
 use lib.ListN.{length}
-use borrow.Author.Tests.{eq-eqb, eqb-true}
+use borrow.Author.Tests.{eq-eqb}
 use Rattle.bodies.specs.Refusals.{done}
 use Rattle.links.specs.Log.{hearsIn}
 use Rattle.lists.specs.Below.{setBelow}

@@ -1,10 +1,11 @@
--- Posts in a turn: an edit that starts leaves the waiting ones of its desk for the own lane, and one that is aired leaves the own lane for the row. So what waited
--- at a desk is what started of it and then what waits, and what stood in the own lane, then what started, is the own edit of the row and then what stands in the own lane.
+-- Posts in a turn: an edit that starts leaves the waiting ones of its desk for the own lane, and
+-- one that is aired leaves the own lane for the row. So what waited at a desk is what started of it
+-- and then what waits, and what stood in the own lane, then what started, is the own edit of the
+-- row and then what stands in the own lane.
 use Prim.Native.Nat.{ℕ, zero, suc, _≤_, _<_}
 use mathlib.Core.Bool.{Bool, true, false, cond, _&&_}
 use mathlib.Core.List.{List, [], _∷_, _++_, append-nil, append-assoc}
 use mathlib.Core.Path.{_≡_, refl, sym, ap, subst, _∙_}
-use native.Mathlib.Decide.{ℕ-discrete}
 use native.Mathlib.Omega.{arith}
 use lib.Dec.{eqb, ltb}
 use lib.ListN.{getD, length}
@@ -12,12 +13,10 @@ use borrow.Author.Tests.{ltb-true, lt-ltb, eq-eqb}
 use Rattle.bodies.specs.declared.Body.{Body}
 use Rattle.bodies.specs.declared.Body.the-variants.{Empty, Neutral}
 use Rattle.bodies.specs.Body.{isEmpty, isEdit}
-use Rattle.lists.specs.Below.{filterMap}
 use Rattle.lists.proofs.Laws.{allBelow-at}
 use Rattle.queues.specs.declared.Lane.{Lane}
 use Rattle.station_spec.specs.Limits.{allowed}
 use Rattle.station_spec.specs.declared.Station.{Station}
-use Rattle.station_spec.specs.declared.Taking.{Taking}
 use Rattle.queues.specs.Lane.{bodies, laneOf, pushed, popped}
 use Rattle.queues.specs.Queue.{noSlot}
 use Rattle.queues.specs.Waiting.{isDesk, otherDesk, waitingEdits, waitingCount, firstDesk, nextDesk, nextEdit, withoutNext}

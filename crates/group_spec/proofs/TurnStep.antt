@@ -1,5 +1,6 @@
--- The turn of a round: a station whose cells stand for the clocks of the round ends its broadcast exactly if the clocks say so, and is afterwards as the
--- round leaves it, its own record being the newest version of itself.
+-- The turn of a round: a station whose cells stand for the clocks of the round ends its broadcast
+-- exactly if the clocks say so, and is afterwards as the round leaves it, its own record being the
+-- newest version of itself.
 use Prim.Native.Nat.{ℕ, suc, _%_, _≤_, _<_}
 use mathlib.Core.Bool.{Bool, true, false, cond, _||_}
 use mathlib.Core.Logic.{⊎-elim}

@@ -1,4 +1,5 @@
--- A7's theorem, put together: order, alternation and fairness over every list of calls from a fresh group.
+-- A7's theorem, put together: order, alternation and fairness over every list of calls from a fresh
+-- group.
 use Rattle.group_spec.specs.Desks.{TwoDesks}
 use Rattle.group_spec.proofs.Setups.{accepts}
 use Rattle.group_spec.proofs.PostsAccounted.{starts-interleaved}

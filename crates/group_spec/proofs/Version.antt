@@ -1,6 +1,7 @@
--- What a record, and the cell of a station, mean: a version of that station, 0 for none and w + 1 for the station as round w left it. All that a version
--- shows is said by links alone, save the body, which is said by the round in which the broadcast began. So two versions with the same number and the
--- same count show the same, and a cell that stands for the one stands for the other.
+-- What a record, and the cell of a station, mean: a version of that station, 0 for none and w + 1
+-- for the station as round w left it. All that a version shows is said by links alone, save the
+-- body, which is said by the round in which the broadcast began. So two versions with the same
+-- number and the same count show the same, and a cell that stands for the one stands for the other.
 use Prim.Native.Nat.{ℕ, zero, suc, pred, _%_, _≤_, _<_}
 use mathlib.Core.Bool.{Bool, cond, not, _&&_}
 use mathlib.Core.List.{List, []}

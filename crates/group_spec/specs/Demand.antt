@@ -45,13 +45,15 @@ pub record Demand (n : ℕ) (H : History) : Type 0 where
   pub posts-started :
       (p desk : ℕ) → p < n → isDesk desk ≡ true →
       postsOf p desk (H .accepted) ≡ postsOf p desk (H .starts) ++ waitingEdits ((stationAt (H .group) p) .waiting) desk
-  -- the edits of both desks that started, in their order: the own edits that were aired, then those in the own lane
+  -- the edits of both desks that started, in their order: the own edits that were aired, then those
+  -- in the own lane
   pub starts-aired :
       (p : ℕ) → p < n →
       postsAt p (H .starts) ≡ takingsOf p (airedList n H p) ++ onlyEdits (bodies (laneAt (stationAt (H .group) p) p))
   -- they are the edits among what the station started
   pub starts-reported : (p : ℕ) → p < n → postsAt p (H .starts) ≡ onlyEdits (started H p)
-  -- and so in number, over both desks: accepted posts = waiting + edits in the own lane + own edits aired
+  -- and so in number, over both desks: accepted posts = waiting + edits in the own lane + own edits
+  -- aired
   pub posts-counted :
       (p : ℕ) → p < n →
       length (postsAt p (H .accepted))

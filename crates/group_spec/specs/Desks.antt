@@ -1,5 +1,5 @@
--- Document 02, A7: two desks on one station. Every list of calls from a fresh group starts the edits of both desks in
--- turn, and no desk meets the other's limit.
+-- Document 02, A7: two desks on one station. Every list of calls from a fresh group starts the
+-- edits of both desks in turn, and no desk meets the other's limit.
 use Prim.Native.Nat.{ℕ, _+_, _≤_, _<_}
 use mathlib.Core.Bool.{true, cond}
 use mathlib.Core.List.{List, [], _∷_}
@@ -33,8 +33,8 @@ waitingAtDesk H p desk = deskCount ((stationAt (H .group) p) .waiting) desk
 abbrev pub startsOf : History → ℕ → ℕ → List Body
 startsOf H p desk = postsOf p desk (H .starts)
 
--- the desk that goes first at station p after these starts: the one that did not start the last of them there, or where
--- none is there the one from before
+-- the desk that goes first at station p after these starts: the one that did not start the last of
+-- them there, or where none is there the one from before
 unfoldable pub firstAfter : ℕ → ℕ → List Post → ℕ
 firstAfter p before [] = before
 firstAfter p before (x ∷ xs) = firstAfter p (cond (eqb (x .station) p) (otherDesk (x .desk)) before) xs
@@ -42,17 +42,17 @@ firstAfter p before (x ∷ xs) = firstAfter p (cond (eqb (x .station) p) (otherD
 pub record Desks (n : ℕ) (H : History) : Type 0 where
   -- order: what a station starts is an interleaving of what its desks start
   pub starts-interleaved : (p : ℕ) → p < n → Interleaved (startsOf H p 0) (startsOf H p 1) (postsAt p (H .starts))
-  -- and what any station airs of a sender is a beginning of it, so that the edits of each desk come in their order
-  -- everywhere
+  -- and what any station airs of a sender is a beginning of it, so that the edits of each desk come
+  -- in their order everywhere
   pub aired-begin-starts : (p s : ℕ) → p < n → s < n → Begins (takingsOf s (airedList n H p)) (postsAt s (H .starts))
-  -- alternation: where both desks wait, no call starts an edit of the desk that started the last one; a fresh station
-  -- gives way to desk 0
+  -- alternation: where both desks wait, no call starts an edit of the desk that started the last
+  -- one; a fresh station gives way to desk 0
   pub desks-alternate :
       (call : Call) (p : ℕ) → p < n → 0 < waitingAtDesk H p 0 → 0 < waitingAtDesk H p 1 →
       let last = otherDesk (firstAfter p 0 (H .starts)) in
       startsOf (next H call) p last ≡ startsOf H p last
-  -- fairness: where a desk has an edit waiting, further calls start at most one edit of the other before they start one
-  -- of it
+  -- fairness: where a desk has an edit waiting, further calls start at most one edit of the other
+  -- before they start one of it
   pub desks-fair :
       (more : List Call) (p desk : ℕ) → p < n → isDesk desk ≡ true → 0 < waitingAtDesk H p desk →
       startsOf (continued H more) p desk ≡ startsOf H p desk →

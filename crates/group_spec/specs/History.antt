@@ -112,7 +112,8 @@ postsOf s desk (x ∷ xs) = cond (eqb (x .station) s && eqb (x .desk) desk) (x .
 unfoldable pub started : History → ℕ → List Body
 started H s = collect (λ r. unlessEmpty ((reportIn r s) .turn .«started_body»)) (H .rounds)
 
--- the term "taken": of another station, what the rounds report that p took of it; of p itself, what p started
+-- the term "taken": of another station, what the rounds report that p took of it; of p itself, what
+-- p started
 unfoldable pub takenFrom : History → ℕ → ℕ → List Body
 takenFrom H p s =
     cond (eqb p s)

@@ -1,5 +1,6 @@
--- Document 02, A14: replies stay behind what they reply to. Each accepted post is an edit of its own, told by its
--- station, its desk and its number among that desk's accepted posts, and never by its body.
+-- Document 02, A14: replies stay behind what they reply to. Each accepted post is an edit of its
+-- own, told by its station, its desk and its number among that desk's accepted posts, and never by
+-- its body.
 use Prim.Native.Nat.{ℕ, _<_}
 use mathlib.Core.Bool.{cond}
 use mathlib.Core.List.{List, [], _∷_, _++_}
@@ -38,7 +39,8 @@ unfoldable pub postsFrom : ℕ → List Post → List Post
 postsFrom s [] = []
 postsFrom s (x ∷ xs) = cond (eqb (x .station) s) (x ∷ []) [] ++ postsFrom s xs
 
--- the edit that entry i of an aired list is: entry k of its source is the k-th edit that its source started
+-- the edit that entry i of an aired list is: entry k of its source is the k-th edit that its source
+-- started
 unfoldable pub entryEdit : List Post → List Taking → ℕ → Edit
 entryEdit starts aired i =
     let s = (getD aired i noTaking) .source in
@@ -60,7 +62,8 @@ pub record Posted (H : History) (t : Taking) (e : Edit) : Type 0 where
   pub source : (getD (H .accepted) place noPost) .station ≡ t .source
   pub body : (getD (H .accepted) place noPost) .body ≡ t .body
 
--- every entry of an aired list is exactly one accepted post, the same everywhere and for good, whatever the bodies are
+-- every entry of an aired list is exactly one accepted post, the same everywhere and for good,
+-- whatever the bodies are
 pub record Identified (n : ℕ) (H : History) : Type 0 where
   pub posts-differ :
       (k m : ℕ) → k < length (H .accepted) → m < length (H .accepted) →
@@ -95,7 +98,8 @@ pub record Behind (n : ℕ) (H : History) (x y : Edit) : Type 0 where
   pub later : (q i k : ℕ) → q < n → AiredAt n H q i x → AiredAt n H q k y → i < k
   pub never-without : (q k : ℕ) → q < n → AiredAt n H q k y → (i : ℕ) × AiredAt n H q i x
 
--- a post that is accepted once its station has aired x stays behind x, whatever is called before and after it
+-- a post that is accepted once its station has aired x stays behind x, whatever is called before
+-- and after it
 abbrev pub RepliesBehind : Type 0
 RepliesBehind =
     (setup : Setup) → groupFreshRefusal setup ≡ done → (before : List Call) (reply : Post) (after : List Call) →

@@ -1,4 +1,5 @@
-// The answers of a group's calls. The definitions of the calls, their laws and demand 3 stand beside; there is no code.
+// The answers of a group's calls. The definitions of the calls, their laws and demand 3 stand
+// beside; there is no code.
 
 use bodies::Body;
 use station_spec::Station;

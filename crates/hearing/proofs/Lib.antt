@@ -1,1 +1,4 @@
 pub mod RecordCases
+pub mod SameBytes
+pub mod HeedCases
+pub mod RecordParts

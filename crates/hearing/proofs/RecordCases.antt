@@ -16,7 +16,7 @@ use Rattle.hearing_spec.specs.Promises.{HearsRecord}
 use Rattle.hearing_spec.proofs.Heeding.{noted}
 use Rattle.hearing_spec.proofs.FrameLoop.{station-at}
 use Rattle.hearing_spec.proofs.RecordSteps.{heeded}
-use Rattle.heeding.proofs.RecordParts.{partAt, read-is}
+use Rattle.hearing.proofs.RecordParts.{partAt, read-is}
 
 -- the station of the record that is read from the sixteen bytes of a place
 pub read-station : (bytes : List ℕ) (at : ℕ) (r : Record) → r ≡ recordFrom (partAt bytes at) → r .station ≡ getD bytes at 0

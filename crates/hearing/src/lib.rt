@@ -6,6 +6,8 @@
 //   lens[k]     how many bodies lane k has
 //   taken       the places of the records whose bodies are taken, in the order heard
 
+pub mod heeding;
+
 ghost use mathlib.Core.Path.{_≡_};
 ghost use Prim.Native.Nat.{ℕ, _<_};
 ghost use Rattle.bodies.specs.Refusals.{done};

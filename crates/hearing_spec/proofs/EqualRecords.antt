@@ -1,6 +1,7 @@
--- Two records of one station with one count, each with the bytes that are written of it, agree exactly if their bytes are the same. Bytes that are written say nothing
--- of the labels from N up, so what stands there in a table plays no part.
-use Prim.Native.Nat.{ℕ, _<_, _≤_}
+-- Two records of one station with one count, each with the bytes that are written of it, agree
+-- exactly if their bytes are the same. Bytes that are written say nothing of the labels from N up,
+-- so what stands there in a table plays no part.
+use Prim.Native.Nat.{ℕ}
 use mathlib.Core.Bool.{Bool, true, false, false≢true}
 use mathlib.Core.List.{List, _∷_, _++_}
 use mathlib.Core.Path.{_≡_, refl, sym, ap, _∙_}
@@ -9,7 +10,6 @@ use lib.Dec.{eqb}
 use lib.ListN.{getD, length}
 use lib.Seq.{ext-getD}
 use borrow.Author.Tests.{eqb-true, eq-eqb}
-use Rattle.bodies.specs.declared.Body.{Body}
 use Rattle.bodies.specs.Body.{kindOf, eventOf, argumentOf, channelOf}
 use Rattle.lists.proofs.Laws.{allBelow-at, allBelow-make}
 use Rattle.labels.specs.Packing.{labelsOver}

@@ -1,6 +1,6 @@
 -- The notes of hearing stand for the hearing at first, and stay so where a record does nothing or
--- conflicts. What is decided of a record by the bytes at two places is what the station decides, for
--- the record at the held one's place is the one in its table, as far as a decision looks at it.
+-- conflicts. What is decided of a record by the bytes at two places is what the station decides,
+-- for the record at the held one's place is the one in its table, as far as a decision looks at it.
 use Prim.Native.Nat.{ℕ, _<_, _≤_}
 use mathlib.Core.Bool.{Bool, true, false, cond}
 use mathlib.Core.List.{List, []}

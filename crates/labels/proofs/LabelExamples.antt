@@ -1,4 +1,5 @@
--- Document 01's marked examples M1 to M4, of the definition, and the four outcomes of document 02, A4.
+-- Document 01's marked examples M1 to M4, of the definition, and the four outcomes of document 02,
+-- A4.
 use Prim.Native.Nat.{ℕ}
 use mathlib.Core.Bool.{Bool, true, false}
 use mathlib.Core.Path.{_≡_, refl}
@@ -26,7 +27,8 @@ pub m4 : (heldCount seenCount : ℕ) → isNewer true 0 heldCount 2 seenCount �
 unfolding isNewer
 m4 heldCount seenCount = refl
 
--- the four outcomes, held label 1 count 4. What else is equal is looked at where label and count are the held ones
+-- the four outcomes, held label 1 count 4. What else is equal is looked at where label and count
+-- are the held ones
 abbrev beside : ℕ → ℕ → Bool → Age
 beside label count equal = ageOf true 1 4 label count equal
 

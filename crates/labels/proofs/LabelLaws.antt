@@ -29,7 +29,8 @@ module _ (label : ℕ) (labels : List ℕ) (h : allLabels (label ∷ labels) ≡
   unfolding allLabels
   all-tail = both (leb label 2) (allLabels labels) h .1
 
--- every place of a list of labels holds a label, and a list that has one at every place is a list of labels
+-- every place of a list of labels holds a label, and a list that has one at every place is a list
+-- of labels
 pub all-at : (labels : List ℕ) → allLabels labels ≡ true → (i : ℕ) → getD labels i 0 ≤ 2
 all-at [] h i = zero-le
 all-at (label ∷ labels) h zero = all-head label labels h

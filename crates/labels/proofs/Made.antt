@@ -1,4 +1,5 @@
--- The words that the code makes of labels: by masks from a word, and from the highest label down from an array.
+-- The words that the code makes of labels: by masks from a word, and from the highest label down
+-- from an array.
 use Prim.Native.Nat.{ℕ, suc, _+_, _-_, _*_, _/_, _%_, _^_, _≤_, _<_}
 use native.Mathlib.Nat.{div-one, div-add-mod', div-div-eq-div-mul, div-le-self, one-mul, one-le-pow, pow-suc, pow-le-pow-right}
 use native.Mathlib.Omega.{arith}

@@ -1,7 +1,9 @@
--- What "newer" decides where the held and the seen label are those of two numbers at most one apart: the next number is newer, the one before is not, and within
--- one number the count decides. No record is newer than itself, and whether all else is equal matters at the same label and count alone.
+-- What "newer" decides where the held and the seen label are those of two numbers at most one
+-- apart: the next number is newer, the one before is not, and within one number the count decides.
+-- No record is newer than itself, and whether all else is equal matters at the same label and count
+-- alone.
 use Prim.Native.Nat.{ℕ, suc, _%_}
-use mathlib.Core.Bool.{Bool, true, false, cond, _&&_, and-false}
+use mathlib.Core.Bool.{Bool, true, false, _&&_, and-false}
 use mathlib.Core.Path.{_≡_, refl, ap, _∙_}
 use native.Mathlib.Decide.{ℕ-discrete}
 use native.Mathlib.Omega.{arith}
@@ -28,7 +30,8 @@ pub newer-none : (h : Bool) (l c m d : ℕ) → h ≡ false → isNewer h l c m 
 unfolding isNewer
 newer-none h l c m d e = rw e
 
--- no label comes after itself, so no record is newer than itself; that holds of every number, label or not
+-- no label comes after itself, so no record is newer than itself; that holds of every number, label
+-- or not
 pub newer-self : (l c : ℕ) → isNewer true l c l c ≡ false
 unfolding isNewer
 newer-self l c = rw (ne-eqb l (successor l) (λ e. omega arith), eq-eqb l l refl, le-ltb c c (omega arith))

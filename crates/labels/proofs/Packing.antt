@@ -1,4 +1,5 @@
--- Laws of packing, for every number of labels together: packing and unpacking undo each other, and a packed word has these labels.
+-- Laws of packing, for every number of labels together: packing and unpacking undo each other, and
+-- a packed word has these labels.
 use Prim.Native.Nat.{ℕ, zero, suc, _+_, _*_, _/_, _%_, _^_, _≤_, _<_}
 use native.Mathlib.Nat.{pow-succ', suc-add, zero-add}
 use native.Mathlib.Omega.{arith}

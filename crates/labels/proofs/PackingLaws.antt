@@ -1,5 +1,6 @@
--- Laws of the labels in a word, for every number of stations together. The labels are the word's digits to the base 4: the first is the remainder by 4, the
--- others are the labels of the quotient, and so each law goes label by label.
+-- Laws of the labels in a word, for every number of stations together. The labels are the word's
+-- digits to the base 4: the first is the remainder by 4, the others are the labels of the quotient,
+-- and so each law goes label by label.
 use Prim.Native.Nat.{ℕ, zero, suc, _+_, _*_, _/_, _%_, _^_, _≤_, _<_}
 use native.Mathlib.Nat.{div-one, div-div-eq-div-mul, pow-suc, pow-succ', pow-le-pow-right, one-le-pow, mod-lt, mul-assoc, zero-add, zero-mul, zero-div}
 use native.Mathlib.Decide.{decLt}

@@ -1,5 +1,6 @@
--- How looks at a word's bits show what is asked of its sixteen labels. A label is 3 where both its bits are 1, so a word has a 3 where the word and its half
--- share a bit at an even place; and the labels from n up are 0 where nothing is left above 2 n bits.
+-- How looks at a word's bits show what is asked of its sixteen labels. A label is 3 where both its
+-- bits are 1, so a word has a 3 where the word and its half share a bit at an even place; and the
+-- labels from n up are 0 where nothing is left above 2 n bits.
 use Prim.Native.Nat.{ℕ, zero, suc, _+_, _-_, _*_, _/_, _%_, _^_, _≤_, _<_, min}
 use native.Mathlib.Nat.{mod-one, pow-suc, one-le-pow, div-eq-of-lt, div-lt-iff-lt-mul}
 use native.Mathlib.Decide.{decLt}

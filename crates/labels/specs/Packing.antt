@@ -34,6 +34,7 @@ labelsInside n word = allBelow n (λ k. isLabel (labelIn word k))
 unfoldable pub zeroFrom : ℕ → ℕ → Bool
 zeroFrom n word = allBelow 16 (λ k. ltb k n || eqb (labelIn word k) 0)
 
--- the limit of a frame's record: its first n labels are labels, and nothing but zeros stands above them
+-- the limit of a frame's record: its first n labels are labels, and nothing but zeros stands above
+-- them
 unfoldable pub wordInside : ℕ → ℕ → Bool
 wordInside n word = labelsInside n word && zeroFrom n word

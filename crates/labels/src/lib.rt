@@ -21,8 +21,8 @@ pub fn successor(label: u8) -> u8
     (((label as u32) + 1) % 3) as u8
 }
 
-// What a seen record with this own label and count is beside the held one, if one is held; `equal` says whether all
-// else is equal.
+// What a seen record with this own label and count is beside the held one, if one is held; `equal`
+// says whether all else is equal.
 pub fn age_beside(
     held: bool,
     held_label: u8,

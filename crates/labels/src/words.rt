@@ -1,5 +1,5 @@
-// Labels in a word, two bits each: one of them, the first n of a word or of an array over those of another word, and
-// what a word may hold.
+// Labels in a word, two bits each: one of them, the first n of a word or of an array over those of
+// another word, and what a word may hold.
 
 ghost use mathlib.Core.Path.{_≡_};
 ghost use Prim.Native.Nat.{ℕ, _-_, _^_, _≤_, _<_};
@@ -31,7 +31,8 @@ pub fn over(n: usize, labels: u32, old: u32) -> u32
     old - (old & below) + (labels & below)
 }
 
-// The first n labels of an array, the others of a word. The word is made from its highest label down.
+// The first n labels of an array, the others of a word. The word is made from its highest label
+// down.
 pub fn pack_over(n: usize, labels: [u8; 16], old: u32) -> u32
     requires { ⌜ (n ≤ 16) × ((k : ℕ) → k < n → getD labels k 0 < 4) ⌝ }
     ensures { λ r. ⌜ r ≡ labelsOver n (λ k. getD labels k 0) old ⌝ }

@@ -1,6 +1,8 @@
--- How far behind anything can be. An acknowledgement in transit is at most two behind: the answer that ended the broadcast before the last one was with
--- the sender when the last one started, and everybody has news of that start. And within one broadcast of s at most two new ones of another r come
--- to s: with a third, the second would have carried s's broadcast to all and the third everybody's answer to s, which would have ended it.
+-- How far behind anything can be. An acknowledgement in transit is at most two behind: the answer
+-- that ended the broadcast before the last one was with the sender when the last one started, and
+-- everybody has news of that start. And within one broadcast of s at most two new ones of another r
+-- come to s: with a third, the second would have carried s's broadcast to all and the third
+-- everybody's answer to s, which would have ended it.
 use mathlib.Core.Bool.{true, false, true≢false}
 use mathlib.Core.Logic.{⊎-elim}
 use mathlib.Core.Path.{_≡_, sym, _∙_}

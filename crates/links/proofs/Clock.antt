@@ -1,5 +1,7 @@
--- Clocks over rounds. Two facts about one round carry everything: where news comes from (it was there, or a heard station had it), and that what was
--- there, or what a heard station had, is not lost. The laws of clocks are inductions over rounds from these two, and the definition is not opened again.
+-- Clocks over rounds. Two facts about one round carry everything: where news comes from (it was
+-- there, or a heard station had it), and that what was there, or what a heard station had, is not
+-- lost. The laws of clocks are inductions over rounds from these two, and the definition is not
+-- opened again.
 use mathlib.Core.Bool.{Bool, true, false, cond, false≢true}
 use mathlib.Core.Logic.{_⊎_, inl, inr}
 use mathlib.Core.Path.{_≡_, refl, sym, _∙_, ap}
@@ -54,7 +56,8 @@ module _ (heard : ℕ → Bool) (f : ℕ → ℕ) (x : ℕ) where
       go false e before = wider (latest n heard f x) before
 
 module _ (L : Links) where
-  -- Of itself a station knows how the present round leaves it; of another at most how the round before left it.
+  -- Of itself a station knows how the present round leaves it; of another at most how the round
+  -- before left it.
   pub news-own : (u p : ℕ) → news L u p p ≡ suc u
   unfolding news
   news-own zero p = rw (eq-eqb p p refl)

@@ -1,6 +1,7 @@
--- The end rule of relays is what the clocks decide. An answer that the clocks show is a relay out and a relay back, turning in the round that the answer
--- tells of; so a round by which all have returned is a round in which the clocks are full. A broadcast's round of end is then the first such round
--- because the start stays where it is until a round is full.
+-- The end rule of relays is what the clocks decide. An answer that the clocks show is a relay out
+-- and a relay back, turning in the round that the answer tells of; so a round by which all have
+-- returned is a round in which the clocks are full. A broadcast's round of end is then the first
+-- such round because the start stays where it is until a round is full.
 use mathlib.Core.Bool.{Bool, true, false, true≢false, false≢true}
 use mathlib.Core.Logic.{_⊎_, inl, inr, ⊎-elim, _↔_}
 use mathlib.Core.Path.{_≡_, refl, sym, _∙_, ap}
@@ -172,7 +173,8 @@ module _ (L : Links) where
           let f = still-ends s b t e (g .0) in
           (num-ends L t s f ∙ ap suc (g .1), start-ends L t s f)
 
-  -- With the start left open: a round is one of end by the clocks exactly if by the end rule a broadcast ends in it.
+  -- With the start left open: a round is one of end by the clocks exactly if by the end rule a
+  -- broadcast ends in it.
   pub ends-ended : (u s : ℕ) → (ends L u s ≡ true) ↔ Ended L s u
   ends-ended u s = (there u, back u)
     where
@@ -206,7 +208,8 @@ module _ (L : Links) where
         first = λ v h a. h;
       }
 
-  -- Where every two stations have a relay within delay rounds, as long as the links are looked at, a broadcast ends within twice that.
+  -- Where every two stations have a relay within delay rounds, as long as the links are looked at,
+  -- a broadcast ends within twice that.
   pub ends-within : (delay last : ℕ) → 1 ≤ delay
       → ((a b t : ℕ) → a < L .size → b < L .size → (a ≡ b → ⊥) → t + delay ≤ last → RelayBy L a t b (t + delay))
       → (s t : ℕ) → s < L .size → t + 2 * delay ≤ last → (u : ℕ) × EndsIn L s t u × (u ≤ t + 2 * delay)

@@ -1,5 +1,6 @@
--- Worked examples: that the definitions say what they are meant to on small links, and that none of them is empty. A single station; the full mesh of
--- five; two links in two rounds and in one; a broadcast that never ends; the rounds of document 01's listing.
+-- Worked examples: that the definitions say what they are meant to on small links, and that none of
+-- them is empty. A single station; the full mesh of five; two links in two rounds and in one; a
+-- broadcast that never ends; the rounds of document 01's listing.
 use mathlib.Core.Bool.{true, false, false≢true}
 use mathlib.Core.List.{List, [], _∷_}
 use mathlib.Core.Logic.{⊎-elim}

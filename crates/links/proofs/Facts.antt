@@ -1,5 +1,7 @@
--- What this crate claims, each fact as one statement with the name of its proof; why each holds is said where it is proved. Everything is for every
--- number of stations and all links together. F1 to F4 are about clocks, G0 to G3 about broadcast numbers, G4 and G5 about the end rule, P about logs.
+-- What this crate claims, each fact as one statement with the name of its proof; why each holds is
+-- said where it is proved. Everything is for every number of stations and all links together. F1 to
+-- F4 are about clocks, G0 to G3 about broadcast numbers, G4 and G5 about the end rule, P about
+-- logs.
 use mathlib.Core.Bool.{true}
 use mathlib.Core.List.{List, _++_}
 use mathlib.Core.Logic.{_↔_}
@@ -39,7 +41,8 @@ F3 = news-carries
 pub F4 : (L : Links) (v s t r : ℕ) → (r ≡ s → ⊥) → (t < news L v r s) ↔ RelayBy L s t r v
 F4 L v s t r d = (news-relay L v s t r d, relayBy-news L v s t r)
 
--- G0: numbers do not fall; the present number is that of its start and of no round before; it is had exactly where there is news from its start on.
+-- G0: numbers do not fall; the present number is that of its start and of no round before; it is
+-- had exactly where there is news from its start on.
 pub G0-mono : (L : Links) (u w s : ℕ) → u ≤ w → num L u s ≤ num L w s
 G0-mono = num-mono
 
@@ -63,15 +66,17 @@ G1-close = num-limit
 pub G2 : (L : Links) (u p q s : ℕ) → p < L .size → q < L .size → num L u s ≤ gotOf L q s (news L u p q) + 2
 G2 = behind
 
--- G3: within one broadcast of s at most two new ones of another come to it, and so at most 2 × (N − 1) of all.
+-- G3: within one broadcast of s at most two new ones of another come to it, and so at most 2 × (N −
+-- 1) of all.
 pub G3 : (L : Links) (u s r : ℕ) → s < L .size → r < L .size → (r ≡ s → ⊥) → got L u s r ≤ got L (start L u s) s r + 2
 G3 = within
 
 pub G3-count : (L : Links) (u p : ℕ) → p < L .size → counted L u p ≤ 2 * (L .size - 1)
 G3-count = counted-limit
 
--- G4: the end rule equals what the clocks decide: the round of an end, the numbers and starts of all broadcasts, and that a broadcast with no such round
--- goes on for good. A single station's ends in the next round.
+-- G4: the end rule equals what the clocks decide: the round of an end, the numbers and starts of
+-- all broadcasts, and that a broadcast with no such round goes on for good. A single station's ends
+-- in the next round.
 pub G4 : (L : Links) (u s : ℕ) → (ends L (suc u) s ≡ true) ↔ EndsIn L s (start L u s) (suc u)
 G4 = ends-rule
 
@@ -97,15 +102,17 @@ G4-single = alone
 pub G4-received : (L : Links) (u r s k t : ℕ) → (r ≡ s → ⊥) → Starts L s k t → (k ≤ got L u r s) ↔ RelayBy L s t r u
 G4-received = got-relay
 
--- G5: where in a log every two stations have, after every round that leaves room for it, a relay that arrives within so many rounds, a broadcast ends
--- within twice as many, if the log goes on so long.
+-- G5: where in a log every two stations have, after every round that leaves room for it, a relay
+-- that arrives within so many rounds, a broadcast ends within twice as many, if the log goes on so
+-- long.
 pub G5 : (n : ℕ) (log : List (List ℕ)) (delay : ℕ) → 1 ≤ delay
     → ((a b t : ℕ) → a < n → b < n → (a ≡ b → ⊥) → t + delay ≤ length log → RelayBy (ofLog n log) a t b (t + delay))
     → (s t : ℕ) → s < n → t + 2 * delay ≤ length log
     → (u : ℕ) × EndsIn (ofLog n log) s t u × (u ≤ t + 2 * delay)
 G5 n log delay = ends-within (ofLog n log) delay (length log)
 
--- P: rounds added at the end of a log change no clock, number or end up to there; and past its end no relay arrives.
+-- P: rounds added at the end of a log change no clock, number or end up to there; and past its end
+-- no relay arrives.
 pub P-news : (n : ℕ) (log more : List (List ℕ)) (u p q : ℕ) → u ≤ length log → news (ofLog n log) u p q ≡ news (ofLog n (log ++ more)) u p q
 P-news n log more = news-same (ofLog n log) (ofLog n (log ++ more)) (length log) (same-append n log more)
 

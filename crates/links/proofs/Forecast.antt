@@ -1,5 +1,6 @@
--- Counting ends round by round gives what the end rule gives by relays, and no other count or round does. Both follow from the number and the start of
--- the present broadcast: the count is the number less one, and the last end is the start.
+-- Counting ends round by round gives what the end rule gives by relays, and no other count or round
+-- does. Both follow from the number and the start of the present broadcast: the count is the number
+-- less one, and the last end is the start.
 use mathlib.Core.Bool.{Bool, true, false, cond}
 use mathlib.Core.Logic.{⊎-elim}
 use mathlib.Core.Path.{_≡_, refl, sym, _∙_}

@@ -1,6 +1,7 @@
--- What a station has of another's broadcasts. News of s from round w on has at least the number that s had then, so what is had never falls. When s
--- started its present broadcast it had everybody's answer to the one before; so everybody has the present one or the one before, and two behind is
--- never seen.
+-- What a station has of another's broadcasts. News of s from round w on has at least the number
+-- that s had then, so what is had never falls. When s started its present broadcast it had
+-- everybody's answer to the one before; so everybody has the present one or the one before, and two
+-- behind is never seen.
 use mathlib.Core.Bool.{true}
 use mathlib.Core.Logic.{_⊎_, inl, inr, ⊎-elim, _↔_}
 use mathlib.Core.Path.{_≡_, refl, sym, _∙_, ap}
@@ -103,7 +104,8 @@ module _ (L : Links) where
       omega (arith, got-some u r s (e .0) (e .1), num-mono L (e .0) u s (omega (arith, e .1, news-limit L u r s))))
       (version (news L u r s))
 
-  -- What r has of the broadcast before the present one: an answer to it that had come when the present one began.
+  -- What r has of the broadcast before the present one: an answer to it that had come when the
+  -- present one began.
   pub previous : (u r s a : ℕ) → r < L .size → start L u s ≡ suc a → start L a s < news L u r s
   previous u r s a l e =
       let b = start-limit L u s in

@@ -1,5 +1,6 @@
--- A round as it is heard, sender after sender. What p knows of q rises from what it knew after round u to what it knows after round u + 1, by the largest of
--- what each heard sender knew after round u; so at every moment it is between these two, and the laws of versions apply.
+-- A round as it is heard, sender after sender. What p knows of q rises from what it knew after
+-- round u to what it knows after round u + 1, by the largest of what each heard sender knew after
+-- round u; so at every moment it is between these two, and the laws of versions apply.
 use mathlib.Core.Bool.{Bool, true, false}
 use mathlib.Core.Path.{_≡_, refl, sym, _∙_, ap}
 use Prim.Native.Nat.{ℕ, zero, suc, max, _-_, _*_, _<_, _≤_}

@@ -1,5 +1,6 @@
--- The sets without a history. News rises with time, so `answers` of the later of two versions is the disjunction of the two: a round unites sets. The
--- invariant is `knows` itself, and `knows-step` is the round.
+-- The sets without a history. News rises with time, so `answers` of the later of two versions is
+-- the disjunction of the two: a round unites sets. The invariant is `knows` itself, and
+-- `knows-step` is the round.
 use mathlib.Core.Bool.{Bool, true, false, cond, _||_, or-false}
 use mathlib.Core.Path.{_≡_, refl, sym, _∙_, ap}
 use Prim.Native.Nat.{ℕ, zero, suc, max, _-_, _≤_}

@@ -1,5 +1,6 @@
--- Logs as lists: a mask that is not there hears nobody, so nothing is heard past the end of a log and no relay arrives there; and the masks of a log
--- that was cut from one list are found by counting.
+-- Logs as lists: a mask that is not there hears nobody, so nothing is heard past the end of a log
+-- and no relay arrives there; and the masks of a log that was cut from one list are found by
+-- counting.
 use mathlib.Core.Bool.{false, not, false≢true, and-false}
 use mathlib.Core.List.{List, []}
 use mathlib.Core.Path.{_≡_, refl, sym, _∙_, ap}

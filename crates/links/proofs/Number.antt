@@ -1,6 +1,7 @@
--- Broadcast numbers and starts. A number rises by one exactly where a broadcast ends, and the start is the round of the last rise; so a state of s has
--- the present number exactly from the present start on. When s went to its present number each other station had answered the one before, so everybody
--- holds the present or the previous broadcast of everybody.
+-- Broadcast numbers and starts. A number rises by one exactly where a broadcast ends, and the start
+-- is the round of the last rise; so a state of s has the present number exactly from the present
+-- start on. When s went to its present number each other station had answered the one before, so
+-- everybody holds the present or the previous broadcast of everybody.
 use mathlib.Core.Bool.{Bool, true, false, _||_, false≢true}
 use mathlib.Core.Logic.{_⊎_, inl, inr, ⊎-elim}
 use mathlib.Core.Path.{_≡_, refl}
@@ -105,7 +106,8 @@ module _ (L : Links) where
   pub num-positive : (u s : ℕ) → 1 ≤ num L u s
   num-positive u s = omega (arith, num-zero s, num-mono 0 u s (omega arith))
 
-  -- Of the states of s up to round u, those from the start on have the present number, and no earlier one has.
+  -- Of the states of s up to round u, those from the start on have the present number, and no
+  -- earlier one has.
   pub num-start : (u s : ℕ) → num L (start L u s) s ≡ num L u s
   num-start zero s = rw (start-zero s)
   num-start (suc u) s = ⊎-elim (λ e. rw (e .1)) (λ e. rw (e .1, e .2) (num-start u s)) (step u s)

@@ -1,5 +1,7 @@
--- More hearings never make an end later. A relay of a part is one of the whole, and a relay after a round is one after each earlier round. So let the part end
--- a broadcast that the whole has started no later: by that round the whole has all answers too, and has ended it by then. The rest is induction on k.
+-- More hearings never make an end later. A relay of a part is one of the whole, and a relay after a
+-- round is one after each earlier round. So let the part end a broadcast that the whole has started
+-- no later: by that round the whole has all answers too, and has ended it by then. The rest is
+-- induction on k.
 use mathlib.Core.Bool.{true}
 use mathlib.Core.Logic.{_↔_}
 use mathlib.Core.Path.{_≡_, _∙_}
@@ -61,7 +63,8 @@ module _ (L M : Links) (last : ℕ) (part : Part L M last) where
       let r = starts-part s (num L u s) (start L u s) (omega arith) (starts-num L u s) in
       omega (arith, r .2, num-starts M s (num L u s) (r .0) (r .1) .0, num-mono M (r .0) u s (omega (arith, r .2)))
 
-  -- Counted, of as many rounds or more: as many ends or more, and where there are as many, the last no later.
+  -- Counted, of as many rounds or more: as many ends or more, and where there are as many, the last
+  -- no later.
   pub count-part : (rounds more s : ℕ) → rounds ≤ last → rounds ≤ more
       → (endCount L rounds s ≤ endCount M more s)
       × (endCount L rounds s ≡ endCount M more s → lastEnd M more s ≤ lastEnd L rounds s)

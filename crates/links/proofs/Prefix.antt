@@ -1,5 +1,6 @@
--- What is known after round u rests on the rounds up to u alone. Two links that agree up to a round have the same clocks, numbers, relays and ends
--- up to it, by induction over rounds; so rounds that are added at the end of a log change nothing that came before.
+-- What is known after round u rests on the rounds up to u alone. Two links that agree up to a round
+-- have the same clocks, numbers, relays and ends up to it, by induction over rounds; so rounds that
+-- are added at the end of a log change nothing that came before.
 use mathlib.Core.Bool.{Bool, _||_}
 use mathlib.Core.List.{List, [], _++_}
 use mathlib.Core.Path.{_≡_, refl, sym, _∙_, ap}

@@ -1,6 +1,8 @@
--- A station has broadcast k exactly where the number that it has got to is at least k (`has-got`), and that number never falls. So the first round of the
--- recursion is the first by relays; and where two links agree up to a round their answers do, so rounds added can only turn never into one of them.
-use mathlib.Core.Bool.{Bool, true, false, cond}
+-- A station has broadcast k exactly where the number that it has got to is at least k (`has-got`),
+-- and that number never falls. So the first round of the recursion is the first by relays; and
+-- where two links agree up to a round their answers do, so rounds added can only turn never into
+-- one of them.
+use mathlib.Core.Bool.{cond}
 use mathlib.Core.List.{List, _++_}
 use mathlib.Core.Logic.{_⊎_, inl, inr, ⊎-elim, _↔_}
 use mathlib.Core.Option.{Option, none, some}
@@ -15,7 +17,7 @@ use lib.Dec.{leb}
 use Rattle.lists.proofs.Later.{from-on}
 use Rattle.links.specs.Relay.{Links, ofLog}
 use Rattle.links.specs.EndRule.{RelayBy, Starts, at-first}
-use Rattle.links.specs.Inner.Number.{start, ends, num, got}
+use Rattle.links.specs.Inner.Number.{start, num, got}
 use Rattle.links.specs.Question.{HasBy, BroughtIn, Answered, in-round, in-none, Extends, kept, still, now, otherwise, answerIn}
 use Rattle.links.specs.Inner.Clock.{news}
 use Rattle.links.specs.Inner.Number.{answers}
@@ -202,7 +204,8 @@ answer-added n log more r s k =
     answer-extends (ofLog n log) (ofLog n (log ++ more)) (length log) (length (log ++ more)) (same-append n log more)
     (omega (arith, length-append log more)) r s k
 
--- What r has of s, read off the sets without a history: as many broadcasts as have ended, and the present one where r has it.
+-- What r has of s, read off the sets without a history: as many broadcasts as have ended, and the
+-- present one where r has it.
 module _ (L : Links) where
   knows-has : (u s p : ℕ) → knows L u s p s ≡ leb (suc (start L u s)) (news L u p s)
   unfolding knows answers

@@ -1,5 +1,6 @@
--- Sums over all stations but one of what was added since: they go up with their parts, by as much; where two such sums are equal, and no part fell, no
--- part changed. Each is a law of totals, with nothing to add at the station that is left out.
+-- Sums over all stations but one of what was added since: they go up with their parts, by as much;
+-- where two such sums are equal, and no part fell, no part changed. Each is a law of totals, with
+-- nothing to add at the station that is left out.
 use mathlib.Core.Path.{_≡_, refl, sym, _∙_}
 use Prim.Native.Nat.{ℕ, zero, suc, _+_, _-_, _*_, _<_, _≤_}
 use native.Mathlib.Decide.{ℕ-discrete}

@@ -1,6 +1,8 @@
--- The laws for versions, as they are needed while a round is heard: a version is 0 for none, or w + 1 for a station as round w left it. In round u + 1
--- everything in flight is a version of at most u + 1, and whatever p holds is at least what it had after round u; between these two bounds numbers are
--- at most one apart and answers at most two behind. So an answer to the present broadcast is one with the present number.
+-- The laws for versions, as they are needed while a round is heard: a version is 0 for none, or w +
+-- 1 for a station as round w left it. In round u + 1 everything in flight is a version of at most u
+-- + 1, and whatever p holds is at least what it had after round u; between these two bounds numbers
+-- are at most one apart and answers at most two behind. So an answer to the present broadcast is
+-- one with the present number.
 use mathlib.Core.Bool.{Bool, _||_}
 use mathlib.Core.Logic.{⊎-elim, _↔_}
 use mathlib.Core.Path.{_≡_, refl, sym, _∙_, ap}
@@ -31,7 +33,8 @@ module _ (L : Links) where
   gotOf-mono q s zero v′ l = omega (arith, gotOf-none q s)
   gotOf-mono q s (suc w) v′ l = omega (arith, gotOf-some L q s (suc w) w refl, gotOf-news L q s v′ w l)
 
-  -- A version from round u or before has at most the number after round u, and shows at most that of others.
+  -- A version from round u or before has at most the number after round u, and shows at most that
+  -- of others.
   pub numOf-limit : (u s v : ℕ) → v ≤ suc u → numOf L s v ≤ num L u s
   numOf-limit u s v l = omega (arith, numOf-mono L s v (suc u) l, numOf-some L s (suc u) u refl)
 
@@ -82,7 +85,8 @@ module _ (L : Links) where
             (λ e. h (got-start L u w r s (omega arith) .0 (omega (arith, gotOf-some L r s (suc w) w refl)))))
       ]
 
-  -- So round u + 1 ends the broadcast of s exactly if what s then holds of each other shows its present number.
+  -- So round u + 1 ends the broadcast of s exactly if what s then holds of each other shows its
+  -- present number.
   pub ends-numbers : (u s : ℕ)
       → ends L (suc u) s ≡ allBelow (L .size) (λ r. eqb r s || eqb (gotOf L r s (news L (suc u) s r)) (num L u s))
   unfolding full
@@ -114,7 +118,8 @@ module _ (L : Links) where
         numOf-mono L q (news L w s q) (news L u p q) (news-carries-earlier L u p s q w h),
       )
 
-  -- A station r has broadcast number k of s exactly if a relay from s after its start has reached it.
+  -- A station r has broadcast number k of s exactly if a relay from s after its start has reached
+  -- it.
   pub got-relay : (u r s k t : ℕ) → (r ≡ s → ⊥) → Starts L s k t → (k ≤ got L u r s) ↔ RelayBy L s t r u
   got-relay u r s k t d b = (there, back)
     where

@@ -20,7 +20,8 @@ pub record Returned (L : Links) (s t r u : ℕ) : Type 0 where
 pub record AllReturned (L : Links) (s t u : ℕ) : Type 0 where
   pub each : (r : ℕ) → r < L .size → (r ≡ s → ⊥) → Returned L s t r u
 
--- The broadcast that s started in round t ends in round u: the first round later than t by which that is so.
+-- The broadcast that s started in round t ends in round u: the first round later than t by which
+-- that is so.
 pub record EndsIn (L : Links) (s t u : ℕ) : Type 0 where
   pub later : t < u
   pub returned : AllReturned L s t u

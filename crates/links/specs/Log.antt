@@ -19,7 +19,8 @@ bit mask j = eqb ((mask / (2 ^ j)) % 2) 1
 unfoldable pub hearsIn : ℕ → List ℕ → ℕ → ℕ → Bool
 hearsIn n masks i j = ltb i n && (ltb j n && (not (eqb i j) && bit (getD masks i 0) j))
 
--- The masks of round u, rounds being numbered from 1. There is no round 0, and past its end a log is silent.
+-- The masks of round u, rounds being numbered from 1. There is no round 0, and past its end a log
+-- is silent.
 unfoldable pub masksIn : List (List ℕ) → ℕ → List ℕ
 masksIn log zero = []
 masksIn log (suc u) = getD log u []

@@ -1,4 +1,5 @@
--- Links whose hearings are all among those of other links, and the k-th end of a station (document 02, A10).
+-- Links whose hearings are all among those of other links, and the k-th end of a station (document
+-- 02, A10).
 use mathlib.Core.Bool.{true}
 use mathlib.Core.Path.{_≡_}
 use Prim.Native.Nat.{ℕ, _≤_}

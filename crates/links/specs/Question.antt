@@ -27,7 +27,8 @@ pub data Answered (L : Links) (r s k last : ℕ) : Option ℕ → Type 0 where
   in-round : {u : ℕ} → u ≤ last → BroughtIn L r s k u → Answered L r s k last (some u)
   in-none : (HasBy L r s k last → ⊥) → Answered L r s k last none
 
--- What rounds added at the end make of an answer: a round stays, and never stays or becomes one of the rounds added.
+-- What rounds added at the end make of an answer: a round stays, and never stays or becomes one of
+-- the rounds added.
 pub data Extends (last more : ℕ) : Option ℕ → Option ℕ → Type 0 where
   kept : {u : ℕ} → Extends last more (some u) (some u)
   still : Extends last more none none

@@ -3,7 +3,7 @@
 use Prim.Native.Nat.{ℕ, _+_, _≤_, _<_}
 use mathlib.Core.Bool.{Bool, true, false, cond}
 use mathlib.Core.List.{List}
-use mathlib.Core.Path.{_≡_, refl, sym, subst, _∙_}
+use mathlib.Core.Path.{_≡_, refl, sym, ap, subst, _∙_}
 use native.Mathlib.Omega.{arith}
 use lib.Dec.{eqb}
 use lib.ListN.{getD, length, replicate}
@@ -19,7 +19,7 @@ use Rattle.station_spec.proofs.StationLimits.{Inside, inside-open}
 use Rattle.station_spec.proofs.LimitsLane.{lane-most}
 use Rattle.hearing_spec.specs.declared.Ear.{Ear}
 use Rattle.hearing_spec.specs.Buffer.{sizeIn}
-use Rattle.hearing_spec.specs.Room.{takingsRoom, Room, LastRoom}
+use Rattle.hearing_spec.specs.Room.{takingsRoom, mostBytes, Room, LastRoom, FrameRoom}
 use Rattle.hearing_spec.specs.StandsFor.{Notes, notes, StandsFor}
 use Rattle.hearing_spec.specs.Promises.{Hears}
 use Rattle.hearing_spec.proofs.Standing.{stands-first}
@@ -42,7 +42,26 @@ lensOf s = setBelow 16 (λ k. (getD (s .lanes) k noLane) .len) (replicate 16 0)
 abbrev pub ownPlaces : List ℕ → ℕ → List ℕ
 ownPlaces bytes start = placesOf bytes start (replicate 16 0) (getD bytes (start + 2) 0)
 
-module _ (s : Station) (bytes : List ℕ) (start : ℕ) (may : MayListen s bytes start) (shape : Shaped s) (taken : List ℕ) (taken-long : length taken ≡ takingsRoom) where
+-- hearing begins: a station may listen, and the places of its own records, what was heard last and
+-- the lengths of its lanes are put down
+pub record Beginning (s : Station) (bytes : List ℕ) (start : ℕ) (taken put last lens : List ℕ) : Type 0 where
+  pub may : MayListen s bytes start
+  pub shape : Shaped s
+  pub taken-long : length taken ≡ takingsRoom
+  pub places-are : ownPlaces bytes start ≡ put
+  pub last-is : ownPlaces bytes start ≡ last
+  pub lens-are : lensOf s ≡ lens
+
+-- the places of its records may be put into sixteen places
+pub may-put :
+    (s : Station) (bytes : List ℕ) (start room : ℕ) → MayListen s bytes start → room ≡ 16 →
+    ((room ≡ 16) × (sizeIn bytes ≤ 16) × (length bytes ≤ mostBytes)) × FrameRoom bytes start
+may-put s bytes start room may long = ((long, omega (arith, may .size, inside-open s (may .inside) .high), may .short), may .own-room)
+
+module _ {s : Station} {bytes : List ℕ} {start : ℕ} {taken put last lens : List ℕ} (b : Beginning s bytes start taken put last lens) where
+  may : MayListen s bytes start
+  may = b .may
+
   inside : Inside s
   inside = inside-open s (may .inside)
 
@@ -77,7 +96,7 @@ module _ (s : Station) (bytes : List ℕ) (start : ℕ) (may : MayListen s bytes
         lanes =
             record {
               lens-long = length-setBelow 16 (λ k. (getD (s .lanes) k noLane) .len) (replicate 16 0);
-              taken-long = taken-long;
+              taken-long = b .taken-long;
               two = λ k l. two k (omega (arith, may .size));
               few = omega arith;
             };
@@ -102,8 +121,11 @@ module _ (s : Station) (bytes : List ℕ) (start : ℕ) (may : MayListen s bytes
       (λ k l. lens-are k (omega (arith, inside .high)))
       refl refl refl refl refl
 
-  pub own-places-long : length places ≡ 16
-  own-places-long = own-long s inside bytes start (may .own-room) (may .own-frame)
+  pub last-long : length last ≡ 16
+  last-long = ap length (sym (b .last-is)) ∙ own-long s inside bytes start (may .own-room) (may .own-frame)
+
+  pub lens-long : length lens ≡ 16
+  lens-long = ap length (sym (b .lens-are)) ∙ length-setBelow 16 _ (replicate 16 0)
 
   -- what was heard
   heard-first :
@@ -112,7 +134,7 @@ module _ (s : Station) (bytes : List ℕ) (start : ℕ) (may : MayListen s bytes
       Listens s bytes f places' taken' e
   heard-first f last' places' lens' taken' e does room =
       let h =
-      heard-and-acted s bytes f first (notes places' lens' taken' e) last' (inside .high) (may .size) shape
+      heard-and-acted s bytes f first (notes places' lens' taken' e) last' (inside .high) (may .size) (b .shape)
       (own-held s inside bytes start (may .own-room) (may .own-frame))
       (own-top s inside bytes start (may .own-room) (may .own-frame))
       (λ k l held. inside .places k l .held held .station)
@@ -130,26 +152,25 @@ module _ (s : Station) (bytes : List ℕ) (start : ℕ) (may : MayListen s bytes
         takings = λ fine. sym (h .1 fine .takings (sym (h .0) ∙ fine));
       }
 
-  -- the same of notes that are those of the beginning
-  module _ (last₀ places₀ lens₀ : List ℕ) (last-is : places ≡ last₀) (places-are : places ≡ places₀) (lens-are₀ : lensOf s ≡ lens₀) where
-    abbrev begun : Notes
-    begun = notes places₀ lens₀ taken (quiet s)
+  -- the same of the notes that were put down
+  abbrev begun : Notes
+  begun = notes put lens taken (quiet s)
 
-    notes-are : _≡_ {A = Notes} first begun
-    notes-are i = notes (places-are i) (lens-are₀ i) taken (quiet s)
+  notes-are : _≡_ {A = Notes} first begun
+  notes-are i = notes (b .places-are i) (b .lens-are i) taken (quiet s)
 
-    pub begun-room : Room (s .own) bytes begun
-    begun-room = subst (Room (s .own) bytes) notes-are first-room
+  pub begun-room : Room (s .own) bytes begun
+  begun-room = subst (Room (s .own) bytes) notes-are first-room
 
-    pub begun-last : LastRoom bytes last₀
-    begun-last = subst (LastRoom bytes) last-is first-last
+  pub begun-last : LastRoom bytes last
+  begun-last = subst (LastRoom bytes) (b .last-is) first-last
 
-    pub listened :
-        (f : Hearing → Hearing) (last' places' lens' taken' : List ℕ) (e : Ear) →
-        Hears (s .own) bytes f last₀ begun last' (notes places' lens' taken' e) → Room (s .own) bytes (notes places' lens' taken' e) →
-        Listens s bytes f places' taken' e
-    listened f last' places' lens' taken' e does room =
-        heard-first f last' places' lens' taken' e
-        (subst (λ (x : Notes). Hears (s .own) bytes f places x last' (notes places' lens' taken' e)) (sym notes-are)
-        (subst (λ (l : List ℕ). Hears (s .own) bytes f l begun last' (notes places' lens' taken' e)) (sym last-is) does))
-        room
+  pub listened :
+      (f : Hearing → Hearing) (last' places' lens' taken' : List ℕ) (e : Ear) →
+      Hears (s .own) bytes f last begun last' (notes places' lens' taken' e) → Room (s .own) bytes (notes places' lens' taken' e) →
+      Listens s bytes f places' taken' e
+  listened f last' places' lens' taken' e does room =
+      heard-first f last' places' lens' taken' e
+      (subst (λ (x : Notes). Hears (s .own) bytes f places x last' (notes places' lens' taken' e)) (sym notes-are)
+      (subst (λ (l : List ℕ). Hears (s .own) bytes f l begun last' (notes places' lens' taken' e)) (sym (b .last-is)) does))
+      room

@@ -107,7 +107,8 @@ module _ (s : Station) (c : Inside s) (bytes : List ℕ) (start : ℕ) (frame : 
       go true e = rw (own-placed .here k l e) (held-room k l e)
       go false e = omega (arith, own-placed .none k l e, held-room (s .own) (c .own) (c .held))
 
-  -- the records at these places are of their stations, and their bytes are those that are written of them
+  -- the records at these places are of their stations, and their bytes are those that are written
+  -- of them
   pub own-station : (k : ℕ) → k < s .n → holdsAt places k ≡ true → getD bytes (getD places k 0) 0 ≡ k
   own-station k l h =
       let e = own-held k l ∙ h in

@@ -10,7 +10,7 @@ ghost use Rattle.lists.specs.Below.{setBelow};
 ghost use Rattle.station_spec.specs.Hearing.{noTaking, replaced};
 ghost use Rattle.hearing_spec.specs.Buffer.{sizeIn, recordAt};
 ghost use Rattle.hearing_spec.specs.StandsFor.{actsOn};
-ghost use Rattle.hearing_spec.specs.Room.{FrameRoom, mostBytes};
+ghost use Rattle.hearing_spec.specs.Room.{FrameRoom, mostBytes, takingsRoom};
 ghost use Rattle.listening.specs.OwnPlaces.{placesOf};
 ghost use Rattle.listening.specs.Listened.{heardNotes, takingsAt, TakenRoom, Readable};
 use bodies::Body;
@@ -54,7 +54,8 @@ pub fn lane_lens(lanes: [Lane; 16]) -> [u8; 16]
 // The takings of the first places, in their order; the other entries are unused.
 pub fn takings_of(bytes: &[u8], taken: &[u16], len: usize) -> [Taking; 30]
     requires { ⌜ TakenRoom (now bytes) (now taken) len ⌝ }
-    ensures { λ r. ⌜ r ≡ takingsAt (now (bytes .entry)) (now (taken .entry)) len ++ replicate (30 - len) noTaking ⌝ }
+    ensures { λ r. ⌜ r ≡ takingsAt (now (bytes .entry)) (now (taken .entry)) len
+        ++ replicate (takingsRoom - len) noTaking ⌝ }
 {
     let none = Taking {
         source: 0,

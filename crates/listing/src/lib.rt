@@ -1,4 +1,7 @@
-// One script line applied to a group, and the listing that comes of it.
+// One script line applied to a session, and the listing that comes of it.
+
+pub mod commands;
+pub mod ends;
 
 use group_spec::Post;
 use group_spec::RoundDone;
@@ -9,7 +12,7 @@ ghost use mathlib.Core.Path.{_≡_};
 ghost use Prim.Native.Nat.{_≤_, _<_};
 ghost use lib.ListN.{length};
 ghost use Rattle.script.specs.Line.{commandOf, masksOf};
-ghost use Rattle.round_lines.specs.Reports.{roundRoom};
+ghost use Rattle.listing_lines.specs.Reports.{roundRoom};
 ghost use Rattle.listing_spec.specs.Listing.{lastRound, Answer, AnswersRound, obeyed, answered, after, printed};
 
 // The most that a round's columns can number.
@@ -22,7 +25,7 @@ fn after_round(s: Session, made: RoundDone, out: &mut [u8]) -> Applied
 {
     let rounds = s.rounds + 1;
     let reports = made.reports;
-    let len = round_lines::put_round(out, s.n, rounds, reports);
+    let len = listing_lines::rounds::put_round(out, s.n, rounds, reports);
     let group = made.group;
     let session = Session {
         n: s.n,
@@ -33,14 +36,15 @@ fn after_round(s: Session, made: RoundDone, out: &mut [u8]) -> Applied
     Applied { len, session }
 }
 
-// A round's line, whose masks the group hears by; a round past the last that can be numbered stops the reading.
+// A round's line, whose masks the group hears by; a round past the last that can be numbered stops
+// the reading.
 fn apply_round(s: Session, line: &[u8], out: &mut [u8]) -> Applied
     requires { ⌜ (s .n ≤ 16) × (roundRoom ≤ length (now out)) ⌝ }
     ensures { λ r. ⌜ Answer (obeyed s (masksOf (s .n) (now (line .entry))) Command.Round)
         (answered s (masksOf (s .n) (now (line .entry))) Command.Round) (now (out .entry)) (now (out .exit)) r ⌝ }
 {
     if LAST_ROUND <= s.rounds {
-        return sessions::ends::halt(s, out);
+        return ends::halt(s, out);
     }
     let group = s.group;
     let masks = script::masks(line, s.n);
@@ -55,24 +59,24 @@ fn obey(s: Session, command: Command, line: &[u8], out: &mut [u8]) -> Applied
         (answered s (masksOf (s .n) (now (line .entry))) command) (now (out .entry)) (now (out .exit)) r ⌝ }
 {
     match command {
-        Command::Size { n } => sessions::commands::apply_size(s, n),
+        Command::Size { n } => commands::apply_size(s, n),
         Command::Post {
             station,
             kind,
             event,
             argument,
         } => {
-            let body = sessions::commands::posted_body(kind, event, argument);
+            let body = commands::posted_body(kind, event, argument);
             let place = station as usize;
             let post = Post {
                 station: place,
                 desk: 0,
                 body,
             };
-            sessions::commands::apply_post(s, post, out)
+            commands::apply_post(s, post, out)
         }
         Command::Round => apply_round(s, line, out),
-        Command::Malformed => sessions::ends::halt(s, out),
+        Command::Malformed => ends::halt(s, out),
     }
 }
 

@@ -1,4 +1,5 @@
--- What each call on a session returns is what the command's definition says, and a line is obeyed by its command unless the reading has stopped.
+-- What each call on a session returns is what the command's definition says, and a line is obeyed
+-- by its command unless the reading has stopped.
 use Prim.Native.Nat.{ℕ, _≤_, _<_}
 use mathlib.Core.Path.{_≡_, sym, ap, _∙_}
 use mathlib.Core.Bool.{Bool, true, false, cond}
@@ -12,8 +13,8 @@ use Rattle.group_spec.specs.Calls.{groupFreshCall, groupPostCall, roundCall}
 use Rattle.script.specs.declared.Command.{Command}
 use Rattle.script.specs.declared.Command.the-variants.{Size, Post, Round, Malformed}
 use Rattle.script.specs.Line.{commandOf, masksOf}
-use Rattle.lines.specs.Lines.{Put}
-use Rattle.lines.proofs.Placed.{put-none}
+use Rattle.listing_lines.specs.Lines.{Put}
+use Rattle.listing_lines.proofs.Placed.{put-none}
 use Rattle.listing_spec.specs.declared.Session.{Session}
 use Rattle.listing_spec.specs.declared.Applied.{Applied}
 use Rattle.listing_spec.specs.Listing.{Answer, AnswersPost, AnswersRound, after, printed, obeyed, answered, halted, malformedText, setupOf, sizedBy, postedBody}
@@ -57,7 +58,8 @@ sized s masks n l r q z = record { session = q; put = go (r .len) z }
     go : (k : ℕ) → k ≡ 0 → Put l l 0 k []
     go k z = rw z (put-none l 0)
 
--- the answer to a post or a round, of what the group's call returned and of what its definition says
+-- the answer to a post or a round, of what the group's call returned and of what its definition
+-- says
 pub post-made : (s : Session) (station : ℕ) (k k' : GroupAnswer) (l m : List ℕ) (r : Applied) → k ≡ k' → AnswersPost s station k l m r → AnswersPost s station k' l m r
 post-made s station k k' l m r e a = rw e at a
 

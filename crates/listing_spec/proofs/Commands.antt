@@ -1,11 +1,11 @@
--- Which commands a line can be: before a size is known only an `N` line of 1 to 16, after that only posts and rounds.
-use Prim.Native.Nat.{ℕ, _<_, _≤_}
-use mathlib.Core.Path.{_≡_, refl, sym, ap, subst, _∙_}
+-- Which commands a line can be: before a size is known only an `N` line of 1 to 16, after that only
+-- posts and rounds.
+use Prim.Native.Nat.{ℕ, _≤_}
+use mathlib.Core.Path.{_≡_, refl}
 use mathlib.Core.Bool.{Bool, true, false, cond, _&&_}
 use mathlib.Core.List.{List}
 use native.Mathlib.Omega.{arith}
 use lib.Dec.{leb, eqb}
-use lib.IntN.{ℤ}
 use lib.ListN.{getD}
 use borrow.Author.Tests.{ne-eqb, leb-true}
 use Rattle.lists.proofs.Laws.{and-left, and-right}

@@ -1,11 +1,12 @@
--- Document 01's example: the definition gives its listing, line by line. What bytes a line has is said by Lines.
+-- Document 01's example: the definition gives its listing, line by line. What bytes a line has is
+-- said by Lines.
 use mathlib.Core.Path.{_≡_, refl}
 use mathlib.Core.List.{List, [], _∷_, _++_}
 use Prim.Native.Nat.{ℕ, zero, suc}
 use lib.IntN.{pos}
 use Rattle.bodies.specs.declared.Body.the-variants.{Empty, Neutral, Insert}
 use Rattle.columns.specs.Writing.{natColumns}
-use Rattle.lines.specs.Lines.{delivered, airing, ending, turnedDown, lineBytes, endLine}
+use Rattle.listing_lines.specs.Lines.{delivered, airing, ending, turnedDown, lineBytes, endLine}
 use Rattle.listing_spec.specs.Listing.{listingOf}
 use Rattle.listing_spec.proofs.Computing.{listingRuns}
 

@@ -1,4 +1,5 @@
--- Bytes taken into the line that is held: one is kept, or lost where the line is too long already, and a run of them is taken one by one.
+-- Bytes taken into the line that is held: one is kept, or lost where the line is too long already,
+-- and a run of them is taken one by one.
 use mathlib.Core.Path.{_≡_, refl, ap, _∙_}
 use mathlib.Core.List.{List, [], _∷_, append-assoc}
 use Prim.Native.Nat.{ℕ, suc, _+_, _-_, _≤_, _<_}

@@ -1,5 +1,6 @@
--- Lines and their text: a line without a line end in it, with one behind it, is found again in front of whatever follows, and the lines of a text put behind
--- each other are that text. A number in its columns has no line end.
+-- Lines and their text: a line without a line end in it, with one behind it, is found again in
+-- front of whatever follows, and the lines of a text put behind each other are that text. A number
+-- in its columns has no line end.
 use mathlib.Core.Path.{_≡_, refl, ap, _∙_}
 use mathlib.Core.Bool.{Bool, true, false, cond, not, _&&_}
 use mathlib.Core.List.{List, [], _∷_, _++_}

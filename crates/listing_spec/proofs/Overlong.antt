@@ -1,4 +1,5 @@
--- A line of more than 145 bytes is malformed whatever its bytes, so two of them do the same; and so do two ends of a script that break off in a line.
+-- A line of more than 145 bytes is malformed whatever its bytes, so two of them do the same; and so
+-- do two ends of a script that break off in a line.
 use mathlib.Core.Path.{_≡_}
 use mathlib.Core.Bool.{and-false}
 use mathlib.Core.List.{List}

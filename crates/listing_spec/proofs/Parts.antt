@@ -6,8 +6,8 @@ use native.Mathlib.Omega.{arith}
 use native.Mathlib.Numerals.{add-one}
 use lib.ListN.{length, take, drop, getD, length-append, length-drop, drop-of-length-le}
 use lib.Seq.{take-all, take-at, take-add, take-suc, length-take-le, drop-drop}
-use Rattle.lines.specs.Lines.{Put, placed}
-use Rattle.lines.proofs.Placed.{put-none, put-more}
+use Rattle.listing_lines.specs.Lines.{Put, placed}
+use Rattle.listing_lines.proofs.Placed.{put-none, put-more}
 use Rattle.listing_spec.specs.declared.Session.{Session}
 use Rattle.listing_spec.specs.declared.Applied.{Applied}
 use Rattle.listing_spec.specs.Listing.{after, printed}
@@ -16,7 +16,8 @@ use Rattle.listing_spec.specs.declared.reading.FeedAnswer.{FeedAnswer}
 use Rattle.listing_spec.specs.Remaining.{remainingAt, heldBy, Listed, Feeds, Same}
 use Rattle.listing_spec.proofs.Steps.{line-end}
 
--- a text that a call put at the front of the buffer's part from a place on: it lies in the part, and stands in the buffer at that place
+-- a text that a call put at the front of the buffer's part from a place on: it lies in the part,
+-- and stands in the buffer at that place
 pub put-fits : (l m text : List ℕ) (len : ℕ) → Put l m 0 len text → length m ≡ length l → len ≤ length l
 unfolding placed
 put-fits l m text len p e =

@@ -1,30 +1,30 @@
--- The session of a script and the history of its calls go together, line by line: as long as the reading has not stopped they have the same group and the same
--- number of rounds, and what a line prints is what its call prints after that history. Where the reading stops there are no more calls, and the session stays.
+-- The session of a script and the history of its calls go together, line by line: as long as the
+-- reading has not stopped they have the same group and the same number of rounds, and what a line
+-- prints is what its call prints after that history. Where the reading stops there are no more
+-- calls, and the session stays.
 use Prim.Native.Nat.{ℕ, _+_, _≤_}
 use mathlib.Core.Path.{_≡_, refl, sym, ap, ap₂, subst, _∙_}
 use mathlib.Core.Bool.{Bool, true, false, cond, not, _&&_, _||_}
 use mathlib.Core.List.{List, [], _∷_, _++_, append-nil, append-assoc}
 use native.Mathlib.Omega.{arith}
 use lib.Dec.{ltb, eqb}
-use lib.IntN.{ℤ}
 use lib.ListN.{length, length-append}
 use borrow.Author.Tests.{lt-ltb}
-use Rattle.bodies.specs.Refusals.{done, malformedLine}
+use Rattle.bodies.specs.Refusals.{malformedLine}
 use Rattle.station_spec.specs.declared.Station.{Station}
 use Rattle.group_spec.specs.declared.Post as group
-use Rattle.group_spec.specs.State.{freshGroup}
-use Rattle.group_spec.specs.Calls.{groupFreshRefusal, groupFreshCall, groupPostCall, roundCall}
+use Rattle.group_spec.specs.Calls.{groupFreshCall, groupPostCall, roundCall}
 use Rattle.group_spec.specs.History.{Call, post, round, History, next, begun, continued}
 use Rattle.group_spec.proofs.Setups.{accepted}
 use Rattle.script.specs.declared.Command.{Command}
 use Rattle.script.specs.declared.Command.the-variants.{Size, Post, Round, Malformed}
 use Rattle.script.specs.Line.{commandOf, masksOf}
-use Rattle.lines.specs.Lines.{endLine}
-use Rattle.round_lines.specs.Reports.{roundText}
+use Rattle.listing_lines.specs.Lines.{endLine}
+use Rattle.listing_lines.specs.Reports.{roundText}
 use Rattle.listing_spec.specs.declared.Session.{Session}
 use Rattle.listing_spec.specs.Listing as listing
 use Rattle.listing_spec.specs.Listing.{setupOf, postOf, lastRound, refusalText, malformedText, halted, sizedBy, postedBy, roundedBy, refusedText, obeyed, answered, after, printed, restText, Lines, rest, line, linesOf, listed, listingOf}
-use Rattle.listing_spec.specs.Calls.{called, callsIn, stopsAt, stopsIn, sizeSaid, sizeIn, linesAfter, sizeOf, callsOf, stops, sessionIn, sessionOf, callText, callsText, RunsCalls, ScriptsRun}
+use Rattle.listing_spec.specs.Calls.{called, callsIn, stopsAt, stopsIn, sizeSaid, sizeIn, linesAfter, sizeOf, callsOf, stops, sessionIn, callText, callsText, RunsCalls, ScriptsRun}
 use Rattle.listing_spec.proofs.Stopped.{stopped-silent}
 use Rattle.listing_spec.proofs.Commands.{Later, command-later, First, command-first}
 
@@ -34,7 +34,8 @@ pub record Stands (s : Session) (H : History) : Type 0 where
   pub group : s .group ≡ H .group
   pub rounds : s .rounds ≡ length (H .rounds)
 
--- what lines do after a history in a group of n: their calls, whether the reading stops in them, their text, and the session after them
+-- what lines do after a history in a group of n: their calls, whether the reading stops in them,
+-- their text, and the session after them
 pub record Does (n : ℕ) (H : History) (calls : List Call) (stop : Bool) (text : List ℕ) (last : Session) : Type 0 where
   pub group : last .group ≡ (continued H calls) .group
   pub rounds : last .rounds ≡ length ((continued H calls) .rounds)

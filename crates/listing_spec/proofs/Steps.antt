@@ -1,11 +1,12 @@
--- What is still to be listed, byte by byte: a byte joins the line that is held, one too many changes nothing, a line end prints the line, and the end closes the script.
+-- What is still to be listed, byte by byte: a byte joins the line that is held, one too many
+-- changes nothing, a line end prints the line, and the end closes the script.
 use mathlib.Core.Path.{_≡_, refl, _∙_}
 use mathlib.Core.List.{List, [], _∷_, _++_, append-assoc, append-nil}
 use Prim.Native.Nat.{ℕ, _<_}
 use native.Mathlib.Omega.{arith}
 use lib.ListN.{length, length-append}
 use borrow.Author.Tests.{ne-eqb}
-use Rattle.lines.specs.Lines.{endLine}
+use Rattle.listing_lines.specs.Lines.{endLine}
 use Rattle.listing_spec.specs.declared.Session.{Session}
 use Rattle.listing_spec.specs.Listing.{Lines, rest, line, before, sessionBegun, linesOf, listed, listingOf, after, printed, closed}
 use Rattle.listing_spec.proofs.Overlong.{printed-long, after-long, closed-some}

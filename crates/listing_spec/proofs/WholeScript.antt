@@ -1,5 +1,5 @@
--- Fed in parts of any size, a script is listed whole: what was put into buffers, and what is still to be listed, is at every time the listing of what was read
--- and whatever follows.
+-- Fed in parts of any size, a script is listed whole: what was put into buffers, and what is still
+-- to be listed, is at every time the listing of what was read and whatever follows.
 use Prim.Native.Nat.{ℕ}
 use mathlib.Core.Path.{_≡_, sym, ap, _∙_}
 use mathlib.Core.List.{List, [], _++_, append-assoc, append-nil}

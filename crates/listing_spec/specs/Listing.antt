@@ -23,14 +23,15 @@ use Rattle.script.specs.declared.Command.the-variants.{Size, Post, Round, Malfo
 use Rattle.script.specs.Line.{commandOf, masksOf}
 use Rattle.listing_spec.specs.declared.Session.{Session}
 use Rattle.listing_spec.specs.declared.Applied.{Applied}
-use Rattle.lines.specs.Lines.{turnedDown, lineBytes, lineLength, endLine, Put}
-use Rattle.round_lines.specs.Reports.{roundText}
+use Rattle.listing_lines.specs.Lines.{turnedDown, lineBytes, lineLength, endLine, endLength, Put}
+use Rattle.listing_lines.specs.Reports.{roundText}
 
 -- before any line is read: no size yet, no round done
 unfoldable pub sessionBegun : Session
 sessionBegun = record { n = 0; rounds = 0; stopped = false; group = freshGroup aloneSetup }
 
--- the limit that a listing names (document 02, A2): the largest, with which document 01's listings are read
+-- the limit that a listing names (document 02, A2): the largest, with which document 01's listings
+-- are read
 abbrev pub listingLimit : ℕ
 listingLimit = 32
 
@@ -72,7 +73,8 @@ postedBy s made = record { n = s .n; rounds = s .rounds; stopped = false; group 
 unfoldable pub roundedBy : Session → RoundDone → Session
 roundedBy s made = record { n = s .n; rounds = s .rounds + 1; stopped = false; group = made .group }
 
--- what a post prints among n stations, so many rounds done: a refusal; a station that is not below n is printed as 0
+-- what a post prints among n stations, so many rounds done: a refusal; a station that is not below
+-- n is printed as 0
 unfoldable pub refusedText : ℕ → ℕ → ℕ → ℕ → List ℕ
 refusedText n rounds station refusal =
     cond (eqb refusal done) [] (refusalText rounds (cond (ltb station n) station 0) refusal)
@@ -96,7 +98,8 @@ answered s masks Round =
     (malformedText s)
 answered s masks Malformed = malformedText s
 
--- the session after a line, and what the line prints; a reading that has stopped neither changes nor prints any more
+-- the session after a line, and what the line prints; a reading that has stopped neither changes
+-- nor prints any more
 unfoldable pub after : Session → List ℕ → Session
 after s line = cond (s .stopped) s (obeyed s (masksOf (s .n) line) (commandOf (s .n) line))
 
@@ -112,11 +115,12 @@ restText s left = cond (s .stopped || (ltb 0 (s .n) && eqb left 0)) [] (malforme
 abbrev pub closed : Session → List ℕ → List ℕ
 closed s rest = restText s (length rest)
 
--- the most bytes that the end of a script prints: a refusal, and the last line, of 4
+-- the most bytes that the end of a script prints: a refusal, and the last line
 abbrev pub closingRoom : ℕ
-closingRoom = lineLength + 4
+closingRoom = lineLength + endLength
 
--- what a call on a session promises: the session after it, and the text put at the front of the lent buffer
+-- what a call on a session promises: the session after it, and the text put at the front of the
+-- lent buffer
 pub record Answer (after : Session) (text entry exit : List ℕ) (r : Applied) : Type 0 where
   pub session : r .session ≡ after
   pub put : Put entry exit 0 (r .len) text

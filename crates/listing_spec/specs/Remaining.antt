@@ -1,9 +1,10 @@
--- A script read in parts: what is still to be listed where the reading stands, and what each call says of it.
+-- A script read in parts: what is still to be listed where the reading stands, and what each call
+-- says of it.
 use Prim.Native.Nat.{ℕ, _+_, _≤_, _<_}
 use mathlib.Core.Path.{_≡_}
 use mathlib.Core.List.{List, _++_}
 use lib.ListN.{length, take, getD, replicate}
-use Rattle.lines.specs.Lines.{endLine, Put}
+use Rattle.listing_lines.specs.Lines.{endLine, Put}
 use Rattle.listing_spec.specs.declared.Session.{Session}
 use Rattle.listing_spec.specs.Listing.{Lines, rest, line, sessionBegun, linesOf, listed}
 use Rattle.listing_spec.specs.declared.reading.Reader.{Reader}
@@ -19,7 +20,8 @@ abbrev pub behind : List ℕ → Lines → Lines
 behind held (rest l) = rest (held ++ l)
 behind held (line l ls) = line (held ++ l) ls
 
--- what is still to be listed: what the lines print, of which the first begins with the bytes held, and the last line
+-- what is still to be listed: what the lines print, of which the first begins with the bytes held,
+-- and the last line
 unfoldable pub remainingAt : Session → List ℕ → List ℕ → List ℕ
 remainingAt s held bytes = listed s (behind held (linesOf bytes)) ++ endLine
 
@@ -53,7 +55,8 @@ pub record Feeds (r : Reader) (part entry exit : List ℕ) (f : FeedAnswer) : Ty
   pub kept : f .reader .len ≤ keptBytes
   pub moves : 0 < length part → 0 < f .read
 
--- bytes taken into the line that is held: in every session, and whatever follows, the same is to be listed
+-- bytes taken into the line that is held: in every session, and whatever follows, the same is to be
+-- listed
 pub record Same (held bytes held' : List ℕ) : Type 0 where
   pub same : (s : Session) (more : List ℕ) → remainingAt s held (bytes ++ more) ≡ remainingAt s held' more
 

@@ -8,7 +8,8 @@ use Rattle.listing_spec.specs.declared.reading.Reader.{Reader}
 use Rattle.listing_spec.specs.declared.reading.FeedAnswer.{FeedAnswer}
 use Rattle.listing_spec.specs.Remaining.{beginning, remaining, Feeds}
 
--- a reader that was fed parts of a script, with all that it read of them and all that it put into buffers
+-- a reader that was fed parts of a script, with all that it read of them and all that it put into
+-- buffers
 pub data Reached : Reader → List ℕ → List ℕ → Type 0 where
   at-first : Reached beginning [] []
   then-fed :

@@ -6,7 +6,8 @@ use super::Session;
 // So many bytes of a line are kept: a line of more than 145 is malformed.
 pub const KEPT: usize = 146;
 
-// Where the reading stands: the session after the lines read, and the bytes of a line whose line end is still to come.
+// Where the reading stands: the session after the lines read, and the bytes of a line whose line
+// end is still to come.
 pub struct Reader {
     pub session: Session,
     pub len: usize,

@@ -1,4 +1,5 @@
--- A 32-bit number and its complement, which is -1 less the number: what the code's tests, differences and casts come to.
+-- A 32-bit number and its complement, which is -1 less the number: what the code's tests,
+-- differences and casts come to.
 use mathlib.Core.Path.{_≡_, refl, ap, _∙_}
 use mathlib.Core.Bool.{true, false, true≢false}
 use Prim.Native.Nat.{ℕ, zero, suc, _-_, _≤_}

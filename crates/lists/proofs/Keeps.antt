@@ -1,5 +1,6 @@
--- A property that every entry of a list has, and that what is put in has too, is kept when one place is changed or the first places are filled; and
--- whichever of two values a test picks, it has what both have.
+-- A property that every entry of a list has, and that what is put in has too, is kept when one
+-- place is changed or the first places are filled; and whichever of two values a test picks, it has
+-- what both have.
 use Prim.Native.Nat.{ℕ, zero, suc, _<_}
 use mathlib.Core.Bool.{Bool, true, false, cond}
 use mathlib.Core.List.{List}

@@ -1,5 +1,6 @@
--- Laws of lists read by place: what holds at every place below n, what a filled list holds below n and from n up, and what is gathered.
--- Each is an induction on n, whose last place is looked at first.
+-- Laws of lists read by place: what holds at every place below n, what a filled list holds below n
+-- and from n up, and what is gathered. Each is an induction on n, whose last place is looked at
+-- first.
 use mathlib.Core.Path.{_≡_, refl, sym, ap, ap₂, _∙_}
 use mathlib.Core.Bool.{Bool, true, false, cond, not, _&&_, _||_, or-false}
 use mathlib.Core.List.{List, [], _∷_, _++_, map, map-append}

@@ -1,5 +1,5 @@
--- The total of a number at each place below n: it is at most n times what each is at most, goes up with the numbers and by as much, and where it stays
--- although none falls they all stay.
+-- The total of a number at each place below n: it is at most n times what each is at most, goes up
+-- with the numbers and by as much, and where it stays although none falls they all stay.
 use Prim.Native.Nat.{ℕ, zero, suc, _+_, _*_, _≤_, _<_}
 use mathlib.Core.Path.{_≡_, refl, ap}
 use native.Mathlib.Decide.{ℕ-discrete}

@@ -1,5 +1,5 @@
--- Lists that are read and changed place by place. Where N of sixteen places are in use, these say what the places
--- below N hold, and keep the others.
+-- Lists that are read and changed place by place. Where N of sixteen places are in use, these say
+-- what the places below N hold, and keep the others.
 use Prim.Native.Nat.{ℕ, zero, suc}
 use mathlib.Core.Bool.{Bool, true, false, cond, _&&_, _||_}
 use mathlib.Core.List.{List, [], _∷_, _++_}

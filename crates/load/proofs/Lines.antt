@@ -8,8 +8,8 @@ use native.Mathlib.Omega.{arith}
 use lib.ListN.{length, set}
 use Rattle.columns.specs.Writing.{natColumns}
 use Rattle.columns.proofs.Fields.{length-columns}
-use Rattle.lines.specs.Lines.{placed, Put}
-use Rattle.lines.proofs.Placed.{placed-byte, put-none, put-more}
+use Rattle.listing_lines.specs.Lines.{placed, Put}
+use Rattle.listing_lines.proofs.Placed.{placed-byte, put-none, put-more}
 use Rattle.lists.specs.Below.{tabulate}
 use Rattle.lists.proofs.Laws.{length-tabulate}
 use Rattle.load_spec.specs.Draws.{postDraw, maskDraw}

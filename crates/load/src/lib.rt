@@ -1,4 +1,5 @@
-// A load that everyone can repeat: the lines of a script, drawn round by round and written into a lent buffer.
+// A load that everyone can repeat: the lines of a script, drawn round by round and written into a
+// lent buffer.
 
 use bodies::refusals::BAD_NUMBER;
 use bodies::refusals::DONE;
@@ -11,9 +12,10 @@ ghost use Prim.Native.Nat.{_+_, _*_, _%_, _^_, _≤_};
 ghost use lib.ListN.{length};
 ghost use Rattle.lists.specs.Below.{tabulate};
 ghost use Rattle.columns.specs.Writing.{natColumns};
-ghost use Rattle.lines.specs.Lines.{placed, Put};
+ghost use Rattle.listing_lines.specs.Lines.{placed, Put};
 ghost use Rattle.load_spec.specs.Draws.{nextState, drawOf, posts, maskDraw, afterRound};
 ghost use Rattle.load_spec.specs.Script.{fields, textOf, sizeLine, postLine, postLines, roundLines};
+ghost use Rattle.load_spec.specs.Script.{fieldWidth, sizeLength, postLength};
 ghost use Rattle.load_spec.specs.Calls.{numbersFit, generated, bufferAfter, Writes};
 
 // The numbers of the generator's step, and what a new state is divided by for a draw.
@@ -99,16 +101,17 @@ fn posts_len(state: u32, n: usize) -> usize
 
 // A number put into nine columns. Returns the place behind them.
 fn put_field(out: &mut [u8], at: usize, value: u64) -> usize
-    requires { ⌜ at + 9 ≤ length (now out) ⌝ }
-    ensures { λ r. ⌜ Put (now (out .entry)) (now (out .exit)) at r (natColumns 9 value) × (r ≡ at + 9) ⌝ }
+    requires { ⌜ at + fieldWidth ≤ length (now out) ⌝ }
+    ensures { λ r. ⌜ Put (now (out .entry)) (now (out .exit)) at r (natColumns fieldWidth value)
+        × (r ≡ at + fieldWidth) ⌝ }
 {
-    lines::put_natural(out, at, at + 9, value);
+    listing_lines::put_natural(out, at, at + 9, value);
     at + 9
 }
 
 // The line of a post put into the buffer. Returns the place behind it.
 fn put_post_line(out: &mut [u8], at: usize, station: usize, draw: u32) -> usize
-    requires { ⌜ at + 38 ≤ length (now out) ⌝ }
+    requires { ⌜ at + postLength ≤ length (now out) ⌝ }
     ensures { λ r. ⌜ Put (now (out .entry)) (now (out .exit)) at r (textOf (postLine station draw ∷ [])) ⌝ }
 {
     out[at] = POST;
@@ -151,7 +154,7 @@ fn put_posts(out: &mut [u8], state: u32, n: usize) -> usize
 
 // The masks of a round put into their columns. Returns the state after the round.
 fn put_masks(out: &mut [u8], at: usize, state: u32, n: usize) -> u32
-    requires { ⌜ (n ≤ 16) × (at + 9 * n ≤ length (now out)) ⌝ }
+    requires { ⌜ (n ≤ 16) × (at + fieldWidth * n ≤ length (now out)) ⌝ }
     ensures { λ r.
         ⌜ (r ≡ afterRound n state)
         × (now (out .exit) ≡ placed (now (out .entry)) at (fields (tabulate n (maskDraw state)))) ⌝ }
@@ -184,7 +187,7 @@ fn put_round(out: &mut [u8], state: u32, n: usize) -> u32
 
 // The `N` line put at the front of the buffer.
 fn put_size(out: &mut [u8], n: usize)
-    requires { ⌜ 11 ≤ length (now out) ⌝ }
+    requires { ⌜ sizeLength ≤ length (now out) ⌝ }
     ensures { λ r. ⌜ now (out .exit) ≡ placed (now (out .entry)) 0 (textOf (sizeLine n ∷ [])) ⌝ }
 {
     out[0] = SIZE;
@@ -249,8 +252,8 @@ fn generate_size(out: &mut [u8], state: u32, n: usize) -> Generated
     }
 }
 
-// A call of the generator: 1, 9, or the `N` line where it is wanted, else the lines of the next round, put at the
-// front of the lent buffer.
+// A call of the generator: 1, 9, or the `N` line where it is wanted, else the lines of the next
+// round, put at the front of the lent buffer.
 pub fn generate(out: &mut [u8], state: u32, n: usize, due: u32, head: bool) -> Generated
     ensures { λ r.
         ⌜ (r ≡ generated state n due head (length (now (out .entry))))

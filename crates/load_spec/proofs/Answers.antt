@@ -1,15 +1,15 @@
--- A call by its refusal: what is refused changes nothing, and a call that is done has written its text at the front
--- of the buffer.
-use mathlib.Core.Path.{_≡_, refl, sym, ap, _∙_}
+-- A call by its refusal: what is refused changes nothing, and a call that is done has written its
+-- text at the front of the buffer.
+use mathlib.Core.Path.{_≡_, refl, _∙_}
 use mathlib.Core.Bool.{Bool, true, false, cond, _&&_}
-use mathlib.Core.List.{List, [], _++_}
+use mathlib.Core.List.{List}
 use Prim.Native.Nat.{ℕ, _≤_, _<_}
 use lib.Dec.{leb, ltb, eqb}
-use lib.ListN.{length, take, drop}
+use lib.ListN.{length, take}
 use lib.Seq.{take-at}
 use borrow.Author.Tests.{eqb-true, leb-true, lt-ltb, le-ltb}
 use Rattle.bodies.specs.Refusals.{done, badNumber, shortBuffer}
-use Rattle.lines.specs.Lines.{placed}
+use Rattle.listing_lines.specs.Lines.{placed}
 use Rattle.lists.proofs.Laws.{and-left, and-right}
 use Rattle.load_spec.specs.declared.Generated.{Generated}
 use Rattle.load_spec.specs.Calls.{mostRounds, numbersFit, callText, callState, callRefusal, generated, bufferAfter, Writes}

@@ -1,5 +1,5 @@
--- A script computed from the definitions: seed 7, two stations, two rounds. Station 0 posts before the first, for its
--- draw is 15,648, a multiple of 8.
+-- A script computed from the definitions: seed 7, two stations, two rounds. Station 0 posts before
+-- the first, for its draw is 15,648, a multiple of 8.
 use mathlib.Core.Path.{_≡_, refl}
 use mathlib.Core.List.{[], _∷_}
 use Rattle.lists.specs.Below.{filterMap, tabulate}

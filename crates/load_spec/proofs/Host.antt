@@ -1,5 +1,5 @@
--- The call from C by its refusal. Where its numbers are inside and both places are lent, it is the generator's call,
--- and the two places get what that call returns.
+-- The call from C by its refusal. Where its numbers are inside and both places are lent, it is the
+-- generator's call, and the two places get what that call returns.
 use mathlib.Core.Path.{_≡_, refl, sym, ap, _∙_}
 use mathlib.Core.Bool.{Bool, true, false, cond}
 use mathlib.Core.List.{List}
@@ -12,7 +12,7 @@ use Rattle.bodies.specs.Refusals.{done, badNumber, shortBuffer}
 use Rattle.load_spec.specs.declared.Generated.{Generated}
 use Rattle.load_spec.specs.Calls.{numbersFit, callText, callState, callRefusal, generated, bufferAfter, hostRefusal, hostBuffer, hostPlaces}
 use Rattle.load_spec.specs.Whole.{enough}
-use Rattle.load_spec.proofs.Answers.{by-refusal, is-done, fit-size}
+use Rattle.load_spec.proofs.Answers.{is-done, fit-size}
 use Rattle.load_spec.proofs.WholeScript.{fits}
 
 module _ (state n due : ℕ) (head : Bool) (buffer next : List ℕ) where

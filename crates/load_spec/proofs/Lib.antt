@@ -1,3 +1,7 @@
+pub mod Ends
+pub mod Fields
+pub mod Commands
+pub mod ReadsThrough
 pub mod Draws
 pub mod Example
 pub mod Text

@@ -1,4 +1,5 @@
--- One station more, as a loop over the stations has it: the state, the two draws, the post's line and the mask.
+-- One station more, as a loop over the stations has it: the state, the two draws, the post's line
+-- and the mask.
 use mathlib.Core.Path.{_≡_, refl, ap, _∙_}
 use mathlib.Core.Bool.{cond}
 use mathlib.Core.List.{List, [], _∷_, _++_, append-nil}
@@ -25,7 +26,8 @@ step-twice : (p s : ℕ) → steps (2 * p + 2) s ≡ nextState (nextState (steps
 unfolding steps
 step-twice p s = let e : 2 * p + 2 ≡ suc (suc (2 * p)) = omega arith in rw e
 
--- t is the state before the draws of station p, u the state after its first, v the state after its second
+-- t is the state before the draws of station p, u the state after its first, v the state after its
+-- second
 module _ (p s t u : ℕ) (before : t ≡ steps (2 * p) s) (first : u ≡ nextState t) where
   -- the first draw is the post's
   pub post-drawn : (d : ℕ) → d ≡ drawOf u → d ≡ postDraw s p

@@ -5,7 +5,6 @@ use mathlib.Core.List.{List, [], _∷_, _++_, append-assoc}
 use Prim.Native.Nat.{ℕ, zero, suc, _+_, _*_, _≤_}
 use native.Mathlib.Omega.{arith}
 use lib.ListN.{length, length-append}
-use Rattle.columns.specs.Writing.{natColumns}
 use Rattle.columns.proofs.Fields.{length-columns}
 use Rattle.lists.specs.Below.{filterMap, tabulate}
 use Rattle.lists.proofs.Laws.{length-tabulate}

@@ -1,14 +1,12 @@
--- The calls one after the other write the whole script, by induction on the rounds due: a call writes the lines of
--- one round and leaves the state from which the others are drawn.
+-- The calls one after the other write the whole script, by induction on the rounds due: a call
+-- writes the lines of one round and leaves the state from which the others are drawn.
 use mathlib.Core.Path.{_≡_, refl, sym, ap, ap₂, subst, _∙_}
-use mathlib.Core.Bool.{Bool, true, false, cond}
-use mathlib.Core.List.{List, [], _∷_, _++_, append-nil}
-use Prim.Native.Nat.{ℕ, zero, suc, _+_, _*_, _≤_}
+use mathlib.Core.Bool.{Bool, true, false}
+use mathlib.Core.List.{List, [], _∷_, _++_}
+use Prim.Native.Nat.{ℕ, zero, suc, _+_, _≤_}
 use native.Mathlib.Omega.{arith}
-use lib.Dec.{ltb, eqb}
 use lib.ListN.{length, replicate, length-replicate}
 use borrow.Author.Tests.{le-leb, le-ltb, ne-eqb}
-use Rattle.bodies.specs.Refusals.{done}
 use Rattle.load_spec.specs.Draws.{afterRound}
 use Rattle.load_spec.specs.Script.{textOf, sizeLine, roundLines, roundsLines, scriptLines, scriptOf}
 use Rattle.load_spec.specs.Calls.{numbersFit, callLines, callText, callState, callRefusal, generated}

@@ -16,8 +16,8 @@ steps (suc k) s = nextState (steps k s)
 abbrev pub drawOf : ℕ → ℕ
 drawOf s = s / 65_536
 
--- From state s a round of n stations draws 2 × n times, and each draw is a step. Station by station there are two
--- draws: the first decides on the station's post, and the second is its mask.
+-- From state s a round of n stations draws 2 × n times, and each draw is a step. Station by station
+-- there are two draws: the first decides on the station's post, and the second is its mask.
 unfoldable pub postDraw : ℕ → ℕ → ℕ
 postDraw s p = drawOf (steps (2 * p + 1) s)
 

@@ -1,3 +1,4 @@
+pub mod Reading
 pub mod Draws
 pub mod Script
 pub mod Calls

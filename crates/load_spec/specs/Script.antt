@@ -1,16 +1,18 @@
--- Document 02, A5: the script of a seed, a group's size and a number of rounds, in the form that document 01 gives
--- for the listing's input.
-use Prim.Native.Nat.{ℕ, zero, suc, _+_}
-use mathlib.Core.Bool.{cond}
+-- Document 02, A5: the script of a seed, a group's size and a number of rounds, in the form that
+-- document 01 gives for the listing's input.
+use Prim.Native.Nat.{ℕ, zero, suc, _+_, _*_}
 use mathlib.Core.List.{List, [], _∷_, _++_}
 use Rattle.lists.specs.Below.{filterMap, tabulate}
 use Rattle.columns.specs.Writing.{natColumns}
 use Rattle.load_spec.specs.Draws.{postDraw, maskDraw, afterRound, posts}
 
--- numbers, each right-justified in nine columns
+-- the columns of a number, and numbers, each right-justified in its columns
+abbrev pub fieldWidth : ℕ
+fieldWidth = 9
+
 unfoldable pub fields : List ℕ → List ℕ
 fields [] = []
-fields (v ∷ vs) = natColumns 9 v ++ fields vs
+fields (v ∷ vs) = natColumns fieldWidth v ++ fields vs
 
 -- a line, without its line end: a letter and numbers
 unfoldable pub lineOf : ℕ → List ℕ → List ℕ
@@ -25,9 +27,18 @@ textOf (l ∷ ls) = l ++ (10 ∷ textOf ls)
 unfoldable pub sizeLine : ℕ → List ℕ
 sizeLine n = lineOf 78 (n ∷ [])
 
--- `P`: station p posts what a draw says, an insert (kind 2) whose event is draw + 1 and whose start is the draw
+-- its bytes: the letter, a number and the line end
+abbrev pub sizeLength : ℕ
+sizeLength = 1 + fieldWidth + 1
+
+-- `P`: station p posts what a draw says, an insert (kind 2) whose event is draw + 1 and whose start
+-- is the draw
 unfoldable pub postLine : ℕ → ℕ → List ℕ
 postLine p draw = lineOf 80 (p ∷ 2 ∷ (draw + 1) ∷ draw ∷ [])
+
+-- its bytes: the letter, four numbers and the line end
+abbrev pub postLength : ℕ
+postLength = 1 + fieldWidth * 4 + 1
 
 -- `R`: the masks of n stations
 unfoldable pub maskLine : ℕ → ℕ → List ℕ

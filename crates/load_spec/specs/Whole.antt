@@ -6,7 +6,7 @@ use mathlib.Core.List.{List, [], _++_}
 use lib.ListN.{length, take}
 use Rattle.bodies.specs.Refusals.{done}
 use Rattle.load_spec.specs.declared.Generated.{Generated}
-use Rattle.load_spec.specs.Script.{scriptOf}
+use Rattle.load_spec.specs.Script.{fieldWidth, postLength, scriptOf}
 use Rattle.load_spec.specs.Calls.{mostRounds, generated, bufferAfter}
 
 -- a call in a buffer: its answer, and the bytes of which the answer gives the length
@@ -16,8 +16,9 @@ answerIn state n due head buffer = generated state n due head (length buffer)
 abbrev pub writtenIn : ℕ → ℕ → ℕ → Bool → List ℕ → List ℕ
 writtenIn state n due head buffer = take ((answerIn state n due head buffer) .len) (bufferAfter state n due head buffer)
 
--- Calls that write the rounds due, and all that they write. The state is that of the first call. Each call lends a
--- buffer of its own and is done; the next is given the state that it returned and one round fewer as due.
+-- Calls that write the rounds due, and all that they write. The state is that of the first call.
+-- Each call lends a buffer of its own and is done; the next is given the state that it returned and
+-- one round fewer as due.
 pub data Rounds (n : ℕ) : ℕ → ℕ → List ℕ → Type 0 where
   none-due : (state : ℕ) → Rounds n state 0 []
   then-call :
@@ -38,9 +39,10 @@ pub data Calls (n : ℕ) : ℕ → ℕ → List ℕ → Type 0 where
 abbrev pub WritesWhole : Type 0
 WritesWhole = (n seed count : ℕ) (text : List ℕ) → Calls n seed count text → text ≡ scriptOf seed n count
 
--- so many bytes hold what any call writes: the posts of sixteen stations, 38 bytes each, and a line of sixteen masks
+-- so many bytes hold what any call writes: the posts of sixteen stations, and a line of sixteen
+-- masks
 abbrev pub enough : ℕ
-enough = 16 * 38 + 146
+enough = postLength * 16 + (1 + fieldWidth * 16 + 1)
 
 -- In a buffer of that many bytes no call inside the limits is refused.
 abbrev pub NeverShort : Type 0

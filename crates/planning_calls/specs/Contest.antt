@@ -2,9 +2,9 @@
 use mathlib.Core.List.{List}
 use Prim.Native.Nat.{ℕ}
 use Rattle.bodies.specs.Refusals.{done}
-use Rattle.contest_spec.specs.declared.ContestAnswer.{ContestAnswer}
-use Rattle.contest_spec.specs.declared.ContestAnswer.the-variants.{Refused, Breaker, Keeper}
-use Rattle.contest_spec.specs.Answer.{contestCall}
+use Rattle.contest.specs.declared.ContestAnswer.{ContestAnswer}
+use Rattle.contest.specs.declared.ContestAnswer.the-variants.{Refused, Breaker, Keeper}
+use Rattle.contest.specs.Answer.{contestCall}
 use Rattle.planning_calls.specs.Pair.{pairReturned, pairBuffer}
 
 -- an answer's refusal, or 0

@@ -1,2 +1,3 @@
 pub mod Pair
 pub mod Contest
+pub mod Compare

@@ -1,4 +1,7 @@
-// The calls of planning on lent buffers: document 02, A1, A10, A11 and A13. A refused call writes nothing.
+// The calls on lent buffers that need no state: document 02, A1, A10, A11 and A13 here, A5 and A8
+// in `text`. A refused call writes nothing.
+
+pub mod text;
 
 ghost use mathlib.Core.List.{[], _∷_};
 ghost use mathlib.Core.Path.{_≡_};
@@ -7,12 +10,13 @@ ghost use lib.ListN.{length, getD};
 ghost use Rattle.lists.specs.Below.{setBelow};
 ghost use Rattle.planning_spec.specs.Forecast.{forecastCall, forecastIntoRefusal, writtenInto};
 ghost use Rattle.planning_spec.specs.Merge.{mergedLog, frontWritten, mergeIntoRefusal};
-ghost use Rattle.planning_spec.specs.Questions.{never, arrivalNumber, answerNumbers, questionsIntoRefusal};
+ghost use Rattle.planning_spec.specs.Questions.{mostQuestions, never, arrivalNumber, answerNumbers};
+ghost use Rattle.planning_spec.specs.Questions.{questionsIntoRefusal};
 ghost use Rattle.planning_calls.specs.Contest.{answerRefusal, answerWinner, answerPick};
 ghost use Rattle.planning_calls.specs.Contest.{contestReturned, contestBuffer};
 use bodies::refusals::DONE;
 use bodies::refusals::SHORT_BUFFER;
-use contest_spec::ContestAnswer;
+use contest::ContestAnswer;
 use planning_spec::Arrival;
 use planning_spec::QuestionAnswer;
 
@@ -43,7 +47,7 @@ pub fn forecast_into(log: &[u16], n: u32, ends: &mut [u16], last: &mut [u16]) ->
         × (now (ends .exit) ≡ writtenInto r (forecastCall n (now (log .entry)) .ends) (now (ends .entry)))
         × (now (last .exit) ≡ writtenInto r (forecastCall n (now (log .entry)) .last) (now (last .entry))) ⌝ }
 {
-    let told = forecast::forecast(log, n as usize);
+    let told = planning::forecast::forecast(log, n as usize);
     if told.refusal != DONE {
         return told.refusal;
     }
@@ -74,13 +78,13 @@ pub fn merge_into(
         (now (masks .entry))) ⌝ }
 {
     if masks.len() < 1 {
-        let refusal = merge::logs_refusal(first.len(), second.len(), n as usize);
+        let refusal = planning::merge::logs_refusal(first.len(), second.len(), n as usize);
         if refusal != DONE {
             return refusal;
         }
         return SHORT_BUFFER;
     }
-    let made = merge::merge(first, second, n as usize, merged);
+    let made = planning::merge::merge(first, second, n as usize, merged);
     if made.refusal != DONE {
         return made.refusal;
     }
@@ -100,7 +104,7 @@ fn number_of(arrival: Arrival) -> u32
 
 // Writes the first answers to the front of a buffer.
 fn write_answers(buffer: &mut [u32], answers: [QuestionAnswer; 64], count: usize)
-    requires { ⌜ (count ≤ 64) × (count ≤ length (now buffer)) ⌝ }
+    requires { ⌜ (count ≤ mostQuestions) × (count ≤ length (now buffer)) ⌝ }
     ensures { λ _. ⌜ now (buffer .exit)
         ≡ setBelow count (λ i. arrivalNumber (getD answers i never .arrival)) (now (buffer .entry)) ⌝ }
 {
@@ -119,7 +123,7 @@ pub fn questions_into(log: &[u16], n: u32, page: &[u32], answers: &mut [u32]) ->
         × (now (answers .exit)
         ≡ frontWritten r (answerNumbers n (now (log .entry)) (now (page .entry))) (now (answers .entry))) ⌝ }
 {
-    let answered = questions::answer(log, n as usize, page);
+    let answered = planning::questions::answer(log, n as usize, page);
     if answered.refusal != DONE {
         return answered.refusal;
     }

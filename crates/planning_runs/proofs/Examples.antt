@@ -1,5 +1,7 @@
--- A run that shows what more hearings do not promise, computed: rows can be aired later or not at all. Three stations, eight rounds, no posts; the second run
--- has one hearing more, station 1 hears station 0 in round 3. In the first station 2 airs rows in rounds 5 and 8, in the second in round 5 only.
+-- A run that shows what more hearings do not promise, computed: rows can be aired later or not at
+-- all. Three stations, eight rounds, no posts; the second run has one hearing more, station 1 hears
+-- station 0 in round 3. In the first station 2 airs rows in rounds 5 and 8, in the second in round
+-- 5 only.
 use mathlib.Core.Bool.{Bool, true, false}
 use mathlib.Core.List.{List, [], _∷_}
 use mathlib.Core.Path.{_≡_, refl}

@@ -1,4 +1,5 @@
--- The forecast agrees with the group's rounds from fresh, for every setup that fresh accepts and every list of posts and rounds: through demand 3 alone, which knows no bound on the rounds. For
+-- The forecast agrees with the group's rounds from fresh, for every setup that fresh accepts and
+-- every list of posts and rounds: through demand 3 alone, which knows no bound on the rounds. For
 -- every log of whole rounds there are such lists: its rounds with no post among them is one.
 use mathlib.Core.List.{List, [], _∷_, _++_, append-nil, append-assoc}
 use mathlib.Core.Path.{_≡_, refl, sym, ap, _∙_}
@@ -23,7 +24,8 @@ use Rattle.planning_spec.proofs.Forecast.{forecast-done, perStation-below}
 use Rattle.planning_runs.specs.Runs.{endsReported, lastReported, RoundsHave}
 use Rattle.planning_runs.proofs.Reported.{reported-count, reported-last, rounds-same, rounds-number, masks-at}
 
--- For every log, however long: the ends that the rounds report are those that its links bring, in number and last round.
+-- For every log, however long: the ends that the rounds report are those that its links bring, in
+-- number and last round.
 module _ (setup : Setup) (fresh : groupFreshRefusal setup ≡ done) where
   abbrev n : ℕ
   n = setup .n

@@ -1,6 +1,6 @@
--- Over the group's rounds: with the merged log the k-th end is reported no later than with either log alone, whatever was posted on either side. Ends that are
--- reported are those of the links, by demand 3, and among links those with more hearings end no later.
-use mathlib.Core.Bool.{true}
+-- Over the group's rounds: with the merged log the k-th end is reported no later than with either
+-- log alone, whatever was posted on either side. Ends that are reported are those of the links, by
+-- demand 3, and among links those with more hearings end no later.
 use mathlib.Core.List.{List}
 use mathlib.Core.Path.{_≡_, refl, sym, subst, _∙_}
 use Prim.Native.Nat.{ℕ, zero, suc, max, _+_, _*_, _/_, _<_, _≤_}
@@ -17,7 +17,7 @@ use Rattle.links.proofs.Forecast.{num-endCount}
 use Rattle.links.proofs.Part.{ends-part, comes-numbers}
 use Rattle.links.proofs.Prefix.{Same}
 use Rattle.station_spec.specs.declared.Setup.{Setup}
-use Rattle.group_spec.specs.History.{History, Call, historyOf, endsAt}
+use Rattle.group_spec.specs.History.{History, Call, historyOf}
 use Rattle.group_spec.specs.Demand.{Demand}
 use Rattle.group_spec.proofs.DemandThree.{demand-three}
 use Rattle.planning_spec.specs.LinkLog.{roundsOf, linksOf}
@@ -52,7 +52,8 @@ module _ (n : ℕ) (H : History) (d : Demand n H) (s : ℕ) (ls : s < n) where
 fresh-demand : (n : ℕ) (setup : Setup) → FreshOf n setup → (calls : List Call) → Demand n (historyOf setup calls)
 fresh-demand n setup fresh calls = subst (λ m. Demand m (historyOf setup calls)) (fresh .size) (demand-three setup (fresh .taken) calls)
 
--- Any two lists of posts and rounds, from two setups with the same N, where up to a round each hearing of the first is one of the second.
+-- Any two lists of posts and rounds, from two setups with the same N, where up to a round each
+-- hearing of the first is one of the second.
 pub runs-part : (n : ℕ) (one two : Setup) → FreshOf n one → FreshOf n two → (calls more : List Call) (last : ℕ)
     → Part (ofLog n (historyOf one calls .log)) (ofLog n (historyOf two more .log)) last
     → (s k u : ℕ) → s < n → u ≤ last → u ≤ length (historyOf two more .rounds)
@@ -94,8 +95,8 @@ between L A B M l m last h k a p b =
           λ u q j i t. b .hearings u q j (omega arith) ∙ p .hearings u q j i (sym (a .hearings u q j (omega arith)) ∙ t);
     }
 
--- The merged log against either, over lists of posts and rounds from fresh: `calls` with one log, `more` with the merged log, any posts in each, and at least u
--- rounds in `more`.
+-- The merged log against either, over lists of posts and rounds from fresh: `calls` with one log,
+-- `more` with the merged log, any posts in each, and at least u rounds in `more`.
 module _ (n : ℕ) (one two : Setup) (begins : FreshOf n one) (begins-too : FreshOf n two)
     (first second : List ℕ) (taken : logsRefusal n (length first) (length second) ≡ done) where
   both : BothAccepted n (length first) (length second)

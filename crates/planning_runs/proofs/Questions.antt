@@ -1,5 +1,6 @@
--- The answer to a question is the round of the k-th advance of the label in the group's rounds. A label is the number that is had, by threes, and that
--- rises by at most one in a round; so advances count what is had, and the k-th is in the first round by which k are had.
+-- The answer to a question is the round of the k-th advance of the label in the group's rounds. A
+-- label is the number that is had, by threes, and that rises by at most one in a round; so advances
+-- count what is had, and the k-th is in the first round by which k are had.
 use mathlib.Core.Bool.{true, false, true≢false}
 use mathlib.Core.List.{List}
 use mathlib.Core.Logic.{_↔_, _⊎_, inl, inr, ⊎-elim}
@@ -180,8 +181,9 @@ module _ (setup : Setup) (fresh : groupFreshRefusal setup ≡ done) (calls : Lis
       ∙ answer-same (ofLog n (K .log)) (linksOf n log) (roundsOf n log) (rounds-same n low K log has) r s k (roundsOf n log) (le-refl (roundsOf n log)) in
       rw e at (answer-advances r s k lr ls d lk)
 
-  -- And so the answers of a page: in every run from fresh whose rounds have this log, for two stations, the label of the receiver for the sender advances for
-  -- the k-th time in the round answered, and never is the answer exactly where it does not.
+  -- And so the answers of a page: in every run from fresh whose rounds have this log, for two
+  -- stations, the label of the receiver for the sender advances for the k-th time in the round
+  -- answered, and never is the answer exactly where it does not.
   pub runs-questions : (log page : List ℕ) → RoundsHave n K log → questionsRefusal n log page ≡ done → (i : ℕ) → i < questionCount page
       → (questionAt page i .receiver ≡ questionAt page i .sender → ⊥)
       → RunAnswer setup K (questionAt page i .receiver) (questionAt page i .sender) (questionAt page i .number)

@@ -1,5 +1,6 @@
--- The ends that rounds report are those of the links that the rounds have, in number and last round: demand 3 says of each round that an end is reported
--- exactly where the end rule has it. A log whose masks the rounds were given has the same links as far as the rounds go.
+-- The ends that rounds report are those of the links that the rounds have, in number and last
+-- round: demand 3 says of each round that an end is reported exactly where the end rule has it. A
+-- log whose masks the rounds were given has the same links as far as the rounds go.
 use mathlib.Core.List.{List, []}
 use mathlib.Core.Path.{_≡_, refl, sym, ap, _∙_}
 use Prim.Native.Nat.{ℕ, zero, suc, _/_, _<_, _≤_}

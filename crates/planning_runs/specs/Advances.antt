@@ -1,4 +1,5 @@
--- The advances of one station's label for another, in the rounds of a list of calls (document 02, A11).
+-- The advances of one station's label for another, in the rounds of a list of calls (document 02,
+-- A11).
 use mathlib.Core.Bool.{Bool, true, false, cond}
 use mathlib.Core.Option.{Option, none, some}
 use mathlib.Core.Path.{_≡_}

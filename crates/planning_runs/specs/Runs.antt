@@ -1,4 +1,5 @@
--- The ends that the rounds of a list of calls report, and the link log that those rounds have or follow.
+-- The ends that the rounds of a list of calls report, and the link log that those rounds have or
+-- follow.
 use Prim.Native.Nat.{ℕ, zero, suc, _+_, _*_, _<_, _≤_}
 use mathlib.Core.Bool.{true, cond}
 use mathlib.Core.List.{List, []}
@@ -24,8 +25,8 @@ unfoldable pub lastReported : History → ℕ → ℕ → ℕ
 lastReported H s zero = 0
 lastReported H s (suc u) = cond (endsAt H s (suc u)) (suc u) (lastReported H s u)
 
--- the rounds of a list of calls have this log: it is as many rounds, and each round was given its masks for the
--- stations below n
+-- the rounds of a list of calls have this log: it is as many rounds, and each round was given its
+-- masks for the stations below n
 pub record RoundsHave (n : ℕ) (H : History) (log : List ℕ) : Type 0 where
   pub whole : length log ≡ length (H .rounds) * n
   pub masks : (u p : ℕ) → u < length (H .rounds) → p < n → getD (getD (H .log) u []) p 0 ≡ getD log (u * n + p) 0
@@ -42,6 +43,7 @@ pub record EndReportedBy (H : History) (s k u : ℕ) : Type 0 where
   pub by : round ≤ u
   pub reports : EndReported H s k round
 
--- the rounds of a list of calls, however many, were given the masks of this log; past its end nobody heard anybody
+-- the rounds of a list of calls, however many, were given the masks of this log; past its end
+-- nobody heard anybody
 pub record RoundsFollow (n : ℕ) (H : History) (log : List ℕ) : Type 0 where
   pub masks : (v p : ℕ) → v < length (H .rounds) → p < n → getD (getD (H .log) v []) p 0 ≡ getD log (v * n + p) 0

@@ -1,4 +1,5 @@
--- Forecasts, merges and pages of questions, computed: that the definitions are about something. Document 01's listing; a single station; three in a chain; one that is never heard; refusals.
+-- Forecasts, merges and pages of questions, computed: that the definitions are about something.
+-- Document 01's listing; a single station; three in a chain; one that is never heard; refusals.
 use mathlib.Core.List.{[], _∷_}
 use mathlib.Core.Path.{_≡_, refl}
 use lib.ListN.{replicate}
@@ -22,7 +23,8 @@ pub record Forecasts : Type 0 where
       ≡ record { refusal = 0; ends = 1 ∷ 1 ∷ replicate 14 0; last = 2 ∷ 2 ∷ replicate 14 0 }
   -- a single station ends in every round, whatever its mask
   pub single : forecastCall 1 (0 ∷ 1 ∷ 6 ∷ []) ≡ record { refusal = 0; ends = 3 ∷ replicate 15 0; last = 3 ∷ replicate 15 0 }
-  -- stations 0 and 2 hear 1 only, and it hears both: it ends in every second round, they in every fourth
+  -- stations 0 and 2 hear 1 only, and it hears both: it ends in every second round, they in every
+  -- fourth
   pub chain :
       forecastCall 3 (2 ∷ 5 ∷ 2 ∷ 2 ∷ 5 ∷ 2 ∷ 2 ∷ 5 ∷ 2 ∷ 2 ∷ 5 ∷ 2 ∷ 2 ∷ 5 ∷ 2 ∷ [])
       ≡ record { refusal = 0; ends = 1 ∷ 2 ∷ 1 ∷ replicate 13 0; last = 4 ∷ 4 ∷ 4 ∷ replicate 13 0 }
@@ -81,8 +83,8 @@ merges =
     }
 
 pub record Questions : Type 0 where
-  -- two stations that hear each other for two rounds: 1 has the first broadcast of 0 in round 1, 0 has its own first in round 0 and its second in round 2,
-  -- and 1 does not have that one
+  -- two stations that hear each other for two rounds: 1 has the first broadcast of 0 in round 1, 0
+  -- has its own first in round 0 and its second in round 2, and 1 does not have that one
   pub page :
       questionsCall 2 (2 ∷ 1 ∷ 2 ∷ 1 ∷ []) (0 ∷ 1 ∷ 1 ∷ 0 ∷ 0 ∷ 1 ∷ 0 ∷ 0 ∷ 2 ∷ 0 ∷ 1 ∷ 2 ∷ [])
       ≡ record {

@@ -1,5 +1,6 @@
--- The forecast is what the end rule gives by relays alone, and no other answer is. Either way sixteen entries are compared place by place, and for one station
--- `links` has both halves. The empty log has no rounds, so nothing ends.
+-- The forecast is what the end rule gives by relays alone, and no other answer is. Either way
+-- sixteen entries are compared place by place, and for one station `links` has both halves. The
+-- empty log has no rounds, so nothing ends.
 use mathlib.Core.List.{List, []}
 use mathlib.Core.Path.{_≡_, refl, sym, ap, ap₂, _∙_}
 use Prim.Native.Nat.{ℕ, zero, suc, _<_, _≤_}

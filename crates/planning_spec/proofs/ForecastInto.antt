@@ -1,4 +1,5 @@
--- The forecast into lent buffers, case by case: the refusal of the log, a buffer without room, and the answer written.
+-- The forecast into lent buffers, case by case: the refusal of the log, a buffer without room, and
+-- the answer written.
 use mathlib.Core.List.{List}
 use mathlib.Core.Path.{_≡_, refl, sym, ap, _∙_}
 use Prim.Native.Nat.{ℕ, _<_, _≤_}

@@ -1,5 +1,6 @@
--- What a log that is not refused has, and its hearings mask by mask. The tests of `logRefusal` are taken one after the other; a log's mask of p in round
--- u + 1 stands at place u × N + p, and its bits are the hearings of the links.
+-- What a log that is not refused has, and its hearings mask by mask. The tests of `logRefusal` are
+-- taken one after the other; a log's mask of p in round u + 1 stands at place u × N + p, and its
+-- bits are the hearings of the links.
 use mathlib.Core.Bool.{Bool, true, false, cond, not, _&&_, and-false}
 use mathlib.Core.List.{List, []}
 use mathlib.Core.Path.{_≡_, refl, sym, ap, _∙_}
@@ -64,7 +65,8 @@ hearsIn-mask n masks p j x l e = rw (lt-ltb p n l, e)
 pub no-bit : (n p j x : ℕ) → x ≡ 0 → (ltb j n && (not (eqb p j) && bit x j)) ≡ false
 no-bit n p j x e = rw (e, bit-zero j, and-false (not (eqb p j)), and-false (ltb j n))
 
--- Who is heard in a log of whole rounds: the mask alone decides, and past the end of the log there is none.
+-- Who is heard in a log of whole rounds: the mask alone decides, and past the end of the log there
+-- is none.
 pub whole-hears : (n r : ℕ) (log : List ℕ) (u p j : ℕ) → length log ≡ r * n → p < n
     → linksOf n log .hears (suc u) p j ≡ (ltb j n && (not (eqb p j) && bit (getD log (u * n + p) 0) j))
 whole-hears n r log u p j e l =

@@ -1,8 +1,9 @@
--- A mask made of a test has the test's bits, and a mask is made of its own bits: by induction on the number of bits, the lowest first, for that bit is the
--- remainder by 2 and the others are the bits of the half.
+-- A mask made of a test has the test's bits, and a mask is made of its own bits: by induction on
+-- the number of bits, the lowest first, for that bit is the remainder by 2 and the others are the
+-- bits of the half.
 use mathlib.Core.Bool.{Bool, true, false, cond, _&&_}
 use mathlib.Core.Path.{_≡_, refl, sym, ap, ap₂, _∙_}
-use Prim.Native.Nat.{ℕ, zero, suc, _+_, _*_, _/_, _%_, _^_, _<_, _≤_}
+use Prim.Native.Nat.{ℕ, zero, suc, _+_, _*_, _/_, _%_, _^_, _<_}
 use native.Mathlib.Decide.{ℕ-discrete, decLe}
 use native.Mathlib.Nat.{div-one, div-add-mod', div-div-eq-div-mul, pow-succ'}
 use native.Mathlib.Omega.{arith}

@@ -1,5 +1,6 @@
--- The merged log has a hearing exactly where one of the two logs has it. At a place inside the logs that is the definition, read bit by bit; past both logs
--- all masks are 0. So each log is a part of the merged one, and `links` says the rest: no end comes later.
+-- The merged log has a hearing exactly where one of the two logs has it. At a place inside the logs
+-- that is the definition, read bit by bit; past both logs all masks are 0. So each log is a part of
+-- the merged one, and `links` says the rest: no end comes later.
 use mathlib.Core.Bool.{Bool, true, false, cond, not, _&&_, _||_, or-true, and-false, false≢true}
 use mathlib.Core.List.{List}
 use mathlib.Core.Path.{_≡_, refl, sym, ap, ap₂, _∙_}
@@ -209,9 +210,10 @@ both-accepted n first second = go (eqb (logRefusal n first) 0) refl (eqb (logRef
     go true p true q h =
         record { one = accepted n first (eqb-true (logRefusal n first) 0 p); two = accepted n second (eqb-true (logRefusal n second) 0 q) }
 
--- Over the forecast, of logs that are not refused: with the merged log no end comes later than with either log. The forecast shows the count and the last end
--- only; `begins-first` and `begins-second` say it of the first v rounds too, for every v, and so of every end: the k-th comes by round v where the first v
--- rounds have k ends or more.
+-- Over the forecast, of logs that are not refused: with the merged log no end comes later than with
+-- either log. The forecast shows the count and the last end only; `begins-first` and
+-- `begins-second` say it of the first v rounds too, for every v, and so of every end: the k-th
+-- comes by round v where the first v rounds have k ends or more.
 module _ (n : ℕ) (first second : List ℕ) (taken : logsRefusal n (length first) (length second) ≡ done) where
   both-logs : BothAccepted n (length first) (length second)
   both-logs = both-accepted n (length first) (length second) taken

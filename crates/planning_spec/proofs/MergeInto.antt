@@ -1,8 +1,9 @@
--- The merge into a lent buffer, case by case: the refusal of a log, a buffer without room, and the merged log written. The buffer filled place after place is
--- the merged log followed by what stood past it.
+-- The merge into a lent buffer, case by case: the refusal of a log, a buffer without room, and the
+-- merged log written. The buffer filled place after place is the merged log followed by what stood
+-- past it.
 use mathlib.Core.List.{List, [], _∷_, _++_}
 use mathlib.Core.Path.{_≡_, refl, sym, ap, _∙_}
-use Prim.Native.Nat.{ℕ, zero, suc, max, _+_, _-_, _<_, _≤_}
+use Prim.Native.Nat.{ℕ, suc, max, _+_, _-_, _<_, _≤_}
 use native.Mathlib.Decide.{ℕ-discrete, decLe}
 use native.Mathlib.Nat.{mul-le-mul-right}
 use native.Mathlib.Omega.{arith}

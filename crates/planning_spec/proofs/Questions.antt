@@ -1,10 +1,11 @@
--- A page that is not refused has whole questions about stations below n, with numbers from 1. Each of its answers is that of its question alone, by relays
--- and by no other answer; and rounds added at the end of the log leave every answer but never, which may become one of them.
+-- A page that is not refused has whole questions about stations below n, with numbers from 1. Each
+-- of its answers is that of its question alone, by relays and by no other answer; and rounds added
+-- at the end of the log leave every answer but never, which may become one of them.
 use mathlib.Core.Bool.{Bool, true, false, cond, not, _&&_, _||_, true≢false}
-use mathlib.Core.List.{List, [], _∷_, _++_}
+use mathlib.Core.List.{List, _++_}
 use mathlib.Core.Option.{Option}
-use mathlib.Core.Path.{_≡_, refl, sym, ap, ap₂, _∙_}
-use Prim.Native.Nat.{ℕ, zero, suc, _+_, _*_, _/_, _%_, _<_, _≤_}
+use mathlib.Core.Path.{_≡_, refl, sym, ap, _∙_}
+use Prim.Native.Nat.{ℕ, zero, suc, _+_, _*_, _%_, _<_, _≤_}
 use native.Mathlib.Decide.{decLe}
 use native.Mathlib.Nat.{div-add-mod', mul-le-mul-right, suc-mul}
 use native.Mathlib.Omega.{arith}
@@ -13,12 +14,11 @@ use lib.Dec.{eqb, leb, ltb}
 use lib.ListN.{getD, length, replicate, length-replicate, length-append, List·getD-append}
 use lib.Seq.{ext-getD}
 use Rattle.links.specs.Log.{bit}
-use Rattle.links.specs.Question.{Answered, Extends, answerIn}
+use Rattle.links.specs.Question.{answerIn}
 use Rattle.links.proofs.Prefix.{Same}
 use Rattle.links.proofs.Question.{answer-relays, answer-only, answer-extends}
 use Rattle.lists.specs.Below.{anyBelow, setBelow}
 use Rattle.lists.proofs.Laws.{anyBelow-at, anyBelow-none, length-setBelow, setBelow-inside, setBelow-above}
-use Rattle.planning_spec.specs.declared.Arrival.the-variants.{Never}
 use Rattle.planning_spec.specs.declared.QuestionAnswer.{QuestionAnswer}
 use Rattle.planning_spec.specs.declared.PageAnswer.{PageAnswer}
 use Rattle.planning_spec.specs.LinkLog.{roundsOf, linksOf, logRefusal}

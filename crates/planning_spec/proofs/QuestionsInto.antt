@@ -1,4 +1,5 @@
--- A page's answers into a lent buffer, case by case: the refusal of the log or of the page, a buffer without room, and the answers written.
+-- A page's answers into a lent buffer, case by case: the refusal of the log or of the page, a
+-- buffer without room, and the answers written.
 use mathlib.Core.List.{List, _++_}
 use mathlib.Core.Path.{_≡_, refl, sym, ap, _∙_}
 use Prim.Native.Nat.{ℕ, _<_, _≤_}

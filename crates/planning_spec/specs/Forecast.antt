@@ -26,8 +26,9 @@ forecastCall n log =
     })
     (record { refusal = logRefusal n (length log); ends = replicate 16 0; last = replicate 16 0 })
 
--- The same answer said by relays and the end rule alone, without a count: a reader may believe either.
--- `forecast-relays` shows that the call's answer is such a one, and `forecast-only` that no other is.
+-- The same answer said by relays and the end rule alone, without a count: a reader may believe
+-- either. `forecast-relays` shows that the call's answer is such a one, and `forecast-only` that no
+-- other is.
 pub record RelayForecast (n : ℕ) (log : List ℕ) (a : ForecastAnswer) : Type 0 where
   pub refusal : a .refusal ≡ logRefusal n (length log)
   pub size-ends : length (a .ends) ≡ 16
@@ -48,7 +49,7 @@ forecastIntoRefusal n log ends last =
     (refuse (ltb (length ends) 16) shortBuffer
     (refuse (ltb (length last) 16) shortBuffer done))
 
--- a lent buffer afterwards: the answer's sixteen entries and then what stood there; all of it as it was where the
--- call was refused
+-- a lent buffer afterwards: the answer's sixteen entries and then what stood there; all of it as it
+-- was where the call was refused
 unfoldable pub writtenInto : ℕ → List ℕ → List ℕ → List ℕ
 writtenInto refusal entries buffer = cond (eqb refusal done) (setBelow 16 (λ k. getD entries k 0) buffer) buffer

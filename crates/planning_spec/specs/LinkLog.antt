@@ -1,4 +1,5 @@
--- A link log as planners have it: one list of 16-bit masks, N a round, round after round (document 02, A1).
+-- A link log as planners have it: one list of 16-bit masks, N a round, round after round (document
+-- 02, A1).
 use mathlib.Core.Bool.{Bool, not, _&&_}
 use mathlib.Core.List.{List}
 use Prim.Native.Nat.{ℕ, _/_, _%_}

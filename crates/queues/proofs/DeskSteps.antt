@@ -1,4 +1,5 @@
--- What the code makes of the waiting edits, desk by desk, is what the definitions say: each step is told which desk it is about by a test on its number.
+-- What the code makes of the waiting edits, desk by desk, is what the definitions say: each step is
+-- told which desk it is about by a test on its number.
 use Prim.Native.Nat.{ℕ}
 use native.Mathlib.Omega.{arith}
 use mathlib.Core.Bool.{Bool, true, false, cond, not}

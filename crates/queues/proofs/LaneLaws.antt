@@ -1,5 +1,6 @@
--- Lanes as lists: to put a body last or to remove the oldest is the same on a lane as on the list of its bodies, as long as there is room for two.
--- A lane holds a list when these are its bodies and their number is its length; the laws are cases on lists of at most two.
+-- Lanes as lists: to put a body last or to remove the oldest is the same on a lane as on the list
+-- of its bodies, as long as there is room for two. A lane holds a list when these are its bodies
+-- and their number is its length; the laws are cases on lists of at most two.
 use mathlib.Core.Path.{_≡_, refl, ap, _∙_}
 use mathlib.Core.List.{List, [], _∷_, _++_}
 use Prim.Native.Nat.{ℕ, zero, suc, _≤_, _<_, min}

@@ -1,4 +1,5 @@
--- What pushing and popping make of a lane, by its length: none, one, or two and more, of which only two are its bodies.
+-- What pushing and popping make of a lane, by its length: none, one, or two and more, of which only
+-- two are its bodies.
 use Prim.Native.Nat.{ℕ, zero, suc, _≤_}
 use native.Mathlib.Omega.{arith}
 use mathlib.Core.Path.{_≡_, refl}

@@ -1,4 +1,5 @@
--- Queues as lists: to put a body last or to remove the oldest is the same on a queue as on the list of its bodies, as long as its slots reach that far.
+-- Queues as lists: to put a body last or to remove the oldest is the same on a queue as on the list
+-- of its bodies, as long as its slots reach that far.
 use Prim.Native.Nat.{ℕ, zero, suc, _-_, _≤_, _<_}
 use mathlib.Core.Path.{_≡_, refl, sym, ap, _∙_}
 use mathlib.Core.List.{List, [], _∷_, _++_, map, map-append}

@@ -1,4 +1,5 @@
--- A queue inside its limits stays so when an edit is put last where there is a place, and when the oldest is removed; what is oldest may wait.
+-- A queue inside its limits stays so when an edit is put last where there is a place, and when the
+-- oldest is removed; what is oldest may wait.
 use Prim.Native.Nat.{ℕ, suc, _-_, _≤_, _<_}
 use mathlib.Core.Bool.{Bool, true, false, true≢false}
 use mathlib.Core.Path.{_≡_, refl, sym, ap, _∙_}

@@ -1,4 +1,5 @@
--- A list moved up by one place: after i steps its first i places hold those after them, and the others are as they were.
+-- A list moved up by one place: after i steps its first i places hold those after them, and the
+-- others are as they were.
 use Prim.Native.Nat.{ℕ, suc, _+_, _<_}
 use native.Mathlib.Omega.{arith}
 use native.Mathlib.Numerals.{add-one}

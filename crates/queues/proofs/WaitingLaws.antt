@@ -1,8 +1,10 @@
--- The waiting edits as a list for each desk: a post puts one last at its desk, a start takes the first of the desk that is next and lets the other go first, and
--- both keep the limits. Nothing above these laws looks at queues; that the arrays have their length by their type is a predicate, which every step keeps.
+-- The waiting edits as a list for each desk: a post puts one last at its desk, a start takes the
+-- first of the desk that is next and lets the other go first, and both keep the limits. Nothing
+-- above these laws looks at queues; that the arrays have their length by their type is a predicate,
+-- which every step keeps.
 use Prim.Native.Nat.{ℕ, zero, suc, _+_, _-_, _≤_, _<_}
 use mathlib.Core.Bool.{Bool, true, false, cond, _&&_}
-use mathlib.Core.List.{List, [], _∷_, _++_, append-nil}
+use mathlib.Core.List.{[], _∷_, _++_, append-nil}
 use mathlib.Core.Path.{_≡_, refl, sym, ap, subst, _∙_}
 use native.Mathlib.Decide.{ℕ-discrete}
 use native.Mathlib.Omega.{arith}

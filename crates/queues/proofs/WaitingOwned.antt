@@ -1,4 +1,5 @@
--- The length that the arrays of the waiting edits have by their type, out of what owning them tells.
+-- The length that the arrays of the waiting edits have by their type, out of what owning them
+-- tells.
 use mathlib.Core.List.{List}
 use mathlib.Core.Path.{_≡_}
 use lib.ListN.{length, length-map}

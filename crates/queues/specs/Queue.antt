@@ -35,7 +35,8 @@ queued q b = record { len = q .len + 1; slots = set (q .slots) (q .len) (record 
 unfoldable pub oldest : Queue → Body
 oldest q = (getD (q .slots) 0 noSlot) .body
 
--- the oldest removed: those after it move up by one place, and the place that becomes free holds Empty
+-- the oldest removed: those after it move up by one place, and the place that becomes free holds
+-- Empty
 unfoldable pub unqueued : Queue → Queue
 unqueued q =
     record {

@@ -1,6 +1,6 @@
--- Document 01, "A station and its calls", and document 02, A2 and A7: the edits of a station that wait to start, those
--- of each of two desks in the order posted; how many of a desk may wait, the station's limit; and which desk goes
--- first where both wait.
+-- Document 01, "A station and its calls", and document 02, A2 and A7: the edits of a station that
+-- wait to start, those of each of two desks in the order posted; how many of a desk may wait, the
+-- station's limit; and which desk goes first where both wait.
 use Prim.Native.Nat.{ℕ, _+_}
 use mathlib.Core.Bool.{Bool, false, cond, _&&_}
 use mathlib.Core.List.{List}
@@ -83,7 +83,8 @@ nextDesk w = cond (ltb 0 (deskCount w (firstDesk w))) (firstDesk w) (otherDesk (
 unfoldable pub nextEdit : Waiting → Body
 nextEdit w = oldest (queueOf w (nextDesk w))
 
--- what waits once the next edit has started: the other desk goes first, also where this one waited alone
+-- what waits once the next edit has started: the other desk goes first, also where this one waited
+-- alone
 unfoldable pub withoutNext : Waiting → Waiting
 withoutNext w = withFirst (withQueue w (nextDesk w) (unqueued (queueOf w (nextDesk w)))) (otherDesk (nextDesk w))
 

@@ -1,4 +1,5 @@
-// A lane of at most two bodies, and the edits that wait to start: a queue for each of two desks, oldest first.
+// A lane of at most two bodies, and the edits that wait to start: a queue for each of two desks,
+// oldest first.
 
 ghost use mathlib.Core.Path.{_≡_};
 ghost use mathlib.Core.Bool.{true, cond, not};
@@ -34,8 +35,8 @@ pub struct Queue {
     pub slots: [Slot; QUEUE_CAPACITY],
 }
 
-// The edits of a station that wait to start, those of desk 0 and those of desk 1; how many of a desk may wait, the
-// station's limit; and whether desk 1 goes first where both wait.
+// The edits of a station that wait to start, those of desk 0 and those of desk 1; how many of a
+// desk may wait, the station's limit; and whether desk 1 goes first where both wait.
 pub struct Waiting {
     pub limit: usize,
     pub queue0: Queue,
@@ -124,7 +125,8 @@ fn unqueued(queue: Queue) -> Queue
     }
 }
 
-// Are there no more bodies in the queue than a limit, which it has room for, and may each wait in this edition?
+// Are there no more bodies in the queue than a limit, which it has room for, and may each wait in
+// this edition?
 fn queue_inside(queue: Queue, edition: usize, limit: usize) -> bool
     requires { ⌜ limit ≤ queueSpec.queueCapacity ⌝ }
     ensures { λ r. ⌜ r ≡ queueSpec.queueInside (bodyInside edition) limit queue ⌝ }

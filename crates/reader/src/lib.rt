@@ -9,7 +9,7 @@ use listing_spec::reading::Reader;
 ghost use mathlib.Core.Path.{_≡_};
 ghost use Prim.Native.Nat.{_≤_};
 ghost use lib.ListN.{length};
-ghost use Rattle.round_lines.specs.Reports.{roundRoom};
+ghost use Rattle.listing_lines.specs.Reports.{roundRoom};
 ghost use Rattle.listing_spec.specs.Remaining.{keptBytes, Feeds};
 
 fn answer(session: Session, len: usize, line: [u8; KEPT], read: usize, put: usize) -> FeedAnswer
@@ -38,7 +38,7 @@ pub fn feed(r: Reader, part: &[u8], out: &mut [u8]) -> FeedAnswer
     let mut held = r.len;
     let mut read = 0;
     let mut at = 0;
-    while round_lines::ROUND_ROOM <= out.len() - at {
+    while listing_lines::rounds::ROUND_ROOM <= out.len() - at {
         let taken = steps::take_line(&mut line, held, part, read);
         held = taken.len;
         read = taken.next;

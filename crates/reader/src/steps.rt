@@ -6,7 +6,7 @@ ghost use mathlib.Core.Path.{_≡_};
 ghost use mathlib.Core.List.{[], _∷_};
 ghost use Prim.Native.Nat.{_-_, _≤_};
 ghost use lib.ListN.{length, take, drop};
-ghost use Rattle.lines.specs.Lines.{Put};
+ghost use Rattle.listing_lines.specs.Lines.{Put};
 ghost use Rattle.listing_spec.specs.Listing.{closingRoom};
 ghost use Rattle.listing_spec.specs.Remaining.{keptBytes, remaining, beginning, Same, EndsAt};
 
@@ -21,7 +21,7 @@ pub struct LineScan {
 pub fn begin() -> Reader
     ensures { λ r. ⌜ r ≡ beginning ⌝ }
 {
-    let session = sessions::ends::begin();
+    let session = listing::ends::begin();
     Reader {
         session,
         len: 0,
@@ -70,5 +70,5 @@ pub fn finish(r: Reader, out: &mut [u8]) -> usize
     let session = r.session;
     let line = r.line;
     let len = r.len;
-    sessions::ends::close(session, &line[..len], out)
+    listing::ends::close(session, &line[..len], out)
 }

@@ -1,4 +1,5 @@
--- A word read in two's complement by the complement of a number, which is -1 less the number: what the code's differences at 32 bits come to.
+-- A word read in two's complement by the complement of a number, which is -1 less the number: what
+-- the code's differences at 32 bits come to.
 use mathlib.Core.Path.{_≡_, ap, _∙_}
 use Prim.Native.Nat.{ℕ, _<_, _≤_, _-_}
 use native.Mathlib.Omega.{arith}

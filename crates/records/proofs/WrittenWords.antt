@@ -1,7 +1,8 @@
--- Two's complement by the complement of a number, which is -1 less the number: what the code's test and difference at 32 bits come to.
+-- Two's complement by the complement of a number, which is -1 less the number: what the code's test
+-- and difference at 32 bits come to.
 use mathlib.Core.Path.{_≡_, refl, ap, _∙_}
 use mathlib.Core.Bool.{true, false}
-use Prim.Native.Nat.{ℕ, _≤_, _-_}
+use Prim.Native.Nat.{_≤_, _-_}
 use native.Mathlib.Omega.{arith}
 use lib.Dec.{T}
 use lib.IntN.{ℤ, pos, negsuc, _-ℤ_, natAbs}

@@ -8,8 +8,8 @@ ghost use Rattle.planning_spec.specs.Merge.{mergedLog, frontWritten, mergeIntoR
 ghost use Rattle.planning_spec.specs.Questions.{answerNumbers, questionsIntoRefusal};
 ghost use Rattle.planning_calls.specs.Contest.{contestReturned, contestBuffer};
 
-// The forecast of a log into two lent buffers, sixteen entries each: 0, or the refusal, and then neither buffer
-// changes.
+// The forecast of a log into two lent buffers, sixteen entries each: 0, or the refusal, and then
+// neither buffer changes.
 #[no_mangle]
 pub extern "C" fn relay_forecast(log: &[u16], n: u32, ends: &mut [u16], last: &mut [u16]) -> u32
     ensures { λ r. ⌜ (r ≡ forecastIntoRefusal n (now (log .entry)) (now (ends .entry)) (now (last .entry)))
@@ -19,8 +19,8 @@ pub extern "C" fn relay_forecast(log: &[u16], n: u32, ends: &mut [u16], last: &m
     planning_calls::forecast_into(log, n, ends, last)
 }
 
-// The merged log into a lent buffer, and its number of masks into another: 0, or the refusal, and then neither buffer
-// changes.
+// The merged log into a lent buffer, and its number of masks into another: 0, or the refusal, and
+// then neither buffer changes.
 #[no_mangle]
 pub extern "C" fn relay_merge(
     first: &[u16],
@@ -39,8 +39,8 @@ pub extern "C" fn relay_merge(
     planning_calls::merge_into(first, second, n, merged, masks)
 }
 
-// The answers to a page of questions into a lent buffer, one a question: 0, or the refusal, and then the buffer does
-// not change.
+// The answers to a page of questions into a lent buffer, one a question: 0, or the refusal, and
+// then the buffer does not change.
 #[no_mangle]
 pub extern "C" fn relay_questions(log: &[u16], n: u32, page: &[u32], answers: &mut [u32]) -> u32
     ensures { λ r. ⌜ (r ≡ questionsIntoRefusal n (now (log .entry)) (now (page .entry)) (now (answers .entry)))
@@ -50,8 +50,8 @@ pub extern "C" fn relay_questions(log: &[u16], n: u32, page: &[u32], answers: &m
     planning_calls::questions_into(log, n, page, answers)
 }
 
-// Who can force the result of a contest, put as two numbers into a lent buffer: 0, or the refusal, and then the buffer
-// does not change.
+// Who can force the result of a contest, put as two numbers into a lent buffer: 0, or the refusal,
+// and then the buffer does not change.
 #[no_mangle]
 pub extern "C" fn relay_contest(
     n: u32,

@@ -3,10 +3,10 @@
 ghost use mathlib.Core.Path.{_≡_};
 ghost use lib.ListN.{length};
 ghost use Rattle.load_spec.specs.Calls.{wanted, hostRefusal, hostBuffer, hostPlaces};
-ghost use Rattle.text_calls.specs.Compare.{compareReturned, compareBuffer};
+ghost use Rattle.planning_calls.specs.Compare.{compareReturned, compareBuffer};
 
-// A call of the generator: 1, 9, or 0 with the lines in the buffer, the next state in next[0] and their length in
-// next[1]. The `N` line is wanted where head is not 0.
+// A call of the generator: 1, 9, or 0 with the lines in the buffer, the next state in next[0] and
+// their length in next[1]. The `N` line is wanted where head is not 0.
 #[no_mangle]
 pub extern "C" fn relay_load(
     state: u32,
@@ -22,11 +22,11 @@ pub extern "C" fn relay_load(
         × (now (next .exit)
         ≡ hostPlaces state n due (wanted head) (length (now (buffer .entry))) (now (next .entry))) ⌝ }
 {
-    text_calls::load_into(state, n, due, head, buffer, next)
+    planning_calls::text::load_into(state, n, due, head, buffer, next)
 }
 
-// How two air logs compare, put as two numbers into a lent buffer: 0, or the refusal, and then the buffer does not
-// change.
+// How two air logs compare, put as two numbers into a lent buffer: 0, or the refusal, and then the
+// buffer does not change.
 #[no_mangle]
 pub extern "C" fn relay_compare(
     first: &[u8],
@@ -39,5 +39,5 @@ pub extern "C" fn relay_compare(
         × (now (answer .exit)
         ≡ compareBuffer (now (first .entry)) p (now (second .entry)) q (now (answer .entry))) ⌝ }
 {
-    text_calls::compare_into(first, p, second, q, answer)
+    planning_calls::text::compare_into(first, p, second, q, answer)
 }

@@ -1,4 +1,5 @@
-// The work of measurements: `relay_bench_rounds`, `relay_bench_bulletins` and `relay_bench_codec` of bench/README.md.
+// The work of measurements: `relay_bench_rounds`, `relay_bench_bulletins` and `relay_bench_codec`
+// of bench/README.md.
 
 ghost use Prim.Native.Nat.{_+_, _≤_, _<_};
 ghost use lib.ListN.{length};
@@ -56,7 +57,8 @@ fn flags(takings: usize, aired: bool, ended: bool) -> u32 {
     small(takings) % 32 + weight(aired, 32) + weight(ended, 64)
 }
 
-// The numbers of one report. One taking and one entry of the row, others in each round, stand for all.
+// The numbers of one report. One taking and one entry of the row, others in each round, stand for
+// all.
 fn mix_report(sum: u64, report: Report, number: u32) -> u64 {
     let turn = report.turn;
     let taking = report.takings[(number % 30) as usize];
@@ -116,7 +118,8 @@ fn masks_of(schedule: &[u8], number: u32) -> [u16; 16]
     masks_at(schedule, at)
 }
 
-// A post, by its number, made at its station: sixteen are desk 0's, the next sixteen desk 1's, and so on.
+// A post, by its number, made at its station: sixteen are desk 0's, the next sixteen desk 1's, and
+// so on.
 fn posted(g: [Station; 16], n: usize, post: u32) -> GroupAnswer
     requires { ⌜ 1 ≤ n ⌝ }
 {
@@ -237,8 +240,8 @@ fn run_bulletins(schedule: &[u8], n: usize, rounds: u32) -> u32
     low(sum)
 }
 
-// From fresh, rounds with the masks of a schedule, again and again; gives a checksum of what they report, and 0 if a
-// number is refused.
+// From fresh, rounds with the masks of a schedule, again and again; gives a checksum of what they
+// report, and 0 if a number is refused.
 #[no_mangle]
 pub extern "C" fn relay_bench_rounds(schedule: &[u8], n: u32, rounds: u32) -> u32 {
     let len = schedule.len();
@@ -276,9 +279,9 @@ pub extern "C" fn relay_bench_bulletins(schedule: &[u8], n: u32, rounds: u32) ->
     run_bulletins(schedule, n as usize, rounds)
 }
 
-// A station's bytes, read and written again so many times, and judged each time before where a number that is not 0
-// says so. Gives how often that was done: fewer times where the bytes are no station, and never where they are too
-// few.
+// A station's bytes, read and written again so many times, and judged each time before where a
+// number that is not 0 says so. Gives how often that was done: fewer times where the bytes are no
+// station, and never where they are too few.
 #[no_mangle]
 pub extern "C" fn relay_bench_codec(state: &mut [u8], times: u32, judged: u32) -> u32 {
     if state.len() < STATION_WIDTH {

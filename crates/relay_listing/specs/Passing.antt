@@ -5,7 +5,8 @@ use mathlib.Core.List.{List, _++_}
 use Rattle.listing_spec.specs.declared.reading.Reader.{Reader}
 use Rattle.listing_spec.specs.Whole.{Reached}
 
--- a part was fed to the reader, from its first byte to its last, and the calls put a text into the buffer
+-- a part was fed to the reader, from its first byte to its last, and the calls put a text into the
+-- buffer
 pub record Passes (r : Reader) (part : List ℕ) (r' : Reader) : Type 0 where
   pub text : List ℕ
   pub reaches : (read listed : List ℕ) → Reached r read listed → Reached r' (read ++ part) (listed ++ text)

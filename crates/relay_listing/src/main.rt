@@ -2,7 +2,7 @@
 
 ghost use Prim.Native.Nat.{_≤_};
 ghost use lib.ListN.{length};
-ghost use Rattle.round_lines.specs.Reports.{roundRoom};
+ghost use Rattle.listing_lines.specs.Reports.{roundRoom};
 ghost use Rattle.listing_spec.specs.Remaining.{keptBytes};
 ghost use Rattle.relay_listing.specs.Passing.{PassesIf};
 use libc::STDERR_FILENO;
@@ -58,7 +58,8 @@ fn pass(r: Reader, part: &[u8], out: &mut [u8]) -> Passed
     }
 }
 
-// Reads the next bytes of standard input into the part: none at its end, and none where the reading failed.
+// Reads the next bytes of standard input into the part: none at its end, and none where the reading
+// failed.
 fn read_part(part: &mut [u8]) -> Part
     ensures { λ p. ⌜ p .len ≤ length (now (part .exit)) ⌝ }
 {
@@ -84,8 +85,8 @@ fn is_over(passed: Passed) -> bool {
     session.stopped
 }
 
-// Reads standard input until it ends or the reading stops. A proved loop has to end, and nothing says that the input
-// does: the loop counts its turns down from a number that no run uses up.
+// Reads standard input until it ends or the reading stops. A proved loop has to end, and nothing
+// says that the input does: the loop counts its turns down from a number that no run uses up.
 fn read_input(out: &mut [u8]) -> Passed
     requires { ⌜ roundRoom ≤ length (now out) ⌝ }
     ensures { λ p. ⌜ p .reader .len ≤ keptBytes ⌝ }
@@ -114,8 +115,9 @@ fn read_input(out: &mut [u8]) -> Passed
     }
 }
 
-// The buffer, of 65,536 bytes, has room for the 26,880 that a round of sixteen stations can print. A read or a write
-// that fails shows by its message and by the missing last line; the exit status is 0 all the same.
+// The buffer, of 65,536 bytes, has room for the 26,880 that a round of sixteen stations can print.
+// A read or a write that fails shows by its message and by the missing last line; the exit status
+// is 0 all the same.
 fn main() {
     let mut out = io::large_buffer();
     let passed = read_input(&mut out);

@@ -15,7 +15,7 @@ use Rattle.lists.proofs.Laws.{allBelow-at}
 use Rattle.station_spec.specs.declared.Station.{Station}
 use Rattle.station_spec.specs.Calls.{frameOf, ownCountInside}
 use Rattle.group_spec.specs.State.{stationAt, sizeOf, editionOf, memberInside, groupInside}
-use Rattle.rounds.specs.Frames.{FramesBelow, sendRefusal, partAfter, bytesAfter, worse, judgedBelow}
+use Rattle.rounds.specs.Frames.{framesRoom, FramesBelow, sendRefusal, partAfter, bytesAfter, worse, judgedBelow}
 use Rattle.group_spec.proofs.Members.{member-open}
 use Rattle.group.proofs.GroupLimits.{group-judged}
 use Rattle.rounds.proofs.SentFrame.{frame-fits}
@@ -39,14 +39,14 @@ withPart k bytes made = take (260 * k) bytes ++ (made ++ drop 260 (drop (260 * k
 abbrev part : ℕ → List ℕ → List ℕ
 part k bytes = take 260 (drop (260 * k) bytes)
 
-module _ (k : ℕ) (below : k < 16) (bytes : List ℕ) (long : length bytes ≡ 4160) where
+module _ (k : ℕ) (below : k < 16) (bytes : List ℕ) (long : length bytes ≡ framesRoom) where
   part-length : length (part k bytes) ≡ 260
   part-length = omega (arith, length-take 260 (drop (260 * k) bytes), length-drop (260 * k) bytes)
 
   front-length : length (take (260 * k) bytes) ≡ 260 * k
   front-length = length-take-le (260 * k) bytes (omega arith)
 
-  whole-length : (made : List ℕ) → length made ≡ 260 → length (withPart k bytes made) ≡ 4160
+  whole-length : (made : List ℕ) → length made ≡ 260 → length (withPart k bytes made) ≡ framesRoom
   whole-length made e =
       let past = drop 260 (drop (260 * k) bytes) in
       omega (
@@ -59,7 +59,7 @@ module _ (k : ℕ) (below : k < 16) (bytes : List ℕ) (long : length bytes ≡ 
       )
 
 module _ (g : List Station) where
-  pub frames-none : (bytes : List ℕ) → length bytes ≡ 4160 → FramesBelow g 0 bytes
+  pub frames-none : (bytes : List ℕ) → length bytes ≡ framesRoom → FramesBelow g 0 bytes
   frames-none bytes long = record { long = long; frame = λ k l. absurd (omega arith) }
 
   module _ (k : ℕ) (below : k < 16) (bytes : List ℕ) (old : FramesBelow g k bytes)
@@ -107,12 +107,12 @@ module _ (g : List Station) where
 
 -- the stations below k are judged, and where none of them is refused their frames stand
 pub record SentBelow (g : List Station) (k refusal : ℕ) (bytes : List ℕ) : Type 0 where
-  pub long : length bytes ≡ 4160
+  pub long : length bytes ≡ framesRoom
   pub judged : refusal ≡ judgedBelow g k
   pub frames : refusal ≡ 0 → FramesBelow g k bytes
 
 module _ (g : List Station) where
-  pub sent-none : (bytes : List ℕ) → length bytes ≡ 4160 → SentBelow g 0 0 bytes
+  pub sent-none : (bytes : List ℕ) → length bytes ≡ framesRoom → SentBelow g 0 0 bytes
   sent-none bytes long = record { long = long; judged = judged-none g; frames = λ e. frames-none g bytes long }
 
   fits-below : (m : ℕ) → judgedBelow g m ≡ 0 → (i : ℕ) → i < m → length (frameOf (stationAt g i)) ≤ 260
@@ -127,7 +127,7 @@ module _ (g : List Station) where
     abbrev made : List ℕ
     made = partAfter (editionOf g) (sizeOf g) k (stationAt g k) (part k bytes)
 
-    after-length : length after ≡ 4160
+    after-length : length after ≡ framesRoom
     after-length =
         ap length after-is
         ∙ whole-length k below bytes (old .long) made

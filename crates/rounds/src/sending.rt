@@ -9,10 +9,10 @@ use bodies::refusals::OUTSIDE_LIMITS;
 use hearing_spec::FRAME_ROOM;
 use station_spec::Station;
 
-// Writes the frame of station k of a group of n in an edition into its part of the bytes; where it may
-// not be written, answers why.
+// Writes the frame of station k of a group of n in an edition into its part of the bytes; where it
+// may not be written, answers why.
 fn write_part(bytes: &mut [u8], s: Station, edition: usize, n: usize, k: usize) -> u32
-    requires { ⌜ length (now bytes) ≡ 4160 ⌝ }
+    requires { ⌜ length (now bytes) ≡ spec.framesRoom ⌝ }
     ensures { λ r. ⌜ (r ≡ spec.sendRefusal edition n k s)
         × (now (bytes .exit) ≡ spec.bytesAfter edition n k s (now (bytes .entry))) ⌝ }
 {
@@ -46,7 +46,7 @@ fn worse(a: u32, b: u32) -> u32
 // Writes the frame of station k of a group of n in an edition, where it may be written; gives the
 // refusal of the round, which was `refusal` before this station.
 pub fn send(bytes: &mut [u8], s: Station, edition: usize, n: usize, k: usize, refusal: u32) -> u32
-    requires { ⌜ length (now bytes) ≡ 4160 ⌝ }
+    requires { ⌜ length (now bytes) ≡ spec.framesRoom ⌝ }
     ensures { λ r.
         ⌜ (r ≡ spec.worse refusal (spec.sendRefusal edition n k s))
         × (now (bytes .exit) ≡ spec.bytesAfter edition n k s (now (bytes .entry))) ⌝ }

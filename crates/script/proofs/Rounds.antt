@@ -1,4 +1,5 @@
--- A mask; lines that no command can be: one without a letter, and one of more than sixteen masks; and one mask more of those below n.
+-- A mask; lines that no command can be: one without a letter, and one of more than sixteen masks;
+-- and one mask more of those below n.
 use mathlib.Core.Path.{_≡_, refl}
 use mathlib.Core.Bool.{Bool, true, false, cond, _&&_, and-false}
 use mathlib.Core.List.{List, [], _∷_}

@@ -1,4 +1,5 @@
--- The value of a field has at most nine digits, since only a number that fits its columns is read as it; and a whole number as the code makes it.
+-- The value of a field has at most nine digits, since only a number that fits its columns is read
+-- as it; and a whole number as the code makes it.
 use mathlib.Core.Path.{_≡_, sym, ap, _∙_}
 use mathlib.Core.Bool.{Bool, true, false, cond, not, _&&_}
 use borrow.Author.Tests.{not-true, not-false}

@@ -1,4 +1,5 @@
--- Document 01, "The relay listing": what a script line, without its line end, says; or that it is malformed.
+-- Document 01, "The relay listing": what a script line, without its line end, says; or that it is
+-- malformed.
 use Prim.Native.Nat.{ℕ, _+_, _*_}
 use mathlib.Core.Bool.{Bool, true, false, cond, _&&_}
 use mathlib.Core.List.{List}
@@ -16,7 +17,8 @@ use Rattle.script.specs.declared.Command.the-variants.{Size, Post, Round
 abbrev pub highestNumber : ℕ
 highestNumber = 999_999_999
 
--- what a field without a number counts as: more than a field holds, so that it is beyond every limit
+-- what a field without a number counts as: more than a field holds, so that it is beyond every
+-- limit
 abbrev pub noNumber : ℕ
 noNumber = highestNumber + 1
 

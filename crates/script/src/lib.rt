@@ -190,7 +190,8 @@ fn round_line(line: &[u8], n: usize) -> Command
     Command::Round
 }
 
-// What a line, without its line end, says to a group of n stations; n is 0 where no `N` line was read.
+// What a line, without its line end, says to a group of n stations; n is 0 where no `N` line was
+// read.
 pub fn read_line(line: &[u8], n: usize) -> Command
     ensures { λ r. ⌜ r ≡ commandOf n (now (line .entry)) ⌝ }
 {

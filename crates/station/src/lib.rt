@@ -1,6 +1,8 @@
-// The calls of a station that need no frame: fresh, post and turn.
+// The calls of a station: fresh, post and turn here, those that write or hear a frame in `frames`.
 
 pub mod beginning;
+pub mod frames;
+pub mod heard;
 
 ghost use mathlib.Core.Path.{_≡_};
 ghost use Rattle.station_spec.specs.State.{sized};

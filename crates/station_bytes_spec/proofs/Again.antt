@@ -1,5 +1,7 @@
--- Calls on bytes one after the other. What a call that is done leaves is accepted by the next call, and decoded to just the station that the call gave; so calls on bytes are the calls of document 01, one after the other, on the
--- station itself, and a state that the library made is never refused with 2.
+-- Calls on bytes one after the other. What a call that is done leaves is accepted by the next call,
+-- and decoded to just the station that the call gave; so calls on bytes are the calls of document
+-- 01, one after the other, on the station itself, and a state that the library made is never
+-- refused with 2.
 use mathlib.Core.Path.{_≡_, refl, sym, subst, _∙_}
 use mathlib.Core.Bool.{Bool, true, false, not, false≢true}
 use mathlib.Core.List.{List}
@@ -11,7 +13,7 @@ use Rattle.bodies.specs.declared.Body.{Body}
 use Rattle.bodies.specs.Refusals.{done, outsideLimits, refuse}
 use Rattle.frame_spec.specs.Frame.{validNumber, frameRefusal, recordsOf, recordsInside, shapeWrong, addressWrong}
 use Rattle.bodies.specs.Limits.{isEdition}
-use Rattle.queues.specs.Waiting.{limitInside, hasRoom}
+use Rattle.queues.specs.Waiting.{limitInside}
 use Rattle.station_spec.specs.declared.Setup.{Setup}
 use Rattle.station_spec.specs.declared.Station.{Station}
 use Rattle.station_spec.specs.Limits.{stationInside, allowed}

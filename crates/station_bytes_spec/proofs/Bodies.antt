@@ -1,4 +1,5 @@
--- Bodies whose numbers have 32 bits: in lanes, in waiting edits, and in what a body of four numbers is.
+-- Bodies whose numbers have 32 bits: in lanes, in waiting edits, and in what a body of four numbers
+-- is.
 use mathlib.Core.Path.{_≡_, refl, sym, ap, subst, _∙_}
 use mathlib.Core.Bool.{Bool, true, false}
 use mathlib.Core.List.{List, [], _∷_, _++_}

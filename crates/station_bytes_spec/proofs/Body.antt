@@ -1,5 +1,5 @@
--- A body and a record, there and back. The body of a body's own numbers is that body; bytes are accepted where they are the
--- numbers of the body that they give.
+-- A body and a record, there and back. The body of a body's own numbers is that body; bytes are
+-- accepted where they are the numbers of the body that they give.
 use mathlib.Core.Path.{_≡_, refl, sym, ap, ap₂, _∙_}
 use mathlib.Core.Bool.{true, _&&_}
 use mathlib.Core.List.{List, [], _∷_, _++_}

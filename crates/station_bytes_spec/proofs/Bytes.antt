@@ -1,6 +1,7 @@
--- Bytes one behind the other, both ways. To decode what was encoded, `Stands` says that bytes stand in a list from a place on, and is taken apart as the
--- encoding is put together. To encode what was decoded, each part gives the span that it was read from, and spans that meet are one span. What is written
--- from a place on by two writes, the second where the first ended, is written by one.
+-- Bytes one behind the other, both ways. To decode what was encoded, `Stands` says that bytes stand
+-- in a list from a place on, and is taken apart as the encoding is put together. To encode what was
+-- decoded, each part gives the span that it was read from, and spans that meet are one span. What
+-- is written from a place on by two writes, the second where the first ended, is written by one.
 use mathlib.Core.Path.{_≡_, refl, sym, ap, ap₂, _∙_}
 use mathlib.Core.Bool.{Bool, true, false}
 use mathlib.Core.List.{List, [], _∷_, _++_}
@@ -10,11 +11,11 @@ use native.Mathlib.Nat.{mul-suc, mul-zero, add-zero, zero-add}
 use native.Mathlib.Numerals.{add-one, add-two, add-three}
 use native.Mathlib.Omega.{arith}
 use lib.Dec.{eqb, leb, ltb}
-use lib.ListN.{getD, set, take, drop, length, length-append, List·getD-append}
+use lib.ListN.{getD, set, take, drop, length, replicate, length-append, length-replicate, List·getD-append}
 use lib.Seq.{sets, drop-cons, drop-drop, take-add, getD-append-add, ext-getD}
 use borrow.Author.Tests.{lt-ltb, ltb-true, leb-true}
 use Rattle.lists.specs.Below.{setBelow, tabulate}
-use Rattle.lists.proofs.Laws.{setBelow-ext, setBelow-all, length-tabulate, tabulate-at}
+use Rattle.lists.proofs.Laws.{setBelow-ext, setBelow-all, setBelow-more, length-tabulate, tabulate-at}
 use Rattle.frame_spec.specs.Words.{wordAt, wordBytes}
 use Rattle.frame_spec.proofs.Spelled.{word-back, bytes-back}
 use Rattle.station_bytes_spec.specs.Bytes.{byteAt, flagByte, asByte, span, joinedBelow}
@@ -171,6 +172,26 @@ module _ {A : Type 0} where
   pub filled : (n : ℕ) (f : ℕ → A) (l : List A) (d : A) → length l ≡ n → setBelow n f l ≡ tabulate n f
   filled n f l d long =
       setBelow-ext n f (λ k. getD (tabulate n f) k d) l (λ k m. sym (tabulate-at n f k d m)) ∙ setBelow-all n (tabulate n f) l d (length-tabulate n f) long
+
+-- the places below k, of n, have their numbers: what a loop that reads number after number keeps
+pub record NumbersRead (n : ℕ) (f : ℕ → ℕ) (k : ℕ) (l : List ℕ) : Type 0 where
+  pub most : k ≤ n
+  pub read : l ≡ setBelow k f (replicate n 0)
+
+module _ {n : ℕ} {f : ℕ → ℕ} where
+  pub numbers-none : NumbersRead n f 0 (replicate n 0)
+  unfolding setBelow
+  numbers-none = record { most = omega arith; read = refl }
+
+  module _ {k : ℕ} {l : List ℕ} (h : NumbersRead n f k l) where
+    pub numbers-more : {x : ℕ} → k < n → x ≡ f k → NumbersRead n f (k + 1) (set l k x)
+    numbers-more {x} below e =
+        record { most = omega arith; read = ap₂ (λ (m : List ℕ) (y : ℕ). set m k y) (h .read) e ∙ setBelow-more k f (replicate n 0) }
+
+    pub numbers-all : n ≤ k → l ≡ tabulate n f
+    numbers-all all =
+        let e : k ≡ n = omega (arith, h .most) in
+        h .read ∙ ap (λ (j : ℕ). setBelow j f (replicate n 0)) e ∙ filled n f (replicate n 0) 0 (length-replicate n 0)
 
 -- writes one behind the other
 pub writes-meet :

@@ -1,4 +1,5 @@
--- The places that include/relay.h gives, in its numbers. The round trips alone would let a field move, as long as both ways move it; here each place is named.
+-- The places that include/relay.h gives, in its numbers. The round trips alone would let a field
+-- move, as long as both ways move it; here each place is named.
 use mathlib.Core.Path.{_≡_, refl}
 use mathlib.Core.List.{List, [], _∷_, _++_}
 use Prim.Native.Nat.{ℕ, _+_, _*_, _<_}

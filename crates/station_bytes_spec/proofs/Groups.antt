@@ -1,5 +1,6 @@
--- Calls of a group on bytes, one after the other: what a call leaves, done or refused, is accepted by the next call, and decoded to just the group that the call gave. Stations from N up are kept as they are, so of these only
--- their types are asked.
+-- Calls of a group on bytes, one after the other: what a call leaves, done or refused, is accepted
+-- by the next call, and decoded to just the group that the call gave. Stations from N up are kept
+-- as they are, so of these only their types are asked.
 use mathlib.Core.Path.{_≡_, refl, sym, ap, subst, _∙_}
 use mathlib.Core.Bool.{Bool, true, false, cond}
 use mathlib.Core.List.{List, [], _∷_, _++_, append-nil}
@@ -96,7 +97,8 @@ module _ (n : ℕ) (g : List Station) (c : Kept n g) where
   pub kept-accepted : isGroup (encodeGroup g) ≡ true
   kept-accepted = group-accepted g station-fits
 
--- one byte numbers of a changed group: its members are inside their limits, and the others are as they were
+-- one byte numbers of a changed group: its members are inside their limits, and the others are as
+-- they were
 bytes-after :
     (n : ℕ) (g h : List Station) → Members n h → ((k : ℕ) → k < 16 → OneByte (stationAt g k)) → ((k : ℕ) → n ≤ k → stationAt h k ≡ stationAt g k) →
     (k : ℕ) → k < 16 → OneByte (stationAt h k)

@@ -1,4 +1,6 @@
--- A station inside its limits is decoded from its encoding, whatever stands from N up and past a length: its limits make N, its own number, its edition, the numbers of waiting edits and their limit bytes, and its types say the rest.
+-- A station inside its limits is decoded from its encoding, whatever stands from N up and past a
+-- length: its limits make N, its own number, its edition, the numbers of waiting edits and their
+-- limit bytes, and its types say the rest.
 use mathlib.Core.Path.{_≡_}
 use mathlib.Core.Bool.{true}
 use Prim.Native.Nat.{ℕ, _<_}
@@ -15,7 +17,8 @@ use Rattle.station_bytes_spec.specs.Station.{encodeStation, decodeStatio
 use Rattle.station_bytes_spec.proofs.Body.{BodyFits}
 use Rattle.station_bytes_spec.proofs.Station.{CellFits, StationFits, station-decoded, station-accepted}
 
--- what the types of a station say of it: the lengths of its arrays, and that its numbers have 32 bits
+-- what the types of a station say of it: the lengths of its arrays, and that its numbers have 32
+-- bits
 pub record Typed (s : Station) : Type 0 where
   pub shape : Shaped s
   pub body-typed : BodyFits (s .body)

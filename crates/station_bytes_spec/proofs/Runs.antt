@@ -1,4 +1,6 @@
--- Lists of calls on bytes. From a fresh group's bytes, every list of posts and rounds leaves the bytes of the group that the list's history has; so what demand 3 says of histories holds of a group that a C program keeps as bytes.
+-- Lists of calls on bytes. From a fresh group's bytes, every list of posts and rounds leaves the
+-- bytes of the group that the list's history has; so what demand 3 says of histories holds of a
+-- group that a C program keeps as bytes.
 use mathlib.Core.Path.{_≡_, refl, sym, ap, subst, _∙_}
 use mathlib.Core.Bool.{Bool, true, false, cond, false≢true}
 use mathlib.Core.List.{List, [], _∷_}

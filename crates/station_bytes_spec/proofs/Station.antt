@@ -1,26 +1,27 @@
--- A station there and back. Each part has four laws: its length; what stands in a list as its encoding is decoded to it, and is accepted; accepted bytes are the encoding of
--- what they are decoded to. The station's laws are made of those of its parts, at any place of a list, so that a group's are made of them.
-use mathlib.Core.Path.{_≡_, refl, sym, ap, ap₂, _∙_}
+-- A station there and back. Each part has four laws: its length; what stands in a list as its
+-- encoding is decoded to it, and is accepted; accepted bytes are the encoding of what they are
+-- decoded to. The station's laws are made of those of its parts, at any place of a list, so that a
+-- group's are made of them.
+use mathlib.Core.Path.{_≡_, refl, ap, ap₂, _∙_}
 use mathlib.Core.Bool.{true, false, _&&_}
 use mathlib.Core.List.{List, [], _∷_, _++_}
 use Prim.Native.Nat.{ℕ, _+_, _*_, _<_, _≤_}
 use native.Mathlib.Omega.{arith}
-use lib.Dec.{eqb, leb, ltb}
+use lib.Dec.{eqb, leb}
 use lib.ListN.{length, length-append}
 use lib.Seq.{take-all}
-use borrow.Author.Tests.{eqb-true, eq-eqb, ltb-true, lt-ltb}
+use borrow.Author.Tests.{eqb-true, eq-eqb}
 use Rattle.lists.specs.Below.{allBelow}
 use Rattle.lists.proofs.Laws.{and-both, both, allBelow-at, allBelow-make, tabulate-at}
-use Rattle.frame_spec.specs.Words.{wordAt, wordBytes}
 use Rattle.frame_spec.specs.Record.{noRecord}
 use Rattle.queues.specs.Lane.{noLane}
 use Rattle.station_spec.specs.declared.Station.{Station}
 use Rattle.station_spec.specs.State.{Cell, cellOf}
 use Rattle.station_bytes_spec.specs.Bytes.{byteAt, flagByte, asByte, span, joinedBelow}
-use Rattle.station_bytes_spec.specs.Body.{encodeBody, decodeBody, isBody, recordWidth, encodeRecord, isRecord}
+use Rattle.station_bytes_spec.specs.Body.{encodeBody, isBody, recordWidth, encodeRecord, isRecord}
 use Rattle.station_bytes_spec.specs.Waiting.{waitingWidth, encodeWaiting, decodeWaiting, isWaiting}
 use Rattle.station_bytes_spec.specs.Station.{cellWidth, encodeCell, decodeLane, decodeCell, isCell, cellsWidth, waitingPlace, stationWidth, encodeHead, encodeStation, cellIn, decodeStation, isStationAt, isStation}
-use Rattle.station_bytes_spec.proofs.Bytes.{Stands, AllBytes, stands-whole, stands-left, stands-right, first-byte, stands-word, joined-long, joined-ext, stands-joined, span-join, spans-joined, four-span, word-span, length-word, flag-read, flag-small, flag-back, byte-same, byte-small, tabulate-is}
+use Rattle.station_bytes_spec.proofs.Bytes.{Stands, AllBytes, stands-whole, stands-left, stands-right, first-byte, joined-long, joined-ext, stands-joined, span-join, spans-joined, four-span, flag-read, flag-small, flag-back, byte-same, tabulate-is}
 use Rattle.station_bytes_spec.proofs.Body.{BodyFits, length-body, body-decoded, body-accepted, body-encoded, RecordFits, length-record, record-decoded, record-accepted, record-encoded}
 use Rattle.station_bytes_spec.proofs.Waiting.{WaitingFits, length-waiting, waiting-decoded, waiting-accepted, waiting-encoded}
 
@@ -126,8 +127,8 @@ module _ (l : List ℕ) (bytes : AllBytes l) (at : ℕ) (room : at + cellWidth �
 
 -- ---- the station
 
--- what the types of a station say of it, and that N, its own number, its edition, the numbers of waiting edits and their
--- limit are bytes
+-- what the types of a station say of it, and that N, its own number, its edition, the numbers of
+-- waiting edits and their limit are bytes
 pub record StationFits (s : Station) : Type 0 where
   pub n-byte : s .n < 256
   pub own-byte : s .own < 256

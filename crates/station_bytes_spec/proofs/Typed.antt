@@ -1,9 +1,10 @@
--- Every step of a station keeps what its types say: the lengths of its arrays, that the numbers of its bodies have 32 bits, and that the labels of its records are a word. Each step is made of setters, and a setter puts
--- in what fits already.
+-- Every step of a station keeps what its types say: the lengths of its arrays, that the numbers of
+-- its bodies have 32 bits, and that the labels of its records are a word. Each step is made of
+-- setters, and a setter puts in what fits already.
 use mathlib.Core.Path.{_≡_, refl, sym, ap, subst, _∙_}
 use mathlib.Core.Bool.{Bool, true, false, cond}
-use mathlib.Core.List.{List, [], _∷_, _++_}
-use Prim.Native.Nat.{ℕ, _+_, _-_, _<_, _≤_}
+use mathlib.Core.List.{List, [], _∷_}
+use Prim.Native.Nat.{ℕ, _-_, _<_, _≤_}
 use native.Mathlib.Decide.{ℕ-discrete}
 use native.Mathlib.Omega.{arith}
 use lib.Dec.{eqb, ltb}
@@ -253,7 +254,8 @@ module _ (s : Station) (shape : Shaped s) (f : Fitting s) (high : s .n ≤ 16) (
       )
       go false = (aired-self s .n, aired-self s .own)
 
--- the own record rewritten: its labels are labels, for the station after its turn is inside its limits
+-- the own record rewritten: its labels are labels, for the station after its turn is inside its
+-- limits
 label-kept : (t : Station) → Shaped t → (k : ℕ) → k < 16 → labelOf (withOwnRecord t) k ≡ labelOf t k
 unfolding withOwnRecord
 label-kept t shape k l =

@@ -1,4 +1,5 @@
--- The waiting edits there and back. The laws of the edits of one desk hold at any place; those of the whole are made of them and of the four bytes before them.
+-- The waiting edits there and back. The laws of the edits of one desk hold at any place; those of
+-- the whole are made of them and of the four bytes before them.
 use mathlib.Core.Path.{_≡_, refl, ap, ap₂, _∙_}
 use mathlib.Core.Bool.{true, _&&_}
 use mathlib.Core.List.{List, [], _∷_, _++_}

@@ -1,6 +1,7 @@
--- A body is twelve bytes: kind, channel and two zeros, a byte each, then event and argument, four bytes each with the
--- lowest first, the argument in two's complement. A record in a table is as in a frame, but its labels are whole:
--- station, count, kind, channel, event, argument, and then the labels.
+-- A body is twelve bytes: kind, channel and two zeros, a byte each, then event and argument, four
+-- bytes each with the lowest first, the argument in two's complement. A record in a table is as in
+-- a frame, but its labels are whole: station, count, kind, channel, event, argument, and then the
+-- labels.
 use Prim.Native.Nat.{ℕ, _+_}
 use mathlib.Core.Bool.{Bool, _&&_}
 use mathlib.Core.List.{List, [], _∷_, _++_}

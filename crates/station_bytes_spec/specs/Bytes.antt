@@ -5,6 +5,10 @@ use mathlib.Core.List.{List, [], _++_}
 use lib.Dec.{eqb, ltb}
 use lib.ListN.{getD, take, drop}
 
+-- the bytes of a word
+abbrev pub wordWidth : ℕ
+wordWidth = 4
+
 -- the byte at a place
 abbrev pub byteAt : List ℕ → ℕ → ℕ
 byteAt b at = getD b at 0
@@ -16,7 +20,8 @@ flagAt b at = eqb (byteAt b at) 1
 abbrev pub flagByte : Bool → ℕ
 flagByte flag = cond flag 1 0
 
--- a number as a byte; 255 stands for all greater ones, of which no station inside its limits has one
+-- a number as a byte; 255 stands for all greater ones, of which no station inside its limits has
+-- one
 unfoldable pub asByte : ℕ → ℕ
 asByte number = cond (ltb number 256) number 255
 

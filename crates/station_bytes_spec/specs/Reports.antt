@@ -1,5 +1,5 @@
--- What a turn and a round report, as bytes, and the set of stations that a body was taken from. include/relay.h gives
--- the place of each field.
+-- What a turn and a round report, as bytes, and the set of stations that a body was taken from.
+-- include/relay.h gives the place of each field.
 use Prim.Native.Nat.{ℕ, _+_, _*_}
 use mathlib.Core.Bool.{Bool, false}
 use mathlib.Core.List.{List, [], _∷_, _++_}
@@ -19,7 +19,8 @@ use Rattle.station_bytes_spec.specs.Body.{bodyWidth, encodeBody}
 unfoldable pub encodeFlags : List Bool → List ℕ
 encodeFlags flags = tabulate 16 (λ k. flagByte (getD flags k false))
 
--- the report of a turn: whether a row was aired, whether the broadcast ended, the ended and the started body, the row
+-- the report of a turn: whether a row was aired, whether the broadcast ended, the ended and the
+-- started body, the row
 abbrev pub turnWidth : ℕ
 turnWidth = 28 + bodyWidth * 16
 
@@ -37,7 +38,8 @@ takingWidth = 4 + bodyWidth
 unfoldable pub encodeTaking : Taking → List ℕ
 encodeTaking t = wordBytes (t .source) ++ encodeBody (t .body)
 
--- what a round reports of one station: how many bodies it took, thirty takings, the report of its turn
+-- what a round reports of one station: how many bodies it took, thirty takings, the report of its
+-- turn
 abbrev pub reportWidth : ℕ
 reportWidth = 4 + takingWidth * 30 + turnWidth
 

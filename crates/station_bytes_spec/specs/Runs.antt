@@ -1,4 +1,5 @@
--- A group that lies as bytes, call after call: what each call of a list leaves, as the C library's contracts say it.
+-- A group that lies as bytes, call after call: what each call of a list leaves, as the C library's
+-- contracts say it.
 use Prim.Native.Nat.{ℕ}
 use mathlib.Core.Bool.{cond}
 use mathlib.Core.List.{List, [], _∷_}

@@ -1,6 +1,6 @@
--- A station as bytes: a head (n, own number, count, edition, present body), sixteen cells, and the waiting edits.
--- Every field is kept whole, past a length and from N up too, so that decoding is the inverse. include/relay.h gives
--- the place of each field.
+-- A station as bytes: a head (n, own number, count, edition, present body), sixteen cells, and the
+-- waiting edits. Every field is kept whole, past a length and from N up too, so that decoding is
+-- the inverse. include/relay.h gives the place of each field.
 use Prim.Native.Nat.{ℕ, _+_, _*_}
 use mathlib.Core.Bool.{Bool, _&&_}
 use mathlib.Core.List.{List, [], _∷_, _++_}
@@ -15,8 +15,8 @@ use Rattle.station_bytes_spec.specs.Body.{encodeBody, decodeBody, isBody
 use Rattle.station_bytes_spec.specs.Body.{isRecord}
 use Rattle.station_bytes_spec.specs.Waiting.{waitingWidth, encodeWaiting, decodeWaiting, isWaiting}
 
--- what a station has of one station: whether it is acknowledged, whether a record of it is held, its label, the
--- length of its lane, the lane's two bodies, the record
+-- what a station has of one station: whether it is acknowledged, whether a record of it is held,
+-- its label, the length of its lane, the lane's two bodies, the record
 abbrev pub cellWidth : ℕ
 cellWidth = 28 + recordWidth
 

@@ -1,5 +1,6 @@
--- The waiting edits of a station as bytes: how many of desk 0 wait, the limit, how many of desk 1 wait, whether desk
--- 1 goes first where both wait; then the edits of desk 0, and behind them those of desk 1.
+-- The waiting edits of a station as bytes: how many of desk 0 wait, the limit, how many of desk 1
+-- wait, whether desk 1 goes first where both wait; then the edits of desk 0, and behind them those
+-- of desk 1.
 use Prim.Native.Nat.{ℕ, _+_, _*_}
 use mathlib.Core.Bool.{Bool, _&&_}
 use mathlib.Core.List.{List, [], _∷_, _++_}

@@ -1,4 +1,8 @@
+pub mod HeardChanges
+pub mod HeardLengths
+pub mod HeardSteps
 pub mod Refusals
+pub mod Returns
 pub mod Station
-pub mod Heard
+pub mod HeardCalls
 pub mod Written

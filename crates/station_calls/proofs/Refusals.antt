@@ -1,4 +1,5 @@
--- Refusals one after the other, and what a call leaves in a lent buffer: what is refused leaves all of it, and what is written from the front on is the front.
+-- Refusals one after the other, and what a call leaves in a lent buffer: what is refused leaves all
+-- of it, and what is written from the front on is the front.
 use mathlib.Core.Path.{_≡_, ap, _∙_}
 use mathlib.Core.Bool.{Bool, true, false, not}
 use mathlib.Core.List.{List, _++_}

@@ -1,5 +1,6 @@
--- The call that writes a frame, return by return. The frame goes where the station's call puts it; its number of bytes fits, for a frame has at most 260. Where there is no room for the number, the frame
--- is tried in another buffer, and what refuses it there, the room apart, refuses it anywhere.
+-- The call that writes a frame, return by return. The frame goes where the station's call puts it;
+-- its number of bytes fits, for a frame has at most 260. Where there is no room for the number, the
+-- frame is tried in another buffer, and what refuses it there, the room apart, refuses it anywhere.
 use mathlib.Core.Path.{_≡_, refl, sym, ap, _∙_}
 use mathlib.Core.Bool.{Bool, true, false, cond, not}
 use mathlib.Core.List.{List, [], _∷_}

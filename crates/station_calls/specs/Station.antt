@@ -1,9 +1,9 @@
--- What the calls on a station that lies as bytes return and write. Each is the station's call of document 01 on the
--- decoded station: bytes that are no station are refused with 2 as a station outside its limits is, and a lent buffer
--- that is too short is refused last.
+-- What the calls on a station that lies as bytes return and write. Each is the station's call of
+-- document 01 on the decoded station: bytes that are no station are refused with 2 as a station
+-- outside its limits is, and a lent buffer that is too short is refused last.
 use Prim.Native.Nat.{ℕ}
 use mathlib.Core.Bool.{cond, not}
-use mathlib.Core.List.{List, [], _∷_}
+use mathlib.Core.List.{List}
 use lib.Dec.{eqb, ltb}
 use lib.IntN.{ℤ}
 use lib.ListN.{length}
@@ -37,8 +37,8 @@ stationRefusal b = refuse (not (isStation b)) outsideLimits done
 abbrev pub stationOf : List ℕ → Station
 stationOf b = decodeStation b 0
 
--- the body that four numbers name: Empty, which is no edit, where kind, event and argument are those of none inside its
--- limits; a channel above 255 counts as 255, which is none of an edition
+-- the body that four numbers name: Empty, which is no edit, where kind, event and argument are
+-- those of none inside its limits; a channel above 255 counts as 255, which is none of an edition
 unfoldable pub namedBody : ℕ → ℕ → ℤ → ℕ → Body
 namedBody kind event argument channel =
     cond (numbersInside kind event argument) (bodyOf kind event argument (asByte channel)) Empty

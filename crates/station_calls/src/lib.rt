@@ -1,5 +1,7 @@
 // The calls of a station that lies as bytes in lent memory. A refused call writes nothing.
 
+pub mod heard;
+
 ghost use mathlib.Core.Path.{_≡_};
 ghost use mathlib.Core.List.{[], _∷_};
 ghost use lib.ListN.{length};
@@ -14,7 +16,7 @@ use bodies::Body;
 use bodies::refusals::DONE;
 use bodies::refusals::OUTSIDE_LIMITS;
 use bodies::refusals::SHORT_BUFFER;
-use station_frames::BOTH_ROOM;
+use station::frames::BOTH_ROOM;
 use station_spec::Setup;
 use station_spec::StationAnswer;
 
@@ -22,7 +24,8 @@ const STATION_WIDTH: usize = 1492;
 
 const TURN_WIDTH: usize = 220;
 
-// The body that four numbers name; Empty where kind, event and argument are those of none inside its limits.
+// The body that four numbers name; Empty where kind, event and argument are those of none inside
+// its limits.
 pub fn named_body(kind: u32, event: u32, argument: i32, channel: u32) -> Body
     ensures { λ r. ⌜ r ≡ namedBody kind event argument channel ⌝ }
 {
@@ -127,13 +130,13 @@ pub fn write(state: &[u8], frame: &mut [u8], lengths: &mut [u32]) -> u32
     let station = station_decoder::read_station(state);
     if lengths.len() < 1 {
         let mut other = [0u8; 260];
-        let tried = station_frames::write(station, &mut other);
+        let tried = station::frames::write(station, &mut other);
         if tried.refusal != DONE {
             return tried.refusal;
         }
         return SHORT_BUFFER;
     }
-    let written = station_frames::write(station, frame);
+    let written = station::frames::write(station, frame);
     if written.refusal != DONE {
         return written.refusal;
     }
@@ -141,8 +144,8 @@ pub fn write(state: &[u8], frame: &mut [u8], lengths: &mut [u32]) -> u32
     DONE
 }
 
-// Hear: one frame's records in order; sixteen flags tell from which stations a body was taken. Of the state only what
-// hearing can change is written.
+// Hear: one frame's records in order; sixteen flags tell from which stations a body was taken. Of
+// the state only what hearing can change is written.
 pub fn hear(state: &mut [u8], frame: &[u8], taken: &mut [u8]) -> u32
     ensures { λ r. ⌜ (r ≡ hearReturned (now (state .entry)) (now (frame .entry)) (now (taken .entry)))
         × (now (state .exit) ≡ frontWritten r
@@ -157,16 +160,16 @@ pub fn hear(state: &mut [u8], frame: &[u8], taken: &mut [u8]) -> u32
     let mut both = [0u8; BOTH_ROOM];
     let mut places = [0u16; 16];
     let mut bodies = [0u16; 30];
-    let heard = station_frames::listen(&mut both, &mut places, &mut bodies, frame, station);
+    let heard = station::frames::listen(&mut both, &mut places, &mut bodies, frame, station);
     if heard.refusal != DONE {
         return heard.refusal;
     }
     if taken.len() < 16 {
         return SHORT_BUFFER;
     }
-    let sources = station_frames::sources_of(&both, &bodies, heard.len);
-    heard_bytes::put_heard(state, heard, &both, &places, &bodies, station.n);
-    report_encoder::put_flags(taken, sources);
+    let sources = station::frames::sources_of(&both, &bodies, heard.len);
+    heard::put_heard(state, heard, &both, &places, &bodies, station.n);
+    station_encoder::reports::put_flags(taken, sources);
     DONE
 }
 
@@ -192,6 +195,6 @@ pub fn turn(state: &mut [u8], report: &mut [u8]) -> u32
     let after = turned.station;
     let told = turned.report;
     station_encoder::put_station(state, 0, after);
-    report_encoder::put_turn(report, 0, told);
+    station_encoder::reports::put_turn(report, 0, told);
     DONE
 }

@@ -1,4 +1,5 @@
--- What the tests and the reads of the code come to: each return is a case of the definition, by the tests on its way.
+-- What the tests and the reads of the code come to: each return is a case of the definition, by the
+-- tests on its way.
 use mathlib.Core.Path.{_≡_, refl, sym, ap, _∙_}
 use mathlib.Core.Bool.{Bool, true, false}
 use mathlib.Core.List.{List}

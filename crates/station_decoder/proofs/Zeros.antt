@@ -4,12 +4,11 @@ use mathlib.Core.Bool.{true}
 use mathlib.Core.List.{List}
 use Prim.Native.Nat.{ℕ, _+_, _*_, _<_}
 use native.Mathlib.Omega.{arith}
-use lib.ListN.{getD, length, replicate, getD-replicate, length-replicate}
+use lib.ListN.{getD, replicate, getD-replicate}
 use lib.Bits.{bitOr, or-add-and, and-le-l, and-le-r}
 use Rattle.bodies.specs.declared.Body.the-variants.{Empty}
 use Rattle.lists.proofs.Laws.{allBelow-make}
 use Rattle.frame_spec.specs.Words.{wordBytes, unsigned}
-use Rattle.queues.specs.declared.Slot.{Slot}
 use Rattle.queues.specs.Queue.{noSlot}
 use Rattle.station_bytes_spec.specs.Bytes.{byteAt}
 use Rattle.station_bytes_spec.specs.Body.{encodeBody, decodeBody, isBody}

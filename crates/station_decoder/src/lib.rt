@@ -1,5 +1,5 @@
-// Stations and groups read from bytes. Bytes are judged first, and then read: reading gives a station for any bytes
-// that are long enough.
+// Stations and groups read from bytes. Bytes are judged first, and then read: reading gives a
+// station for any bytes that are long enough.
 
 ghost use mathlib.Core.Path.{_≡_};
 ghost use mathlib.Core.Bool.{true};
@@ -8,7 +8,7 @@ ghost use lib.ListN.{length};
 ghost use Rattle.lists.specs.Below.{allBelow};
 ghost use Rattle.station_bytes_spec.specs.Bytes.{byteAt};
 ghost use Rattle.station_bytes_spec.specs.Body.{bodyOfWords, wordsRight, decodeBody, isBody, recordWidth, decodeRecord};
-ghost use Rattle.station_bytes_spec.specs.Body.{isRecord};
+ghost use Rattle.station_bytes_spec.specs.Body.{bodyWidth, isRecord};
 ghost use Rattle.station_bytes_spec.specs.Waiting.{editsWidth, decodeEdits, areEdits, waitingWidth, decodeWaiting};
 ghost use Rattle.station_bytes_spec.specs.Waiting.{isWaiting};
 ghost use Rattle.station_bytes_spec.specs.Station.{cellWidth, decodeLane, isCell, cellsWidth, stationWidth};
@@ -64,7 +64,7 @@ fn words_right(kind: u32, channel: u8, event: u32, word: u32) -> bool
 
 // The body at a place.
 fn read_body(bytes: &[u8], at: usize) -> Body
-    requires { ⌜ at + 12 ≤ length (now bytes) ⌝ }
+    requires { ⌜ at + bodyWidth ≤ length (now bytes) ⌝ }
     ensures { λ r. ⌜ r ≡ decodeBody (now (bytes .entry)) at ⌝ }
 {
     let event = word_at(bytes, at + 4);
@@ -74,7 +74,7 @@ fn read_body(bytes: &[u8], at: usize) -> Body
 
 // Are the bytes at a place those of a body?
 fn body_right(bytes: &[u8], at: usize) -> bool
-    requires { ⌜ at + 12 ≤ length (now bytes) ⌝ }
+    requires { ⌜ at + bodyWidth ≤ length (now bytes) ⌝ }
     ensures { λ r. ⌜ r ≡ isBody (now (bytes .entry)) at ⌝ }
 {
     if bytes[at + 2] != 0 {

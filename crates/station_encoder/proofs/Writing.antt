@@ -1,7 +1,8 @@
--- Writing from a place on: a write where the one before ended makes one longer write, so that every writer leaves the encoding of what it was given.
+-- Writing from a place on: a write where the one before ended makes one longer write, so that every
+-- writer leaves the encoding of what it was given.
 use mathlib.Core.Path.{_≡_, refl, sym, ap, _∙_}
 use mathlib.Core.List.{List, [], _∷_, _++_}
-use Prim.Native.Nat.{ℕ, _+_, _*_}
+use Prim.Native.Nat.{ℕ, _+_, _*_, _≤_, _<_}
 use native.Mathlib.Numerals.{add-one}
 use native.Mathlib.Nat.{zero-add}
 use native.Mathlib.Omega.{arith}
@@ -38,20 +39,13 @@ module _ (l l₁ l₂ : List ℕ) (at : ℕ) where
   written-more xs ys w first long second = second ∙ ap (λ (r : List ℕ). sets r (at + w) ys) first ∙ writes-meet xs l ys at w long
 
   -- one part more, of parts of one width
-  pub part-written :
+  part-written :
       (w k : ℕ) (part : ℕ → List ℕ) → ((j : ℕ) → length (part j) ≡ w) → l₁ ≡ sets l at (joinedBelow k part) → l₂ ≡ sets l₁ (at + w * k) (part k) →
       l₂ ≡ sets l at (joinedBelow (k + 1) part)
   unfolding joinedBelow
   part-written w k part long first second =
       written-more (joinedBelow k part) (part k) (w * k) first (joined-long k w part (λ j m. long j)) second
       ∙ ap (λ (n : ℕ). sets l at (joinedBelow n part)) (sym (add-one k))
-
--- one part more, of parts that begin at the front
-pub part-at-front :
-    (l l₁ l₂ : List ℕ) (w k : ℕ) (part : ℕ → List ℕ) → ((j : ℕ) → length (part j) ≡ w) → l₁ ≡ sets l 0 (joinedBelow k part) → l₂ ≡ sets l₁ (w * k) (part k) →
-    l₂ ≡ sets l 0 (joinedBelow (k + 1) part)
-part-at-front l l₁ l₂ w k part long first second =
-    part-written l l₁ l₂ 0 w k part long first (second ∙ ap (λ (at : ℕ). sets l₁ at (part k)) (sym (zero-add (w * k))))
 
 -- four writes, one behind the other
 pub four-written :
@@ -64,13 +58,34 @@ four-written l l₁ l₂ l₃ l₄ at a b c d w₁ w₂ w₃ v₂ v₃ la lb lc 
     let three = written-more l l₂ l₃ at (a ++ b) c w₂ two long₂ s₃ in
     written-more l l₃ l₄ at (a ++ b ++ c) d w₃ three long₃ s₄
 
-pub none-written : (l : List ℕ) (at : ℕ) (part : ℕ → List ℕ) → l ≡ sets l at (joinedBelow 0 part)
-unfolding joinedBelow
-none-written l at part = refl
-
 pub all-written :
     (l l₁ : List ℕ) (at n k : ℕ) (part : ℕ → List ℕ) → k ≡ n → l₁ ≡ sets l at (joinedBelow k part) → l₁ ≡ sets l at (joinedBelow n part)
 all-written l l₁ at n k part e h = h ∙ ap (λ (j : ℕ). sets l at (joinedBelow j part)) e
+
+-- the parts below k, of n, are written from a place on: what a loop that writes part after part
+-- keeps
+pub record PartsPut (n : ℕ) (part : ℕ → List ℕ) (l : List ℕ) (at k : ℕ) (l₁ : List ℕ) : Type 0 where
+  pub most : k ≤ n
+  pub long : length l₁ ≡ length l
+  pub put : l₁ ≡ sets l at (joinedBelow k part)
+
+module _ {n : ℕ} {part : ℕ → List ℕ} {l : List ℕ} where
+  pub parts-none : {at : ℕ} → PartsPut n part l at 0 l
+  unfolding joinedBelow
+  parts-none = record { most = omega arith; long = refl; put = refl }
+
+  module _ {k : ℕ} {l₁ : List ℕ} where
+    pub parts-all : {at : ℕ} → PartsPut n part l at k l₁ → n ≤ k → l₁ ≡ sets l at (joinedBelow n part)
+    parts-all {at} h all = all-written l l₁ at n k part (omega (arith, h .most)) (h .put)
+
+    -- one part more, of parts of one width
+    module _ {l₂ : List ℕ} (w : ℕ) (wide : (j : ℕ) → length (part j) ≡ w) where
+      pub parts-more : {at : ℕ} → PartsPut n part l at k l₁ → k < n → length l₂ ≡ length l₁ → l₂ ≡ sets l₁ (at + w * k) (part k) → PartsPut n part l at (k + 1) l₂
+      parts-more {at} h below same put =
+          record { most = omega arith; long = same ∙ h .long; put = part-written l l₁ l₂ at w k part wide (h .put) put }
+
+      pub parts-more-front : PartsPut n part l 0 k l₁ → k < n → length l₂ ≡ length l₁ → l₂ ≡ sets l₁ (w * k) (part k) → PartsPut n part l 0 (k + 1) l₂
+      parts-more-front h below same put = parts-more h below same (put ∙ ap (λ (at : ℕ). sets l₁ at (part k)) (sym (zero-add (w * k))))
 
 -- ---- the parts of a station
 

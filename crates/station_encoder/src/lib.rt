@@ -1,13 +1,15 @@
 // Stations and groups written as bytes, from a place on; all other bytes are kept.
 
+pub mod reports;
+
 ghost use mathlib.Core.Path.{_≡_};
 ghost use mathlib.Core.List.{[], _∷_};
 ghost use Prim.Native.Nat.{_+_, _≤_};
 ghost use lib.ListN.{length};
 ghost use lib.Seq.{sets};
 ghost use Rattle.station_spec.specs.State.{cellOf};
-ghost use Rattle.station_bytes_spec.specs.Bytes.{flagByte, asByte, joinedBelow};
-ghost use Rattle.station_bytes_spec.specs.Body.{encodeBody, recordWidth, encodeRecord};
+ghost use Rattle.station_bytes_spec.specs.Bytes.{flagByte, asByte, joinedBelow, wordWidth};
+ghost use Rattle.station_bytes_spec.specs.Body.{encodeBody, recordWidth, encodeRecord, bodyWidth};
 ghost use Rattle.station_bytes_spec.specs.Waiting.{editsWidth, encodeEdits, waitingWidth, encodeWaiting};
 ghost use Rattle.station_bytes_spec.specs.Station.{cellWidth, encodeCell, cellsWidth, stationWidth, encodeStation};
 ghost use Rattle.station_bytes_spec.specs.Group.{groupWidth, encodeGroup};
@@ -45,7 +47,7 @@ pub fn as_byte(number: usize) -> u8
 
 // Four bytes, put at a place.
 pub fn put_four(bytes: &mut [u8], at: usize, a: u8, b: u8, c: u8, d: u8)
-    requires { ⌜ at + 4 ≤ length (now bytes) ⌝ }
+    requires { ⌜ at + wordWidth ≤ length (now bytes) ⌝ }
     ensures { λ _. ⌜ now (bytes .exit) ≡ sets (now (bytes .entry)) at (a ∷ b ∷ c ∷ d ∷ []) ⌝ }
 {
     bytes[at] = a;
@@ -56,7 +58,7 @@ pub fn put_four(bytes: &mut [u8], at: usize, a: u8, b: u8, c: u8, d: u8)
 
 // A body, put at a place.
 pub fn put_body(bytes: &mut [u8], at: usize, body: Body)
-    requires { ⌜ at + 12 ≤ length (now bytes) ⌝ }
+    requires { ⌜ at + bodyWidth ≤ length (now bytes) ⌝ }
     ensures { λ _. ⌜ now (bytes .exit) ≡ sets (now (bytes .entry)) at (encodeBody body) ⌝ }
 {
     put_four(

@@ -1,5 +1,5 @@
-// When a station is inside its limits. Entries from N up, places past a length, and records that are not held are not
-// looked at.
+// When a station is inside its limits. Entries from N up, places past a length, and records that
+// are not held are not looked at.
 
 ghost use mathlib.Core.Path.{_≡_};
 ghost use mathlib.Core.Bool.{cond, not, _||_};
@@ -94,8 +94,8 @@ fn held_inside(edition: usize, n: usize, own: usize, k: usize, held: bool, recor
     record_inside(edition, n, own, k, record)
 }
 
-// Is what a station of number own among n has of station k inside its limits in an edition: its label, its record
-// where one is held, its lane?
+// Is what a station of number own among n has of station k inside its limits in an edition: its
+// label, its record where one is held, its lane?
 fn place_inside(
     edition: usize,
     n: usize,

@@ -1,5 +1,6 @@
--- Two records agree exactly if their bodies are the same and their labels of the n stations are. So a record agrees with itself as a frame carries it, and
--- whatever stands in the labels from n up of a held record plays no part.
+-- Two records agree exactly if their bodies are the same and their labels of the n stations are. So
+-- a record agrees with itself as a frame carries it, and whatever stands in the labels from n up of
+-- a held record plays no part.
 use Prim.Native.Nat.{ℕ, _<_}
 use mathlib.Core.Bool.{Bool, true, _&&_}
 use mathlib.Core.Path.{_≡_, ap, ap₂, _∙_}

@@ -1,6 +1,6 @@
--- All bodies that a station inside its limits holds are inside theirs in its edition, wherever they stand. So a
--- station that holds one outside them is outside its own, and each of its calls is refused with 2. No limit of a kind is
--- named here: the table decides.
+-- All bodies that a station inside its limits holds are inside theirs in its edition, wherever they
+-- stand. So a station that holds one outside them is outside its own, and each of its calls is
+-- refused with 2. No limit of a kind is named here: the table decides.
 use Prim.Native.Nat.{ℕ}
 use mathlib.Core.Bool.{Bool, true, false, true≢false}
 use mathlib.Core.List.{List}
@@ -16,7 +16,7 @@ use Rattle.station_spec.specs.Bodies.{Holds}
 use Rattle.station_spec.specs.Bodies.Holds.{present, waiting, recorded, lane-first, lane-second}
 use Rattle.station_spec.specs.Calls.{postCall, writeRefusal, writeCall, hearCall, turnCall}
 use Rattle.station_spec.proofs.BodyLaws.{takeable-inside, allowed-inside}
-use Rattle.station_spec.proofs.StationLimits.{Inside, inside-open}
+use Rattle.station_spec.proofs.StationLimits.{inside-open}
 use Rattle.station_spec.proofs.LimitsLane.{lane-first as first-takeable, lane-second as second-takeable}
 
 held-allowed : (s : Station) (b : Body) → stationInside s ≡ true → Holds s b → allowed s b ≡ true

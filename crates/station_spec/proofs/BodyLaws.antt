@@ -1,5 +1,6 @@
--- Which bodies may be put where: what may wait may be put into a lane, Neutral too, and Empty is inside its limits though no lane holds it. How a station
--- judges a body is known here only: what it allows are the bodies inside their limits in its edition.
+-- Which bodies may be put where: what may wait may be put into a lane, Neutral too, and Empty is
+-- inside its limits though no lane holds it. How a station judges a body is known here only: what
+-- it allows are the bodies inside their limits in its edition.
 use mathlib.Core.Bool.{Bool, true, false, cond, not, _&&_}
 use mathlib.Core.Path.{_≡_, refl, ap}
 use lib.Dec.{eqb}

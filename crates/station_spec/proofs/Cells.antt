@@ -1,4 +1,5 @@
--- Hearing cell by cell: a record that the station heeds changes the cell of its own station and the count, and no other cell.
+-- Hearing cell by cell: a record that the station heeds changes the cell of its own station and the
+-- count, and no other cell.
 use Prim.Native.Nat.{ℕ, _<_, _≤_}
 use mathlib.Core.Bool.{true, false, cond, _||_}
 use mathlib.Core.List.{List, [], _∷_, _++_}

@@ -1,5 +1,5 @@
--- All definitions that a computed run of a station goes through, and of a frame, named in one place: whoever says `unfolding stationRuns`, or `frameRuns`, has
--- them open.
+-- All definitions that a computed run of a station goes through, and of a frame, named in one
+-- place: whoever says `unfolding stationRuns`, or `frameRuns`, has them open.
 use Rattle.bodies.specs.Body.{bodyOf}
 use Rattle.bodies.specs.Limits.{postable, bodyInside, insideKind, numbersInside, channelInside, mayWait}
 use Rattle.labels.specs.Newer.{isNewer, ageOf}

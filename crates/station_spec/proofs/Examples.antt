@@ -1,5 +1,5 @@
--- Document 01's marked examples M1 to M4 and M11 at a station: which seen record the station heeds, and which posts are
--- refused.
+-- Document 01's marked examples M1 to M4 and M11 at a station: which seen record the station heeds,
+-- and which posts are refused.
 use Prim.Native.Nat.{ℕ, _+_, _<_}
 use mathlib.Core.Bool.{true, false}
 use mathlib.Core.Path.{_≡_, sym, ap, _∙_}
@@ -18,11 +18,11 @@ use Rattle.station_spec.specs.Limits.{stationInside}
 use Rattle.station_spec.proofs.HearRecord.{accepts}
 use Rattle.station_spec.specs.Calls.{posted, postCall}
 use Rattle.station_spec.proofs.CallSteps.{post-no-edit, post-full, post-done}
-use Rattle.queues.specs.Queue.{queueCapacity}
 use Rattle.queues.specs.Waiting.{isDesk, deskCount, waitingCount}
 use Rattle.queues.proofs.WaitingLaws.{room-below, room-full, posted-count}
 
--- a station that holds a record of another station with some own label and count, and sees one with another
+-- a station that holds a record of another station with some own label and count, and sees one with
+-- another
 pub record Seen (s : Station) (r : Record) (heldLabel heldCount seenLabel seenCount : ℕ) : Type 0 where
   pub other : eqb (r .station) (s .own) ≡ false
   pub held : heldOf s (r .station) ≡ true
@@ -47,8 +47,8 @@ module _ (s : Station) (r : Record) where
   pub m4 : (a b : ℕ) → Seen s r 0 a 2 b → accepts s r ≡ false
   m4 a b v = decided v ∙ labels.m4 a b
 
--- what a post at a station inside its limits returns. The table of kinds says which bodies are edits, and so M9 and M10
--- name their numbers there and not here
+-- what a post at a station inside its limits returns. The table of kinds says which bodies are
+-- edits, and so M9 and M10 name their numbers there and not here
 module _ (s : Station) (i : stationInside s ≡ true) (d : ℕ) (k : isDesk d ≡ true) where
   pub refused : (b : Body) → postable b ≡ false → (postCall s d b) .refusal ≡ 4
   refused b e = sym (ap (λ (x : StationAnswer). x .refusal) (post-no-edit s d b i k e))

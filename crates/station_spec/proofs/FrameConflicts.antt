@@ -1,7 +1,8 @@
--- Conflicts in a frame. Its records are of different stations, and hearing one leaves what is held of the others. So a frame is refused with 14 exactly if one of its
--- records conflicts with the table as it stood when the frame came, wherever an overfull lane is met.
+-- Conflicts in a frame. Its records are of different stations, and hearing one leaves what is held
+-- of the others. So a frame is refused with 14 exactly if one of its records conflicts with the
+-- table as it stood when the frame came, wherever an overfull lane is met.
 use Prim.Native.Nat.{ℕ, max, _≤_}
-use mathlib.Core.Bool.{Bool, true, false, cond, not, _&&_, _||_, or-false, or-true, or-assoc}
+use mathlib.Core.Bool.{Bool, true, false, not, _&&_, _||_, or-false, or-true, or-assoc}
 use mathlib.Core.List.{List, [], _∷_}
 use mathlib.Core.Path.{_≡_, refl, sym, ap, ap₂, _∙_}
 use native.Mathlib.Decide.{ℕ-discrete}
@@ -125,7 +126,8 @@ pub refused-stays : (h : Hearing) (rs : List Record) → (h .refusal ≡ done �
 unfolding hearFrame
 refused-stays h rs d = rw (ne-eqb (h .refusal) done d)
 
--- a frame heard while nothing was refused gives 14 exactly if one of its records conflicts with what is held as it comes
+-- a frame heard while nothing was refused gives 14 exactly if one of its records conflicts with
+-- what is held as it comes
 pub frame-conflicts :
     (h : Hearing) (rs : List Record) → Different rs → h .refusal ≡ done →
     eqb ((hearFrame h rs) .refusal) conflict ≡ anyConflict (h .station) rs

@@ -1,4 +1,5 @@
--- What one record does to a hearing: a newer one is heeded, a conflicting one refuses the frame, and any other leaves the hearing as it is.
+-- What one record does to a hearing: a newer one is heeded, a conflicting one refuses the frame,
+-- and any other leaves the hearing as it is.
 use Prim.Native.Nat.{ℕ, max}
 use mathlib.Core.Bool.{Bool, true, false, cond, not, _&&_, and-false, false≢true}
 use mathlib.Core.List.{List, [], _∷_, _++_}
@@ -30,7 +31,8 @@ level s r =
     let k = r .station in
     eqb (ownLabel r) (recordLabel (recordOf s k) k) && eqb (r .count) ((recordOf s k) .count)
 
--- it conflicts: it is of another station, not newer, level with the held one, and does not agree with it
+-- it conflicts: it is of another station, not newer, level with the held one, and does not agree
+-- with it
 abbrev pub conflicts : Station → Record → Bool
 conflicts s r =
     let k = r .station in
@@ -84,7 +86,8 @@ pub hearRecord-conflicts :
     (h : Hearing) (r : Record) → accepts (h .station) r ≡ false → conflicts (h .station) r ≡ true → hearRecord h r ≡ stopped h
 hearRecord-conflicts h r e f = rw (hearRecord-cond h r, e, f)
 
--- a hearing that is not refused after a newer record was not refused before it, and no lane was too full for it
+-- a hearing that is not refused after a newer record was not refused before it, and no lane was too
+-- full for it
 pub not-refused : (full : Bool) (refusal : ℕ) → max refusal (refuse full laneFull done) ≡ done → (full ≡ false) × (refusal ≡ done)
 not-refused true refusal e = absurd (omega (arith, e))
 not-refused false refusal e = (refl, omega (arith, e))

@@ -1,4 +1,5 @@
--- The lengths that a station's arrays have by their types, out of what owning a station tells: each array says how many entries it has.
+-- The lengths that a station's arrays have by their types, out of what owning a station tells: each
+-- array says how many entries it has.
 use Prim.Native.Nat.{ℕ, zero, suc, _<_}
 use native.Mathlib.Omega.{arith}
 use mathlib.Core.List.{List, [], _∷_}

@@ -1,5 +1,6 @@
--- No call takes a station outside its limits. The records of a frame that passes its check may stand in a frame; so hearing one keeps the limits, as
--- fresh, post and turn do, and a refused call leaves the station.
+-- No call takes a station outside its limits. The records of a frame that passes its check may
+-- stand in a frame; so hearing one keeps the limits, as fresh, post and turn do, and a refused call
+-- leaves the station.
 use Prim.Native.Nat.{ℕ, zero, suc, pred, _≤_, _<_}
 use mathlib.Core.Bool.{Bool, true, false, cond, not, _&&_, _||_, false≢true}
 use mathlib.Core.List.{List, [], _∷_}

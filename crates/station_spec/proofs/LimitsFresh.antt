@@ -1,4 +1,5 @@
--- A fresh station is inside its limits, and so is a station that accepts a post: it only gets one more waiting edit.
+-- A fresh station is inside its limits, and so is a station that accepts a post: it only gets one
+-- more waiting edit.
 use Prim.Native.Nat.{ℕ, _≤_, _<_}
 use mathlib.Core.Bool.{true, cond, _&&_, true≢false}
 use mathlib.Core.Path.{_≡_, refl, sym, ap, subst, _∙_}

@@ -1,5 +1,6 @@
--- Hearing keeps the limits: a record that a frame may carry, heard by a station inside its limits, leaves it inside, unless a lane that holds two would
--- get a third. Only the record's own place changes, and it is never the hearer's.
+-- Hearing keeps the limits: a record that a frame may carry, heard by a station inside its limits,
+-- leaves it inside, unless a lane that holds two would get a third. Only the record's own place
+-- changes, and it is never the hearer's.
 use Prim.Native.Nat.{ℕ, _+_, _%_, _<_}
 use mathlib.Core.Bool.{Bool, true, false, cond, not, _&&_, _||_}
 use mathlib.Core.Path.{_≡_, refl, sym, ap, subst, _∙_}

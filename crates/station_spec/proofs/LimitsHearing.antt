@@ -1,12 +1,13 @@
--- A station while it hears. One fold carries all of it: N, the own number, the waiting edits, the body and the own lane stay; the shape and the limits
--- are kept as long as no frame is refused; and every taking stands in a lane of another station, so from silence on there are at most 30.
+-- A station while it hears. One fold carries all of it: N, the own number, the waiting edits, the
+-- body and the own lane stay; the shape and the limits are kept as long as no frame is refused; and
+-- every taking stands in a lane of another station, so from silence on there are at most 30.
 use Prim.Native.Nat.{ℕ, suc, max, _+_, _*_, _≤_, _<_}
 use mathlib.Core.Bool.{Bool, true, false, cond}
 use mathlib.Core.List.{List, [], _∷_, _++_, append-nil}
 use mathlib.Core.Path.{_≡_, refl, sym, ap, subst, _∙_}
 use native.Mathlib.Decide.{ℕ-discrete}
 use native.Mathlib.Omega.{arith}
-use lib.Dec.{leb, eqb}
+use lib.Dec.{eqb}
 use lib.ListN.{length, length-append}
 use borrow.Author.Tests.{leb-false, eq-eqb, ne-eqb}
 use Rattle.bodies.specs.declared.Body.{Body}

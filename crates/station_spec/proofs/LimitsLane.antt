@@ -1,5 +1,6 @@
--- Lanes inside their limits: a body that a lane may hold can be put into one that has a place, and the oldest can be removed from any. A lane has
--- none, one or two bodies; each law looks at the three cases.
+-- Lanes inside their limits: a body that a lane may hold can be put into one that has a place, and
+-- the oldest can be removed from any. A lane has none, one or two bodies; each law looks at the
+-- three cases.
 use Prim.Native.Nat.{ℕ, zero, suc, _≤_, _<_}
 use mathlib.Core.Bool.{Bool, true, false, true≢false, _&&_, _||_}
 use mathlib.Core.Path.{_≡_, refl}

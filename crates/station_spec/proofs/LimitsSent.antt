@@ -1,4 +1,5 @@
--- What a station inside its limits sends may stand in a frame, once its own record's count fits one: each record of its table is inside its limits.
+-- What a station inside its limits sends may stand in a frame, once its own record's count fits
+-- one: each record of its table is inside its limits.
 use Prim.Native.Nat.{ℕ, zero, suc, _≤_, _<_}
 use mathlib.Core.Bool.{Bool, true, false, cond, _||_}
 use mathlib.Core.List.{List, [], _∷_, _++_}

@@ -1,5 +1,6 @@
--- A turn keeps the limits: airing removes from lanes, what starts is inside its limits and goes into an own lane that is empty, the own label becomes a
--- label, and the own record gets the station's present values.
+-- A turn keeps the limits: airing removes from lanes, what starts is inside its limits and goes
+-- into an own lane that is empty, the own label becomes a label, and the own record gets the
+-- station's present values.
 use Prim.Native.Nat.{ℕ, _<_}
 use mathlib.Core.Bool.{Bool, true, cond}
 use mathlib.Core.Path.{_≡_, refl, sym, ap, subst, _∙_}

@@ -1,6 +1,8 @@
--- Runs of a station that are computed, so that a definition which does nothing, or too much, is refused by what it gives. A station alone is M12, and with a full
--- queue M11; with two desks they take turns. Station 0 of two hears the frame of station 1, and records of it: a new one, one that is not newer, one that conflicts,
--- one that acknowledges, and one that comes while its own lane is full.
+-- Runs of a station that are computed, so that a definition which does nothing, or too much, is
+-- refused by what it gives. A station alone is M12, and with a full queue M11; with two desks they
+-- take turns. Station 0 of two hears the frame of station 1, and records of it: a new one, one that
+-- is not newer, one that conflicts, one that acknowledges, and one that comes while its own lane is
+-- full.
 use mathlib.Core.Bool.{true, false}
 use mathlib.Core.List.{List, [], _∷_}
 use mathlib.Core.Path.{_≡_, refl}
@@ -161,12 +163,14 @@ abbrev fifth : Hearing
 fifth = hearRecord (initialHearing (afterTurn (afterTurn (fourth .station)))) (of-one 0 other 0 0)
 
 pub record Pair : Type 0 where
-  -- the first record advances, counts and is held; it does not acknowledge, and its Empty is not taken
+  -- the first record advances, counts and is held; it does not acknowledge, and its Empty is not
+  -- taken
   pub heard : (heldOf (first .station) 1 ≡ true) × (labelOf (first .station) 1 ≡ 1) × (first .station .count ≡ 1) × (ackedOf (first .station) 1 ≡ false) × (first .takings ≡ [])
   -- the same again, or an older one that acknowledges, does nothing
   pub again : hearRecord first (of-one 0 Empty 0 1) ≡ first
   pub stale : hearRecord first (of-one 2 Empty 1 0) ≡ first
-  -- one with the same label and count that acknowledges conflicts: the frame is refused, and nothing else comes of it
+  -- one with the same label and count that acknowledges conflicts: the frame is refused, and
+  -- nothing else comes of it
   pub conflicts : hearRecord first (of-one 0 Empty 1 1) ≡ record { station = first .station; takings = first .takings; refusal = conflict }
   -- a larger count acknowledges, and counts nothing where the label stays
   pub acknowledges : (ackedOf (second .station) 1 ≡ true) × (second .station .count ≡ 1) × (labelOf (second .station) 1 ≡ 1)

@@ -1,5 +1,6 @@
--- Hearing a written frame is hearing the writer's table: a station's frame reads back as the records that it sent, and every other station among as many
--- accepts it. So a round may hand over records in the place of bytes.
+-- Hearing a written frame is hearing the writer's table: a station's frame reads back as the
+-- records that it sent, and every other station among as many accepts it. So a round may hand over
+-- records in the place of bytes.
 use Prim.Native.Nat.{ℕ, _<_}
 use mathlib.Core.Bool.{true}
 use mathlib.Core.Path.{_≡_, ap}

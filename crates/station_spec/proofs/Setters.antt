@@ -1,5 +1,7 @@
--- What each setter of a station sets and what it leaves: a cell that is set reads back, every other cell is as before, and so is all that the setter does not
--- name. A station has sixteen places by its type, and setters keep them. Only these laws open the arrays of a station; all others cite them.
+-- What each setter of a station sets and what it leaves: a cell that is set reads back, every other
+-- cell is as before, and so is all that the setter does not name. A station has sixteen places by
+-- its type, and setters keep them. Only these laws open the arrays of a station; all others cite
+-- them.
 use Prim.Native.Nat.{ℕ, _≤_, _<_}
 use mathlib.Core.Bool.{Bool, true, false}
 use mathlib.Core.List.{List}
@@ -29,7 +31,8 @@ use Rattle.station_spec.specs.declared.Setup.{Setup}
 use Rattle.station_spec.specs.declared.Station.{Station}
 use Rattle.station_spec.specs.State.{Cell, cellOf, labelOf, ackedOf, heldOf, recordOf, laneAt, withLabel, withEntry, withLane, withWaiting, withBroadcast, withArrays, withCell, withAcked, withLanes, sentRecords, freshLabels, freshRecord, freshStation}
 
--- the lengths that a station's arrays have by their types: sixteen places, and the slots of the waiting edits
+-- the lengths that a station's arrays have by their types: sixteen places, and the slots of the
+-- waiting edits
 pub record Shaped (s : Station) : Type 0 where
   pub acked : length (s .acked) ≡ 16
   pub labels : length (s .labels) ≡ 16

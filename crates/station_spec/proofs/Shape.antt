@@ -1,4 +1,5 @@
--- Every step of a station keeps the lengths of its arrays, for it only changes entries: each is made of setters, and these keep them.
+-- Every step of a station keeps the lengths of its arrays, for it only changes entries: each is
+-- made of setters, and these keep them.
 use Prim.Native.Nat.{ℕ}
 use mathlib.Core.Bool.{Bool, true, false, cond, _&&_}
 use mathlib.Core.Path.{_≡_, refl}

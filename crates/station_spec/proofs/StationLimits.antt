@@ -1,5 +1,5 @@
--- The limits of a station as facts: what the test says of the station and of each place, and the other way round. Laws about the limits are proved on
--- the facts.
+-- The limits of a station as facts: what the test says of the station and of each place, and the
+-- other way round. Laws about the limits are proved on the facts.
 use Prim.Native.Nat.{ℕ, _≤_, _<_}
 use mathlib.Core.Bool.{Bool, true, false, cond, not, _&&_, _||_, false≢true}
 use mathlib.Core.Path.{_≡_, refl, sym, subst}

@@ -1,5 +1,7 @@
--- The turn cell by cell: the airing step changes lanes, the end of the broadcast the acknowledgements and the own label, the start the own lane, and last the own
--- record is rewritten. So of another station's cell only the acknowledgement and the lane can change, and cells from n up stay.
+-- The turn cell by cell: the airing step changes lanes, the end of the broadcast the
+-- acknowledgements and the own label, the start the own lane, and last the own record is rewritten.
+-- So of another station's cell only the acknowledgement and the lane can change, and cells from n
+-- up stay.
 use Prim.Native.Nat.{ℕ, _<_, _≤_}
 use mathlib.Core.Bool.{Bool, true, false, cond}
 use mathlib.Core.Path.{_≡_, refl, sym, ap, subst, _∙_}
@@ -30,7 +32,8 @@ pub started-stays : (s : Station) → broadcastEnds s ≡ false → startedBody 
 unfolding startedBody
 started-stays s e = rw e
 
--- the labels of the own record are the station's below n, where these take two bits, and from n up those that it had
+-- the labels of the own record are the station's below n, where these take two bits, and from n up
+-- those that it had
 module _ (s : Station) (fits : (k : ℕ) → k < s .n → labelOf s k < 4) where
   own-word : (ownRecord s) .labels ≡ labelsOver (s .n) (labelOf s) ((recordOf s (s .own)) .labels)
   unfolding ownRecord

@@ -1,4 +1,5 @@
--- What a turn starts, in three cases: the next edit or Neutral, for which the own lane is empty after the airing step, or nothing.
+-- What a turn starts, in three cases: the next edit or Neutral, for which the own lane is empty
+-- after the airing step, or nothing.
 use Prim.Native.Nat.{_<_}
 use mathlib.Core.Bool.{Bool, true, false}
 use mathlib.Core.Path.{_≡_, refl}

@@ -1,4 +1,5 @@
--- What a turn does, case by case: the body it starts, the body it leaves, and what it reports. Each is the definition at one value of its test.
+-- What a turn does, case by case: the body it starts, the body it leaves, and what it reports. Each
+-- is the definition at one value of its test.
 use mathlib.Core.Bool.{Bool, true, false, cond}
 use mathlib.Core.Path.{_≡_, refl, ap}
 use Prim.Native.Nat.{ℕ, _<_, _≤_}
@@ -16,7 +17,8 @@ use Rattle.station_spec.specs.State.{ackedOf, laneAt}
 use Rattle.station_spec.specs.Turn.{airs, rowOf, broadcastEnds, mayStart, startedBody, afterTurn, turnReport}
 use Rattle.station_spec.proofs.TurnCells.{turn-body}
 
--- a row is aired where every lane has a body, and the broadcast ends where every station is acknowledged
+-- a row is aired where every lane has a body, and the broadcast ends where every station is
+-- acknowledged
 pub airs-each : (s : Station) → airs s ≡ allBelow (s .n) (λ k. ltb 0 ((laneAt s k) .len))
 unfolding airs
 airs-each s = refl

@@ -1,4 +1,5 @@
--- Writing the frame of a station: its numbers can be written, and the answers of the definition with the tests on their way decided.
+-- Writing the frame of a station: its numbers can be written, and the answers of the definition
+-- with the tests on their way decided.
 use Prim.Native.Nat.{ℕ, _≤_, _<_}
 use native.Mathlib.Omega.{arith}
 use mathlib.Core.Path.{_≡_, refl}

@@ -1,4 +1,5 @@
--- What a read past the end of a list of stations gives. No call reads there: a group has sixteen stations.
+-- What a read past the end of a list of stations gives. No call reads there: a group has sixteen
+-- stations.
 use mathlib.Core.List.{[]}
 use Rattle.bodies.specs.declared.Body.the-variants.{Empty}
 use Rattle.queues.specs.Absent.{absentWaiting}

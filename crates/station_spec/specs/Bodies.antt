@@ -1,5 +1,6 @@
--- Document 01, "A station and its calls": the bodies that a station holds, wherever they stand. Entries from N up,
--- places past a length, and the record of a station of which none is held are no part of it.
+-- Document 01, "A station and its calls": the bodies that a station holds, wherever they stand.
+-- Entries from N up, places past a length, and the record of a station of which none is held are no
+-- part of it.
 use Prim.Native.Nat.{ℕ, _<_}
 use mathlib.Core.Bool.{true}
 use mathlib.Core.Path.{_≡_}

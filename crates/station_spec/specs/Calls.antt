@@ -1,4 +1,5 @@
--- Document 01, "A station and its calls" and "Turned down": the open calls, each with its refusals in their order.
+-- Document 01, "A station and its calls" and "Turned down": the open calls, each with its refusals
+-- in their order.
 use Prim.Native.Nat.{ℕ, _+_}
 use mathlib.Core.Bool.{Bool, true, false, cond, not}
 use mathlib.Core.List.{List, [], _∷_, _++_}
@@ -40,11 +41,13 @@ freshCall setup own =
     (record { refusal = done; station = freshStation setup own })
     (record { refusal = freshRefusal setup own; station = freshStation aloneSetup 0 })
 
--- the station with one more waiting edit of a desk (source document 001, Algorithm 2, lines 1 and 2)
+-- the station with one more waiting edit of a desk (source document 001, Algorithm 2, lines 1 and
+-- 2)
 unfoldable pub posted : Station → ℕ → Body → Station
 posted s desk b = withWaiting s (withPosted (s .waiting) desk b)
 
--- 15, 4, 17, 3: what a post judges of the desk, of the body, of its channel and of the desk's waiting edits
+-- 15, 4, 17, 3: what a post judges of the desk, of the body, of its channel and of the desk's
+-- waiting edits
 abbrev pub postRefusal : Station → ℕ → Body → ℕ
 postRefusal s desk b =
     refuse (not (isDesk desk)) badDesk

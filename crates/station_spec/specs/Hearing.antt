@@ -1,6 +1,7 @@
--- Document 01, "A station and its calls", Hear: what one record does to the hearer, and a frame's records in order.
+-- Document 01, "A station and its calls", Hear: what one record does to the hearer, and a frame's
+-- records in order.
 use Prim.Native.Nat.{ℕ, max, _+_}
-use mathlib.Core.Bool.{Bool, true, false, cond, not, _&&_, _||_}
+use mathlib.Core.Bool.{Bool, true, cond, not, _&&_, _||_}
 use mathlib.Core.List.{List, [], _∷_, _++_}
 use lib.Dec.{leb, ltb, eqb}
 use Rattle.bodies.specs.declared.Body.the-variants.{Empty}
@@ -25,7 +26,8 @@ use Rattle.station_spec.specs.State.{ownLabel, withBroadcast, withCell}
 unfoldable pub agree : ℕ → Record → Record → Bool
 agree n a b = sameBody (a .body) (b .body) && allBelow n (λ j. eqb (recordLabel a j) (recordLabel b j))
 
--- what a record is beside the one held of its station (source document 001, Algorithm 2, lines 6 to 8)
+-- what a record is beside the one held of its station (source document 001, Algorithm 2, lines 6 to
+-- 8)
 abbrev pub ageIn : Station → Record → Age
 ageIn s r =
     let k = r .station in
@@ -36,7 +38,8 @@ ageIn s r =
 abbrev pub follows : ℕ → Record → Bool
 follows label r = eqb (ownLabel r) (successor label)
 
--- it shows the next broadcast of its station: its own label comes after the hearer's label for that station (line 14)
+-- it shows the next broadcast of its station: its own label comes after the hearer's label for that
+-- station (line 14)
 abbrev pub advances : Station → Record → Bool
 advances s r = follows (labelOf s (r .station)) r
 
@@ -75,7 +78,8 @@ noTaking = record { source = 0; body = Empty }
 abbrev pub overfills : Station → Record → Bool
 overfills s r = takes s r && leb 2 ((laneAt s (r .station)) .len)
 
--- a station while it hears: what it took so far, in the order heard, and the refusal of the first refused frame
+-- a station while it hears: what it took so far, in the order heard, and the refusal of the first
+-- refused frame
 pub record Hearing : Type 0 where
   pub station : Station
   pub takings : List Taking

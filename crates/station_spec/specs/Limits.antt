@@ -32,13 +32,14 @@ laneInside inside most l =
 unfoldable pub recordInside : (Body → Bool) → ℕ → ℕ → ℕ → Record → Bool
 recordInside inside n own k r = eqb (r .station) k && recordLimits inside n (eqb k own) r
 
--- what station `own` among n has of station k: its label, its record where one is held, and its lane
+-- what station `own` among n has of station k: its label, its record where one is held, and its
+-- lane
 abbrev pub entryInside : (Body → Bool) → ℕ → ℕ → ℕ → ℕ → Bool → Record → Lane → Bool
 entryInside inside n own k label held r lane =
     isLabel label && (not held || recordInside inside n own k r) && laneInside inside (cond (eqb k own) 1 2) lane
 
--- the bodies that a station allows: those inside their limits in its edition. No other limit of a station says how it
--- judges a body.
+-- the bodies that a station allows: those inside their limits in its edition. No other limit of a
+-- station says how it judges a body.
 unfoldable pub allowed : Station → Body → Bool
 allowed s = bodyInside (s .edition)
 

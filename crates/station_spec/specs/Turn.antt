@@ -1,6 +1,5 @@
 -- Document 01, "A station and its calls", Turn: airing, the end of the broadcast and the next
 -- start, the own record rewritten.
-use Prim.Native.Nat.{ℕ}
 use mathlib.Core.Bool.{Bool, cond, _&&_}
 use mathlib.Core.List.{List}
 use lib.ListN.{replicate}
@@ -48,8 +47,9 @@ mayStart s = eqb ((laneAt (afterAiring s) (s .own)) .len) 0
 abbrev pub startsEdit : Station → Bool
 startsEdit s = broadcastEnds s && (mayStart s && ltb 0 (waitingCount (s .waiting)))
 
--- what starts where the broadcast ends: the oldest waiting edit of the desk that is next, Neutral where none waits
--- (Algorithm 3, line 11), Empty where the own lane is not empty (Algorithm 2, lines 21 to 24)
+-- what starts where the broadcast ends: the oldest waiting edit of the desk that is next, Neutral
+-- where none waits (Algorithm 3, line 11), Empty where the own lane is not empty (Algorithm 2,
+-- lines 21 to 24)
 unfoldable pub startedBody : Station → Body
 startedBody s =
     cond (broadcastEnds s)

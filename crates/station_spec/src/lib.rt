@@ -7,7 +7,8 @@ use queues::Lane;
 use queues::Slot;
 use queues::Waiting;
 
-// What a fresh station or group is given: N, how many edits of a desk may wait at a station, and the edition.
+// What a fresh station or group is given: N, how many edits of a desk may wait at a station, and
+// the edition.
 pub struct Setup {
     pub n: usize,
     pub limit: usize,

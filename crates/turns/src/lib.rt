@@ -1,4 +1,5 @@
-// A turn: the row that is aired, the end of the broadcast and the next start, the own record rewritten.
+// A turn: the row that is aired, the end of the broadcast and the next start, the own record
+// rewritten.
 
 pub mod airing;
 pub mod parts;

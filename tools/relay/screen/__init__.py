@@ -14,7 +14,7 @@ example:
 import argparse
 
 from .. import plans
-from . import answers, server
+from . import answers
 
 
 def port(text):
@@ -31,6 +31,7 @@ def arguments(parser):
 
 
 def run(given):
+    from . import server    # it imports much that no other subcommand needs
     named = answers.Named([name for name in (given.plan, given.second) if name is not None])
     named.judge()
     server.serve(named, given.port)

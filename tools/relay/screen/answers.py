@@ -19,7 +19,8 @@ from ..hearings import hearings
 LARGEST = 2 ** 32 - 1       # that the library can be asked
 LARGEST_TEXT = 4 << 20      # bytes of a plan; one of 2,048 rounds has 0.3 MB, and its posts come on top
 LONGEST_NAME = 200
-KEPT = 32                   # answers of the library, of each kind
+KEPT = 32                   # answers of the library on a plan, of each kind
+KEPT_PARTS = 2_048          # on some rounds of a plan: three plans of 16 stations and 2,048 rounds have 768 parts
 BOTH = "both"
 
 
@@ -167,7 +168,10 @@ def kept_forecast(n, masks):
 
 @functools.lru_cache(KEPT)
 def kept_part(n, masks, first, last, stations):
-    return ends.in_part(n, array("H", masks), first, last, stations, forecast_numbers)
+    return ends.in_part(n, array("H", masks), first, last, stations, forecast_numbers, kept_ends)
+
+
+kept_ends = functools.lru_cache(KEPT_PARTS)(ends.first_ends)
 
 
 def forecast_numbers(n, log):
@@ -218,11 +222,23 @@ def answers_of(plan, asked):
     if refusal:
         raise Wrong(ask.refused(plan, asked))
     _, starts = library.questions(plan.n, plan.log, [(s, s, k) for s, _, k in numbers])
-    heard, found = hearings(plan.n, plan.log) if asked else [], []
+    found = []
     for (sender, receiver, _), start, number in zip(numbers, starts, rounds):
-        relay = None if start is None else hops.relay(heard, sender, receiver, start)
+        relay = None if start is None else relay_after(plan, sender, receiver, start, number)
         found.append({"round": number, "start": start, "hops": relay or [], "error": hops.fault(number, start, relay)})
     return found
+
+
+def relay_after(plan, sender, receiver, start, number):
+    """The hops of a relay after a start, looked for up to the round in which it should arrive, or to the plan's end."""
+    part = plan.log[plan.n * start:plan.n * (plan.rounds if number is None else number)]
+    relay = kept_relay(plan.n, part.tobytes(), sender, receiver)
+    return relay and [hop._replace(round=start + hop.round) for hop in relay]
+
+
+@functools.lru_cache(KEPT_PARTS)
+def kept_relay(n, masks, sender, receiver):
+    return hops.relay(hearings(n, array("H", masks)), sender, receiver, 0)
 
 
 def look(given):

@@ -15,7 +15,7 @@ export function encode(log) {
     bytes[2 * at + 1] = log[at] >> 8;
   }
   let text = "";
-  for (let at = 0; at < bytes.length; at += 8192) text += String.fromCharCode(...bytes.subarray(at, at + 8192));
+  for (let at = 0; at < bytes.length; at += 8192) text += String.fromCharCode.apply(null, bytes.subarray(at, at + 8192));
   return btoa(text);
 }
 

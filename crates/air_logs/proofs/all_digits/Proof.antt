@@ -1,4 +1,5 @@
--- `air_logs::all_digits` goes from byte to byte. The invariant: what is left has only digits exactly if what was given has.
+-- `air_logs::all_digits` goes from byte to byte. The invariant: what is left has only digits
+-- exactly if what was given has.
 use Prim.Native.Nat.{_-_, _≤_}
 use mathlib.Core.Path.{_≡_, refl, sym, _∙_}
 use borrow.Author.Needs.{needs}

@@ -1,5 +1,7 @@
--- `air_logs::compare_logs` goes from kept line to kept line in both listings. The invariant: at each place stands a kept line or the last line, and what is left
--- to compare from there, at the present position, gives the answer of the whole; the position is no larger than the lines passed allow.
+-- `air_logs::compare_logs` goes from kept line to kept line in both listings. The invariant: at
+-- each place stands a kept line or the last line, and what is left to compare from there, at the
+-- present position, gives the answer of the whole; the position is no larger than the lines passed
+-- allow.
 use Prim.Native.Nat.{_+_, _*_, _-_, _≤_}
 use mathlib.Core.Path.{_≡_, sym, ap, _∙_}
 use native.Mathlib.Omega.{arith}

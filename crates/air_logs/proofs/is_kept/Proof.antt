@@ -34,7 +34,8 @@ returns-3 c =
 
 shared-slice-read-result : tie.Need-shared-slice-read-result
 shared-slice-read-result c =
-    omega (arith, line-is _ (c .before .before .before .before .before .before .before .before .before .pre .0) .long)
+    let start = c .before .before .before .before .before .before .before .before .before in
+    omega (arith, line-is _ (start .pre .0) .long)
 
 cast-result : tie.Need-cast-result
 cast-result c = omega (arith, c .shared-slice-known5 .given 10)

@@ -1,5 +1,5 @@
 -- `air_logs::is_last_line` compares with the fixed byte string.
-use Rattle.lines.specs.Lines.{endLine}
+use Rattle.listing_lines.specs.Lines.{endLine}
 use borrow.Author.Needs.{needs}
 use Rattle.air_logs.proofs.is_last_line.Statement.{statement}
 use Rattle.air_logs.proofs.is_last_line.Tie as tie

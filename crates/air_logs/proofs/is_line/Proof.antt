@@ -1,4 +1,5 @@
--- `air_logs::is_line` tests the parts of a line in their order. A part that fails is one that a line has, and where all others hold the last decides.
+-- `air_logs::is_line` tests the parts of a line in their order. A part that fails is one that a
+-- line has, and where all others hold the last decides.
 use mathlib.Core.Path.{sym, _∙_}
 use borrow.Author.Needs.{needs}
 use Rattle.air_logs.proofs.Lines.{line-fails, line-short, line-spaced, line-left, answered-no, answered-yes}
@@ -12,22 +13,34 @@ returns-2 : tie.Need-returns-2
 returns-2 c = sym (line-fails (c .before .before .before .before .before .args .line .now) _ (λ l. l .round) (answered-no _ _ (c .before .is-natural .ensures) (c .if2 .taken)))
 
 returns-3 : tie.Need-returns-3
-returns-3 c = sym (line-spaced (c .before .before .before .before .before .before .before .args .line .now) (c .if3 .taken))
+returns-3 c =
+    let start = c .before .before .before .before .before .before .before in
+    sym (line-spaced (start .args .line .now) (c .if3 .taken))
 
 returns-4 : tie.Need-returns-4
-returns-4 c = sym (line-fails (c .before .before .before .before .before .before .before .before .before .before .args .line .now) _ (λ l. l .letter) (answered-no _ _ (c .before .is-letter .ensures) (c .if4 .taken)))
+returns-4 c =
+    let start = c .before .before .before .before .before .before .before .before .before .before in
+    sym (line-fails (start .args .line .now) _ (λ l. l .letter) (answered-no _ _ (c .before .is-letter .ensures) (c .if4 .taken)))
 
 returns-5 : tie.Need-returns-5
-returns-5 c = sym (line-fails (c .before .before .before .before .before .before .before .before .before .before .before .before .before .args .line .now) _ (λ l. l .station) (answered-no _ _ (c .before .is-natural2 .ensures) (c .if5 .taken)))
+returns-5 c =
+    let start = c .before .before .before .before .before .before .before .before .before .before .before .before .before in
+    sym (line-fails (start .args .line .now) _ (λ l. l .station) (answered-no _ _ (c .before .is-natural2 .ensures) (c .if5 .taken)))
 
 returns-6 : tie.Need-returns-6
-returns-6 c = sym (line-fails (c .before .before .before .before .before .before .before .before .before .before .before .before .before .before .before .before .args .line .now) _ (λ l. l .source) (answered-no _ _ (c .before .is-natural3 .ensures) (c .if6 .taken)))
+returns-6 c =
+    let start = c .before .before .before .before .before .before .before .before .before .before .before .before .before .before .before .before in
+    sym (line-fails (start .args .line .now) _ (λ l. l .source) (answered-no _ _ (c .before .is-natural3 .ensures) (c .if6 .taken)))
 
 returns-7 : tie.Need-returns-7
-returns-7 c = sym (line-fails (c .before .before .before .before .before .before .before .before .before .before .before .before .before .before .before .before .before .before .before .args .line .now) _ (λ l. l .kind) (answered-no _ _ (c .before .is-natural4 .ensures) (c .if7 .taken)))
+returns-7 c =
+    let start = c .before .before .before .before .before .before .before .before .before .before .before .before .before .before .before .before .before .before .before in
+    sym (line-fails (start .args .line .now) _ (λ l. l .kind) (answered-no _ _ (c .before .is-natural4 .ensures) (c .if7 .taken)))
 
 returns-8 : tie.Need-returns-8
-returns-8 c = sym (line-fails (c .before .before .before .before .before .before .before .before .before .before .before .before .before .before .before .before .before .before .before .before .before .before .args .line .now) _ (λ l. l .event) (answered-no _ _ (c .before .is-natural5 .ensures) (c .if8 .taken)))
+returns-8 c =
+    let start = c .before .before .before .before .before .before .before .before .before .before .before .before .before .before .before .before .before .before .before .before .before .before in
+    sym (line-fails (start .args .line .now) _ (λ l. l .event) (answered-no _ _ (c .before .is-natural5 .ensures) (c .if8 .taken)))
 
 returns-9 : tie.Need-returns-9
 returns-9 c =

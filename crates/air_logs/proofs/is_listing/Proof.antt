@@ -1,4 +1,5 @@
--- `air_logs::is_listing` goes from line to line. The invariant: what is left is a listing exactly if all of it is.
+-- `air_logs::is_listing` goes from line to line. The invariant: what is left is a listing exactly
+-- if all of it is.
 use Prim.Native.Nat.{ℕ, _-_, _≤_}
 use mathlib.Core.List.{List}
 use mathlib.Core.Path.{_≡_, refl, sym, ap, _∙_}
@@ -6,7 +7,7 @@ use native.Mathlib.Omega.{arith}
 use borrow.Author.Needs.{needs}
 use lib.ListN.{length, drop, length-drop}
 use lib.Seq.{take-all}
-use Rattle.lines.specs.Lines.{endLine}
+use Rattle.listing_lines.specs.Lines.{endLine}
 use Rattle.air_logs_spec.specs.Form.{isLine, sameBytes, isListing}
 use Rattle.air_logs.proofs.Lines.{part-is, answered-no, answered-yes, judged-line, judged-end, judged-next, judged-last}
 use Rattle.air_logs.proofs.is_listing.Statement.{statement}

@@ -1,4 +1,5 @@
--- `air_logs::next_kept` passes over lines that are not kept. The invariant: what is left is a listing with the same log.
+-- `air_logs::next_kept` passes over lines that are not kept. The invariant: what is left is a
+-- listing with the same log.
 use Prim.Native.Nat.{ℕ, _+_, _-_, _≤_}
 use mathlib.Core.Bool.{true}
 use mathlib.Core.List.{List}

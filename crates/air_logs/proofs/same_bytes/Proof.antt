@@ -1,4 +1,5 @@
--- `air_logs::same_bytes` goes from byte to byte. The invariant: what is left of the two is the same exactly if all of them is.
+-- `air_logs::same_bytes` goes from byte to byte. The invariant: what is left of the two is the same
+-- exactly if all of them is.
 use Prim.Native.Nat.{_-_, _≤_}
 use mathlib.Core.Path.{_≡_, refl, sym, _∙_}
 use native.Mathlib.Omega.{arith}

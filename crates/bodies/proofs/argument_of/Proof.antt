@@ -1,4 +1,5 @@
--- `bodies::argument_of` meets its contract: each arm knows which case the body is, and a signed number reads back from its 32 bits as itself.
+-- `bodies::argument_of` meets its contract: each arm knows which case the body is, and a signed
+-- number reads back from its 32 bits as itself.
 use mathlib.Core.Path.{sym, ap, _∙_}
 use native.Mathlib.Omega.{arith}
 use borrow.Author.Needs.{needs}

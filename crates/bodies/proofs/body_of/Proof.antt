@@ -1,4 +1,5 @@
--- `bodies::body_of` meets its contract: each arm knows the kind, and a signed number reads back from its 32 bits as itself.
+-- `bodies::body_of` meets its contract: each arm knows the kind, and a signed number reads back
+-- from its 32 bits as itself.
 use mathlib.Core.Path.{ap}
 use borrow.Author.Tests.{ne-eqb}
 use mir.Syntax.{w32}

@@ -6,11 +6,8 @@ use lib.Dec.{leb}
 use Rattle.bodies.proofs.is_edit.Statement.{statement}
 use Rattle.bodies.proofs.is_edit.Tie as tie
 
-kind-of-requires : tie.Need-kind-of-requires
-kind-of-requires c κs = search needs
-
 returns : tie.Need-returns
 returns c = ap (λ (k : ℕ). leb 2 k) (c .kind-of .ensures)
 
 pub is-edit-spec : {M : Type 1} → statement M
-is-edit-spec = tie.close (tie.spec kind-of-requires returns)
+is-edit-spec = tie.close (tie.spec (λ c κs. search needs) returns)

@@ -6,11 +6,8 @@ use lib.Dec.{eqb}
 use Rattle.bodies.proofs.is_empty.Statement.{statement}
 use Rattle.bodies.proofs.is_empty.Tie as tie
 
-kind-of-requires : tie.Need-kind-of-requires
-kind-of-requires c κs = search needs
-
 returns : tie.Need-returns
 returns c = ap (λ (k : ℕ). eqb k 0) (c .kind-of .ensures)
 
 pub is-empty-spec : {M : Type 1} → statement M
-is-empty-spec = tie.close (tie.spec kind-of-requires returns)
+is-empty-spec = tie.close (tie.spec (λ c κs. search needs) returns)

@@ -1,9 +1,10 @@
--- `bulletins::issue` meets its contract: each return is a refusal of the definition, or the state with the bulletin.
+-- `bulletins::issue` meets its contract: each return is a refusal of the definition, or the state
+-- with the bulletin.
 use Prim.Native.Nat.{_*_, _<_}
 use mathlib.Core.Path.{sym, _∙_}
 use native.Mathlib.Omega.{arith}
 use borrow.Author.Tests.{not-true, not-false}
-use Rattle.bulletin_sets.proofs.Free.{free-state}
+use Rattle.bulletins.proofs.Free.{free-state}
 use Rattle.bulletins.proofs.Issues.{inside-high, outside, nobody, bad-event, old-tag, no-room, tagged, issue-done}
 use borrow.Author.Needs.{needs}
 use Rattle.bulletins.proofs.issue.Statement.{statement}
@@ -32,9 +33,12 @@ returns-3 c =
 
 has-tag-requires : tie.Need-has-tag-requires
 has-tag-requires c κs =
+    let start = c .before .before .before .before .before .before .before .before .before .before in
+    let inside = c .before .before .before .before .before .before .before .before .before .inside in
+    let first-if = c .before .before .before .before .before .before .before .before .if1 in
     omega (
       arith,
-      inside-high (c .before .before .before .before .before .before .before .before .before .before .args .b) (sym (c .before .before .before .before .before .before .before .before .before .inside .ensures) ∙ not-false (c .before .before .before .before .before .before .before .before .before .inside .result) (c .before .before .before .before .before .before .before .before .if1 .left)),
+      inside-high (start .args .b) (sym (inside .ensures) ∙ not-false (inside .result) (first-if .left)),
       c .before .before .before .before .before .before .if2 .left,
     )
 
@@ -51,26 +55,38 @@ returns-4 c =
 
 free-place-requires : tie.Need-free-place-requires
 free-place-requires c κs =
+    let start = c .before .before .before .before .before .before .before .before .before .before .before .before .before in
+    let inside = c .before .before .before .before .before .before .before .before .before .before .before .before .inside in
+    let first-if = c .before .before .before .before .before .before .before .before .before .before .before .if1 in
+    let second-if = c .before .before .before .before .before .before .before .before .before .if2 in
     omega (
       arith,
-      inside-high (c .before .before .before .before .before .before .before .before .before .before .before .before .before .args .b) (sym (c .before .before .before .before .before .before .before .before .before .before .before .before .inside .ensures) ∙ not-false (c .before .before .before .before .before .before .before .before .before .before .before .before .inside .result) (c .before .before .before .before .before .before .before .before .before .before .before .if1 .left)),
-      c .before .before .before .before .before .before .before .before .before .if2 .left,
+      inside-high (start .args .b) (sym (inside .ensures) ∙ not-false (inside .result) (first-if .left)),
+      second-if .left,
     )
 
 mul-if5 : tie.Need-mul-if5
 mul-if5 c =
+    let start = c .before .before .before .before .before .before .before .before .before .before .before .before .before .before in
+    let inside = c .before .before .before .before .before .before .before .before .before .before .before .before .before .inside in
+    let first-if = c .before .before .before .before .before .before .before .before .before .before .before .before .if1 in
+    let second-if = c .before .before .before .before .before .before .before .before .before .before .if2 in
     omega (
       arith,
-      inside-high (c .before .before .before .before .before .before .before .before .before .before .before .before .before .before .args .b) (sym (c .before .before .before .before .before .before .before .before .before .before .before .before .before .inside .ensures) ∙ not-false (c .before .before .before .before .before .before .before .before .before .before .before .before .before .inside .result) (c .before .before .before .before .before .before .before .before .before .before .before .before .if1 .left)),
-      c .before .before .before .before .before .before .before .before .before .before .if2 .left,
+      inside-high (start .args .b) (sym (inside .ensures) ∙ not-false (inside .result) (first-if .left)),
+      second-if .left,
     )
 
 add-if5 : tie.Need-add-if5
 add-if5 c =
+    let start = c .before .before .before .before .before .before .before .before .before .before .before .before .before .before in
+    let inside = c .before .before .before .before .before .before .before .before .before .before .before .before .before .inside in
+    let first-if = c .before .before .before .before .before .before .before .before .before .before .before .before .if1 in
+    let second-if = c .before .before .before .before .before .before .before .before .before .before .if2 in
     omega (
       arith,
-      inside-high (c .before .before .before .before .before .before .before .before .before .before .before .before .before .before .args .b) (sym (c .before .before .before .before .before .before .before .before .before .before .before .before .before .inside .ensures) ∙ not-false (c .before .before .before .before .before .before .before .before .before .before .before .before .before .inside .result) (c .before .before .before .before .before .before .before .before .before .before .before .before .if1 .left)),
-      c .before .before .before .before .before .before .before .before .before .before .if2 .left,
+      inside-high (start .args .b) (sym (inside .ensures) ∙ not-false (inside .result) (first-if .left)),
+      second-if .left,
     )
 
 returns-5 : tie.Need-returns-5
@@ -87,21 +103,29 @@ returns-5 c =
 
 with-bulletin-requires : tie.Need-with-bulletin-requires
 with-bulletin-requires c κs =
+    let start = c .before .before .before .before .before .before .before .before .before .before .before .before .before .before .before in
+    let inside = c .before .before .before .before .before .before .before .before .before .before .before .before .before .before .inside in
+    let first-if = c .before .before .before .before .before .before .before .before .before .before .before .before .before .if1 in
+    let second-if = c .before .before .before .before .before .before .before .before .before .before .before .if2 in
     let a = c .before .before .before .before .before .before .before .before .before .before .before .before .before .before .before .args in
     let h : a .issuer < 16 = omega (
       arith,
-      inside-high (c .before .before .before .before .before .before .before .before .before .before .before .before .before .before .before .args .b) (sym (c .before .before .before .before .before .before .before .before .before .before .before .before .before .before .inside .ensures) ∙ not-false (c .before .before .before .before .before .before .before .before .before .before .before .before .before .before .inside .result) (c .before .before .before .before .before .before .before .before .before .before .before .before .before .if1 .left)),
-      c .before .before .before .before .before .before .before .before .before .before .before .if2 .left,
+      inside-high (a .b) (sym (inside .ensures) ∙ not-false (inside .result) (first-if .left)),
+      second-if .left,
     ) in
     (h, omega (arith, h, c .before .free-place .ensures .1, c .if5 .left))
 
 cast-t17 : tie.Need-cast-t17
 cast-t17 c =
+    let start = c .before .before .before .before .before .before .before .before .before .before .before .before .before .before .before .before in
+    let inside = c .before .before .before .before .before .before .before .before .before .before .before .before .before .before .before .inside in
+    let first-if = c .before .before .before .before .before .before .before .before .before .before .before .before .before .before .if1 in
+    let second-if = c .before .before .before .before .before .before .before .before .before .before .before .before .if2 in
     record {
       fits = omega (
         arith,
-        inside-high (c .before .before .before .before .before .before .before .before .before .before .before .before .before .before .before .before .args .b) (sym (c .before .before .before .before .before .before .before .before .before .before .before .before .before .before .before .inside .ensures) ∙ not-false (c .before .before .before .before .before .before .before .before .before .before .before .before .before .before .before .inside .result) (c .before .before .before .before .before .before .before .before .before .before .before .before .before .before .if1 .left)),
-        c .before .before .before .before .before .before .before .before .before .before .before .before .if2 .left,
+        inside-high (start .args .b) (sym (inside .ensures) ∙ not-false (inside .result) (first-if .left)),
+        second-if .left,
       );
     }
 

@@ -1,4 +1,5 @@
--- `bulletins::round` meets its contract: bulletins that do not fit the group, a round that the group refuses, and a round that is done.
+-- `bulletins::round` meets its contract: bulletins that do not fit the group, a round that the
+-- group refuses, and a round that is done.
 use mathlib.Core.Bool.{true}
 use mathlib.Core.Path.{_≡_, sym, _∙_}
 use borrow.Author.Tests.{not-true, not-false}

@@ -1,15 +1,15 @@
--- The recursion falls with the rounds left. Its loop keeps: no pick below i settles the result for the side that picks; `Deciding` turns that into the
--- definition, at a pick that does and after the last.
-use Prim.Native.Nat.{ℕ, _+_, _-_, _*_, _<_, _≤_}
-use mathlib.Core.Bool.{Bool, true, false, not}
+-- The recursion falls with the rounds left. Its loop keeps: no pick below i settles the result for
+-- the side that picks; `Deciding` turns that into the definition, at a pick that does and after the
+-- last.
+use Prim.Native.Nat.{ℕ, _+_, _-_, _<_, _≤_}
+use mathlib.Core.Bool.{not}
 use mathlib.Core.List.{List}
-use mathlib.Core.Path.{_≡_, refl, sym, ap, _∙_}
+use mathlib.Core.Path.{_≡_, sym, ap, _∙_}
 use native.Mathlib.Omega.{arith}
 use borrow.Author.Needs.{needs}
 use borrow.Author.Count.{below-more}
-use lib.ListN.{length, getD}
 use Rattle.planning_spec.proofs.LinkLog.{round-inside}
-use Rattle.contest.specs.KnownSets.{winsFrom}
+use Rattle.contest.specs.Inner.KnownSets.{winsFrom}
 use Rattle.contest.proofs.Deciding.{same-true, same-false, outcome, wins-over, wins-none, wins-hit, wins-not}
 use borrow.Fn.Kinds.{In}
 use borrow.Fn.PlainCycle.{Measures, is, falls, and}
@@ -17,7 +17,7 @@ use Rattle.contest.proofs.wins.Reads as wins
 use Rattle.contest.proofs.wins.Kinds as wins-kinds
 use Rattle.contest.proofs.+wins.Lts-wins as wins-lts
 use Rattle.contest.proofs.learn.Reads as learn-reads
-use Rattle.link_logs.proofs.sets.is_full.Reads as is-full-reads
+use Rattle.planning.proofs.sets.is_full.Reads as is-full-reads
 use Rattle.contest.proofs.+wins.{statement}
 use Rattle.contest.proofs.+wins.Tie.{close}
 

@@ -1,10 +1,11 @@
--- Each return cites its law of `Answers`. A contest that gets past its refusal is inside its limits, which the first pick asks for.
+-- Each return cites its law of `Answers`. A contest that gets past its refusal is inside its
+-- limits, which the first pick asks for.
 use mathlib.Core.Path.{_≡_, sym, _∙_}
 use Prim.Native.Nat.{_<_}
 use native.Mathlib.Omega.{arith}
 use lib.ListN.{length}
-use Rattle.contest_spec.specs.Answer.{contestRefusal}
-use Rattle.contest_spec.proofs.Meaning.{unrefused-inside}
+use Rattle.contest.specs.Answer.{contestRefusal}
+use Rattle.contest.proofs.Meaning.{unrefused-inside}
 use Rattle.contest.proofs.Answers.{answer-refused, answer-none, answer-keeper, answer-breaker}
 use borrow.Author.Needs.{needs}
 use Rattle.contest.proofs.contest.Statement.{statement}

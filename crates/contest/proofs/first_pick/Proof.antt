@@ -1,16 +1,17 @@
--- The loop keeps: from no pick below i can the keeper force the end. The pick it leaves with is then the lowest of the definition.
-use Prim.Native.Nat.{ℕ, _+_, _-_, _*_, _<_, _≤_}
-use mathlib.Core.Bool.{true, false}
-use mathlib.Core.List.{List, [], _∷_}
-use mathlib.Core.Path.{_≡_, refl, sym, ap, _∙_}
+-- The loop keeps: from no pick below i can the keeper force the end. The pick it leaves with is
+-- then the lowest of the definition.
+use Prim.Native.Nat.{ℕ, _-_, _<_, _≤_}
+use mathlib.Core.Bool.{false}
+use mathlib.Core.List.{[], _∷_}
+use mathlib.Core.Path.{_≡_, ap, _∙_}
 use native.Mathlib.Omega.{arith}
 use borrow.Author.Needs.{needs}
 use borrow.Author.Count.{below-more}
-use lib.ListN.{length, getD, set}
+use lib.ListN.{set}
 use Rattle.planning_spec.proofs.LinkLog.{round-inside}
-use Rattle.contest_spec.specs.Winner.{lowest}
-use Rattle.contest_spec.proofs.Lowest.{lowest-found, lowest-missing}
-use Rattle.contest.specs.KnownSets.{begun, opening}
+use Rattle.contest.specs.Winner.{lowest}
+use Rattle.contest.proofs.Lowest.{lowest-found, lowest-missing}
+use Rattle.contest.specs.Inner.KnownSets.{begun, opening}
 use Rattle.contest.proofs.Deciding.{opening-is}
 use Rattle.contest.proofs.first_pick.Statement.{statement}
 use Rattle.contest.proofs.first_pick.Tie as tie

@@ -1,5 +1,4 @@
 -- The contract's test is the code's.
-use borrow.Author.Needs.{needs}
 use Rattle.contest.proofs.joined.Statement.{statement}
 use Rattle.contest.proofs.joined.Tie as tie
 

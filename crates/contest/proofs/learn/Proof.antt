@@ -1,13 +1,14 @@
--- The loop keeps: the first p places hold the sets after the round, each made of the sets before it.
+-- The loop keeps: the first p places hold the sets after the round, each made of the sets before
+-- it.
 use mathlib.Core.List.{List}
-use Prim.Native.Nat.{ℕ, _+_, _-_, _<_, _≤_}
-use mathlib.Core.Path.{_≡_, refl, sym, ap, ap₂, _∙_}
+use Prim.Native.Nat.{ℕ, _-_, _≤_}
+use mathlib.Core.Path.{_≡_, refl, ap₂, _∙_}
 use native.Mathlib.Omega.{arith}
 use borrow.Author.Needs.{needs}
-use lib.ListN.{getD, length, set}
+use lib.ListN.{set}
 use Rattle.lists.specs.Below.{setBelow}
-use Rattle.lists.proofs.Laws.{setBelow-more, length-setBelow}
-use Rattle.contest.specs.KnownSets.{learntOne, after, maskOf}
+use Rattle.lists.proofs.Laws.{setBelow-more}
+use Rattle.contest.specs.Inner.KnownSets.{learntOne, after, maskOf}
 use Rattle.contest.proofs.learn.Statement.{statement}
 use Rattle.contest.proofs.learn.Tie as tie
 

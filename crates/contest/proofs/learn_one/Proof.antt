@@ -1,15 +1,16 @@
--- The loop keeps: the set is united with those of the stations below j that p hears, all as they stood before the round.
-use Prim.Native.Nat.{ℕ, _+_, _-_, _<_, _≤_}
+-- The loop keeps: the set is united with those of the stations below j that p hears, all as they
+-- stood before the round.
+use Prim.Native.Nat.{ℕ, _-_, _≤_}
 use mathlib.Core.Bool.{Bool, cond}
-use mathlib.Core.Path.{_≡_, refl, sym, ap, ap₂, _∙_}
+use mathlib.Core.Path.{_≡_, sym, ap, ap₂, _∙_}
 use native.Mathlib.Omega.{arith}
 use borrow.Author.Needs.{needs}
 use lib.Bits.{bitOr}
 use lib.ListN.{getD}
-use Rattle.link_logs.specs.Sets.{united, withReceiver}
+use Rattle.planning.specs.Sets.{united, withReceiver}
 use Rattle.planning_spec.specs.LinkLog.{maskHears}
-use Rattle.link_logs.proofs.Rows.{united-zero, united-more}
-use Rattle.contest.specs.KnownSets.{learntOne}
+use Rattle.planning.proofs.Rows.{united-zero, united-more}
+use Rattle.contest.specs.Inner.KnownSets.{learntOne}
 use Rattle.contest.proofs.learn_one.Statement.{statement}
 use Rattle.contest.proofs.learn_one.Tie as tie
 

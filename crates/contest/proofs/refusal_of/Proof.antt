@@ -1,10 +1,11 @@
--- The tests stand in the order of the definition, so each return computes once the tests on its way are known. N has two tests, and so has the number of
--- sets, where the definition has one of both ends.
+-- The tests stand in the order of the definition, so each return computes once the tests on its way
+-- are known. N has two tests, and so has the number of sets, where the definition has one of both
+-- ends.
 use Prim.Native.Nat.{_/_, _%_}
 use borrow.Author.Tests.{eq-eqb, ne-eqb, lt-ltb, le-ltb, le-leb, lt-leb}
 use borrow.Author.Needs.{needs}
 use native.Mathlib.Omega.{arith}
-use Rattle.contest_spec.specs.Answer.{contestRefusal}
+use Rattle.contest.specs.Answer.{contestRefusal}
 use Rattle.contest.proofs.refusal_of.Statement.{statement}
 use Rattle.contest.proofs.refusal_of.Tie as tie
 

@@ -1,4 +1,5 @@
--- `frame_check::address_wrong` meets its contract: each test is one of the definition's, in its order.
+-- `frame_check::address_wrong` meets its contract: each test is one of the definition's, in its
+-- order.
 use mathlib.Core.Path.{ap, _∙_}
 use Prim.Native.Nat.{ℕ}
 use native.Mathlib.Omega.{arith}

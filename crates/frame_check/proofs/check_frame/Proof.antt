@@ -1,4 +1,5 @@
--- `frame_check::check_frame` meets its contract: N and the own number first, then the edition, then what `frame_refusal` says.
+-- `frame_check::check_frame` meets its contract: N and the own number first, then the edition, then
+-- what `frame_refusal` says.
 use Prim.Native.Nat.{ℕ, _<_, _≤_}
 use mathlib.Core.Path.{_≡_, _∙_}
 use mathlib.Core.Bool.{true, false}
@@ -37,9 +38,6 @@ returns-3 c =
     let s = c .before .before .before .before .args in
     refused-number (s .edition) (s .bytes .now) (s .n) (s .own) (not-among (s .n) (s .own) (omega arith) (omega arith) (omega arith))
 
-frame-refusal-requires : tie.Need-frame-refusal-requires
-frame-refusal-requires c κs = search needs
-
 returns-4 : tie.Need-returns-4
 returns-4 c =
     let s = c .before .before .before .before .before .args in
@@ -55,4 +53,4 @@ returns-5 c =
 
 pub check-frame-spec : {M : Type 1} → statement M
 check-frame-spec =
-    tie.close (tie.spec returns returns-2 returns-3 returns-4 frame-refusal-requires returns-5)
+    tie.close (tie.spec returns returns-2 returns-3 returns-4 (λ c κs. search needs) returns-5)

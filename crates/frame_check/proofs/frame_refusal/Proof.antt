@@ -1,4 +1,5 @@
--- `frame_check::frame_refusal` meets its contract: the three tests in their order, each as the definition has it.
+-- `frame_check::frame_refusal` meets its contract: the three tests in their order, each as the
+-- definition has it.
 use mathlib.Core.Path.{sym, _∙_}
 use native.Mathlib.Omega.{arith}
 use Rattle.frame_spec.proofs.Check.{shape, refused-shape, refused-address, accepted, refused-records}
@@ -22,7 +23,8 @@ returns-2 c =
 
 records-inside-requires : tie.Need-records-inside-requires
 records-inside-requires c κs =
-    (shape (c .before .before .before .before .before .args .bytes .now) (sym (c .before .before .before .shape-wrong .ensures) ∙ c .before .before .if1 .left) .long, c .before .before .before .before .before .pre)
+    let start = c .before .before .before .before .before in
+    (shape (start .args .bytes .now) (sym (c .before .before .before .shape-wrong .ensures) ∙ c .before .before .if1 .left) .long, start .pre)
 
 returns-3 : tie.Need-returns-3
 returns-3 c =

@@ -1,5 +1,6 @@
--- `frame_check::record_inside` meets its contract: each test is one of the definition's, in its order. The body's numbers are judged by the rows of the table of
--- kinds, the argument as the signed number that its four bytes are.
+-- `frame_check::record_inside` meets its contract: each test is one of the definition's, in its
+-- order. The body's numbers are judged by the rows of the table of kinds, the argument as the
+-- signed number that its four bytes are.
 use Prim.Native.Nat.{ℕ}
 use mathlib.Core.Path.{_≡_, sym, ap, _∙_}
 use mathlib.Core.List.{List}
@@ -7,7 +8,7 @@ use borrow.Author.Needs.{needs}
 use borrow.Author.Tests.{not-true, not-false}
 use native.Mathlib.Omega.{arith}
 use lib.ListN.{getD}
-use Rattle.bodies.specs.Limits.{numbersInside, channelInside}
+use Rattle.bodies.specs.Limits.{numbersInside}
 use Rattle.labels.specs.Packing.{wordInside}
 use Rattle.frame_spec.specs.Words.{wordAt, signed}
 use Rattle.frame_spec.proofs.Check.{judged, far, high, other-numbers, other-channel, by-labels}

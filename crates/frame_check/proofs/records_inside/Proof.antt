@@ -1,9 +1,10 @@
--- `frame_check::records_inside` meets its contract. The loop's invariant is `Checked`: what the records passed so far say. Each record's part is handed on
--- whole, and its station is the part's first byte.
-use mathlib.Core.Bool.{true, false}
+-- `frame_check::records_inside` meets its contract. The loop's invariant is `Checked`: what the
+-- records passed so far say. Each record's part is handed on whole, and its station is the part's
+-- first byte.
+use mathlib.Core.Bool.{true}
 use mathlib.Core.List.{List}
 use mathlib.Core.Path.{_≡_, sym, ap, _∙_}
-use Prim.Native.Nat.{ℕ, _≤_, _-_, _+_, _*_}
+use Prim.Native.Nat.{ℕ, _≤_, _-_}
 use native.Mathlib.Omega.{arith}
 use borrow.Author.Needs.{needs}
 use borrow.Author.Tests.{not-true, not-false}

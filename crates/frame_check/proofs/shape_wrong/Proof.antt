@@ -1,4 +1,5 @@
--- `frame_check::shape_wrong` meets its contract: each test is one of the definition's, in its order.
+-- `frame_check::shape_wrong` meets its contract: each test is one of the definition's, in its
+-- order.
 use mathlib.Core.Path.{ap, _∙_}
 use mathlib.Core.Bool.{not}
 use Prim.Native.Nat.{ℕ, _+_, _*_}
@@ -22,12 +23,14 @@ returns-3 c =
 
 returns-4 : tie.Need-returns-4
 returns-4 c =
-    no-edition (c .before .before .before .before .before .before .before .before .args .bytes .now) (omega arith) (omega arith) (omega arith) (omega arith)
+    let start = c .before .before .before .before .before .before .before .before in
+    no-edition (start .args .bytes .now) (omega arith) (omega arith) (omega arith) (omega arith)
 
 returns-5 : tie.Need-returns-5
 returns-5 c =
+    let start = c .before .before .before .before .before .before .before .before in
     let e = c .before .before .before .before .wide .ensures in
-    ap (λ (k : ℕ). not (eqb (length (c .before .before .before .before .before .before .before .before .args .bytes .now)) (4 + 16 * k))) e ∙ by-length (c .before .before .before .before .before .before .before .before .args .bytes .now) (omega arith) (omega arith) (omega arith) (omega arith)
+    ap (λ (k : ℕ). not (eqb (length (start .args .bytes .now)) (4 + 16 * k))) e ∙ by-length (start .args .bytes .now) (omega arith) (omega arith) (omega arith) (omega arith)
 
 pub shape-wrong-spec : {M : Type 1} → statement M
 shape-wrong-spec =

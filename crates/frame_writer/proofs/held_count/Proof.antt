@@ -1,4 +1,5 @@
--- `frame_writer::held_count` meets its contract. The loop's invariant: the count is that of the places passed, and at most as many.
+-- `frame_writer::held_count` meets its contract. The loop's invariant: the count is that of the
+-- places passed, and at most as many.
 use mathlib.Core.Path.{_≡_, refl, ap, _∙_}
 use Prim.Native.Nat.{ℕ, _≤_, _-_}
 use native.Mathlib.Omega.{arith}

@@ -1,4 +1,5 @@
--- `frame_writer::write_table` meets its contract. The loop's invariant: the head and the records at the held places below k are written, and what stood past them is as it was.
+-- `frame_writer::write_table` meets its contract. The loop's invariant: the head and the records at
+-- the held places below k are written, and what stood past them is as it was.
 use mathlib.Core.Path.{_≡_, refl, _∙_}
 use Prim.Native.Nat.{_≤_, _-_, _+_, _*_}
 use native.Mathlib.Omega.{arith}
@@ -64,40 +65,46 @@ loop-again c =
 
 add-write-record : tie.Need-add-write-record Inv-loop μ-loop
 add-write-record c =
+    let start = c .before .before .before .before .before .before in
     omega (
       arith,
       c .before .before .before .before .held-count .ensures,
       simp length-set at (c .before .before .loop .inv .2),
-      count-room (c .before .before .before .before .before .before .args .n) (c .before .before .before .before .before .before .args .t2) (c .before .before .loop .k) (omega arith) (not-false _ (c .if2 .left)),
+      count-room (start .args .n) (start .args .t2) (c .before .before .loop .k) (omega arith) (not-false _ (c .if2 .left)),
     )
 
 part-write-record-end : tie.Need-part-write-record-end Inv-loop μ-loop
 part-write-record-end c =
+    let start = c .before .before .before .before .before .before in
     omega (
       arith,
       c .before .before .before .before .held-count .ensures,
       simp length-set at (c .before .before .loop .inv .2),
-      count-room (c .before .before .before .before .before .before .args .n) (c .before .before .before .before .before .before .args .t2) (c .before .before .loop .k) (omega arith) (not-false _ (c .if2 .left)),
+      count-room (start .args .n) (start .args .t2) (c .before .before .loop .k) (omega arith) (not-false _ (c .if2 .left)),
     )
 
 write-record-requires : tie.Need-write-record-requires Inv-loop μ-loop
 write-record-requires c κs =
+    let start = c .before .before .before .before .before .before .before .before in
     let s = c .before .before .before .before .before .before .before .before .args in
     let l = c .before .before .before .before .loop in
     let on = not-false _ (c .before .before .if2 .left) in
     let room = count-room (s .n) (s .t2) (l .k) (omega arith) on in
     let long = simp length-set at (l .inv .2) in (
       simp (length-take, length-drop) (omega (arith, c .before .before .before .before .before .before .held-count .ensures, room, long)),
-      c .before .before .before .before .before .before .before .before .pre .0,
+      start .pre .0,
     )
 
 add-at : tie.Need-add-at Inv-loop μ-loop
 add-at c =
+    let start = c .before .before .before .before .before .before .before .before .before .before .before in
+    let held-count = c .before .before .before .before .before .before .before .before .before .held-count in
+    let loop = c .before .before .before .before .before .before .before .loop in
     omega (
       arith,
-      c .before .before .before .before .before .before .before .before .before .held-count .ensures,
-      simp length-set at (c .before .before .before .before .before .before .before .loop .inv .2),
-      count-room (c .before .before .before .before .before .before .before .before .before .before .before .args .n) (c .before .before .before .before .before .before .before .before .before .before .before .args .t2) (c .before .before .before .before .before .before .before .loop .k) (omega arith) (not-false _ (c .before .before .before .before .before .if2 .left)),
+      held-count .ensures,
+      simp length-set at (loop .inv .2),
+      count-room (start .args .n) (start .args .t2) (loop .k) (omega arith) (not-false _ (c .before .before .before .before .before .if2 .left)),
     )
 
 loop-again-2 : tie.Need-loop-again-2 Inv-loop μ-loop

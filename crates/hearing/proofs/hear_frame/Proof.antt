@@ -2,7 +2,7 @@
 -- stand for the hearing of the records before `at`.
 use Prim.Native.Nat.{ℕ, _+_, _-_, _*_, _≤_, _<_}
 use mathlib.Core.List.{List}
-use mathlib.Core.Path.{_≡_, refl, sym, ap, subst, _∙_}
+use mathlib.Core.Path.{_≡_, refl, sym, subst, _∙_}
 use native.Mathlib.Omega.{arith}
 use borrow.Author.Needs.{needs}
 use lib.ListN.{getD, length}
@@ -18,7 +18,7 @@ use Rattle.bodies.specs.Refusals.{laneFull}
 use Rattle.hearing_spec.proofs.EqualRecords.{same-open}
 use Rattle.hearing_spec.proofs.Heeding.{after-calm}
 use Rattle.hearing_spec.proofs.RecordSteps.{passed-same, passed-older, conflicted, heeded-room}
-use Rattle.heeding.proofs.RecordParts.{part-is, part-long}
+use Rattle.hearing.proofs.RecordParts.{part-is, part-long}
 use Rattle.hearing.proofs.RecordCases.{read-station, ends-heeded}
 use Rattle.hearing.proofs.hear_frame.Statement.{statement}
 use Rattle.hearing.proofs.hear_frame.Tie as tie
@@ -146,6 +146,7 @@ heed-requires c κs =
 
 loop-again-2 : tie.Need-loop-again-2 Inv-loop μ-loop
 loop-again-2 c =
+    let read-record = c .before .before .before .before .before .before .before .read-record in
     let e = c .before .before .before .before .before .before .before .before .before in
     let d = turn e in
     let l = d .before .loop in
@@ -153,7 +154,7 @@ loop-again-2 c =
     let seen = c .before .before .before .before .before .before .before .read-record .result in
     let done =
     ends-heeded (own d) (bytes d) (at d) (k d) (l .places) (l .lens) (l .taken) (l .ear) (room d) (step d .here) refl (newer e) _
-    (c .before .before .before .before .before .before .before .read-record .ensures) _ _ _ (step d .some) heed in
+    (read-record .ensures) _ _ _ (step d .some) heed in
     frame-heard _ _ _ _ _ _ _ _ _ (l .inv) (d .loop-test .taken) _ (done .0) (done .1)
     (λ low. subst (λ (z : Ear). z .refusal ≤ laneFull) (sym (heed .0)) (after-calm (own d) (l .lens) (l .ear) seen low))
 
@@ -190,33 +191,44 @@ returns c =
 
 same-length : tie.Need-same-length Inv-loop μ-loop
 same-length c =
+    let start = c .before .before .before .before .before .before .before .before .before .before .before .before .before .before .before .before .before .before in
     let d = stop c in
-    frame-last _ _ _ _ _ _ _ _ _ (d .before .loop .inv) (d .loop-test .taken) _ (ends c .0) .long ∙ sym (c .before .before .before .before .before .before .before .before .before .before .before .before .before .before .before .before .before .before .pre .1 .0 .long)
+    frame-last _ _ _ _ _ _ _ _ _ (d .before .loop .inv) (d .loop-test .taken) _ (ends c .0) .long ∙ sym (start .pre .1 .0 .long)
 
 same-length-2 : tie.Need-same-length-2 Inv-loop μ-loop
-same-length-2 c = room (stop c) .places-long ∙ sym (c .before .before .before .before .before .before .before .before .before .before .before .before .before .before .before .before .before .before .pre .0 .places-long)
+same-length-2 c =
+    let start = c .before .before .before .before .before .before .before .before .before .before .before .before .before .before .before .before .before .before in
+    room (stop c) .places-long ∙ sym (start .pre .0 .places-long)
 
 same-length-3 : tie.Need-same-length-3 Inv-loop μ-loop
-same-length-3 c = room (stop c) .lanes .lens-long ∙ sym (c .before .before .before .before .before .before .before .before .before .before .before .before .before .before .before .before .before .before .pre .0 .lanes .lens-long)
+same-length-3 c =
+    let start = c .before .before .before .before .before .before .before .before .before .before .before .before .before .before .before .before .before .before in
+    room (stop c) .lanes .lens-long ∙ sym (start .pre .0 .lanes .lens-long)
 
 same-length-4 : tie.Need-same-length-4 Inv-loop μ-loop
-same-length-4 c = room (stop c) .lanes .taken-long ∙ sym (c .before .before .before .before .before .before .before .before .before .before .before .before .before .before .before .before .before .before .pre .0 .lanes .taken-long)
+same-length-4 c =
+    let start = c .before .before .before .before .before .before .before .before .before .before .before .before .before .before .before .before .before .before in
+    room (stop c) .lanes .taken-long ∙ sym (start .pre .0 .lanes .taken-long)
 
 same-length-5 : tie.Need-same-length-5 Inv-loop μ-loop
 same-length-5 c =
-    c .before .loop .inv .last-room .long ∙ sym (c .before .before .before .before .before .before .before .before .pre .1 .0 .long)
+    let start = c .before .before .before .before .before .before .before .before in
+    c .before .loop .inv .last-room .long ∙ sym (start .pre .1 .0 .long)
 
 same-length-6 : tie.Need-same-length-6 Inv-loop μ-loop
 same-length-6 c =
-    c .before .loop .inv .room .places-long ∙ sym (c .before .before .before .before .before .before .before .before .pre .0 .places-long)
+    let start = c .before .before .before .before .before .before .before .before in
+    c .before .loop .inv .room .places-long ∙ sym (start .pre .0 .places-long)
 
 same-length-7 : tie.Need-same-length-7 Inv-loop μ-loop
 same-length-7 c =
-    c .before .loop .inv .room .lanes .lens-long ∙ sym (c .before .before .before .before .before .before .before .before .pre .0 .lanes .lens-long)
+    let start = c .before .before .before .before .before .before .before .before in
+    c .before .loop .inv .room .lanes .lens-long ∙ sym (start .pre .0 .lanes .lens-long)
 
 same-length-8 : tie.Need-same-length-8 Inv-loop μ-loop
 same-length-8 c =
-    c .before .loop .inv .room .lanes .taken-long ∙ sym (c .before .before .before .before .before .before .before .before .pre .0 .lanes .taken-long)
+    let start = c .before .before .before .before .before .before .before .before in
+    c .before .loop .inv .room .lanes .taken-long ∙ sym (start .pre .0 .lanes .taken-long)
 
 returns-2 : tie.Need-returns-2 Inv-loop μ-loop
 returns-2 c =

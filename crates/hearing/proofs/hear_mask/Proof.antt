@@ -43,65 +43,90 @@ mul-hear-frame c =
 
 hear-frame-requires : tie.Need-hear-frame-requires Inv-loop μ-loop
 hear-frame-requires c κs =
+    let start = c .before .before .before .before .before .before .before .before .before .before .before .before .before in
     let inv = c .before .before .before .before .before .before .before .loop .inv .1 in
-    (inv .room, (inv .last-room, c .before .before .before .before .before .before .before .before .before .before .before .before .before .pre .1 .1 .0 _ (c .before .before .before .before .before .before .loop-test .taken)))
+    (inv .room, (inv .last-room, start .pre .1 .1 .0 _ (c .before .before .before .before .before .before .loop-test .taken)))
 
 same-length : tie.Need-same-length Inv-loop μ-loop
 same-length c =
-    c .before .before .before .before .before .before .before .before .before .before .hear-frame .ensures .1 .1 .long ∙ sym (c .before .before .before .before .before .before .before .before .before .before .before .before .before .before .before .before .before .before .before .before .before .before .before .before .pre .1 .0 .long)
+    let start = c .before .before .before .before .before .before .before .before .before .before .before .before .before .before .before .before .before .before .before .before .before .before .before .before in
+    let hear-frame = c .before .before .before .before .before .before .before .before .before .before .hear-frame in
+    hear-frame .ensures .1 .1 .long ∙ sym (start .pre .1 .0 .long)
 
 same-length-2 : tie.Need-same-length-2 Inv-loop μ-loop
 same-length-2 c =
-    c .before .before .before .before .before .before .before .before .before .before .hear-frame .ensures .1 .0 .places-long ∙ sym (c .before .before .before .before .before .before .before .before .before .before .before .before .before .before .before .before .before .before .before .before .before .before .before .before .pre .0 .places-long)
+    let start = c .before .before .before .before .before .before .before .before .before .before .before .before .before .before .before .before .before .before .before .before .before .before .before .before in
+    let hear-frame = c .before .before .before .before .before .before .before .before .before .before .hear-frame in
+    hear-frame .ensures .1 .0 .places-long ∙ sym (start .pre .0 .places-long)
 
 same-length-3 : tie.Need-same-length-3 Inv-loop μ-loop
 same-length-3 c =
-    c .before .before .before .before .before .before .before .before .before .before .hear-frame .ensures .1 .0 .lanes .lens-long ∙ sym (c .before .before .before .before .before .before .before .before .before .before .before .before .before .before .before .before .before .before .before .before .before .before .before .before .pre .0 .lanes .lens-long)
+    let start = c .before .before .before .before .before .before .before .before .before .before .before .before .before .before .before .before .before .before .before .before .before .before .before .before in
+    let hear-frame = c .before .before .before .before .before .before .before .before .before .before .hear-frame in
+    hear-frame .ensures .1 .0 .lanes .lens-long ∙ sym (start .pre .0 .lanes .lens-long)
 
 same-length-4 : tie.Need-same-length-4 Inv-loop μ-loop
 same-length-4 c =
-    c .before .before .before .before .before .before .before .before .before .before .hear-frame .ensures .1 .0 .lanes .taken-long ∙ sym (c .before .before .before .before .before .before .before .before .before .before .before .before .before .before .before .before .before .before .before .before .before .before .before .before .pre .0 .lanes .taken-long)
+    let start = c .before .before .before .before .before .before .before .before .before .before .before .before .before .before .before .before .before .before .before .before .before .before .before .before in
+    let hear-frame = c .before .before .before .before .before .before .before .before .before .before .hear-frame in
+    hear-frame .ensures .1 .0 .lanes .taken-long ∙ sym (start .pre .0 .lanes .taken-long)
 
 returns : tie.Need-returns Inv-loop μ-loop
 returns c =
+    let loop = c .before .before .before .before .before .before .before .before .before .before .before .before .before .before .before .before .before .before .loop in
+    let test = c .before .before .before .before .before .before .before .before .before .before .before .before .before .before .before .before .before .loop-test in
+    let hears = c .before .before .before .before .before .before .before .before .before .before .before .before .before .before .before .before .hears in
+    let first-if = c .before .before .before .before .before .before .before .before .before .before .before .before .before .before .before .if1 in
     let done = c .before .before .before .before .before .before .before .before .before .before .hear-frame .ensures in (
-      mask-refused _ _ _ _ _ _ _ _ (c .before .before .before .before .before .before .before .before .before .before .before .before .before .before .before .before .before .before .loop .inv .1) (omega (arith, c .before .before .before .before .before .before .before .before .before .before .before .before .before .before .before .before .before .loop-test .taken, c .before .before .before .before .before .before .before .before .before .before .before .before .before .before .before .before .before .before .loop .inv .0)) _ _
-          (sym (c .before .before .before .before .before .before .before .before .before .before .before .before .before .before .before .before .hears .ensures) ∙ not-false _ (c .before .before .before .before .before .before .before .before .before .before .before .before .before .before .before .if1 .left)) (done .0) (c .if2 .taken),
+      mask-refused _ _ _ _ _ _ _ _ (loop .inv .1) (omega (arith, test .taken, loop .inv .0)) _ _
+          (sym (hears .ensures) ∙ not-false _ (first-if .left)) (done .0) (c .if2 .taken),
       done .1 .0,
     )
 
 add-j-2 : tie.Need-add-j-2 Inv-loop μ-loop
 add-j-2 c =
-    omega (arith, c .before .before .before .before .before .before .before .before .before .before .before .before .before .before .before .before .before .loop-test .taken, c .before .before .before .before .before .before .before .before .before .before .before .before .before .before .before .before .before .before .loop .inv .0, c .before .before .before .before .before .before .before .before .before .before .before .before .before .before .before .before .before .before .loop .inv .1 .room .high)
+    let loop = c .before .before .before .before .before .before .before .before .before .before .before .before .before .before .before .before .before .before .loop in
+    let test = c .before .before .before .before .before .before .before .before .before .before .before .before .before .before .before .before .before .loop-test in
+    omega (arith, test .taken, loop .inv .0, loop .inv .1 .room .high)
 
 loop-less-2 : tie.Need-loop-less-2 Inv-loop μ-loop
 loop-less-2 c =
-    omega (arith, c .before .before .before .before .before .before .before .before .before .before .before .before .before .before .before .before .before .loop-test .taken, c .before .before .before .before .before .before .before .before .before .before .before .before .before .before .before .before .before .before .loop .inv .0, c .before .before .before .before .before .before .before .before .before .before .before .before .before .before .before .before .before .before .loop .inv .1 .room .high)
+    let loop = c .before .before .before .before .before .before .before .before .before .before .before .before .before .before .before .before .before .before .loop in
+    let test = c .before .before .before .before .before .before .before .before .before .before .before .before .before .before .before .before .before .loop-test in
+    omega (arith, test .taken, loop .inv .0, loop .inv .1 .room .high)
 
 loop-again-2 : tie.Need-loop-again-2 Inv-loop μ-loop
 loop-again-2 c =
+    let loop = c .before .before .before .before .before .before .before .before .before .before .before .before .before .before .before .before .before .before .loop in
+    let test = c .before .before .before .before .before .before .before .before .before .before .before .before .before .before .before .before .before .loop-test in
+    let hears = c .before .before .before .before .before .before .before .before .before .before .before .before .before .before .before .before .hears in
+    let first-if = c .before .before .before .before .before .before .before .before .before .before .before .before .before .before .before .if1 in
     let inv = c .before .before .before .before .before .before .before .before .before .before .before .before .before .before .before .before .before .before .loop .inv in
     let done = c .before .before .before .before .before .before .before .before .before .before .hear-frame .ensures in (
       inv .0,
-      rw add-one (mask-heard _ _ _ _ _ _ _ _ (inv .1) (omega (arith, c .before .before .before .before .before .before .before .before .before .before .before .before .before .before .before .before .before .loop-test .taken, c .before .before .before .before .before .before .before .before .before .before .before .before .before .before .before .before .before .before .loop .inv .0)) _ _
-          (sym (c .before .before .before .before .before .before .before .before .before .before .before .before .before .before .before .before .hears .ensures) ∙ not-false _ (c .before .before .before .before .before .before .before .before .before .before .before .before .before .before .before .if1 .left)) (done .0) (c .if2 .left) (done .1 .0) (done .1 .1)),
+      rw add-one (mask-heard _ _ _ _ _ _ _ _ (inv .1) (omega (arith, test .taken, inv .0)) _ _
+          (sym (hears .ensures) ∙ not-false _ (first-if .left)) (done .0) (c .if2 .left) (done .1 .0) (done .1 .1)),
     )
 
 same-length-5 : tie.Need-same-length-5 Inv-loop μ-loop
 same-length-5 c =
-    c .before .loop .inv .1 .last-room .long ∙ sym (c .before .before .before .before .before .before .before .pre .1 .0 .long)
+    let start = c .before .before .before .before .before .before .before in
+    c .before .loop .inv .1 .last-room .long ∙ sym (start .pre .1 .0 .long)
 
 same-length-6 : tie.Need-same-length-6 Inv-loop μ-loop
 same-length-6 c =
-    c .before .loop .inv .1 .room .places-long ∙ sym (c .before .before .before .before .before .before .before .pre .0 .places-long)
+    let start = c .before .before .before .before .before .before .before in
+    c .before .loop .inv .1 .room .places-long ∙ sym (start .pre .0 .places-long)
 
 same-length-7 : tie.Need-same-length-7 Inv-loop μ-loop
 same-length-7 c =
-    c .before .loop .inv .1 .room .lanes .lens-long ∙ sym (c .before .before .before .before .before .before .before .pre .0 .lanes .lens-long)
+    let start = c .before .before .before .before .before .before .before in
+    c .before .loop .inv .1 .room .lanes .lens-long ∙ sym (start .pre .0 .lanes .lens-long)
 
 same-length-8 : tie.Need-same-length-8 Inv-loop μ-loop
 same-length-8 c =
-    c .before .loop .inv .1 .room .lanes .taken-long ∙ sym (c .before .before .before .before .before .before .before .pre .0 .lanes .taken-long)
+    let start = c .before .before .before .before .before .before .before in
+    c .before .loop .inv .1 .room .lanes .taken-long ∙ sym (start .pre .0 .lanes .taken-long)
 
 returns-2 : tie.Need-returns-2 Inv-loop μ-loop
 returns-2 c =

@@ -1,4 +1,5 @@
--- `labels::age_beside` meets its contract: each way out has settled the tests of the definition, in the definition's order.
+-- `labels::age_beside` meets its contract: each way out has settled the tests of the definition, in
+-- the definition's order.
 use mathlib.Core.Path.{_≡_, sym, _∙_}
 use native.Mathlib.Omega.{arith}
 use borrow.Author.Needs.{needs}

@@ -1,4 +1,5 @@
--- `links::hears` meets its contract. Each refusal of the code is a case in which the definition says no; past them only the bit decides.
+-- `links::hears` meets its contract. Each refusal of the code is a case in which the definition
+-- says no; past them only the bit decides.
 use Prim.Native.Nat.{_≤_}
 use mathlib.Core.Path.{_∙_, sym}
 use native.Mathlib.Omega.{arith}
@@ -22,15 +23,6 @@ returns-4 c =
     let l : length (c .before .before .before .before .args .t1) ≤ c .before .before .before .before .args .i = omega arith in
     sym (hearsIn-silent _ _ _ _ (List·getD-eq-default (c .before .before .before .before .args .t1) 0 l))
 
-mul-set-at : tie.Need-mul-set-at
-mul-set-at c = search needs
-
-array-read-set-at : tie.Need-array-read-set-at
-array-read-set-at c = search needs
-
-set-at-requires : tie.Need-set-at-requires
-set-at-requires c κs = search needs
-
 returns-5 : tie.Need-returns-5
 returns-5 c =
     let start = c .before .before .before .before .before in
@@ -38,4 +30,4 @@ returns-5 c =
     ∙ sym (hearsIn-bit (start .args .n) (start .args .t1) (start .args .i) (start .args .j) (omega arith) (omega arith) (c .before .before .before .before .if1 .left))
 
 pub hears-spec : {M : Type 1} → statement M
-hears-spec = tie.close (tie.spec returns returns-2 returns-3 returns-4 mul-set-at array-read-set-at set-at-requires returns-5)
+hears-spec = tie.close (tie.spec returns returns-2 returns-3 returns-4 (λ c. search needs) (λ c. search needs) (λ c κs. search needs) returns-5)

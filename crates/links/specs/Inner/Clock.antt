@@ -17,6 +17,7 @@ news L zero p q = cond (eqb p q) 1 0
 news L (suc u) p q =
     cond (eqb p q) (suc (suc u)) (latest (L .size) (λ j. L .hears (suc u) p j) (λ j. news L u j q) (news L u p q))
 
--- What p knows of q in the middle of round u + 1, when it has heard the senders below k among those that it hears.
+-- What p knows of q in the middle of round u + 1, when it has heard the senders below k among those
+-- that it hears.
 unfoldable pub hearing : Links → ℕ → ℕ → ℕ → ℕ → ℕ
 hearing L u p q k = latest k (λ j. L .hears (suc u) p j) (λ j. news L u j q) (news L u p q)

@@ -1,4 +1,5 @@
--- Who hears in a round, and who is heard, are two stations below n. Each of the four tests of `hearsIn` is passed.
+-- Who hears in a round, and who is heard, are two stations below n. Each of the four tests of
+-- `hearsIn` is passed.
 use mathlib.Core.Bool.{true, not, and-eq-true-iff}
 use mathlib.Core.List.{List}
 use mathlib.Core.Path.{_≡_}

@@ -1,5 +1,5 @@
--- What a station knows of a broadcast: sets without a history. A means of proof and of code; no statement about ends
--- names them.
+-- What a station knows of a broadcast: sets without a history. A means of proof and of code; no
+-- statement about ends names them.
 use mathlib.Core.Bool.{Bool, cond, _&&_, _||_}
 use Prim.Native.Nat.{ℕ, zero, suc}
 use lib.Dec.{eqb}
@@ -7,7 +7,8 @@ use Rattle.links.specs.Relay.{Links}
 use Rattle.links.specs.Inner.Clock.{news}
 use Rattle.links.specs.Inner.Number.{answers, start}
 
--- After round u p knows that r has the present broadcast of s. Of s itself that means that p has it.
+-- After round u p knows that r has the present broadcast of s. Of s itself that means that p has
+-- it.
 unfoldable pub knows : Links → ℕ → ℕ → ℕ → ℕ → Bool
 knows L u s p r = answers L s (start L u s) r (news L u p r)
 

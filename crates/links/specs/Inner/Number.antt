@@ -1,4 +1,5 @@
--- Broadcast numbers, as the clocks decide them. A means of proof; no statement about the group names them.
+-- Broadcast numbers, as the clocks decide them. A means of proof; no statement about the group
+-- names them.
 use mathlib.Core.Bool.{Bool, false, cond, _||_}
 use Prim.Native.Nat.{ℕ, zero, suc, _-_}
 use lib.Dec.{eqb, leb}

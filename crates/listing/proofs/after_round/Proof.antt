@@ -5,18 +5,9 @@ use borrow.Author.Needs.{needs}
 use Rattle.listing.proofs.after_round.Statement.{statement}
 use Rattle.listing.proofs.after_round.Tie as tie
 
-add-rounds : tie.Need-add-rounds
-add-rounds c = search needs
-
-put-round-requires : tie.Need-put-round-requires
-put-round-requires c κs = search needs
-
-same-length : tie.Need-same-length
-same-length c = search needs
-
 returns : tie.Need-returns
 unfolding roundedBy
 returns c = record { session = refl; put = c .before .before .before .put-round .ensures }
 
 pub after-round-spec : {M : Type 1} → statement M
-after-round-spec = tie.close (tie.spec add-rounds put-round-requires same-length returns)
+after-round-spec = tie.close (tie.spec (λ c. search needs) (λ c κs. search needs) (λ c. search needs) returns)

@@ -1,9 +1,10 @@
--- `load::generate` judges its numbers, and then does what is asked for: the `N` line, nothing, or a round.
+-- `load::generate` judges its numbers, and then does what is asked for: the `N` line, nothing, or a
+-- round.
 use mathlib.Core.Path.{_≡_, refl, sym, _∙_}
 use native.Mathlib.Omega.{arith}
 use borrow.Author.Needs.{needs}
 use borrow.Author.Tests.{not-true, not-false}
-use Rattle.lines.proofs.Placed.{placed-none}
+use Rattle.listing_lines.proofs.Placed.{placed-none}
 use Rattle.load_spec.proofs.Answers.{outside, inside, written, fit-size}
 use Rattle.load_spec.proofs.WholeScript.{size-text, size-state, no-text, no-state, round-text, round-state}
 use Rattle.load.proofs.generate.Statement.{statement}
@@ -40,8 +41,9 @@ generate-round-requires c κs =
 
 returns-4 : tie.Need-returns-4
 returns-4 c =
+    let numbers-fit = c .before .before .before .before .before .before .before .numbers-fit in
     let a = c .before .before .before .before .before .before .before .before .before .args in
-    let fit = sym (c .before .before .before .before .before .before .before .numbers-fit .ensures) ∙ not-false _ (c .before .before .before .before .before .before .if1 .left) in
+    let fit = sym (numbers-fit .ensures) ∙ not-false _ (c .before .before .before .before .before .before .if1 .left) in
     let some : a .due ≡ 0 → ⊥ = c .before .before .before .before .if3 .left in
     rw (c .before .before .before .before .before .if2 .left)
     (inside (a .state) (a .n) (a .due) _ _ _ (a .out .now) _ _ fit (round-text (a .state) (a .n) (a .due) some) (round-state (a .state) (a .n) (a .due) some)

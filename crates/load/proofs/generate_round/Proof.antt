@@ -1,5 +1,5 @@
--- `load::generate_round` knows the length of the round before it writes, and refuses a buffer shorter than
--- that.
+-- `load::generate_round` knows the length of the round before it writes, and refuses a buffer
+-- shorter than that.
 use mathlib.Core.Path.{_≡_}
 use Prim.Native.Nat.{_+_, _*_}
 use native.Mathlib.Omega.{arith}

@@ -1,5 +1,6 @@
--- `load::posts_len` draws as a round does and adds up the lengths. The invariant: the state is the one
--- before the draws of station p, and the sum is the length of the posts of the stations below p.
+-- `load::posts_len` draws as a round does and adds up the lengths. The invariant: the state is the
+-- one before the draws of station p, and the sum is the length of the posts of the stations below
+-- p.
 use mathlib.Core.Path.{_≡_}
 use Prim.Native.Nat.{_+_, _*_, _-_, _≤_}
 use native.Mathlib.Omega.{arith}

@@ -1,4 +1,4 @@
--- `load::put_field` is `lines::put_natural` in nine columns.
+-- `load::put_field` is `listing_lines::put_natural` in nine columns.
 use mathlib.Core.Path.{refl}
 use borrow.Author.Needs.{needs}
 use Rattle.load.proofs.Lines.{put-columns}

@@ -1,12 +1,12 @@
--- `load::put_masks` puts mask after mask. The invariant: the state is the one before the draws of station
--- p, and the masks of the stations below p stand one behind the other.
+-- `load::put_masks` puts mask after mask. The invariant: the state is the one before the draws of
+-- station p, and the masks of the stations below p stand one behind the other.
 use mathlib.Core.Path.{_≡_, refl, _∙_}
 use Prim.Native.Nat.{_+_, _*_, _-_, _≤_}
 use native.Mathlib.Omega.{arith}
 use lib.ListN.{length}
 use borrow.Author.Needs.{needs}
 use Rattle.lists.specs.Below.{tabulate}
-use Rattle.lines.specs.Lines.{Put}
+use Rattle.listing_lines.specs.Lines.{Put}
 use Rattle.load_spec.specs.Draws.{steps, maskDraw, afterRound}
 use Rattle.load_spec.specs.Script.{fields}
 use Rattle.load_spec.proofs.Steps.{steps-none, mask-drawn, steps-more}
@@ -32,6 +32,7 @@ loop-holds c =
 
 loop-again : tie.Need-loop-again Inv-loop μ-loop
 loop-again c =
+    let start = c .before .before .before .before .before .before .before .before .before .before in
     let a = c .before .before .before .before .before .before .before .before .before .before .args in
     let l = c .before .before .before .before .before .before .before .before .loop in
     let field = c .before .before .put-field in
@@ -42,7 +43,7 @@ loop-again c =
       field .kept .0 ∙ l .inv .1,
       steps-more (l .p) (a .state) (l .s) _ (l .inv .2) first _ second,
       omega (arith, field .ensures .1),
-      masks-more (a .state) (l .p) _ (a .out .now) (l .out) _ (a .at) (l .end) _ (omega (arith, c .before .before .before .before .before .before .before .before .before .before .pre)) d (l .inv .4)
+      masks-more (a .state) (l .p) _ (a .out .now) (l .out) _ (a .at) (l .end) _ (omega (arith, start .pre)) d (l .inv .4)
           (field .ensures .0),
     )
 

@@ -1,9 +1,8 @@
 -- `load::put_post` puts a post's line, or nothing.
 use native.Mathlib.Omega.{arith}
-use mathlib.Core.Path.{sym, ap, _∙_}
-use mathlib.Core.Bool.{true, false}
+use mathlib.Core.Path.{sym, _∙_}
 use borrow.Author.Needs.{needs}
-use Rattle.lines.proofs.Placed.{put-none}
+use Rattle.listing_lines.proofs.Placed.{put-none}
 use Rattle.load_spec.specs.Script.{textOf}
 use Rattle.load_spec.proofs.Text.{length-post}
 use Rattle.load.proofs.put_post.Statement.{statement}

@@ -3,7 +3,7 @@ use Prim.Native.Nat.{_+_, _<_}
 use native.Mathlib.Omega.{arith}
 use lib.ListN.{length, length-set}
 use borrow.Author.Needs.{needs}
-use Rattle.lines.proofs.Placed.{put-more}
+use Rattle.listing_lines.proofs.Placed.{put-more}
 use Rattle.load_spec.specs.Script.{postLine}
 use Rattle.load.proofs.Lines.{put-byte, line-made, four-fields}
 use Rattle.load.proofs.put_post_line.Statement.{statement}
@@ -16,18 +16,20 @@ put-field-requires-2 c κs =
 
 put-field-requires-3 : tie.Need-put-field-requires-3
 put-field-requires-3 c κs =
+    let start = c .before .before .before .before .before .before .before .before .before .before in
     let field = c .before .before .before .before .before .before .before .put-field in
     let second = c .before .before .before .put-field2 in
-    omega (arith, c .before .before .before .before .before .before .before .before .before .before .pre, field .ensures .1, simp length-set at (field .kept .0), second .ensures .1, second .kept .0)
+    omega (arith, start .pre, field .ensures .1, simp length-set at (field .kept .0), second .ensures .1, second .kept .0)
 
 put-field-requires-4 : tie.Need-put-field-requires-4
 put-field-requires-4 c κs =
+    let start = c .before .before .before .before .before .before .before .before .before .before .before .before .before .before in
     let field = c .before .before .before .before .before .before .before .before .before .before .before .put-field in
     let second = c .before .before .before .before .before .before .before .put-field2 in
     let third = c .before .before .before .put-field3 in
     omega (
       arith,
-      c .before .before .before .before .before .before .before .before .before .before .before .before .before .before .pre,
+      start .pre,
       field .ensures .1,
       simp length-set at (field .kept .0),
       second .ensures .1,
@@ -38,13 +40,14 @@ put-field-requires-4 c κs =
 
 slice-write-out-2 : tie.Need-slice-write-out-2
 slice-write-out-2 c =
+    let start = c .before .before .before .before .before .before .before .before .before .before .before .before .before .before .before .before .before in
     let field = c .before .before .before .before .before .before .before .before .before .before .before .before .before .before .put-field in
     let second = c .before .before .before .before .before .before .before .before .before .before .put-field2 in
     let third = c .before .before .before .before .before .before .put-field3 in
     let fourth = c .before .before .put-field4 in
     omega (
       arith,
-      c .before .before .before .before .before .before .before .before .before .before .before .before .before .before .before .before .before .pre,
+      start .pre,
       field .ensures .1,
       simp length-set at (field .kept .0),
       second .ensures .1,
@@ -57,12 +60,13 @@ slice-write-out-2 c =
 
 same-length : tie.Need-same-length
 same-length c =
+    let put-field2 = c .before .before .before .before .before .before .before .before .before .before .put-field2 in
     let field = c .before .before .before .before .before .before .before .before .before .before .before .before .before .before .put-field in
     simp length-set
     (omega (
       arith,
       simp length-set at (field .kept .0),
-      c .before .before .before .before .before .before .before .before .before .before .put-field2 .kept .0,
+      put-field2 .kept .0,
       c .before .before .before .before .before .before .put-field3 .kept .0,
       c .before .before .put-field4 .kept .0,
     ))

@@ -1,11 +1,12 @@
--- `load::put_posts` draws as a round does and puts post after post. The invariant: the state is the one
--- before the draws of station p, and the posts of the stations below p stand one behind the other.
+-- `load::put_posts` draws as a round does and puts post after post. The invariant: the state is the
+-- one before the draws of station p, and the posts of the stations below p stand one behind the
+-- other.
 use mathlib.Core.Path.{_≡_, refl, _∙_}
 use Prim.Native.Nat.{_+_, _*_, _-_, _≤_}
 use native.Mathlib.Omega.{arith}
 use lib.ListN.{length}
 use borrow.Author.Needs.{needs}
-use Rattle.lines.specs.Lines.{Put}
+use Rattle.listing_lines.specs.Lines.{Put}
 use Rattle.load_spec.specs.Draws.{steps}
 use Rattle.load_spec.specs.Script.{textOf, postLines}
 use Rattle.load_spec.proofs.Steps.{steps-none, post-drawn, steps-more, length-more, length-grows}

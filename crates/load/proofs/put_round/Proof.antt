@@ -1,5 +1,5 @@
--- `load::put_round` puts the posts, the letter, the masks and the line end one behind the other. There is
--- room for all of them, so there is for each.
+-- `load::put_round` puts the posts, the letter, the masks and the line end one behind the other.
+-- There is room for all of them, so there is for each.
 use Prim.Native.Nat.{_+_, _*_, _<_}
 use native.Mathlib.Omega.{arith}
 use lib.ListN.{length, length-set}

@@ -1,5 +1,5 @@
 -- `load::put_size` puts the letter, the number and the line end one behind the other.
-use Prim.Native.Nat.{_+_, _<_}
+use Prim.Native.Nat.{_<_}
 use native.Mathlib.Omega.{arith}
 use lib.ListN.{length, length-set}
 use borrow.Author.Needs.{needs}

@@ -1,36 +1,23 @@
 -- Each return cites its law of `Pair`.
-use mathlib.Core.Path.{sym, ap, _∙_}
 use borrow.Author.Needs.{needs}
-use Rattle.contest_spec.specs.Answer.{contestCall}
 use Rattle.planning_calls.specs.Contest.{answerRefusal, answerWinner, answerPick}
 use Rattle.planning_calls.proofs.Pair as pair
 use Rattle.planning_calls.proofs.contest_into.Statement.{statement}
 use Rattle.planning_calls.proofs.contest_into.Tie as tie
 
 returns : tie.Need-returns
-returns c =
-    let a = c .before .before .before .before .before .args in
-    let answer = contestCall (a .n) (a .s) (a .sets .now) (a .rounds) in
-    pair.refused (answerRefusal answer) (answerWinner answer) (answerPick answer) (a .answer .now) (c .before .refusal-of .result)
-    (c .before .refusal-of .ensures ∙ ap answerRefusal (c .before .before .contest .ensures)) (c .if1 .taken)
+returns c = pair.refused answerRefusal answerWinner answerPick _ _ (c .before .before .contest .ensures) _ (c .before .refusal-of .ensures) _ (c .if1 .taken)
 
 returns-2 : tie.Need-returns-2
 returns-2 c =
-    let a = c .before .before .before .before .before .before .args in
-    let answer = contestCall (a .n) (a .s) (a .sets .now) (a .rounds) in
-    pair.short (answerRefusal answer) (answerWinner answer) (answerPick answer) (a .answer .now)
-    (sym (c .before .if1 .left) ∙ c .before .before .refusal-of .ensures ∙ ap answerRefusal (c .before .before .before .contest .ensures))
-    (c .if2 .taken)
+    let b = c .before .before in
+    pair.short answerRefusal answerWinner answerPick _ _ (b .before .contest .ensures) _ (b .refusal-of .ensures) _ (c .before .if1 .left) (c .if2 .taken)
 
 returns-3 : tie.Need-returns-3
 returns-3 c =
     let b = c .before .before .before .before in
-    let a = b .before .before .before .before .args in
-    let answer = contestCall (a .n) (a .s) (a .sets .now) (a .rounds) in
-    let told = b .before .contest .ensures in
-    pair.put (answerRefusal answer) (answerWinner answer) (answerPick answer) (a .answer .now) (c .before .winner-of .result) (c .pick-of .result)
-    (sym (c .before .before .before .if1 .left) ∙ b .refusal-of .ensures ∙ ap answerRefusal told) (c .before .before .if2 .left)
-    (c .before .winner-of .ensures ∙ ap answerWinner told) (c .pick-of .ensures ∙ ap answerPick told)
+    pair.put answerRefusal answerWinner answerPick _ _ (b .before .contest .ensures) _ (b .refusal-of .ensures) _ (c .before .before .before .if1 .left) _ _
+    (c .before .before .if2 .left) (c .before .winner-of .ensures) (c .pick-of .ensures)
 
 pub contest-into-spec : {M : Type 1} → statement M
 contest-into-spec =

@@ -1,4 +1,5 @@
--- Each return is a case of the definition: the answer's own refusal, a buffer without room, or both buffers written.
+-- Each return is a case of the definition: the answer's own refusal, a buffer without room, or both
+-- buffers written.
 use borrow.Author.Needs.{needs}
 use Rattle.planning_spec.proofs.ForecastInto.{into-refused, into-short-ends, into-short-last, into-done}
 use Rattle.planning_calls.proofs.forecast_into.Statement.{statement}
@@ -22,11 +23,12 @@ returns-3 c =
 
 returns-4 : tie.Need-returns-4
 returns-4 c =
+    let write-entries = c .before .before .before .before .before .before .before .before .write-entries in
     let z = c .before .before .before .before .before .before .before .before .before .before .before .before in
     let a = z .before .before .before .before .before .before .before .args in
     into-done (a .n) (a .log .now) (a .ends .now) (a .last .now) _ (z .before .before .before .forecast .ensures) _ _
     (z .before .before .if1 .left) (z .before .if2 .left) (z .if3 .left)
-    (c .before .before .before .before .before .before .before .before .write-entries .ensures) (c .before .before .write-entries2 .ensures)
+    (write-entries .ensures) (c .before .before .write-entries2 .ensures)
 
 pub forecast-into-spec : {M : Type 1} → statement M
 forecast-into-spec =

@@ -1,5 +1,6 @@
--- Each return is a case of the definition: no room for the number of masks, the merge's own refusal, or both buffers written. The number of masks fits, for a
--- log has at most 2,048 rounds of sixteen.
+-- Each return is a case of the definition: no room for the number of masks, the merge's own
+-- refusal, or both buffers written. The number of masks fits, for a log has at most 2,048 rounds of
+-- sixteen.
 use mathlib.Core.Path.{sym, _∙_}
 use native.Mathlib.Omega.{arith}
 use borrow.Author.Needs.{needs}

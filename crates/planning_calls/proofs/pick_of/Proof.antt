@@ -4,15 +4,6 @@ use Rattle.planning_calls.specs.Contest.{answerPick}
 use Rattle.planning_calls.proofs.pick_of.Statement.{statement}
 use Rattle.planning_calls.proofs.pick_of.Tie as tie
 
-enum-told : tie.Need-enum-told
-enum-told c = search needs
-
-enum-told-2 : tie.Need-enum-told-2
-enum-told-2 c = search needs
-
-enum-known-answer : tie.Need-enum-known-answer
-enum-known-answer c = search needs
-
 returns : tie.Need-returns
 unfolding answerPick
 returns c = search needs
@@ -27,4 +18,4 @@ returns-3 c = search needs
 
 pub pick-of-spec : {M : Type 1} → statement M
 pick-of-spec =
-    tie.close (tie.spec enum-told enum-told-2 enum-known-answer returns returns-2 returns-3)
+    tie.close (tie.spec (λ c. search needs) (λ c. search needs) (λ c. search needs) returns returns-2 returns-3)

@@ -1,4 +1,5 @@
--- Each return is a case of the definition: the page's own refusal, a buffer without room, or the answers written.
+-- Each return is a case of the definition: the page's own refusal, a buffer without room, or the
+-- answers written.
 use borrow.Author.Needs.{needs}
 use Rattle.planning_spec.proofs.QuestionsInto.{into-refused, into-short, into-few, into-done}
 use Rattle.planning_calls.proofs.questions_into.Statement.{statement}
@@ -23,8 +24,9 @@ write-answers-requires c κs =
 
 returns-3 : tie.Need-returns-3
 returns-3 c =
+    let answer = c .before .before .before .before .before .before .before .before .answer in
     let a = c .before .before .before .before .before .before .before .before .before .before .before .before .args in
-    into-done (a .n) (a .log .now) (a .page .now) (a .answers .now) _ (c .before .before .before .before .before .before .before .before .answer .ensures) _ (c .before .before .before .before .before .before .if1 .left) (c .before .before .before .before .before .if2 .left)
+    into-done (a .n) (a .log .now) (a .page .now) (a .answers .now) _ (answer .ensures) _ (c .before .before .before .before .before .before .if1 .left) (c .before .before .before .before .before .if2 .left)
     (c .before .before .write-answers .ensures)
 
 pub questions-into-spec : {M : Type 1} → statement M

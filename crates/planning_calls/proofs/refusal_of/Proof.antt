@@ -4,15 +4,6 @@ use Rattle.planning_calls.specs.Contest.{answerRefusal}
 use Rattle.planning_calls.proofs.refusal_of.Statement.{statement}
 use Rattle.planning_calls.proofs.refusal_of.Tie as tie
 
-enum-known-answer : tie.Need-enum-known-answer
-enum-known-answer c = search needs
-
-enum-told : tie.Need-enum-told
-enum-told c = search needs
-
-enum-told-2 : tie.Need-enum-told-2
-enum-told-2 c = search needs
-
 returns : tie.Need-returns
 unfolding answerRefusal
 returns c = search needs
@@ -27,4 +18,4 @@ returns-3 c = search needs
 
 pub refusal-of-spec : {M : Type 1} → statement M
 refusal-of-spec =
-    tie.close (tie.spec enum-known-answer enum-told enum-told-2 returns returns-2 returns-3)
+    tie.close (tie.spec (λ c. search needs) (λ c. search needs) (λ c. search needs) returns returns-2 returns-3)

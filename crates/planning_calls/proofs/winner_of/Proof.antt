@@ -4,15 +4,6 @@ use Rattle.planning_calls.specs.Contest.{answerWinner}
 use Rattle.planning_calls.proofs.winner_of.Statement.{statement}
 use Rattle.planning_calls.proofs.winner_of.Tie as tie
 
-enum-told : tie.Need-enum-told
-enum-told c = search needs
-
-enum-told-2 : tie.Need-enum-told-2
-enum-told-2 c = search needs
-
-enum-told-3 : tie.Need-enum-told-3
-enum-told-3 c = search needs
-
 returns : tie.Need-returns
 unfolding answerWinner
 returns c = search needs
@@ -26,4 +17,4 @@ unfolding answerWinner
 returns-3 c = search needs
 
 pub winner-of-spec : {M : Type 1} → statement M
-winner-of-spec = tie.close (tie.spec enum-told enum-told-2 enum-told-3 returns returns-2 returns-3)
+winner-of-spec = tie.close (tie.spec (λ c. search needs) (λ c. search needs) (λ c. search needs) returns returns-2 returns-3)

@@ -1,6 +1,5 @@
 -- `queues::limit_inside` tests both ends.
 use borrow.Author.Tests.{lt-leb, le-leb}
-use mathlib.Core.Path.{refl}
 use Rattle.queues.proofs.limit_inside.Statement.{statement}
 use Rattle.queues.proofs.limit_inside.Tie as tie
 

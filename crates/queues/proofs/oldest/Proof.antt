@@ -6,12 +6,9 @@ use Rattle.queues.proofs.oldest.Tie as tie
 use Rattle.queues.proofs.oldest.Reads as reads
 use Rattle.queues.proofs.oldest.Lts as lts
 
-element-copy-out-slot : tie.Need-element-copy-out-slot
-element-copy-out-slot c = search needs
-
 returns : tie.Need-returns
 unfolding Rattle.queues.specs.Queue.oldest
 returns c = refl
 
 pub oldest-spec : {M : Type 1} → statement M
-oldest-spec = tie.close (tie.spec element-copy-out-slot returns)
+oldest-spec = tie.close (tie.spec (λ c. search needs) returns)

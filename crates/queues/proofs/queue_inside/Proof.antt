@@ -9,7 +9,7 @@ use Rattle.bodies.specs.Limits.{bodyInside, mayWait}
 use borrow.Author.Tests.{le-leb, lt-leb, not-true, not-false}
 use Rattle.lists.specs.Below.{allBelow}
 use Rattle.lists.proofs.Laws.{allBelow-more, allBelow-fails}
-use Rattle.queues.specs.Queue.{queueCapacity, noSlot, queueInside}
+use Rattle.queues.specs.Queue.{noSlot, queueInside}
 use Rattle.queues.proofs.queue_inside.Statement.{statement}
 use Rattle.queues.proofs.queue_inside.Tie as tie
 use Rattle.queues.proofs.queue_inside.Reads as reads

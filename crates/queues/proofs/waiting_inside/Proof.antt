@@ -1,11 +1,10 @@
 -- `queues::waiting_inside` judges the limit, and then both queues by it, unless nothing waits.
 use Prim.Native.Nat.{_≤_}
-use mathlib.Core.Bool.{true, false}
-use mathlib.Core.Path.{_≡_, refl, sym, _∙_}
+use mathlib.Core.Path.{refl, sym, _∙_}
 use native.Mathlib.Omega.{arith}
 use borrow.Author.Needs.{needs}
 use borrow.Author.Tests.{not-true, not-false, ltb-false}
-use Rattle.queues.specs.Waiting.{limitInside, waitingCount, waitingInside}
+use Rattle.queues.specs.Waiting.{waitingCount, waitingInside}
 use Rattle.queues.proofs.DeskSteps.{count-zero, count-one}
 use Rattle.queues.proofs.QueueLimits.{queue-empty}
 use Rattle.queues.proofs.WaitingLaws.{limit-most, count-both}

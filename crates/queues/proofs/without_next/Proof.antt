@@ -1,11 +1,10 @@
--- `queues::without_next` removes the oldest body of the desk that is next, which has one, and lets the other go first.
-use Prim.Native.Nat.{ℕ, _≤_, _<_}
-use mathlib.Core.Bool.{Bool, true, false, cond}
-use mathlib.Core.Path.{_≡_, sym, ap, _∙_}
+-- `queues::without_next` removes the oldest body of the desk that is next, which has one, and lets
+-- the other go first.
+use mathlib.Core.Bool.{Bool, cond}
+use mathlib.Core.Path.{_≡_, ap, _∙_}
 use native.Mathlib.Omega.{arith}
 use borrow.Author.Needs.{needs}
-use Rattle.queues.specs.declared.Waiting.{Waiting}
-use Rattle.queues.specs.Waiting.{deskCount, nextDesk}
+use Rattle.queues.specs.Waiting.{nextDesk}
 use Rattle.queues.proofs.DeskSteps.{count-zero, count-one, next-is, started-zero, started-one}
 use Rattle.queues.proofs.WaitingLaws.{next-waits}
 use Rattle.queues.proofs.without_next.Statement.{statement}

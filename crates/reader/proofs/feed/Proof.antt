@@ -1,10 +1,11 @@
--- `reader::feed` reads line after line: what is in the buffer and what is still to be listed make up the same.
+-- `reader::feed` reads line after line: what is in the buffer and what is still to be listed make
+-- up the same.
 use Prim.Native.Nat.{_+_, _≤_, _<_, _-_}
 use mathlib.Core.Path.{_≡_, refl, sym}
 use native.Mathlib.Omega.{arith}
 use lib.ListN.{length, take, length-map}
 use lib.Seq.{length-take-le}
-use Rattle.lines.proofs.Placed.{part-length, put-length}
+use Rattle.listing_lines.proofs.Placed.{part-length, put-length}
 use Rattle.listing_spec.specs.Remaining.{Listed}
 use Rattle.listing_spec.proofs.Parts.{put-fits, put-tail, listed-none, listed-held, listed-line, fed-by}
 use borrow.Author.Needs.{needs}

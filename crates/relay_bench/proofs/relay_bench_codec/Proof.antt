@@ -1,4 +1,5 @@
--- `relay_bench::relay_bench_codec` is safe and ends: writing keeps the length, so the bytes stay enough for a station.
+-- `relay_bench::relay_bench_codec` is safe and ends: writing keeps the length, so the bytes stay
+-- enough for a station.
 use mathlib.Core.Path.{_≡_, refl, _∙_}
 use Prim.Native.Nat.{_≤_, _-_}
 use native.Mathlib.Omega.{arith}

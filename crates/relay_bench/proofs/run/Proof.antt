@@ -1,4 +1,5 @@
--- `relay_bench::run` is safe: the schedule holds the masks of a round, and there are one to sixteen stations, each with a report.
+-- `relay_bench::run` is safe: the schedule holds the masks of a round, and there are one to sixteen
+-- stations, each with a report.
 use Prim.Native.Nat.{_≤_, _<_, _-_}
 use lib.ListN.{length}
 use borrow.Author.Needs.{needs}

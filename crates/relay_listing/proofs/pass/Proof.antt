@@ -1,9 +1,10 @@
--- `relay_listing::pass` feeds what is left of the part until nothing is: each call reads some of it.
+-- `relay_listing::pass` feeds what is left of the part until nothing is: each call reads some of
+-- it.
 use Prim.Native.Nat.{_≤_, _-_}
 use mathlib.Core.Path.{_≡_}
 use native.Mathlib.Omega.{arith}
 use lib.ListN.{length, take}
-use Rattle.lines.proofs.Placed.{part-length}
+use Rattle.listing_lines.proofs.Placed.{part-length}
 use Rattle.listing_spec.proofs.Parts.{put-fits}
 use Rattle.relay_listing.specs.Passing.{Passes}
 use Rattle.relay_listing.proofs.Parts.{passes-none, passes-more, passes-all}
@@ -41,8 +42,9 @@ loop-less c =
 
 loop-again : tie.Need-loop-again Inv-loop μ-loop
 loop-again c =
+    let loop = c .before .before .before .before .before .before .before .before .before .before .before .loop in
     let fed = c .before .before .before .before .before .before .before .feed in
-    (search needs, search needs, search needs, passes-more _ _ _ _ _ _ _ (c .before .before .before .before .before .before .before .before .before .before .before .loop .inv .3) (fed .ensures))
+    (search needs, search needs, search needs, passes-more _ _ _ _ _ _ _ (loop .inv .3) (fed .ensures))
 
 returns-2 : tie.Need-returns-2 Inv-loop μ-loop
 returns-2 c = (search needs, passes-all _ _ (c .before .before .before .before .args .part .now) (c .before .loop .from) (omega arith) (c .before .loop .inv .3))

@@ -4,12 +4,9 @@ use Rattle.group_spec.specs.Calls.{noReport}
 use Rattle.rounds.proofs.no_report.Statement.{statement}
 use Rattle.rounds.proofs.no_report.Tie as tie
 
-no-turn-requires : tie.Need-no-turn-requires
-no-turn-requires c κs = search needs
-
 returns : tie.Need-returns
 unfolding noReport
 returns c = rw (c .no-turn .ensures)
 
 pub no-report-spec : {M : Type 1} → statement M
-no-report-spec = tie.close (tie.spec no-turn-requires returns)
+no-report-spec = tie.close (tie.spec (λ c κs. search needs) returns)

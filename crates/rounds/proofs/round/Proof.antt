@@ -15,6 +15,7 @@ use Rattle.hearing_spec.specs.declared.Ear.{Ear}
 use Rattle.hearing_spec.specs.StandsFor.{actsOn}
 use Rattle.listening.specs.Listened.{heardNotes, Readable}
 use Rattle.group_spec.specs.State.{stationAt, sizeOf, editionOf}
+use Rattle.rounds.specs.Frames.{framesRoom}
 use Rattle.rounds.proofs.WrittenFrames.{SentBelow, sent-none, sent-more, all-sent}
 use Rattle.group_spec.proofs.CallSteps.{round-outside}
 use Rattle.rounds.proofs.GroupLengths.{group-lengths}
@@ -62,6 +63,7 @@ loop-holds c =
 
 loop-again : tie.Need-loop-again Inv-loop μ-loop Inv-loop2 μ-loop2 Inv-loop3 μ-loop3
 loop-again c =
+    let start = c .before .before .before .before .before .before .before .before .before .before in
     let l = c .before .before .before .before .before .loop in
     let sent = c .before .send in
     let below = c .before .before .before .before .loop-test .taken in (
@@ -70,7 +72,7 @@ loop-again c =
       l .inv .2,
       omega (arith, below),
       l .inv .4,
-      sent-more (c .before .before .before .before .before .before .before .before .before .before .args .g) (l .k) (omega (arith, below, l .inv .4)) (l .refusal) (l .bytes) (l .inv .5) _ (sent .ensures .1) (sent .result)
+      sent-more (start .args .g) (l .k) (omega (arith, below, l .inv .4)) (l .refusal) (l .bytes) (l .inv .5) _ (sent .ensures .1) (sent .result)
           (sent .ensures .0),
     )
 
@@ -130,7 +132,7 @@ module _ (c : tie.In-loop2 Inv-loop μ-loop Inv-loop2 μ-loop2 Inv-loop3 μ-loop
       × (length (c .before .loop2 .taken) ≡ 480)
       × (16 * j + 16 - 16 * j ≡ 16)
       × (30 * j + 30 - 30 * j ≡ 30)
-      × (length sent ≡ 4160)
+      × (length sent ≡ framesRoom)
   low =
       let l = heard-so-far in (
         omega (arith, c .loop2-test .taken, c .before .loop2 .inv .1),
@@ -238,7 +240,7 @@ module _ (c : tie.In-loop3 Inv-loop μ-loop Inv-loop2 μ-loop2 Inv-loop3 μ-loop
       × (length taken ≡ 480)
       × (16 * i + 16 - 16 * i ≡ 16)
       × (30 * i + 30 - 30 * i ≡ 30)
-      × (length bytes ≡ 4160)
+      × (length bytes ≡ framesRoom)
   low3 =
       let long = c .before .before .before .before .before .before .loop .inv .5 .long in
       (omega (arith, c .loop3-test .taken, may .high), may .ears-long, may .places-long, may .taken-long, omega arith, omega arith, long)
@@ -267,7 +269,9 @@ abbrev at-takings : tie.After-takings-of Inv-loop μ-loop Inv-loop2 μ-loop2 Inv
 at-takings c = c .before .before .before .before .before
 
 abbrev at-acted : tie.After-acted Inv-loop μ-loop Inv-loop2 μ-loop2 Inv-loop3 μ-loop3 → tie.In-loop3 Inv-loop μ-loop Inv-loop2 μ-loop2 Inv-loop3 μ-loop3
-at-acted c = at-takings (c .before .before .before .before .before .before .before)
+at-acted c =
+    let early = c .before .before .before .before .before .before .before in
+    at-takings (early)
 
 takings-of-requires : tie.Need-takings-of-requires Inv-loop μ-loop Inv-loop2 μ-loop2 Inv-loop3 μ-loop3
 takings-of-requires c κs = code-reads (c .before .before .before .before) .takings

@@ -10,19 +10,13 @@ returns : tie.Need-returns
 unfolding maskAt
 returns c = rw (le-ltb _ _ (c .if1 .taken))
 
-natural-at-requires : tie.Need-natural-at-requires
-natural-at-requires c κs = search needs
-
 returns-2 : tie.Need-returns-2
 unfolding maskAt isMask
 returns-2 c = rw (lt-ltb _ _ (c .before .before .if1 .left), lt-leb _ 65535 (rw (c .before .natural-at .ensures) at (c .if2 .taken)))
-
-cast-result : tie.Need-cast-result
-cast-result c = search needs
 
 returns-3 : tie.Need-returns-3
 unfolding maskAt isMask
 returns-3 c = c .before .natural-at .ensures ∙ rw (lt-ltb _ _ (c .before .before .if1 .left), le-leb _ 65535 (rw (c .before .natural-at .ensures) at (c .if2 .left)))
 
 pub mask-at-spec : {M : Type 1} → statement M
-mask-at-spec = tie.close (tie.spec returns natural-at-requires returns-2 cast-result returns-3)
+mask-at-spec = tie.close (tie.spec returns (λ c κs. search needs) returns-2 (λ c. search needs) returns-3)

@@ -24,21 +24,26 @@ returns-3 c = rw (
 
 returns-4 : tie.Need-returns-4
 unfolding postShaped
-returns-4 c = rw (
-  passed (c .before .before .before .before .before .before .if1 .left) (c .before .before .before .before .before .before .before .shaped .ensures),
-  lt-ltb _ 1_000_000_000 (rw (c .before .before .before .before .before .natural-at .ensures) at (c .before .before .before .before .if2 .left)),
-  lt-ltb _ 1_000_000_000 (rw (c .before .before .before .natural-at2 .ensures) at (c .before .before .if3 .left)),
-  le-ltb _ 1_000_000_000 (rw (c .before .natural-at3 .ensures) at (c .if4 .taken)),
-)
+returns-4 c =
+    let shaped = c .before .before .before .before .before .before .before .shaped in
+    rw (
+      passed (c .before .before .before .before .before .before .if1 .left) (shaped .ensures),
+      lt-ltb _ 1_000_000_000 (rw (c .before .before .before .before .before .natural-at .ensures) at (c .before .before .before .before .if2 .left)),
+      lt-ltb _ 1_000_000_000 (rw (c .before .before .before .natural-at2 .ensures) at (c .before .before .if3 .left)),
+      le-ltb _ 1_000_000_000 (rw (c .before .natural-at3 .ensures) at (c .if4 .taken)),
+    )
 
 returns-5 : tie.Need-returns-5
 unfolding postShaped
-returns-5 c = rw (
-  passed (c .before .before .before .before .before .before .before .if1 .left) (c .before .before .before .before .before .before .before .before .shaped .ensures),
-  lt-ltb _ 1_000_000_000 (rw (c .before .before .before .before .before .before .natural-at .ensures) at (c .before .before .before .before .before .if2 .left)),
-  lt-ltb _ 1_000_000_000 (rw (c .before .before .before .before .natural-at2 .ensures) at (c .before .before .before .if3 .left)),
-  lt-ltb _ 1_000_000_000 (rw (c .before .before .natural-at3 .ensures) at (c .before .if4 .left)),
-) (c .is-whole-at .ensures)
+returns-5 c =
+    let shaped = c .before .before .before .before .before .before .before .before .shaped in
+    let first-if = c .before .before .before .before .before .before .before .if1 in
+    rw (
+      passed (first-if .left) (shaped .ensures),
+      lt-ltb _ 1_000_000_000 (rw (c .before .before .before .before .before .before .natural-at .ensures) at (c .before .before .before .before .before .if2 .left)),
+      lt-ltb _ 1_000_000_000 (rw (c .before .before .before .before .natural-at2 .ensures) at (c .before .before .before .if3 .left)),
+      lt-ltb _ 1_000_000_000 (rw (c .before .before .natural-at3 .ensures) at (c .before .if4 .left)),
+    ) (c .is-whole-at .ensures)
 
 pub post-shaped-spec : {M : Type 1} → statement M
 post-shaped-spec =

@@ -11,15 +11,9 @@ returns : tie.Need-returns
 unfolding roundLine
 returns c = rw (masks-over _ _ (c .if1 .taken), and-false)
 
-shaped-requires : tie.Need-shaped-requires
-shaped-requires c κs = search needs
-
 returns-2 : tie.Need-returns-2
 unfolding roundLine
 returns-2 c = rw (refused (c .if2 .taken) (c .before .shaped .ensures))
-
-masks-inside-requires : tie.Need-masks-inside-requires
-masks-inside-requires c κs = search needs
 
 returns-3 : tie.Need-returns-3
 unfolding roundLine
@@ -32,4 +26,4 @@ returns-4 c = rw (passed (c .before .before .if2 .left) (c .before .before .befo
 pub round-line-spec : {M : Type 1} → statement M
 round-line-spec =
     tie.close
-    (tie.spec returns shaped-requires returns-2 masks-inside-requires returns-3 returns-4)
+    (tie.spec returns (λ c κs. search needs) returns-2 (λ c κs. search needs) returns-3 returns-4)

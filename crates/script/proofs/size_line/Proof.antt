@@ -6,15 +6,9 @@ use borrow.Author.Needs.{needs}
 use Rattle.script.proofs.size_line.Statement.{statement}
 use Rattle.script.proofs.size_line.Tie as tie
 
-shaped-requires : tie.Need-shaped-requires
-shaped-requires c κs = search needs
-
 returns : tie.Need-returns
 unfolding sizeLine
 returns c = rw (refused (c .if1 .taken) (c .before .shaped .ensures))
-
-natural-at-requires : tie.Need-natural-at-requires
-natural-at-requires c κs = search needs
 
 returns-2 : tie.Need-returns-2
 unfolding sizeLine
@@ -31,9 +25,6 @@ returns-3 c = rw (
   lt-leb _ 16 (rw (c .before .before .natural-at .ensures) at (c .if3 .taken)),
 )
 
-cast-t5 : tie.Need-cast-t5
-cast-t5 c = search needs
-
 returns-4 : tie.Need-returns-4
 unfolding sizeLine
 returns-4 c = rw (
@@ -46,4 +37,4 @@ returns-4 c = rw (
 pub size-line-spec : {M : Type 1} → statement M
 size-line-spec =
     tie.close
-    (tie.spec shaped-requires returns natural-at-requires returns-2 returns-3 cast-t5 returns-4)
+    (tie.spec (λ c κs. search needs) returns (λ c κs. search needs) returns-2 returns-3 (λ c. search needs) returns-4)

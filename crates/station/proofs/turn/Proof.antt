@@ -7,9 +7,6 @@ use borrow.Author.Needs.{needs}
 use Rattle.station.proofs.turn.Statement.{statement}
 use Rattle.station.proofs.turn.Tie as tie
 
-station-inside-requires : tie.Need-station-inside-requires
-station-inside-requires c κs = search needs
-
 take-turn-requires : tie.Need-take-turn-requires
 take-turn-requires c κs = sym (c .before .station-inside .ensures) ∙ c .if1 .taken
 
@@ -18,9 +15,6 @@ unfolding turnCall
 returns c =
     let e : stationInside (c .before .before .before .args .s) ≡ true = sym (c .before .before .station-inside .ensures) ∙ c .before .if1 .taken in
     rw e (c .take-turn .ensures)
-
-no-turn-requires : tie.Need-no-turn-requires
-no-turn-requires c κs = search needs
 
 returns-2 : tie.Need-returns-2
 unfolding turnCall
@@ -31,4 +25,4 @@ returns-2 c =
 pub turn-spec : {M : Type 1} → statement M
 turn-spec =
     tie.close
-    (tie.spec station-inside-requires take-turn-requires returns no-turn-requires returns-2)
+    (tie.spec (λ c κs. search needs) take-turn-requires returns (λ c κs. search needs) returns-2)

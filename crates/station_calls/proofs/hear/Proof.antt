@@ -1,4 +1,5 @@
--- Each return is a case of the definition: no station, the station's refusal, no room, or both buffers written.
+-- Each return is a case of the definition: no station, the station's refusal, no room, or both
+-- buffers written.
 use mathlib.Core.Path.{_≡_, sym, _∙_}
 use mathlib.Core.Bool.{true}
 use native.Mathlib.Omega.{arith}
@@ -6,15 +7,18 @@ use borrow.Author.Tests.{not-true, not-false}
 use Rattle.bodies.specs.Refusals.{done}
 use Rattle.station_bytes_spec.specs.Station.{isStation}
 use Rattle.station_bytes_spec.proofs.Bytes.{AllBytes}
-use Rattle.station_frames.specs.Beside.{Acts}
-use Rattle.station_calls.proofs.Station.{station-long, hear-no-station, hear-refused}
-use Rattle.station_calls.proofs.Heard.{heard-short, heard-done}
+use Rattle.station.specs.Beside.{Acts}
+use Rattle.station_calls.specs.Station.{hearReturned}
+use Rattle.station_calls.proofs.Station.{station-long}
+use Rattle.station_calls.proofs.Returns.{not-judged-both, both-refused}
+use Rattle.station_calls.proofs.HeardCalls.{refusal, encoded, flags, hear-is, heard-short, heard-done}
 use borrow.Author.Needs.{needs}
 use Rattle.station_calls.proofs.hear.Statement.{statement}
 use Rattle.station_calls.proofs.hear.Tie as tie
 
 returns : tie.Need-returns
-returns c = hear-no-station _ (sym (c .before .is-station .ensures) ∙ not-true _ (c .if1 .taken)) _ _
+unfolding hearReturned
+returns c = not-judged-both _ (sym (c .before .is-station .ensures) ∙ not-true _ (c .if1 .taken)) _ _ _ _ _
 
 read-station-requires : tie.Need-read-station-requires
 read-station-requires c κs = omega (arith, station-long _ (sym (c .before .before .is-station .ensures) ∙ not-false _ (c .before .if1 .left)))
@@ -38,9 +42,10 @@ module _ (c : tie.After-listen) where
   acts fine = c .listen .ensures .heard fine
 
 returns-2 : tie.Need-returns-2
+unfolding hearReturned
 returns-2 c =
     let w = c .before .before .before .before .before in
-    hear-refused _ (judged w) _ (read w .read-station .ensures) _ _ _ (w .listen .ensures .refused (c .if2 .taken)) (c .if2 .taken)
+    both-refused refusal encoded _ _ (hear-is _ _ (read w .read-station .ensures) _ _ (w .listen .ensures .refused (c .if2 .taken))) _ (judged w) _ flags _ _ (c .if2 .taken)
 
 returns-3 : tie.Need-returns-3
 returns-3 c =
@@ -49,8 +54,9 @@ returns-3 c =
 
 put-heard-requires : tie.Need-put-heard-requires
 put-heard-requires c κs =
+    let second-if = c .before .before .before .before .before .before .before .before .if2 in
     let w = c .before .before .before .before .before .before .before .before .before .before .before .before .before in
-    let a = acts w (c .before .before .before .before .before .before .before .before .if2 .left) in
+    let a = acts w (second-if .left) in
     ((omega (arith, station-long _ (judged w)), a .size), a .readable)
 
 returns-4 : tie.Need-returns-4

@@ -1,7 +1,6 @@
--- `relay_station::named_body` meets its contract: the argument is read back from its bits, and the channel is a byte.
-use Prim.Native.Nat.{ℕ}
+-- `relay_station::named_body` meets its contract: the argument is read back from its bits, and the
+-- channel is a byte.
 use mathlib.Core.Path.{sym, ap, _∙_}
-use lib.IntN.{ℤ}
 use mir.Syntax.{w32}
 use mir.ValLaws.{toZ-ofZ}
 use Rattle.bodies.specs.Body.{bodyOf}

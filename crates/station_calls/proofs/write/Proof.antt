@@ -1,4 +1,5 @@
--- Each return is a case of the definition: no station, no room for the number of bytes, the station's refusal, or both buffers written.
+-- Each return is a case of the definition: no station, no room for the number of bytes, the
+-- station's refusal, or both buffers written.
 use mathlib.Core.Path.{sym, _∙_}
 use native.Mathlib.Omega.{arith}
 use borrow.Author.Tests.{not-true, not-false}

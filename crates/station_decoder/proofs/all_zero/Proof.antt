@@ -1,9 +1,9 @@
--- `station_decoder::all_zero` meets its contract: where no bit of the bytes before i is set, they are 0.
-use mathlib.Core.Path.{_≡_, sym, _∙_}
+-- `station_decoder::all_zero` meets its contract: where no bit of the bytes before i is set, they
+-- are 0.
+use mathlib.Core.Path.{_≡_}
 use Prim.Native.Nat.{ℕ, _≤_, _<_, _-_, _+_}
 use native.Mathlib.Omega.{arith}
 use borrow.Author.Count.{below-more}
-use borrow.Author.Needs.{needs}
 use borrow.Author.Tests.{eqb-true}
 use Rattle.station_bytes_spec.specs.Bytes.{byteAt}
 use Rattle.station_decoder.proofs.Zeros.{none-of}

@@ -1,4 +1,5 @@
--- `station_decoder::body_right` meets its contract: the two zeros, and then the numbers of the body.
+-- `station_decoder::body_right` meets its contract: the two zeros, and then the numbers of the
+-- body.
 use mathlib.Core.Path.{_∙_}
 use Prim.Native.Nat.{_+_}
 use native.Mathlib.Omega.{arith}
@@ -16,7 +17,9 @@ returns-2 : tie.Need-returns-2
 returns-2 c = no-fourth _ _ (c .before .before .if1 .left) (c .if2 .taken)
 
 cast-words-right : tie.Need-cast-words-right
-cast-words-right c = omega (arith, c .shared-slice-known4 .given (c .before .before .before .before .before .before .before .before .args .at))
+cast-words-right c =
+    let start = c .before .before .before .before .before .before .before .before in
+    omega (arith, c .shared-slice-known4 .given (start .args .at))
 
 returns-3 : tie.Need-returns-3
 returns-3 c =

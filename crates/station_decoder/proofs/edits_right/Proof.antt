@@ -1,4 +1,5 @@
--- `station_decoder::edits_right` meets its contract: all bytes are 0, or all edits before i are bodies.
+-- `station_decoder::edits_right` meets its contract: all bytes are 0, or all edits before i are
+-- bodies.
 use mathlib.Core.Path.{_≡_, sym, _∙_}
 use mathlib.Core.Bool.{true}
 use Prim.Native.Nat.{_≤_, _-_, _+_, _*_}

@@ -1,4 +1,5 @@
--- `station_decoder::read_edits` meets its contract: all bytes are 0, or the edits before i are read.
+-- `station_decoder::read_edits` meets its contract: all bytes are 0, or the edits before i are
+-- read.
 use mathlib.Core.Path.{_≡_}
 use Prim.Native.Nat.{_≤_, _-_}
 use native.Mathlib.Omega.{arith}

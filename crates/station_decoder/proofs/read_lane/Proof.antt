@@ -1,4 +1,5 @@
--- `station_decoder::read_lane` meets its contract: the length and both bodies are read where they stand.
+-- `station_decoder::read_lane` meets its contract: the length and both bodies are read where they
+-- stand.
 use Rattle.station_bytes_spec.specs.Station.{decodeLane}
 use borrow.Author.Needs.{needs}
 use Rattle.station_decoder.proofs.read_lane.Statement.{statement}

@@ -1,4 +1,5 @@
--- `station_decoder::station_at` meets its contract: the cells before k are read into the five arrays, and then the rest.
+-- `station_decoder::station_at` meets its contract: the cells before k are read into the five
+-- arrays, and then the rest.
 use Prim.Native.Nat.{_≤_, _-_}
 use native.Mathlib.Omega.{arith}
 use borrow.Author.Needs.{needs}

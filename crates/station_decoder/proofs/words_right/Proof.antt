@@ -1,4 +1,5 @@
--- `station_decoder::words_right` meets its contract: it returns at the first number that the body does not have.
+-- `station_decoder::words_right` meets its contract: it returns at the first number that the body
+-- does not have.
 use Rattle.station_decoder.proofs.Reading.{other-kind, other-channel, other-event, by-argument}
 use borrow.Author.Needs.{needs}
 use Rattle.station_decoder.proofs.words_right.Statement.{statement}

@@ -5,9 +5,6 @@ use borrow.Author.Needs.{needs}
 use Rattle.station_encoder.proofs.as_byte.Statement.{statement}
 use Rattle.station_encoder.proofs.as_byte.Tie as tie
 
-cast-result : tie.Need-cast-result
-cast-result c = search needs
-
 returns : tie.Need-returns
 unfolding asByte
 returns c = rw (lt-ltb _ _ (c .if1 .taken))
@@ -17,4 +14,4 @@ unfolding asByte
 returns-2 c = rw (le-ltb _ _ (c .if1 .left))
 
 pub as-byte-spec : {M : Type 1} → statement M
-as-byte-spec = tie.close (tie.spec cast-result returns returns-2)
+as-byte-spec = tie.close (tie.spec (λ c. search needs) returns returns-2)

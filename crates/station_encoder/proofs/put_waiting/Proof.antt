@@ -1,4 +1,5 @@
--- `station_encoder::put_waiting` meets its contract: four bytes, and then the edits of each desk, one behind the other.
+-- `station_encoder::put_waiting` meets its contract: four bytes, and then the edits of each desk,
+-- one behind the other.
 use Rattle.station_encoder.proofs.Writing.{waiting-written}
 use borrow.Author.Needs.{needs}
 use Rattle.station_encoder.proofs.put_waiting.Statement.{statement}

@@ -7,11 +7,8 @@ use Rattle.station_limits.proofs.count_inside.Tie as tie
 returns : tie.Need-returns
 returns c = rw (eq-eqb _ _ (c .if1 .taken))
 
-count-fits-requires : tie.Need-count-fits-requires
-count-fits-requires c κs = search needs
-
 returns-2 : tie.Need-returns-2
 returns-2 c = rw (ne-eqb _ _ (c .before .if1 .left)) (c .count-fits .ensures)
 
 pub count-inside-spec : {M : Type 1} → statement M
-count-inside-spec = tie.close (tie.spec returns count-fits-requires returns-2)
+count-inside-spec = tie.close (tie.spec returns (λ c κs. search needs) returns-2)

@@ -4,14 +4,8 @@ use borrow.Author.Needs.{needs}
 use Rattle.station_limits.proofs.held_inside.Statement.{statement}
 use Rattle.station_limits.proofs.held_inside.Tie as tie
 
-returns : tie.Need-returns
-returns c = search needs
-
-record-inside-requires : tie.Need-record-inside-requires
-record-inside-requires c κs = search needs
-
 returns-2 : tie.Need-returns-2
 returns-2 c = rw (not-false (c .before .before .args .held) (c .before .if1 .left)) (c .record-inside .ensures)
 
 pub held-inside-spec : {M : Type 1} → statement M
-held-inside-spec = tie.close (tie.spec returns record-inside-requires returns-2)
+held-inside-spec = tie.close (tie.spec (λ c. search needs) (λ c κs. search needs) returns-2)

@@ -20,9 +20,6 @@ returns-2 c =
     let e : c .before .before .args .lane .len ≤ 1 = omega arith in
     rw (le-leb _ _ (c .before .if1 .left), eq-eqb _ _ (c .if2 .taken), le-leb _ _ e)
 
-takeable-requires : tie.Need-takeable-requires
-takeable-requires c κs = search needs
-
 returns-3 : tie.Need-returns-3
 unfolding laneInside
 returns-3 c =
@@ -37,9 +34,6 @@ returns-4 c =
     let e : takeable (bodyInside (b .before .before .before .args .edition)) (b .before .before .before .args .lane .first) ≡ true = sym (b .takeable .ensures) ∙ not-false _ (c .before .if3 .left) in
     rw (le-leb _ _ (b .before .before .if1 .left), ne-eqb _ _ (b .before .if2 .left), e, le-leb _ _ (c .if4 .taken))
 
-takeable-requires-2 : tie.Need-takeable-requires-2
-takeable-requires-2 c κs = search needs
-
 returns-5 : tie.Need-returns-5
 unfolding laneInside
 returns-5 c =
@@ -48,4 +42,4 @@ returns-5 c =
     rw (le-leb _ _ (b .before .before .if1 .left), ne-eqb _ _ (b .before .if2 .left), e, lt-leb _ _ (c .before .if4 .left)) (c .takeable2 .ensures)
 
 pub lane-inside-spec : {M : Type 1} → statement M
-lane-inside-spec = tie.close (tie.spec returns returns-2 takeable-requires returns-3 returns-4 takeable-requires-2 returns-5)
+lane-inside-spec = tie.close (tie.spec returns returns-2 (λ c κs. search needs) returns-3 returns-4 (λ c κs. search needs) returns-5)

@@ -1,4 +1,5 @@
--- `station_limits::record_inside` meets its contract, test by test. The record's station is k, and so below n.
+-- `station_limits::record_inside` meets its contract, test by test. The record's station is k, and
+-- so below n.
 use Prim.Native.Nat.{ℕ, _<_}
 use native.Mathlib.Omega.{arith}
 use mathlib.Core.Path.{_≡_, sym, _∙_}

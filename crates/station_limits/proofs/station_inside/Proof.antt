@@ -1,4 +1,5 @@
--- `station_limits::station_inside` meets its contract: the station as a whole first, then place after place.
+-- `station_limits::station_inside` meets its contract: the station as a whole first, then place
+-- after place.
 use Prim.Native.Nat.{_≤_, _<_, _-_}
 use native.Mathlib.Omega.{arith}
 use mathlib.Core.Path.{_≡_, refl, sym, _∙_}
@@ -89,9 +90,10 @@ returns-4 c =
 returns-5 : tie.Need-returns-5 Inv-loop μ-loop
 unfolding stationInside allowed
 returns-5 c =
+    let early = c .before .before .before .before .before .before .before .before in
     let s = c .before .before .before .before .before .before .before .before .before .before .args .t1 in
     let e : bodyInside (s .edition) (s .body) ≡ false = sym (c .before .body-inside .ensures) ∙ not-true _ (c .if5 .taken) in
-    rw (valid (c .before .before .before .before .before .before .before .before), known (c .before .before .before .before .before .before), acked (c .before .before .before .before), held (c .before .before), e)
+    rw (valid (early), known (c .before .before .before .before .before .before), acked (c .before .before .before .before), held (c .before .before), e)
 
 returns-6 : tie.Need-returns-6 Inv-loop μ-loop
 unfolding stationInside allowed

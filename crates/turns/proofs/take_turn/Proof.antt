@@ -1,4 +1,5 @@
--- `turns::take_turn` meets its contract: the airing step is the definition's, and then each part of the answer is.
+-- `turns::take_turn` meets its contract: the airing step is the definition's, and then each part of
+-- the answer is.
 use Prim.Native.Nat.{ℕ, _<_}
 use native.Mathlib.Omega.{arith}
 use mathlib.Core.Path.{_≡_, ap, _∙_}
@@ -25,7 +26,9 @@ air-requires : tie.Need-air-requires
 air-requires c κs = inside-open _ (c .before .before .before .before .pre) .high
 
 all-acked-requires : tie.Need-all-acked-requires
-all-acked-requires c κs = inside-open _ (c .before .before .before .before .before .before .before .pre) .high
+all-acked-requires c κs =
+    let start = c .before .before .before .before .before .before .before in
+    inside-open _ (start .pre) .high
 
 -- the station that takes its turn
 module _ (e : tie.After-all-acked) where
@@ -72,27 +75,32 @@ only-own-requires c κs =
 
 array-read-label-after : tie.Need-array-read-label-after
 array-read-label-after c =
-    let h = own-in (c .before .before .before .before .before .before .before .before .before .before .before .before) in
+    let early = c .before .before .before .before .before .before .before .before .before .before .before .before in
+    let h = own-in (early) in
     search needs
 
 array-write-labels : tie.Need-array-write-labels
 array-write-labels c =
-    let h = own-in (c .before .before .before .before .before .before .before .before .before .before .before .before .before) in
+    let early = c .before .before .before .before .before .before .before .before .before .before .before .before .before in
+    let h = own-in (early) in
     search needs
 
 mul-last : tie.Need-mul-last
 mul-last c =
-    let h = own-in (c .before .before .before .before .before .before .before .before .before .before .before .before .before .before) in
+    let early = c .before .before .before .before .before .before .before .before .before .before .before .before .before .before in
+    let h = own-in (early) in
     search needs
 
 array-copy-out-last : tie.Need-array-copy-out-last
 array-copy-out-last c =
-    let h = own-in (c .before .before .before .before .before .before .before .before .before .before .before .before .before .before) in
+    let early = c .before .before .before .before .before .before .before .before .before .before .before .before .before .before in
+    let h = own-in (early) in
     search needs
 
 cast-t37 : tie.Need-cast-t37
 cast-t37 c =
-    let h = own-in (c .before .before .before .before .before .before .before .before .before .before .before .before .before .before .before) in
+    let early = c .before .before .before .before .before .before .before .before .before .before .before .before .before .before .before in
+    let h = own-in (early) in
     search needs
 
 pack-over-requires : tie.Need-pack-over-requires
@@ -104,22 +112,26 @@ pack-over-requires c κs =
 
 mul-table : tie.Need-mul-table
 mul-table c =
-    let h = own-in (c .before .before .before .before .before .before .before .before .before .before .before .before .before .before .before .before) in
+    let early = c .before .before .before .before .before .before .before .before .before .before .before .before .before .before .before .before in
+    let h = own-in (early) in
     search needs
 
 array-set-from-table : tie.Need-array-set-from-table
 array-set-from-table c =
-    let h = own-in (c .before .before .before .before .before .before .before .before .before .before .before .before .before .before .before .before) in
+    let early = c .before .before .before .before .before .before .before .before .before .before .before .before .before .before .before .before in
+    let h = own-in (early) in
     search needs
 
 mul-left : tie.Need-mul-left
 mul-left c =
-    let h = own-in (c .before .before .before .before .before .before .before .before .before .before .before .before .before .before .before .before .before) in
+    let early = c .before .before .before .before .before .before .before .before .before .before .before .before .before .before .before .before .before in
+    let h = own-in (early) in
     search needs
 
 array-set-from-left : tie.Need-array-set-from-left
 array-set-from-left c =
-    let h = own-in (c .before .before .before .before .before .before .before .before .before .before .before .before .before .before .before .before .before) in
+    let early = c .before .before .before .before .before .before .before .before .before .before .before .before .before .before .before .before .before in
+    let h = own-in (early) in
     search needs
 
 returns : tie.Need-returns

@@ -1,4 +1,5 @@
--- `bodies::limits::body_inside` meets its contract: `inside_kind` and `on_channel` each decide a half of the definition.
+-- `bodies::limits::body_inside` meets its contract: `inside_kind` and `on_channel` each decide a
+-- half of the definition.
 use mathlib.Core.Path.{sym, _∙_}
 use borrow.Author.Needs.{needs}
 use borrow.Author.Tests.{not-true, not-false}

@@ -1,5 +1,5 @@
--- `bodies::limits::inside_kind` meets its contract: each arm knows which case the body is, and asks `numbers_inside` about its three numbers. A signed
--- number reads back from its 32 bits as itself.
+-- `bodies::limits::inside_kind` meets its contract: each arm knows which case the body is, and asks
+-- `numbers_inside` about its three numbers. A signed number reads back from its 32 bits as itself.
 use native.Mathlib.Omega.{arith}
 use mathlib.Core.Path.{sym, ap, _∙_}
 use borrow.Author.Needs.{needs}

@@ -1,5 +1,6 @@
--- `bodies::limits::numbers_inside` meets its contract: the code's table is the definition's table, row by row, so each test is one of the
--- definition's, and a signed number reads back from its 32 bits as itself.
+-- `bodies::limits::numbers_inside` meets its contract: the code's table is the definition's table,
+-- row by row, so each test is one of the definition's, and a signed number reads back from its 32
+-- bits as itself.
 use Prim.Native.Nat.{ℕ, _<_, _≤_}
 use mathlib.Core.Bool.{true, false}
 use mathlib.Core.Path.{_≡_, sym, ap₂, _∙_}
@@ -54,12 +55,6 @@ returns : tie.Need-returns
 unfolding numbersInside
 returns c = simp (le-ltb _ _ (c .if1 .taken))
 
-mul-row : tie.Need-mul-row
-mul-row c = search needs
-
-array-copy-out-row : tie.Need-array-copy-out-row
-array-copy-out-row c = search needs
-
 returns-2 : tie.Need-returns-2
 returns-2 c =
     let one = c .before .before .before in
@@ -94,4 +89,4 @@ returns-5 c =
 
 pub numbers-inside-spec : {M : Type 1} → statement M
 numbers-inside-spec =
-    tie.close (tie.spec returns mul-row array-copy-out-row returns-2 returns-3 returns-4 returns-5)
+    tie.close (tie.spec returns (λ c. search needs) (λ c. search needs) returns-2 returns-3 returns-4 returns-5)

@@ -1,4 +1,5 @@
--- `bodies::limits::on_channel` meets its contract: `channel_inside` decides by the body's kind and channel.
+-- `bodies::limits::on_channel` meets its contract: `channel_inside` decides by the body's kind and
+-- channel.
 use mathlib.Core.Path.{_∙_}
 use borrow.Author.Needs.{needs}
 use Rattle.bodies.specs.Limits.{channelInside}

@@ -1,4 +1,5 @@
--- `columns::reader::grow` judges a further digit: each return is one case of the definition, and nine digits fit a u32.
+-- `columns::reader::grow` judges a further digit: each return is one case of the definition, and
+-- nine digits fit a u32.
 use borrow.Author.Needs.{needs}
 use borrow.Author.Tests.{eq-eqb, ne-eqb, lt-ltb, le-ltb}
 use Rattle.columns.specs.Reading.{grown}
@@ -17,15 +18,9 @@ returns-3 : tie.Need-returns-3
 unfolding grown
 returns-3 c = simp (ne-eqb _ _ (c .before .before .if1 .left), ne-eqb _ _ (c .before .if2 .left), lt-ltb _ _ (c .if3 .taken))
 
-mul-t5 : tie.Need-mul-t5
-mul-t5 c = search needs
-
-add-t6 : tie.Need-add-t6
-add-t6 c = search needs
-
 returns-4 : tie.Need-returns-4
 unfolding grown
 returns-4 c = simp (ne-eqb _ _ (c .before .before .if1 .left), ne-eqb _ _ (c .before .if2 .left), le-ltb _ _ (c .if3 .left))
 
 pub grow-spec : {M : Type 1} → statement M
-grow-spec = tie.close (tie.spec returns returns-2 returns-3 mul-t5 add-t6 returns-4)
+grow-spec = tie.close (tie.spec returns returns-2 returns-3 (λ c. search needs) (λ c. search needs) returns-4)

@@ -1,4 +1,5 @@
--- `columns::reader::next` is one step of the reading: each arm of the match is one line of the definition.
+-- `columns::reader::next` is one step of the reading: each arm of the match is one line of the
+-- definition.
 use mathlib.Core.Path.{_∙_}
 use native.Mathlib.Omega.{arith}
 use borrow.Author.Tests.{eq-eqb, ne-eqb}

@@ -1,4 +1,5 @@
--- `columns::reader::read_columns` reads the whole part. The invariant: reading on from here over the bytes that are left gives what reading all from the start gives.
+-- `columns::reader::read_columns` reads the whole part. The invariant: reading on from here over
+-- the bytes that are left gives what reading all from the start gives.
 use mathlib.Core.Path.{_≡_, refl, _∙_}
 use Prim.Native.Nat.{_-_, _≤_}
 use native.Mathlib.Omega.{arith}

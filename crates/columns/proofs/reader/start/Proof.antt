@@ -1,4 +1,5 @@
--- `columns::reader::start` judges a number's first digit: each return is one case of the definition.
+-- `columns::reader::start` judges a number's first digit: each return is one case of the
+-- definition.
 use borrow.Author.Tests.{eq-eqb, ne-eqb}
 use Rattle.columns.specs.Reading.{started}
 use Rattle.columns.proofs.reader.start.Statement.{statement}

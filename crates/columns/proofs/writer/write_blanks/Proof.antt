@@ -1,4 +1,5 @@
--- `columns::writer::write_blanks` fills the part with blanks. The invariant: the columns passed are blanks, and the others are as they came.
+-- `columns::writer::write_blanks` fills the part with blanks. The invariant: the columns passed are
+-- blanks, and the others are as they came.
 use mathlib.Core.Path.{_≡_, refl, _∙_}
 use mathlib.Core.List.{_++_, append-nil}
 use Prim.Native.Nat.{_+_, _-_, _≤_}

@@ -1,5 +1,5 @@
--- `columns::writer::write_columns` writes the digits from the right. The invariant: the columns of what is left of the number, and then the columns written, are the columns of
--- the whole number.
+-- `columns::writer::write_columns` writes the digits from the right. The invariant: the columns of
+-- what is left of the number, and then the columns written, are the columns of the whole number.
 use mathlib.Core.Path.{_≡_, refl, sym, _∙_}
 use mathlib.Core.List.{_++_, append-nil}
 use Prim.Native.Nat.{suc, _+_, _-_, _%_, _≤_, _<_}

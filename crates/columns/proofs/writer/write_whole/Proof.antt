@@ -11,18 +11,6 @@ use borrow.Author.Needs.{needs}
 use Rattle.columns.proofs.writer.write_whole.Statement.{statement}
 use Rattle.columns.proofs.writer.write_whole.Tie as tie
 
-magnitude-requires : tie.Need-magnitude-requires
-magnitude-requires c κs = search needs
-
-cast-write-columns : tie.Need-cast-write-columns
-cast-write-columns c = search needs
-
-write-columns-requires : tie.Need-write-columns-requires
-write-columns-requires c κs = search needs
-
-same-length : tie.Need-same-length
-same-length c = search needs
-
 returns : tie.Need-returns
 returns c = let entry = c .before .before .before .before .before .before in
     let z = entry .args .value in
@@ -33,4 +21,4 @@ returns c = let entry = c .before .before .before .before .before .before in
 
 pub write-whole-spec : {M : Type 1} → statement M
 write-whole-spec =
-    tie.close (tie.spec magnitude-requires cast-write-columns write-columns-requires same-length returns)
+    tie.close (tie.spec (λ c κs. search needs) (λ c. search needs) (λ c κs. search needs) (λ c. search needs) returns)

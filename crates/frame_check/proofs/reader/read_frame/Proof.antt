@@ -1,4 +1,5 @@
--- `frame_check::reader::read_frame` meets its contract. The loop's invariant: the first k entries are the first k records, and the others are still zero.
+-- `frame_check::reader::read_frame` meets its contract. The loop's invariant: the first k entries
+-- are the first k records, and the others are still zero.
 use mathlib.Core.Path.{_≡_, sym, ap, _∙_}
 use Prim.Native.Nat.{_≤_, _-_}
 use native.Mathlib.Omega.{arith}

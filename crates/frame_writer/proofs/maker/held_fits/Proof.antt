@@ -4,14 +4,8 @@ use borrow.Author.Needs.{needs}
 use Rattle.frame_writer.proofs.maker.held_fits.Statement.{statement}
 use Rattle.frame_writer.proofs.maker.held_fits.Tie as tie
 
-returns : tie.Need-returns
-returns c = search needs
-
-place-fits-requires : tie.Need-place-fits-requires
-place-fits-requires c κs = search needs
-
 returns-2 : tie.Need-returns-2
 returns-2 c = rw (not-false (c .before .before .args .held) (c .before .if1 .left)) (c .place-fits .ensures)
 
 pub held-fits-spec : {M : Type 1} → statement M
-held-fits-spec = tie.close (tie.spec returns place-fits-requires returns-2)
+held-fits-spec = tie.close (tie.spec (λ c. search needs) (λ c κs. search needs) returns-2)

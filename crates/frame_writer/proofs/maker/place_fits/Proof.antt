@@ -1,4 +1,5 @@
--- `frame_writer::maker::place_fits` meets its contract: each test is one of the definition's, in its order.
+-- `frame_writer::maker::place_fits` meets its contract: each test is one of the definition's, in
+-- its order.
 use Rattle.bodies.specs.Limits.{bodyInside}
 use mathlib.Core.Path.{sym, _∙_}
 use native.Mathlib.Omega.{arith}

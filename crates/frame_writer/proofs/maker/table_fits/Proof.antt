@@ -1,4 +1,5 @@
--- `frame_writer::maker::table_fits` meets its contract: after k places the records at the held ones among them fit.
+-- `frame_writer::maker::table_fits` meets its contract: after k places the records at the held ones
+-- among them fit.
 use mathlib.Core.Path.{_≡_, sym, _∙_}
 use mathlib.Core.Bool.{true}
 use Prim.Native.Nat.{_-_, _≤_}

@@ -1,4 +1,5 @@
--- `frame_writer::maker::write_frame` meets its contract: what is refused changes nothing, and a table that fits is written by `write_table`.
+-- `frame_writer::maker::write_frame` meets its contract: what is refused changes nothing, and a
+-- table that fits is written by `write_table`.
 use Prim.Native.Nat.{ℕ}
 use mathlib.Core.Bool.{true}
 use mathlib.Core.Path.{_≡_, sym, _∙_}

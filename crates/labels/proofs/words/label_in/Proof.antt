@@ -1,4 +1,5 @@
--- `labels::words::label_in` meets its contract: a shift by 2 k is a quotient by 4 ^ k, and what is left by 4 fits a byte.
+-- `labels::words::label_in` meets its contract: a shift by 2 k is a quotient by 4 ^ k, and what is
+-- left by 4 fits a byte.
 use native.Mathlib.Omega.{arith}
 use borrow.Author.Needs.{needs}
 use Rattle.labels.specs.Packing.{labelIn}

@@ -1,4 +1,5 @@
--- `labels::words::low` meets its contract: 4 ^ n is shifted to its place whole, and what is below it fits a word.
+-- `labels::words::low` meets its contract: 4 ^ n is shifted to its place whole, and what is below
+-- it fits a word.
 use native.Mathlib.Omega.{arith}
 use borrow.Author.Needs.{needs}
 use Rattle.labels.proofs.Made.{low-is, low-some, low-fits}

@@ -1,4 +1,5 @@
--- `labels::words::over` meets its contract: a mask of low ones is a remainder, and what is made of two remainders are the labels of the one word over those of the other.
+-- `labels::words::over` meets its contract: a mask of low ones is a remainder, and what is made of
+-- two remainders are the labels of the one word over those of the other.
 use native.Mathlib.Omega.{arith}
 use lib.Bits.{and-le-l}
 use borrow.Author.Needs.{needs}

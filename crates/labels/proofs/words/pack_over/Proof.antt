@@ -1,5 +1,5 @@
--- `labels::words::pack_over` meets its contract. The loop goes down: its word is that of the labels from i to n over what is left of the old word, and each turn puts
--- one more label below them.
+-- `labels::words::pack_over` meets its contract. The loop goes down: its word is that of the labels
+-- from i to n over what is left of the old word, and each turn puts one more label below them.
 use Prim.Native.Nat.{ℕ, _+_, _-_, _*_, _^_, _≤_, _<_}
 use native.Mathlib.Nat.{div-le-self}
 use native.Mathlib.Omega.{arith}

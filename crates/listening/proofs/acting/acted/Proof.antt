@@ -1,5 +1,5 @@
--- `listening::acting::acted` meets its contract: below k the table holds what was heard, and then the first i
--- takings are in their lanes. Last the numbers are stored.
+-- `listening::acting::acted` meets its contract: below k the table holds what was heard, and then
+-- the first i takings are in their lanes. Last the numbers are stored.
 use Prim.Native.Nat.{ℕ, _+_, _-_, _≤_, _<_}
 use mathlib.Core.Path.{_≡_, refl, ap, _∙_}
 use native.Mathlib.Omega.{arith}

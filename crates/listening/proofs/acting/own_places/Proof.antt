@@ -1,4 +1,5 @@
--- `listening::acting::own_places` meets its contract: at the place of record r the first r records are placed.
+-- `listening::acting::own_places` meets its contract: at the place of record r the first r records
+-- are placed.
 use Prim.Native.Nat.{ℕ, _+_, _-_, _≤_, _<_}
 use mathlib.Core.Path.{sym, ap, _∙_}
 use native.Mathlib.Omega.{arith}

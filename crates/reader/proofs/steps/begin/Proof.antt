@@ -10,12 +10,9 @@ use Rattle.reader.proofs.steps.begin.Tie as tie
 holding : Session → Reader
 holding s = record { session = s; len = 0; line = replicate 146 0 }
 
-begin-requires : tie.Need-begin-requires
-begin-requires c κs = search needs
-
 returns : tie.Need-returns
 unfolding holding
 returns c = ap holding (c .begin .ensures)
 
 pub begin-spec : {M : Type 1} → statement M
-begin-spec = tie.close (tie.spec begin-requires returns)
+begin-spec = tie.close (tie.spec (λ c κs. search needs) returns)

@@ -20,16 +20,10 @@ slice-aggregate-close c =
     let long : length (start .args .r .line) ≡ 146 = simp length-map at (start .good .0 .1 .1 .1 .1 .0 .1 .0 .1) in
     sym (length-take-le (start .args .r .len) (start .args .r .line) (omega arith))
 
-close-requires : tie.Need-close-requires
-close-requires c κs = search needs
-
-same-length : tie.Need-same-length
-same-length c = search needs
-
 returns : tie.Need-returns
 returns c =
     let r = c .before .before .before .before .before .before .before .before .args .r in
     rw (at-end (r .session) (heldBy r)) (c .before .before .close .ensures)
 
 pub finish-spec : {M : Type 1} → statement M
-finish-spec = tie.close (tie.spec array-share-prefix-line slice-aggregate-close close-requires same-length returns)
+finish-spec = tie.close (tie.spec array-share-prefix-line slice-aggregate-close (λ c κs. search needs) (λ c. search needs) returns)

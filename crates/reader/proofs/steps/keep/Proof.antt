@@ -8,17 +8,8 @@ use Rattle.reader.proofs.steps.keep.Tie as tie
 returns : tie.Need-returns
 returns c = (loses _ _ _ (c .if1 .taken) (omega arith) (c .before .pre .2), omega arith)
 
-slice-write-line : tie.Need-slice-write-line
-slice-write-line c = search needs
-
-add-result : tie.Need-add-result
-add-result c = search needs
-
-same-length : tie.Need-same-length
-same-length c = search needs
-
 returns-2 : tie.Need-returns-2
 returns-2 c = (keeps (c .before .args .line .now) (c .before .args .len) (c .before .args .b) (omega arith) (c .before .pre .2), omega arith)
 
 pub keep-spec : {M : Type 1} → statement M
-keep-spec = tie.close (tie.spec returns slice-write-line add-result same-length returns-2)
+keep-spec = tie.close (tie.spec returns (λ c. search needs) (λ c. search needs) (λ c. search needs) returns-2)

@@ -1,4 +1,5 @@
--- `reader::steps::take_line` takes byte after byte: with what is left of the part, the same is still to be listed.
+-- `reader::steps::take_line` takes byte after byte: with what is left of the part, the same is
+-- still to be listed.
 use Prim.Native.Nat.{_≤_, _-_}
 use mathlib.Core.Path.{_≡_}
 use native.Mathlib.Omega.{arith}

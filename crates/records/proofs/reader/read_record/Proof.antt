@@ -13,20 +13,23 @@ cast-body-of c = omega (arith, c .shared-slice-known2 .given 2)
 
 returns : tie.Need-returns
 returns c =
+    let word-at = c .before .before .before .before .before .before .before .before .word-at in
+    let word-at2 = c .before .before .before .before .before .before .before .word-at2 in
+    let signed = c .before .before .before .before .before .before .signed in
     let p = c .before .before .before .before .before .before .before .before .before .before .args .part .now in
     let body =
     judged
     (λ event argument. bodyOf (getD p 2 0) event argument (getD p 3 0))
     p
     (c .before .before .before .body-of .result)
-    (c .before .before .before .before .before .before .before .before .word-at .result)
-    (c .before .before .before .before .before .before .before .word-at2 .result)
-    (c .before .before .before .before .before .before .signed .result)
-    (record { sfits = c .before .before .before .before .before .before .signed .ok })
+    (word-at .result)
+    (word-at2 .result)
+    (signed .result)
+    (record { sfits = signed .ok })
     (c .before .before .before .body-of .ensures)
-    (c .before .before .before .before .before .before .before .before .word-at .ensures)
-    (c .before .before .before .before .before .before .before .word-at2 .ensures)
-    (c .before .before .before .before .before .before .signed .ensures) in
+    (word-at .ensures)
+    (word-at2 .ensures)
+    (signed .ensures) in
     record-is p body (c .before .before .word-at3 .ensures)
 
 pub read-record-spec : {M : Type 1} → statement M

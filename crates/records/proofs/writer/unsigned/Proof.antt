@@ -1,4 +1,5 @@
--- `records::writer::unsigned` meets its contract: a negative number is the complement of a number that is not, and the word is what that one lacks of 2^32 - 1.
+-- `records::writer::unsigned` meets its contract: a negative number is the complement of a number
+-- that is not, and the word is what that one lacks of 2^32 - 1.
 use Rattle.lists.proofs.Complement.{complement-made-fits}
 use Rattle.records.proofs.WrittenWords.{unsigned-negative-cast, unsigned-negative-sub, unsigned-negative, unsigned-other-cast, unsigned-other}
 use Rattle.records.proofs.writer.unsigned.Statement.{statement}

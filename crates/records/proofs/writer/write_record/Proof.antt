@@ -1,4 +1,5 @@
--- `records::writer::write_record` meets its contract: its sixteen stores leave the bytes of the record.
+-- `records::writer::write_record` meets its contract: its sixteen stores leave the bytes of the
+-- record.
 use mathlib.Core.Path.{_∙_}
 use native.Mathlib.Omega.{arith}
 use lib.ListN.{length-set}
@@ -17,34 +18,45 @@ put-word-requires-2 : tie.Need-put-word-requires-2
 put-word-requires-2 c κs = omega (arith, simp length-set at (c .before .before .before .before .before .put-word .kept .0))
 
 put-word-requires-3 : tie.Need-put-word-requires-3
-put-word-requires-3 c κs = omega (arith, c .before .before .before .before .put-word2 .kept .0, simp length-set at (c .before .before .before .before .before .before .before .before .before .before .put-word .kept .0))
+put-word-requires-3 c κs =
+    let put-word = c .before .before .before .before .before .before .before .before .before .before .put-word in
+    omega (arith, c .before .before .before .before .put-word2 .kept .0, simp length-set at (put-word .kept .0))
 
 same-length : tie.Need-same-length
 same-length c =
-    c .before .before .put-word3 .kept .0 ∙ c .before .before .before .before .before .before .before .put-word2 .kept .0 ∙ c .before .before .before .before .before .before .before .before .before .before .before .before .before .put-word .kept .0 ∙ simp length-set
+    let put-word = c .before .before .before .before .before .before .before .before .before .before .before .before .before .put-word in
+    let put-word2 = c .before .before .before .before .before .before .before .put-word2 in
+    c .before .before .put-word3 .kept .0 ∙ put-word2 .kept .0 ∙ put-word .kept .0 ∙ simp length-set
 
 returns : tie.Need-returns
 returns c =
+    let kind-of = c .before .before .before .before .before .before .before .before .before .before .before .before .before .before .before .before .before .kind-of in
+    let channel-of = c .before .before .before .before .before .before .before .before .before .before .before .before .before .before .before .before .channel-of in
+    let event-of = c .before .before .before .before .before .before .before .before .before .before .before .before .before .before .event-of in
+    let put-word = c .before .before .before .before .before .before .before .before .before .before .before .before .before .put-word in
+    let argument-of = c .before .before .before .before .before .before .before .before .before .argument-of in
+    let unsigned = c .before .before .before .before .before .before .before .before .unsigned in
+    let put-word2 = c .before .before .before .before .before .before .before .put-word2 in
     let s = c .before .before .before .before .before .before .before .before .before .before .before .before .before .before .before .before .before .before .before .args in
     record-made (s .n) (s .r) (s .part .now) (omega arith)
-    (c .before .before .before .before .before .before .before .before .before .before .before .before .before .before .before .before .before .kind-of .result)
-    (c .before .before .before .before .before .before .before .before .before .before .before .before .before .before .before .before .channel-of .result)
-    (c .before .before .before .before .before .before .before .before .before .before .before .before .before .before .event-of .result)
-    (c .before .before .before .before .before .before .before .before .before .argument-of .result)
-    (c .before .before .before .before .before .before .before .before .unsigned .result)
+    (kind-of .result)
+    (channel-of .result)
+    (event-of .result)
+    (argument-of .result)
+    (unsigned .result)
     (c .before .before .before .over .result)
-    (c .before .before .before .before .before .before .before .before .before .before .before .before .before .put-word .last .0)
-    (c .before .before .before .before .before .before .before .put-word2 .last .0)
+    (put-word .last .0)
+    (put-word2 .last .0)
     (c .before .before .put-word3 .last .0)
-    (c .before .before .before .before .before .before .before .before .before .before .before .before .before .before .before .before .before .kind-of .ensures)
-    (c .before .before .before .before .before .before .before .before .before .before .before .before .before .before .before .before .channel-of .ensures)
-    (c .before .before .before .before .before .before .before .before .before .before .before .before .before .before .event-of .ensures)
-    (record { sfits = c .before .before .before .before .before .before .before .before .before .argument-of .ok })
-    (c .before .before .before .before .before .before .before .before .before .argument-of .ensures)
-    (c .before .before .before .before .before .before .before .before .unsigned .ensures)
+    (kind-of .ensures)
+    (channel-of .ensures)
+    (event-of .ensures)
+    (record { sfits = argument-of .ok })
+    (argument-of .ensures)
+    (unsigned .ensures)
     (c .before .before .before .over .ensures)
-    (c .before .before .before .before .before .before .before .before .before .before .before .before .before .put-word .ensures)
-    (c .before .before .before .before .before .before .before .put-word2 .ensures)
+    (put-word .ensures)
+    (put-word2 .ensures)
     (c .before .before .put-word3 .ensures)
 
 pub write-record-spec : {M : Type 1} → statement M

@@ -1,4 +1,5 @@
--- `relay_station_post` meets its contract: it is the call on bytes, the argument passed on as it is.
+-- `relay_station_post` meets its contract: it is the call on bytes, the argument passed on as it
+-- is.
 use mathlib.Core.Path.{_≡_, subst}
 use lib.IntN.{ℤ}
 use mir.Syntax.{w32}

@@ -1,4 +1,5 @@
--- `station::beginning::fresh_station` meets its contract: it makes the record of the definition, and its labels packed are labels over 0.
+-- `station::beginning::fresh_station` meets its contract: it makes the record of the definition,
+-- and its labels packed are labels over 0.
 use native.Mathlib.Omega.{arith}
 use Rattle.station_spec.specs.State.{freshStation}
 use Rattle.station_spec.proofs.Setters.{fresh-at, fresh-word}

@@ -1,4 +1,5 @@
--- `turns::airing::air` meets its contract: where all lanes have a body, the loop puts the oldest of each into the row.
+-- `turns::airing::air` meets its contract: where all lanes have a body, the loop puts the oldest of
+-- each into the row.
 use Prim.Native.Nat.{ℕ, _≤_, _-_}
 use native.Mathlib.Omega.{arith}
 use mathlib.Core.Path.{_≡_, refl, ap, _∙_}

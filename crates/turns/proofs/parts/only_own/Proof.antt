@@ -1,4 +1,5 @@
--- `turns::parts::only_own` meets its contract: of the places passed only the own one is acknowledged.
+-- `turns::parts::only_own` meets its contract: of the places passed only the own one is
+-- acknowledged.
 use Prim.Native.Nat.{_≤_, _-_}
 use native.Mathlib.Omega.{arith}
 use mathlib.Core.Path.{_≡_, refl, _∙_}
@@ -19,15 +20,6 @@ loop-holds : tie.Need-loop-holds Inv-loop μ-loop
 unfolding setBelow
 loop-holds c = (omega arith, refl)
 
-array-write-left : tie.Need-array-write-left Inv-loop μ-loop
-array-write-left c = search needs
-
-add-k : tie.Need-add-k Inv-loop μ-loop
-add-k c = search needs
-
-loop-less : tie.Need-loop-less Inv-loop μ-loop
-loop-less c = search needs
-
 loop-again : tie.Need-loop-again Inv-loop μ-loop
 loop-again c = (omega arith, rw (c .before .loop .inv .1) (setBelow-more (c .before .loop .k) _ _))
 
@@ -39,4 +31,4 @@ returns c =
 pub only-own-spec : {M : Type 1} → statement M
 only-own-spec =
     tie.close
-    (tie.spec Inv-loop μ-loop loop-holds array-write-left add-k loop-less loop-again returns)
+    (tie.spec Inv-loop μ-loop loop-holds (λ c. search needs) (λ c. search needs) (λ c. search needs) loop-again returns)

@@ -1,0 +1,4 @@
+pub mod Bulletins
+pub mod Shown
+pub mod Again
+pub mod Writing

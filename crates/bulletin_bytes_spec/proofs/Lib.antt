@@ -1,3 +1,0 @@
-pub mod Bulletins
-pub mod Shown
-pub mod Again

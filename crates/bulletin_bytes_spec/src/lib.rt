@@ -1,1 +1,0 @@
-// Bulletins as bytes: the definitions and the round trips stand beside; there is no code.

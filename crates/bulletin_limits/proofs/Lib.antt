@@ -1,2 +1,0 @@
-pub mod Subsets
-pub mod Judging

@@ -1,4 +1,0 @@
-pub mod Choice
-pub mod Free
-pub mod Ordering
-pub mod Pushing

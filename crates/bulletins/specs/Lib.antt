@@ -1,0 +1,2 @@
+pub mod LentLimits
+pub mod LentSets

@@ -1,0 +1,3 @@
+-- What the functions promise each other. The contract of the call and its theorems do not speak of
+-- it.
+pub mod KnownSets

@@ -1,5 +1,0 @@
-pub mod Lowest
-pub mod Forcing
-pub mod Forces
-pub mod Meaning
-pub mod Examples

@@ -1,3 +1,0 @@
-pub mod Contest
-pub mod Winner
-pub mod Answer

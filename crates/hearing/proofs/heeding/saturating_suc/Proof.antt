@@ -1,0 +1,14 @@
+-- `hearing::heeding::saturating_suc` meets its contract.
+use borrow.Author.Tests.{lt-ltb, le-ltb}
+use borrow.Author.Needs.{needs}
+use Rattle.hearing.proofs.heeding.saturating_suc.Statement.{statement}
+use Rattle.hearing.proofs.heeding.saturating_suc.Tie as tie
+
+returns : tie.Need-returns
+returns c = rw (lt-ltb _ _ (c .if1 .taken))
+
+returns-2 : tie.Need-returns-2
+returns-2 c = rw (le-ltb _ _ (c .if1 .left))
+
+pub saturating-suc-spec : {M : Type 1} → statement M
+saturating-suc-spec = tie.close (tie.spec (λ c. search needs) returns returns-2)

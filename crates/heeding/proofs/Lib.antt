@@ -1,3 +1,0 @@
-pub mod SameBytes
-pub mod HeedCases
-pub mod RecordParts

@@ -1,0 +1,4 @@
+pub mod Placed
+pub mod Examples
+pub mod Columns
+pub mod Joined

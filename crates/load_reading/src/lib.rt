@@ -1,1 +1,0 @@
-// The listing of a generated script is read to its end: definitions and the theorem for it, no code.

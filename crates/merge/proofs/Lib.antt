@@ -1,3 +1,0 @@
-pub mod Masks
-pub mod Rounds
-pub mod Written

@@ -1,0 +1,12 @@
+pub mod ForecastAnswer
+pub mod Rows
+pub mod Bits
+pub mod Lowest
+pub mod Listening
+pub mod Closing
+pub mod Stands
+pub mod MergedMasks
+pub mod MergedRounds
+pub mod MergedWritten
+pub mod QuestionPage
+pub mod QuestionAnswers

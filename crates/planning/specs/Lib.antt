@@ -1,0 +1,4 @@
+pub mod Sets
+pub mod Stands
+pub mod MergedRounds
+pub mod Replies
