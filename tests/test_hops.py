@@ -64,7 +64,7 @@ class Hops(unittest.TestCase):
         for answer, start, found, words in (
                 (4, 2, one, "the library answers round 4, but the relay that was found arrives in round 5"),
                 (None, 2, one, "the library answers never, but the relay that was found arrives in round 5"),
-                (6, 2, None, "the library answers round 6, but no relay was found by then"),
+                (6, 2, None, "the library answers round 6, but no relay was found"),
                 (3, 2, [], "the library answers round 3, but the relay that was found arrives in round 2")):
             self.assertEqual(hops.fault(answer, start, found), words)
 
@@ -95,8 +95,13 @@ class Ends(unittest.TestCase):
 
         def lost(n, part, asked):
             return 0, [None] * len(asked)
+
+        def one_more(n, part, asked):
+            refusal, rounds = right(n, part, asked)
+            return refusal, [1, *rounds[:-1]]
         for wrong, words in ((moved, "were found up to round 39, but the library's last is in round 40"),
-                             (lost, "0 ends of station 0 were found where the library counts 20")):
+                             (lost, "0 ends of station 0 were found where the library counts 20"),
+                             (one_more, "21 ends of station 0 were found where the library counts 20")):
             with mock.patch.object(library, "questions", wrong), self.assertRaisesRegex(faults.Wrong, words):
                 ends.in_part(3, log, 1, 40, range(3))
 

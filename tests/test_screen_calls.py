@@ -145,6 +145,7 @@ class Look(Calls):
         """An answer of the library that the relay does not meet is shown as an error."""
         right = library.questions
         for change, words in ((lambda u: u + 1, "but the relay that was found arrives in round"),
+                              (lambda u: u - 1, "but the relay that was found arrives in round"),
                               (lambda u: None, "the library answers never, but")):
             def wrong(n, log, asked, change=change):
                 refusal, rounds = right(n, log, asked)

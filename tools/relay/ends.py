@@ -52,7 +52,9 @@ def of_station(n, log, station, start, count, found_first):
         until = min(rounds, start - start % GRID + step)
         more = found_first(n, log[n * start:n * until].tobytes(), station)
         if not more and until == rounds:
-            raise Wrong(f"{len(found)} ends of station {station} were found where the library counts {count}")
+            break
         found += [start + number for number in more]
         start, step = (found[-1], GRID) if more else (start, 2 * step)
+    if len(found) != count:
+        raise Wrong(f"{len(found)} ends of station {station} were found where the library counts {count}")
     return found

@@ -49,5 +49,5 @@ def fault(answer, start, hops):
     arrives = start if hops == [] else hops[-1].round if hops else None
     if arrives == answer:
         return None
-    found = "no relay was found by then" if arrives is None else f"the relay that was found arrives in round {arrives}"
+    found = "no relay was found" if arrives is None else f"the relay that was found arrives in round {arrives}"
     return f"the library answers {'never' if answer is None else f'round {answer}'}, but {found}"

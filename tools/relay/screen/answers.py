@@ -230,9 +230,12 @@ def answers_of(plan, asked):
 
 
 def relay_after(plan, sender, receiver, start, number):
-    """The hops of a relay after a start, looked for up to the round in which it should arrive, or to the plan's end."""
-    part = plan.log[plan.n * start:plan.n * (plan.rounds if number is None else number)]
+    """The hops of the first relay after a start, looked for up to the round in which it should arrive, and then to the
+    plan's end."""
+    part, rest = (plan.log[plan.n * start:plan.n * end] for end in (number or plan.rounds, plan.rounds))
     relay = kept_relay(plan.n, part.tobytes(), sender, receiver)
+    if relay is None:
+        relay = kept_relay(plan.n, rest.tobytes(), sender, receiver)
     return relay and [hop._replace(round=start + hop.round) for hop in relay]
 
 
