@@ -249,6 +249,15 @@ class TestEdits(unittest.TestCase):
                 self.assertEqual({name for name, error in errors if CHECK.shows(error)}, told, laws)
                 self.assertEqual(elsewhere, [])
 
+    def test_a_step_that_finds_nothing_to_rewrite_tells_of_no_definition(self):
+        with tempfile.TemporaryDirectory() as folder:
+            crate = pathlib.Path(folder, "c")
+            edit = planted_definitions(crate)
+            place = f"{crate}/proofs/Laws.antt:{LAWS_AT['third-law']}:9: error: `third-law`: "
+            misfit = f"{place}`rw`: no occurrence of the path's left endpoint in the goal"
+            self.assertEqual(CHECK.judged(edit, misfit, crate), ([("other_first", None), ("other_third", None)], []))
+            self.assertTrue(CHECK.shows(dict(CHECK.judged(edit, f"{misfit}\n{place}expected type `x`", crate)[0])["other_third"]))
+
     def test_a_law_that_reaches_no_changed_definition_is_told(self):
         with tempfile.TemporaryDirectory() as folder:
             crate = pathlib.Path(folder, "c")
