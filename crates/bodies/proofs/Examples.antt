@@ -1,7 +1,8 @@
 -- The limits behind document 01's marked examples M9 and M10, for every event that the table
 -- allows, and the channels of request A9. M10 is read with the numbers of request A6.
 use Prim.Native.Nat.{ℕ, ◌≤◌}
-use mathlib.Core.Bool.{Bool, true, false, ◌&&◌}
+use Rattle.std.specs.Prelude.{leb}
+use mathlib.Core.Bool.{Bool, true, false, ◌&&◌, and-false}
 use mathlib.Core.Path.{◌≡◌, refl, ap}
 use native.Mathlib.Omega.{arith}
 use lib.IntN.{pos, negsuc}
@@ -11,15 +12,19 @@ use Rattle.bodies.specs.Limits.{postable, inside_kind, numbers_inside, channel_i
 use Rattle.bodies.proofs.LimitLaws.{argument_outside}
 
 module _ (channel event : ℕ) (least : 1 ≤ event) (most : event ≤ 99_999_999) where
+  -- inside the table's events only what is asked of the argument counts
+  event_then : (argument : Bool) → ((leb 1 event && leb event 99_999_999) && argument) ≡ argument
+  event_then argument = rw (le-leb 1 event least, le-leb event 99_999_999 most) refl
+
   -- a shift of -90,000 is an edit, one of -90,001 is not
   pub m9 : (postable (Shift channel event (negsuc 89_999)) ≡ true) × (postable (Shift channel event (negsuc 90_000)) ≡ false)
   unfolding postable inside_kind numbers_inside
-  m9 = simp (le-leb _ _ least, le-leb _ _ most) (refl, refl)
+  m9 = (event_then true, and-false (leb 1 event && leb event 99_999_999))
 
   -- a start of 2,699,999 is an edit's, 2,700,000 is not
   pub m10 : (postable (Insert channel event (pos 2_699_999)) ≡ true) × (postable (Insert channel event (pos 2_700_000)) ≡ false)
   unfolding postable inside_kind numbers_inside
-  m10 = simp (le-leb _ _ least, le-leb _ _ most) (refl, refl)
+  m10 = (event_then true, and-false (leb 1 event && leb event 99_999_999))
 
 -- whatever the event, no body has a start of 2,700,000
 pub m10_outside : (edition channel event : ℕ) → body_inside edition (Insert channel event (pos 2_700_000)) ≡ false

@@ -1,5 +1,7 @@
 // Bodies, and the refusal numbers.
 
+#![tactic(auto)]
+
 pub mod limits;
 
 ghost use Rattle.std.specs.Prelude.{◌≡◌};
@@ -9,7 +11,7 @@ pub mod refusals;
 
 // What a record carries: document 01's five kinds, each with its own numbers, and the channel of an
 // edit (document 02, A9).
-#[derive(Drop)]
+#[derive(Clone, Copy)]
 pub enum Body {
     Empty,
     Neutral,

@@ -8,7 +8,7 @@ ghost use Rattle.bodies.specs.Limits.{inside_kind, body_inside, postable, may_wa
 use super::Body;
 
 // One row of the table of kinds: the least and the most of its event and of its argument.
-#[derive(Drop)]
+#[derive(Clone, Copy)]
 pub struct Limits {
     pub least_event: u32,
     pub most_event: u32,

@@ -1,5 +1,7 @@
 // Labels: the successor, and what a seen record is beside the held one.
 
+#![tactic(auto)]
+
 pub mod words;
 
 ghost use Rattle.std.specs.Prelude.{◌≡◌};
@@ -7,7 +9,7 @@ ghost use Rattle.labels.specs.Label.{successor};
 ghost use Rattle.labels.specs.Newer.{age_of};
 
 // What is decided of a seen record beside the held one.
-#[derive(Drop)]
+#[derive(Clone, Copy)]
 pub enum Age {
     Newer,
     Same,

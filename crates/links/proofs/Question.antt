@@ -177,6 +177,7 @@ begin last (some u) = kept
 grow : (last w k have : ℕ) (a b : Option ℕ) → last ≤ w → Extends last w a b → Extends last (suc w) a (otherwise b k have (suc w))
 unfolding otherwise
 grow last w k have (some u) (some v) l kept = kept
+grow last w k have (some u) none l x3 = elim x3 [ ]
 grow last w k have none (some v) l (now x y) = now {u = v} x (omega arith)
 grow last w k have none none l still =
     elim (dec_le k have) [

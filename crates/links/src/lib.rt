@@ -1,4 +1,7 @@
 // Links between stations: who hears whom in a round (document 01, A group and its rounds).
+
+#![tactic(auto)]
+
 ghost use Rattle.std.specs.Prelude.{◌≡◌};
 ghost use Rattle.links.specs.Log.{bit, hears_in};
 

@@ -7,15 +7,13 @@ use mathlib.Core.Path.{◌≡◌, sym, ap₂, ◌∙◌}
 use lib.IntN.{ℤ}
 use lib.ListN.{length}
 use lib.Signed.{le_z}
-use borrow.Author.Rules.{rules}
 use borrow.Author.Tests.{le-ltb, lt-ltb, le-leb, lt-leb}
 use mir.Syntax.{w32}
 use mir.Val.{to_z, of_z, SFits}
 use mir.ValLaws.{to_z-of_z}
 use Rattle.bodies.specs.Limits.{kinds, limits_of, numbers_inside}
 use Rattle.bodies.proofs.LimitLaws.{limits_fit}
-use Rattle.bodies.proofs.limits.numbers_inside.Statement.{statement}
-use Rattle.bodies.proofs.limits.numbers_inside.Tie as tie
+use Rattle.bodies.proofs.limits.numbers_inside.Goals as goal
 
 -- two signed numbers compare as their bits do
 read :
@@ -51,42 +49,26 @@ module _ (k e : ℕ) (a : ℤ) (h : k < length kinds) where
         let t : le_z (limits_of k).least_argument a ≡ true = sym (read _ _ (limits_fit k).0 f) ∙ l in
         read _ _ f (limits_fit k).1 ∙ simp (lt-ltb _ _ h, le-leb _ _ p, le-leb _ _ q, t)
 
-returns : tie.Need-returns
+pub returns-then-at-ge5 : goal.returns-then-at-ge5
 unfolding numbers_inside
-returns c = simp (le-ltb _ _ c.if1.true)
+returns-then-at-ge5 c = simp (le-ltb _ _ c.if-at-ge5.true)
 
-returns-2 : tie.Need-returns-2
-returns-2 c =
-    let one = c.before.before.before in
-    let a = one.before.args in
-    early a.kind a.event a.argument one.if1.false c.if2.true
+pub returns-then-event-row : goal.returns-then-event-row
+returns-then-event-row c =
+    let a = c.args in
+    early a.kind a.event a.argument c.if-at-ge5.false c.if-event-row.true
 
-returns-3 : tie.Need-returns-3
-returns-3 c =
-    let two = c.before.before in
-    let one = two.before.before.before in
-    let a = one.before.args in
-    late a.kind a.event a.argument one.if1.false two.if2.false c.if3.true
+pub returns-then-row-event : goal.returns-then-row-event
+returns-then-row-event c =
+    let a = c.args in
+    late a.kind a.event a.argument c.if-at-ge5.false c.if-event-row.false c.if-row-event.true
 
-returns-4 : tie.Need-returns-4
-returns-4 c =
-    let four = c.before.before in
-    let three = four.before.before.before in
-    let two = three.before.before in
-    let one = two.before.before.before in
-    let s = one.before in
-    let a = s.args in
-    rest a.kind a.event a.argument one.if1.false two.if2.false three.if3.false s.ranges.argument four.if4.true
+pub returns-then-row-argument : goal.returns-then-row-argument
+returns-then-row-argument c =
+    let a = c.args in
+    rest a.kind a.event a.argument c.if-at-ge5.false c.if-event-row.false c.if-row-event.false c.ranges.argument c.if-row-argument.true
 
-returns-5 : tie.Need-returns-5
-returns-5 c =
-    let three = c.before.before.before in
-    let two = three.before.before in
-    let one = two.before.before.before in
-    let s = one.before in
-    let a = s.args in
-    low a.kind a.event a.argument one.if1.false two.if2.false three.if3.false s.ranges.argument c.if4.false
-
-pub numbers_inside_spec : {M : Type 1} → statement M
-numbers_inside_spec =
-    tie.close (tie.spec returns (λ c. search rules) (λ c. search rules) returns-2 returns-3 returns-4 returns-5)
+pub returns : goal.returns
+returns c =
+    let a = c.args in
+    low a.kind a.event a.argument c.if-at-ge5.false c.if-event-row.false c.if-row-event.false c.ranges.argument c.if-row-argument.false
