@@ -1,6 +1,7 @@
 -- Document 01, "Frame bytes" and "Turned down": reading a whole frame, and writing one into a lent
 -- buffer.
-use Rattle.std.specs.Prelude.{ℕ, Bool, false, cond, not, ◌&&◌, ◌||◌, List, ◌++◌, get_or, drop, length, replicate, ltb, eqb}
+use Rattle.std.specs.Prelude.{ℕ, Bool, false, cond, not, ◌&&◌, ◌||◌, List, ◌++◌, get_or, drop, length, replicate, ltb}
+use Rattle.std.specs.Prelude.{eqb}
 use Rattle.bodies.specs.declared.Body.{Body}
 use Rattle.bodies.specs.Refusals.{done, bad_number, bad_record, bad_edition, short_buffer}
 use Rattle.bodies.specs.Limits.{is_edition, body_inside}
@@ -41,7 +42,8 @@ buffer_with frame buffer = cond (ltb (length buffer) (length frame)) buffer (fra
 -- the record limits, and the sender's is among them
 unfoldable pub table_fits : (Body → Bool) → ℕ → ℕ → List Bool → List Record → Bool
 table_fits inside n sender held table =
-    all_below n (λ k. not (get_or held k false) || place_fits inside n k (get_or table k no_record)) && get_or held sender false
+    all_below n (λ k. not (get_or held k false) || place_fits inside n k (get_or table k no_record))
+    && get_or held sender false
 
 -- writing a frame judges N and the sender (1), the edition (17), then the records (7), then the
 -- buffer (9)

@@ -1,6 +1,7 @@
 -- Document 01, "Frame bytes" and "Turned down", and document 02, A9: a frame of an edition, its
 -- check with every refusal in its order, its records, and its bytes.
-use Rattle.std.specs.Prelude.{ℕ, pred, ◌+◌, ◌*◌, Bool, not, ◌&&◌, ◌||◌, List, [], ◌∷◌, ◌++◌, get_or, take, drop, length, leb, ltb, eqb}
+use Rattle.std.specs.Prelude.{ℕ, pred, ◌+◌, ◌*◌, Bool, not, ◌&&◌, ◌||◌, List, [], ◌∷◌, ◌++◌, get_or, take, drop, length}
+use Rattle.std.specs.Prelude.{leb, ltb, eqb}
 use Rattle.bodies.specs.declared.Body.{Body}
 use Rattle.bodies.specs.Refusals.{done, bad_number, bad_shape, bad_address, bad_record, bad_edition, refuse}
 use Rattle.bodies.specs.Limits.{is_edition}

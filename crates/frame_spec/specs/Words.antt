@@ -4,7 +4,8 @@ use Rattle.std.specs.Prelude.{ℕ, ◌+◌, ◌-◌, ◌*◌, ◌/◌, ◌%◌, 
 -- the number in four bytes from a place on
 unfoldable pub word_at : List ℕ → ℕ → ℕ
 word_at bytes at =
-    get_or bytes at 0 + 256 * get_or bytes (at + 1) 0 + 65_536 * get_or bytes (at + 2) 0 + 16_777_216 * get_or bytes (at + 3) 0
+    get_or bytes at 0 + 256 * get_or bytes (at + 1) 0 + 65_536 * get_or bytes (at + 2) 0
+    + 16_777_216 * get_or bytes (at + 3) 0
 
 -- a number as four bytes
 unfoldable pub word_bytes : ℕ → List ℕ

@@ -1,11 +1,13 @@
 // What a record is, and the answers of the calls on frames. The definitions of bytes, records and
 // frames and their laws stand beside; there is no code.
 
+#![tactic(auto)]
+
 use bodies::Body;
 
 // A record: the station it is of, its count, its body and its labels, that of station k at bits 2k
 // and 2k + 1.
-#[derive(Drop)]
+#[derive(Clone, Copy)]
 pub struct Record {
     pub station: u8,
     pub count: u8,
@@ -14,7 +16,7 @@ pub struct Record {
 }
 
 // What reading a frame answers: its records, or the refusal; entries that no record uses are zero.
-#[derive(Drop)]
+#[derive(Clone, Copy)]
 pub struct Reading {
     pub refusal: u32,
     pub count: usize,
@@ -22,7 +24,7 @@ pub struct Reading {
 }
 
 // What writing a frame answers: its length, or the refusal.
-#[derive(Drop)]
+#[derive(Clone, Copy)]
 pub struct Written {
     pub refusal: u32,
     pub len: usize,

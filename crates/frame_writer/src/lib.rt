@@ -1,5 +1,7 @@
 // The frame of a table of records, written into a lent buffer.
 
+#![tactic(auto)]
+
 pub mod maker;
 
 ghost use Rattle.std.specs.Prelude.{◌≡◌, cond, ◌≤◌, ◌<◌, length};

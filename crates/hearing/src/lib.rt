@@ -6,6 +6,8 @@
 //   lens[k]     how many bodies lane k has
 //   taken       the places of the records whose bodies are taken, in the order heard
 
+#![tactic(auto)]
+
 pub mod heeding;
 
 ghost use Rattle.std.specs.Prelude.{◌≡◌, ℕ, ◌<◌};

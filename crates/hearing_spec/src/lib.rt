@@ -1,13 +1,15 @@
 // What hearing keeps beside the bytes of the frames. The definitions that the functions of hearing
 // promise by, and their laws, stand beside; there is no code.
 
+#![tactic(auto)]
+
 // The room of a frame: four bytes, and sixteen records of sixteen. Frames in one buffer begin this
 // far apart.
 pub const FRAME_ROOM: usize = 260;
 
 // The numbers of a station that hearing changes, how many bodies are taken, and the refusal of the
 // first refused frame.
-#[derive(Drop)]
+#[derive(Clone, Copy)]
 pub struct Ear {
     pub refusal: u32,
     pub count: u8,

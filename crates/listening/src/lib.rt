@@ -1,5 +1,7 @@
 // A station hears: the frames of its mask in a round, or one frame beside its own.
 
+#![tactic(auto)]
+
 pub mod acting;
 
 ghost use Rattle.std.specs.Prelude.{ℕ, ◌<◌, ◌≡◌, length, replicate};

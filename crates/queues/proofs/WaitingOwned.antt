@@ -2,7 +2,7 @@
 -- tells.
 use mathlib.Core.List.{List}
 use mathlib.Core.Path.{◌≡◌}
-use lib.ListN.{length, length-map}
+use lib.ListN.{length}
 use mir.Val.{Val}
 use denote.Shadow.{shadow}
 use Rattle.queues.specs.declared.Queue.{Queue}
@@ -16,6 +16,6 @@ owned_sized w vs h =
     record {
       slots =
           each_queue (λ (q : Queue). length q.slots ≡ queue_capacity) w
-          (simp length-map at h.1.1.1.0.1.1.1.0.1.0.1)
-          (simp length-map at h.1.1.1.1.0.1.1.1.0.1.0.1);
+          h.1.1.1.0.1.1.1.0.1.0.1
+          h.1.1.1.1.0.1.1.1.0.1.0.1;
     }

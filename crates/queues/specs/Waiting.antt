@@ -82,7 +82,8 @@ next_edit w = oldest (queue_of w (next_desk w))
 -- what waits once the next edit has started: the other desk goes first, also where this one waited
 -- alone
 unfoldable pub without_next : Waiting → Waiting
-without_next w = with_first (with_queue w (next_desk w) (unqueued (queue_of w (next_desk w)))) (other_desk (next_desk w))
+without_next w =
+    with_first (with_queue w (next_desk w) (unqueued (queue_of w (next_desk w)))) (other_desk (next_desk w))
 
 -- "Limits": the limit may be one, no more of a desk wait than the limit, and each may wait
 unfoldable pub waiting_inside : (Body → Bool) → Waiting → Bool

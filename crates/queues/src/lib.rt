@@ -1,6 +1,8 @@
 // A lane of at most two bodies, and the edits that wait to start: a queue for each of two desks,
 // oldest first.
 
+#![tactic(auto)]
+
 ghost use Rattle.std.specs.Prelude.{◌≡◌, true, cond, not, ◌≤◌, ◌<◌, ltb};
 ghost use Rattle.bodies.specs.Limits.{body_inside};
 ghost use Rattle.queues.specs.Lane as lane_spec;
@@ -10,13 +12,13 @@ ghost use Rattle.queues.specs.Waiting as waiting_spec;
 use bodies::Body;
 
 // A body in an array.
-#[derive(Drop)]
+#[derive(Clone, Copy)]
 pub struct Slot {
     pub body: Body,
 }
 
 // The bodies taken from one station that are in no row yet, oldest first.
-#[derive(Drop)]
+#[derive(Clone, Copy)]
 pub struct Lane {
     pub len: u8,
     pub first: Body,
@@ -30,7 +32,7 @@ pub const QUEUE_CAPACITY: usize = 32;
 pub const DEFAULT_LIMIT: usize = 8;
 
 // Edits in the order posted, oldest first.
-#[derive(Drop)]
+#[derive(Clone, Copy)]
 pub struct Queue {
     pub len: usize,
     pub slots: [Slot; QUEUE_CAPACITY],
@@ -38,7 +40,7 @@ pub struct Queue {
 
 // The edits of a station that wait to start, those of desk 0 and those of desk 1; how many of a
 // desk may wait, the station's limit; and whether desk 1 goes first where both wait.
-#[derive(Drop)]
+#[derive(Clone, Copy)]
 pub struct Waiting {
     pub limit: usize,
     pub queue0: Queue,

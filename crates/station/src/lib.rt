@@ -1,5 +1,7 @@
 // The calls of a station: fresh, post and turn here, those that write or hear a frame in `frames`.
 
+#![tactic(auto)]
+
 pub mod beginning;
 pub mod frames;
 pub mod heard;

@@ -1,6 +1,8 @@
 // When a station is inside its limits. Entries from N up, places past a length, and records that
 // are not held are not looked at.
 
+#![tactic(auto)]
+
 ghost use Rattle.std.specs.Prelude.{◌≡◌, cond, not, ◌||◌, ◌≤◌, ◌<◌, eqb};
 ghost use Rattle.bodies.specs.Limits.{body_inside};
 ghost use Rattle.frame_spec.specs.Record.{count_inside};

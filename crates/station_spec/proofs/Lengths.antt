@@ -3,7 +3,7 @@
 use Prim.Native.Nat.{ℕ, zero, suc, ◌<◌}
 use native.Mathlib.Omega.{arith}
 use mathlib.Core.List.{List, [], ◌∷◌}
-use lib.ListN.{get_or, length, length-map}
+use lib.ListN.{get_or, length}
 use mir.Val.{Val}
 use base.Fml.{Fml}
 use denote.Shadow.{shadow}
@@ -27,16 +27,16 @@ each_at own (x ∷ xs) (u ∷ us) h (suc i) d l = each_at own xs us h.1 i d (ome
 
 -- what owning a station tells
 abbrev pub Owned : Station → Type 0
-Owned s = shadow ((Struct.Declared.row Declared.the_type).own s (Laws.val Declared.the_type DeclaredLaws.the_laws s ∷ []))
+Owned s = shadow ((Struct.Declared.row Declared.the_type).own_val s (Laws.val Declared.the_type DeclaredLaws.the_laws s ∷ []))
 
-pub lengths_at : (s : Station) (vs : List Val) → shadow ((Struct.Declared.row Declared.the_type).own s vs) → Shaped s
+pub lengths_at : (s : Station) (vs : List Val) → shadow ((Struct.Declared.row Declared.the_type).own_val s vs) → Shaped s
 lengths_at s vs h =
     record {
-      acked = simp length-map at h.1.1.1.1.1.1.0.1.0.1;
-      labels = simp length-map at h.1.1.1.1.1.1.1.1.1.0.1.0.1;
-      held = simp length-map at h.1.1.1.1.1.1.1.1.1.1.0.1.0.1;
-      table = simp length-map at h.1.1.1.1.1.1.1.1.1.1.1.0.1.0.1;
-      lanes = simp length-map at h.1.1.1.1.1.1.1.1.1.1.1.1.0.1.0.1;
+      acked = h.1.1.1.1.1.1.0.1.0.1;
+      labels = h.1.1.1.1.1.1.1.1.1.0.1.0.1;
+      held = h.1.1.1.1.1.1.1.1.1.1.0.1.0.1;
+      table = h.1.1.1.1.1.1.1.1.1.1.1.0.1.0.1;
+      lanes = h.1.1.1.1.1.1.1.1.1.1.1.1.0.1.0.1;
       waiting = owned_sized s.waiting _ h.1.1.1.1.1.0;
     }
 

@@ -58,7 +58,7 @@ frame_carried s bytes h = go (get_or bytes 2 0) (omega arith)
         (and_left (all_below (get_or bytes 2 0) fine) (any_below (get_or bytes 2 0) (λ k. eqb (record_station bytes k) (get_or bytes 1 0))) h) k l))
 
     go : (m : ℕ) → m ≤ get_or bytes 2 0 → AllCarried (allowed s) s.n (tabulate m (λ k. frames.record_from (part bytes k)))
-    go m = elim m [
+    go m = elim m as (λ i. i ≤ get_or bytes 2 0 → AllCarried (allowed s) s.n (tabulate i (λ k. frames.record_from (part bytes k)))) [
       | zero ↦ λ l. unfold tabulate in tt
       | suc (j → ih) ↦
           λ l. unfold tabulate in

@@ -1,6 +1,7 @@
 -- Document 01, "A station and its calls" and "Turned down": the open calls, each with its refusals
 -- in their order.
-use Rattle.std.specs.Prelude.{ℕ, ◌+◌, Bool, true, false, cond, not, List, [], ◌∷◌, ◌++◌, set, replicate, length, drop, ltb, eqb}
+use Rattle.std.specs.Prelude.{ℕ, ◌+◌, Bool, true, false, cond, not, List, [], ◌∷◌, ◌++◌, set, replicate, length, drop}
+use Rattle.std.specs.Prelude.{ltb, eqb}
 use Rattle.bodies.specs.declared.Body.{Body}
 use Rattle.bodies.specs.declared.Body.TheVariants.{Empty}
 use Rattle.bodies.specs.Limits.{is_edition, postable, on_channel}

@@ -1,13 +1,15 @@
 // What a station is, and the answers of its calls. The definitions of the calls and their laws
 // stand beside; there is no code.
 
+#![tactic(auto)]
+
 use bodies::Body;
 use frame_spec::Record;
 use queues::{Lane, Slot, Waiting};
 
 // What a fresh station or group is given: N, how many edits of a desk may wait at a station, and
 // the edition.
-#[derive(Drop)]
+#[derive(Clone, Copy)]
 pub struct Setup {
     pub n: usize,
     pub limit: usize,
@@ -15,7 +17,7 @@ pub struct Setup {
 }
 
 // A station, place by place: what it has of station k stands at place k of each array.
-#[derive(Drop)]
+#[derive(Clone, Copy)]
 pub struct Station {
     pub n: usize,
     pub own: usize,
@@ -31,14 +33,14 @@ pub struct Station {
 }
 
 // A body taken while hearing, and the station it is of.
-#[derive(Drop)]
+#[derive(Clone, Copy)]
 pub struct Taking {
     pub source: u8,
     pub body: Body,
 }
 
 // What a turn reports: the aired row, the ended and the started body; Empty where there is none.
-#[derive(Drop)]
+#[derive(Clone, Copy)]
 pub struct TurnReport {
     pub aired: bool,
     pub row: [Slot; 16],
@@ -48,14 +50,14 @@ pub struct TurnReport {
 }
 
 // The answer of fresh and of post.
-#[derive(Drop)]
+#[derive(Clone, Copy)]
 pub struct StationAnswer {
     pub refusal: u32,
     pub station: Station,
 }
 
 // The answer of hear: the station, and from which stations a body was taken.
-#[derive(Drop)]
+#[derive(Clone, Copy)]
 pub struct Heard {
     pub refusal: u32,
     pub station: Station,
@@ -63,7 +65,7 @@ pub struct Heard {
 }
 
 // The answer of turn.
-#[derive(Drop)]
+#[derive(Clone, Copy)]
 pub struct Turned {
     pub refusal: u32,
     pub station: Station,

@@ -10,7 +10,7 @@ use bodies::Body;
 use queues::{Lane, Slot};
 
 // Whether a row is aired, the row, and the lanes that are left.
-#[derive(Drop)]
+#[derive(Clone, Copy)]
 pub struct Aired {
     pub aired: bool,
     pub row: [Slot; 16],

@@ -1,6 +1,8 @@
 // A turn: the row that is aired, the end of the broadcast and the next start, the own record
 // rewritten.
 
+#![tactic(auto)]
+
 pub mod airing;
 pub mod parts;
 
