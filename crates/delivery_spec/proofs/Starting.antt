@@ -23,7 +23,7 @@ use Rattle.group_spec.proofs.Begin.{begins_refl, begins-take, begins-length}
 use Rattle.group_spec.proofs.Takings.{only_edits-append, posts_of-append}
 use Rattle.group_spec.proofs.Interleaving.{interleave, interleaved-length}
 use Rattle.group_spec.proofs.PostsAccounted.{Kept, kept_next, bodies_next}
-use Rattle.group_spec.proofs.Fairness.{first_of, mine, theirs, Step.still, Step.own, Step.other, step, count_waits}
+use Rattle.group_spec.proofs.Fairness.{first_desk_of, mine, theirs, Step.still, Step.own, Step.other, step, count_waits}
 use Rattle.group_spec.proofs.Continued.{next_accepted, next_starts, next-started}
 use Rattle.group_spec.proofs.EditPlaces.{post_place, edit_place, edit_begins, from_begins, from_length, from_desk}
 
@@ -101,7 +101,7 @@ module _ (n p d : ℕ) (below : p < n) (desk : is_desk d ≡ true) where
       pub least : theirs₀ ≤ others J
       pub bodies : length (started J p) + mine₀ + theirs₀ ≡ made + ours J + others J
       pub fair : others J + mine₀ ≤ ours J + theirs₀ + 1
-      pub turn : others J + mine₀ ≡ ours J + theirs₀ + 1 → first_of n p d below desk J ≡ d
+      pub turn : others J + mine₀ ≡ ours J + theirs₀ + 1 → first_desk_of n p d below desk J ≡ d
 
     -- the edit has started, when the other desk had started so many
     pub record Begun (J : History) : Type 0 where

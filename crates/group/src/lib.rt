@@ -1,5 +1,7 @@
 // A group of stations as it begins, and its posts.
 
+#![tactic(auto)]
+
 pub mod limits;
 
 ghost use Rattle.std.specs.Prelude.{◌≡◌, ◌≤◌};

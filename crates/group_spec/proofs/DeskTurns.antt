@@ -7,6 +7,7 @@ use mathlib.Core.List.{List, [], ◌∷◌, ◌++◌, append-nil}
 use mathlib.Core.Path.{◌≡◌, refl, sym, ap, subst, ◌∙◌}
 use native.Mathlib.Decide.{ℕ_discrete}
 use native.Mathlib.Omega.{arith}
+use lib.Dec.{eqb}
 use borrow.Author.Tests.{eq-eqb, ne_eqb}
 use Rattle.bodies.specs.declared.Body.{Body}
 use Rattle.bodies.specs.Body.{is_edit}
@@ -33,7 +34,7 @@ use Rattle.group_spec.proofs.PostsAccounted.{post_first, round_first, desk_start
 first_append : (p f : ℕ) (xs ys : List Post) → first_after p f (xs ++ ys) ≡ first_after p (first_after p f xs) ys
 unfolding first_after
 first_append p f [] ys = refl
-first_append p f (x ∷ xs) ys = first_append p _ xs ys
+first_append p f (x ∷ xs) ys = first_append p (cond (eqb x.station p) (other_desk x.desk) f) xs ys
 
 module _ (test : ℕ → Bool) (desk : ℕ → ℕ) (body : ℕ → Body) (p f : ℕ) where
   abbrev made : ℕ → List Post

@@ -30,8 +30,8 @@ use Rattle.group_spec.proofs.PostsAccounted.{waits, accepts, post_waits, post_fi
 use Rattle.group_spec.proofs.DeskTurns.{starts_post, starts_round}
 
 module _ (n p d : ℕ) (below : p < n) (desk : is_desk d ≡ true) where
-  abbrev pub first_of : History → ℕ
-  first_of H = first_desk (station_at H.group p).waiting
+  abbrev pub first_desk_of : History → ℕ
+  first_desk_of H = first_desk (station_at H.group p).waiting
 
   abbrev pub mine : History → ℕ
   mine H = length (starts_of H p d)
@@ -41,11 +41,11 @@ module _ (n p d : ℕ) (below : p < n) (desk : is_desk d ≡ true) where
 
   -- what one call may do
   pub data Step (H J : History) : Type 0 where
-    still : mine J ≡ mine H → theirs J ≡ theirs H → first_of J ≡ first_of H → waiting_at_desk H p d ≤ waiting_at_desk J p d → Step H J
+    still : mine J ≡ mine H → theirs J ≡ theirs H → first_desk_of J ≡ first_desk_of H → waiting_at_desk H p d ≤ waiting_at_desk J p d → Step H J
     own : mine J ≡ mine H + 1 → Step H J
     other :
-        mine J ≡ mine H → theirs J ≡ theirs H + 1 → first_of J ≡ d → waiting_at_desk H p d ≤ waiting_at_desk J p d →
-        (first_of H ≡ d → 0 < waiting_at_desk H p d → ⊥) → Step H J
+        mine J ≡ mine H → theirs J ≡ theirs H + 1 → first_desk_of J ≡ d → waiting_at_desk H p d ≤ waiting_at_desk J p d →
+        (first_desk_of H ≡ d → 0 < waiting_at_desk H p d → ⊥) → Step H J
 
   -- as many wait as the list of them is long
   pub count_waits : (H : History) → Members n H.group → length (waits H.group p d) ≡ waiting_at_desk H p d
@@ -98,7 +98,7 @@ module _ (n p d : ℕ) (below : p < n) (desk : is_desk d ≡ true) where
               ∙ length-append (posts_of p d _) (waits (round_call H.group masks).group p d)
               ∙ ap (λ (z : List Body). length z + length (waits (round_call H.group masks).group p d)) (desk_starts n H.group c masks p below d))
 
-      first_after : first_of J ≡ cond (is_edit body) (other_desk (next_desk w)) (first_of H)
+      first_after : first_desk_of J ≡ cond (is_edit body) (other_desk (next_desk w)) (first_desk_of H)
       unfolding J w body
       first_after = unfold next in (round_first n H.group c masks p below)
 
@@ -109,7 +109,7 @@ module _ (n p d : ℕ) (below : p < n) (desk : is_desk d ≡ true) where
           starts_is t e k u f = rw (e, f)
 
           -- a desk that goes first and waits is next
-          turn : first_of H ≡ d → 0 < waiting_at_desk H p d → next_desk w ≡ d
+          turn : first_desk_of H ≡ d → 0 < waiting_at_desk H p d → next_desk w ≡ d
           turn f some =
               unfold w in
               (first_next (station_at H.group p).waiting
@@ -155,7 +155,7 @@ module _ (n p d : ℕ) (below : p < n) (desk : is_desk d ≡ true) where
 
   -- k of the other have started since
   fair_from :
-      (H : History) (more : List Call) (k : ℕ) → Members n H.group → 0 < waiting_at_desk H p d → k ≤ 1 → (k ≡ 1 → first_of H ≡ d) →
+      (H : History) (more : List Call) (k : ℕ) → Members n H.group → 0 < waiting_at_desk H p d → k ≤ 1 → (k ≡ 1 → first_desk_of H ≡ d) →
       mine (continued H more) ≡ mine H → theirs (continued H more) + k ≤ theirs H + 1
   unfolding continued
   fair_from H [] k c some l f e = omega arith

@@ -119,7 +119,8 @@ taken_from H p s =
 -- the edits of a row, each with its source, in station order
 unfoldable pub edits_of : ℕ → List Slot → List Taking
 edits_of n row =
-    filter_map n (λ k. is_edit (get_or row k no_slot).body) (λ k. record { source = k; body = (get_or row k no_slot).body })
+    filter_map n (λ k. is_edit (get_or row k no_slot).body)
+    (λ k. record { source = k; body = (get_or row k no_slot).body })
 
 -- the term "aired list", of station p among n
 unfoldable pub aired_list : ℕ → History → ℕ → List Taking

@@ -1,11 +1,13 @@
 // The answers of a group's calls. The definitions of the calls, their laws and demand 3 stand
 // beside; there is no code.
 
+#![tactic(auto)]
+
 use bodies::Body;
 use station_spec::{Station, Taking, TurnReport};
 
 // What a group post is given: the station it is made at, the desk that makes it, and the body.
-#[derive(Drop)]
+#[derive(Clone, Copy)]
 pub struct Post {
     pub station: usize,
     pub desk: usize,
@@ -13,7 +15,7 @@ pub struct Post {
 }
 
 // What a round reports of one station: the bodies it took in the order heard, and its turn.
-#[derive(Drop)]
+#[derive(Clone, Copy)]
 pub struct Report {
     pub takings_len: usize,
     pub takings: [Taking; 30],
@@ -21,7 +23,7 @@ pub struct Report {
 }
 
 // The answer of fresh and of post.
-#[derive(Drop)]
+#[derive(Clone, Copy)]
 pub struct GroupAnswer {
     pub refusal: u32,
     pub group: [Station; 16],
@@ -29,7 +31,7 @@ pub struct GroupAnswer {
 
 // The answer of a round. The refusal is as wide as the numbers of a station, so that nothing stands
 // unused between it and the group.
-#[derive(Drop)]
+#[derive(Clone, Copy)]
 pub struct RoundDone {
     pub refusal: usize,
     pub group: [Station; 16],

@@ -16,7 +16,7 @@ use Rattle.group_spec.proofs.Members.{GroupShaped}
 
 -- what owning a group tells
 abbrev pub OwnedGroup : List Station → List Val → Type 0
-OwnedGroup g vs = shadow (in_array Station (Struct.Declared.row Declared.the_type).own 16 g vs)
+OwnedGroup g vs = shadow (in_array Station (Struct.Declared.row Declared.the_type).own_val 16 g vs)
 
 pub group_lengths : (g : List Station) (vs : List Val) → OwnedGroup g vs → GroupShaped g
 group_lengths g vs h =
@@ -25,6 +25,6 @@ group_lengths g vs h =
       places = long;
       stations =
           λ k l.
-          let o = each_at (Struct.Declared.row Declared.the_type).own g h.0 h.1.1 k no_station (omega arith) in
+          let o = each_at (Struct.Declared.row Declared.the_type).own_val g h.0 h.1.1 k no_station (omega arith) in
           lengths_at (station_at g k) (o.0 ∷ []) o.1;
     }

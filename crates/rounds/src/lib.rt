@@ -1,5 +1,7 @@
 // The rounds of a group.
 
+#![tactic(auto)]
+
 pub mod sending;
 
 ghost use Rattle.std.specs.Prelude.{◌≡◌};
