@@ -1,6 +1,7 @@
 -- What the inner functions promise to each other: the digits of a number, and the place of a kept
 -- line in a listing.
-use Rattle.std.specs.Prelude.{ℕ, ◌+◌, ◌<◌, ◌≤◌, Bool, true, false, cond, ◌&&◌, List, [], ◌∷◌, ◌≡◌, leb, ltb, eqb, length, take, drop, get_or}
+use Rattle.std.specs.Prelude.{ℕ, ◌+◌, ◌<◌, ◌≤◌, Bool, true, false, cond, ◌&&◌, List, [], ◌∷◌, ◌≡◌, leb, ltb, eqb}
+use Rattle.std.specs.Prelude.{length, take, drop, get_or}
 use Rattle.columns.specs.declared.reader.Reading.TheVariants.{Blank}
 use Rattle.columns.specs.Reading.{read_from, read_columns}
 use Rattle.air_logs_spec.specs.Form.{is_listing}

@@ -2,6 +2,8 @@
 // station, and two logs side by side. No number is worked out: it can stand in its columns in one
 // way only, so two edits are the same exactly if their bytes are.
 
+#![tactic(auto)]
+
 ghost use Rattle.std.specs.Prelude.{true, ◌≡◌, ◌+◌, ◌%◌, ◌≤◌, ◌<◌, length, drop};
 ghost use Rattle.columns.specs.Reading.{read_columns};
 ghost use Rattle.script.specs.Line.{is_natural, is_whole};

@@ -1,6 +1,7 @@
 -- Document 02, A8: how two air logs compare, the call with its refusals, and the claim about two
 -- logs of one listing.
-use Rattle.std.specs.Prelude.{ℕ, suc, ◌+◌, ◌≤◌, Bool, cond, not, ◌&&◌, ◌||◌, List, [], ◌∷◌, ◌++◌, ◌≡◌, ltb, eqb, ℤ, length}
+use Rattle.std.specs.Prelude.{ℕ, suc, ◌+◌, ◌≤◌, Bool, cond, not, ◌&&◌, ◌||◌, List, [], ◌∷◌, ◌++◌, ◌≡◌, ltb, eqb, ℤ}
+use Rattle.std.specs.Prelude.{length}
 use Rattle.std.specs.Int.Signed.{le_z}
 use Rattle.bodies.specs.Refusals.{done, bad_number, bad_listing, refuse}
 use Rattle.listing_spec.specs.Listing.{listing_of}

@@ -1,6 +1,7 @@
 -- Document 02, A8: when bytes are a listing. Its lines, and the last one, are those of document 01,
 -- "The relay listing": what lines/specs writes is read here.
-use Rattle.std.specs.Prelude.{ℕ, Bool, true, false, cond, ◌&&◌, ◌||◌, List, [], ◌∷◌, ◌++◌, eqb, get_or, take, drop, length}
+use Rattle.std.specs.Prelude.{ℕ, Bool, true, false, cond, ◌&&◌, ◌||◌, List, [], ◌∷◌, ◌++◌, eqb, get_or, take, drop}
+use Rattle.std.specs.Prelude.{length}
 use Rattle.columns.specs.declared.reader.Reading.{Reading}
 use Rattle.columns.specs.Reading.{read_columns}
 use Rattle.script.specs.Line.{is_natural, is_whole}

@@ -1,9 +1,11 @@
 // What the comparison of two air logs answers. The definitions and theorems about it stand beside;
 // there is no code.
 
+#![tactic(auto)]
+
 // The two logs are equal; the first is a beginning of the second, or the second of the first; they
 // differ at a position, counted from 1; or a number or a listing is refused.
-#[derive(Drop)]
+#[derive(Clone, Copy)]
 pub enum Compared {
     Equal,
     FirstBegins,

@@ -1,5 +1,6 @@
 -- Document 01, "The relay listing": a number written right-justified in its columns.
-use Rattle.std.specs.Prelude.{ℕ, zero, suc, ◌+◌, ◌*◌, ◌/◌, ◌%◌, ◌^◌, ◌<◌, ◌≡◌, Bool, true, false, cond, List, [], ◌∷◌, ◌++◌, replicate, ltb, ℤ, pos, nat_abs}
+use Rattle.std.specs.Prelude.{ℕ, zero, suc, ◌+◌, ◌*◌, ◌/◌, ◌%◌, ◌^◌, ◌<◌, ◌≡◌, Bool, true, false, cond, List, [], ◌∷◌}
+use Rattle.std.specs.Prelude.{◌++◌, replicate, ltb, ℤ, pos, nat_abs}
 use Rattle.std.specs.Int.Signed.{lt_z}
 
 -- what stands in the w columns before the first digit: blanks, or blanks with a minus in the last

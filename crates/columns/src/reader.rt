@@ -5,7 +5,7 @@ ghost use Rattle.columns.specs.Reading.{digit_of, started, grown, next, read_col
 
 // What is read so far: blanks only, a minus, a number behind a minus or not, or no number in its
 // columns.
-#[derive(Drop)]
+#[derive(Clone, Copy)]
 pub enum Reading {
     Blank,
     Minus,

@@ -1,5 +1,7 @@
 // One script line applied to a session, and the listing that comes of it.
 
+#![tactic(auto)]
+
 pub mod commands;
 pub mod ends;
 

@@ -1,5 +1,7 @@
 // Listing lines, written into a lent buffer.
 
+#![tactic(auto)]
+
 pub mod rounds;
 
 ghost use Rattle.std.specs.Prelude.{◌≡◌, ◌+◌, ◌-◌, ◌≤◌, length};

@@ -43,7 +43,8 @@ pub record Listed
     : Type 0 where
   pub inside : read ≤ length part
   pub put : Put entry exit 0 len (take len exit)
-  pub lists : (more : List ℕ) → remaining_at s held (take read part ++ more) ≡ take len exit ++ remaining_at s' held' more
+  pub lists : (more : List ℕ) →
+      remaining_at s held (take read part ++ more) ≡ take len exit ++ remaining_at s' held' more
 
 -- what feeding a part promises; of a part that is not empty something is read
 pub record Feeds (r : Reader) (part entry exit : List ℕ) (f : FeedAnswer) : Type 0 where

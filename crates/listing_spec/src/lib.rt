@@ -1,13 +1,15 @@
 // Where a script stands, and the answer of a line. The listing of a whole script and its laws stand
 // beside; there is no code.
 
+#![tactic(auto)]
+
 pub mod reading;
 
 use station_spec::Station;
 
 // Where a script stands: the group's size, 0 before the `N` line; the rounds done; whether the
 // reading has stopped; the group.
-#[derive(Drop)]
+#[derive(Clone, Copy)]
 pub struct Session {
     pub n: usize,
     pub rounds: u32,
@@ -16,7 +18,7 @@ pub struct Session {
 }
 
 // A session after a line, and how many bytes the line put into the buffer.
-#[derive(Drop)]
+#[derive(Clone, Copy)]
 pub struct Applied {
     pub len: usize,
     pub session: Session,

@@ -8,7 +8,7 @@ pub const KEPT: usize = 146;
 
 // Where the reading stands: the session after the lines read, and the bytes of a line whose line
 // end is still to come.
-#[derive(Drop)]
+#[derive(Clone, Copy)]
 pub struct Reader {
     pub session: Session,
     pub len: usize,
@@ -16,7 +16,7 @@ pub struct Reader {
 }
 
 // A reader after a part: how many bytes of the part it read, and how many it put into the buffer.
-#[derive(Drop)]
+#[derive(Clone, Copy)]
 pub struct FeedAnswer {
     pub read: usize,
     pub len: usize,

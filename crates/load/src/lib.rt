@@ -1,6 +1,8 @@
 // A load that everyone can repeat: the lines of a script, drawn round by round and written into a
 // lent buffer.
 
+#![tactic(auto)]
+
 ghost use Rattle.std.specs.Prelude.{◌≡◌, ◌+◌, ◌*◌, ◌%◌, ◌^◌, ◌≤◌, [], ◌∷◌, length, if◌then◌else◌};
 ghost use Rattle.lists.specs.Below.{tabulate};
 ghost use Rattle.columns.specs.Writing.{nat_columns};

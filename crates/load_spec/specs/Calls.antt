@@ -31,7 +31,8 @@ call_state state n due head = cond (head || eqb due 0) state (after_round n stat
 -- 1, then 9
 unfoldable pub call_refusal : ℕ → ℕ → ℕ → Bool → ℕ → ℕ
 call_refusal state n due head room =
-    refuse (not (numbers_fit n due)) bad_number (refuse (ltb room (length (call_text state n due head))) short_buffer done)
+    refuse (not (numbers_fit n due)) bad_number
+    (refuse (ltb room (length (call_text state n due head))) short_buffer done)
 
 -- the answer, for a buffer of so many bytes: length and next state, or the refusal, length 0 and
 -- the state as given
@@ -45,7 +46,8 @@ generated state n due head room =
 -- was
 unfoldable pub buffer_after : ℕ → ℕ → ℕ → Bool → List ℕ → List ℕ
 buffer_after state n due head buffer =
-    cond (eqb (call_refusal state n due head (length buffer)) done) (placed buffer 0 (call_text state n due head)) buffer
+    cond (eqb (call_refusal state n due head (length buffer)) done)
+    (placed buffer 0 (call_text state n due head)) buffer
 
 -- The call from C names what is wanted by a number: the `N` line for any but 0.
 abbrev pub wanted : ℕ → Bool

@@ -1,5 +1,7 @@
 // A script read in parts of any size, and the listing that comes of it.
 
+#![tactic(auto)]
+
 pub mod steps;
 
 ghost use Rattle.std.specs.Prelude.{◌≡◌, ◌≤◌, length};

@@ -9,7 +9,7 @@ use listing_spec::reading::{KEPT, Reader};
 
 // Bytes taken into a line, up to a line end or to the end of the part: the place behind them, and
 // how many bytes of the line are held then.
-#[derive(Drop)]
+#[derive(Clone, Copy)]
 pub struct LineScan {
     pub next: usize,
     pub len: usize,

@@ -1,6 +1,7 @@
 -- Document 01, "The relay listing": what a script line, without its line end, says; or that it is
 -- malformed.
-use Rattle.std.specs.Prelude.{ℕ, ◌+◌, ◌*◌, Bool, true, false, cond, ◌&&◌, List, get_or, take, drop, length, leb, ltb, eqb, ℤ, pos, neg_ℤ}
+use Rattle.std.specs.Prelude.{ℕ, ◌+◌, ◌*◌, Bool, true, false, cond, ◌&&◌, List, get_or, take, drop, length, leb, ltb}
+use Rattle.std.specs.Prelude.{eqb, ℤ, pos, neg_ℤ}
 use Rattle.lists.specs.Below.{all_below, tabulate}
 use Rattle.columns.specs.declared.reader.Reading.{Reading}
 use Rattle.columns.specs.declared.reader.Reading.TheVariants.{Blank, Minus, Number, Malformed}

@@ -1,5 +1,7 @@
 // Script lines, read into commands.
 
+#![tactic(auto)]
+
 ghost use Rattle.std.specs.Prelude.{◌≡◌, ◌≤◌};
 ghost use Rattle.script.specs.Line.{highest_number, is_whole, natural_of, signed_of, whole_of};
 ghost use Rattle.script.specs.Line.{field_of, shaped, size_line, post_shaped, post_line};
@@ -11,7 +13,7 @@ use columns::reader::Reading;
 const NO_NUMBER: u32 = 1_000_000_000;
 
 // What a line says. The masks of a round are read from the line by `masks`.
-#[derive(Drop)]
+#[derive(Clone, Copy)]
 pub enum Command {
     Size {
         n: usize,
