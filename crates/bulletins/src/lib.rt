@@ -1,5 +1,7 @@
 // The calls on the bulletins of a group (document 02, A12).
 
+#![tactic(auto)]
+
 pub mod issuing;
 pub mod limits;
 pub mod order;

@@ -2,7 +2,7 @@
 -- array says how many entries it has.
 use mathlib.Core.List.{List}
 use mathlib.Core.Path.{◌≡◌}
-use lib.ListN.{length, length-map}
+use lib.ListN.{length}
 use mir.Val.{Val}
 use denote.Shadow.{shadow}
 use denote.Struct as Struct
@@ -14,10 +14,10 @@ pub record Shaped (B : Bulletins) : Type 0 where
   pub events : length B.events ≡ 64
   pub held : length B.held ≡ 16
 
-pub lengths_at : (B : Bulletins) (vs : List Val) → shadow ((Struct.Declared.row Declared.the_type).own B vs) → Shaped B
+pub lengths_at : (B : Bulletins) (vs : List Val) → shadow ((Struct.Declared.row Declared.the_type).own_val B vs) → Shaped B
 lengths_at B vs h =
     record {
-      tags = simp length-map at h.1.1.1.0.1.0.1;
-      events = simp length-map at h.1.1.1.1.0.1.0.1;
-      held = simp length-map at h.1.1.1.1.1.0.1.0.1;
+      tags = h.1.1.1.0.1.0.1;
+      events = h.1.1.1.1.0.1.0.1;
+      held = h.1.1.1.1.1.0.1.0.1;
     }

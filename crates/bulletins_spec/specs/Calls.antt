@@ -1,5 +1,6 @@
 -- Document 02, A12: fresh, issue and round, each with its refusals in their order.
-use Rattle.std.specs.Prelude.{ℕ, zero, suc, ◌+◌, ◌*◌, ◌-◌, ◌^◌, Bool, cond, not, ◌&&◌, ◌||◌, List, [], ◌++◌, leb, ltb, eqb, length, replicate, set, take}
+use Rattle.std.specs.Prelude.{ℕ, zero, suc, ◌+◌, ◌*◌, ◌-◌, ◌^◌, Bool, cond, not, ◌&&◌, ◌||◌, List, [], ◌++◌, leb, ltb}
+use Rattle.std.specs.Prelude.{eqb, length, replicate, set, take}
 use Rattle.std.specs.Int.Bits.{bit_or}
 use Rattle.bodies.specs.Refusals.{done, bad_number, outside_limits, not_an_edit, already_issued, refuse}
 use Rattle.links.specs.Log.{bit, hears_in}
@@ -114,7 +115,8 @@ fits g B = bulletins_inside B && eqb (size_of g) B.n
 -- round gives (2, 10, then 14 or 8)
 unfoldable pub round_part : List Station → Bulletins → List ℕ → RoundDone
 round_part g B masks =
-    cond (fits g B) (round_call g masks) (record { refusal = outside_limits; group = g; reports = replicate 16 no_report })
+    cond (fits g B) (round_call g masks)
+    (record { refusal = outside_limits; group = g; reports = replicate 16 no_report })
 
 -- a round of the group and of its bulletins, on the same masks
 unfoldable pub bulletins_round_call : List Station → Bulletins → List ℕ → BulletinsRound

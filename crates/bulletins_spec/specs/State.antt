@@ -64,4 +64,5 @@ bulletins_inside B =
 
 -- nobody holds anything
 unfoldable pub fresh_bulletins : ℕ → Bulletins
-fresh_bulletins n = record { n = n; tags = replicate all_places 0; events = replicate all_places 0; held = replicate 16 0 }
+fresh_bulletins n =
+    record { n = n; tags = replicate all_places 0; events = replicate all_places 0; held = replicate 16 0 }

@@ -1,6 +1,8 @@
 // The link contest (document 02, A13). Of one station s, the set at place p has the stations of
 // which p knows that they have the broadcast of s.
 
+#![tactic(auto)]
+
 ghost use Rattle.std.specs.Prelude.{◌≡◌, cond, false, ◌+◌, ◌*◌, ◌<◌, ◌≤◌, length};
 ghost use Rattle.std.specs.Int.Bits.{bit_or};
 ghost use Rattle.contest.specs.Contest.{most_stations};
@@ -12,7 +14,7 @@ use bodies::refusals::{BAD_CONTEST, BAD_NUMBER, DONE};
 
 // Who can force the result: the breaker, or the keeper with the lowest first pick from which it
 // still can; or why the contest is refused.
-#[derive(Drop)]
+#[derive(Clone, Copy)]
 pub enum ContestAnswer {
     Refused { number: u32 },
     Breaker,

@@ -1,6 +1,7 @@
 -- Sets of stations as 16-bit masks, sixteen sets a station: the set of s at p stands at place 16 p
 -- + s. What each function makes of them.
-use Rattle.std.specs.Prelude.{Bool, cond, ◌&&◌, List, ◌≡◌, ℕ, zero, suc, ◌+◌, ◌-◌, ◌*◌, ◌^◌, ◌<◌, ◌≤◌, eqb, get_or, length, set}
+use Rattle.std.specs.Prelude.{Bool, cond, ◌&&◌, List, ◌≡◌, ℕ, zero, suc, ◌+◌, ◌-◌, ◌*◌, ◌^◌, ◌<◌, ◌≤◌, eqb, get_or}
+use Rattle.std.specs.Prelude.{length, set}
 use Rattle.std.specs.Int.Bits.{bit_and, bit_or}
 use Rattle.links.specs.Log.{bit}
 

@@ -2,6 +2,8 @@
 // and a page of questions (A11), with the judging of a log and the sets that say who knows of a
 // broadcast.
 
+#![tactic(auto)]
+
 pub mod forecast;
 pub mod logs;
 pub mod merge;

@@ -1,6 +1,8 @@
 // The calls on lent buffers that need no state: document 02, A1, A10, A11 and A13 here, A5 and A8
 // in `text`. A refused call writes nothing.
 
+#![tactic(auto)]
+
 pub mod text;
 
 ghost use Rattle.std.specs.Prelude.{[], ◌∷◌, ◌≡◌, ◌≤◌, length, get_or};

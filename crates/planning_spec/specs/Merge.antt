@@ -1,5 +1,6 @@
 -- Document 02, A10: two link logs merged. A hearing is there in a round if either log has it.
-use Rattle.std.specs.Prelude.{Bool, cond, not, ◌||◌, List, ◌++◌, ◌≡◌, ℕ, zero, suc, max, ◌+◌, ◌*◌, ◌/◌, ◌%◌, ◌≤◌, eqb, ltb, get_or, length, drop}
+use Rattle.std.specs.Prelude.{Bool, cond, not, ◌||◌, List, ◌++◌, ◌≡◌, ℕ, zero, suc, max, ◌+◌, ◌*◌, ◌/◌, ◌%◌, ◌≤◌, eqb}
+use Rattle.std.specs.Prelude.{ltb, get_or, length, drop}
 use Rattle.bodies.specs.Refusals.{done, short_buffer, refuse}
 use Rattle.lists.specs.Below.{tabulate}
 use Rattle.planning_spec.specs.declared.MergeAnswer.{MergeAnswer}
@@ -15,7 +16,8 @@ mask_of (suc n) test = mask_of n (λ j. test (suc j)) * 2 + cond (test 0) 1 0
 -- log is silent past its end.
 unfoldable pub merged_mask : ℕ → List ℕ → List ℕ → ℕ → ℕ
 merged_mask n first second x =
-    mask_of n (λ j. (links_of n first).hears (suc (x / n)) (x % n) j || (links_of n second).hears (suc (x / n)) (x % n) j)
+    mask_of n (λ j. (links_of n first).hears (suc (x / n)) (x % n) j
+    || (links_of n second).hears (suc (x / n)) (x % n) j)
 
 -- the merged log, as long as the longer one
 unfoldable pub merged_log : ℕ → List ℕ → List ℕ → List ℕ

@@ -1,6 +1,7 @@
 -- Document 02, A11: a page of questions for one log. A page is a list of numbers, three to a
 -- question: sender, receiver and the number of the broadcast.
-use Rattle.std.specs.Prelude.{Bool, cond, not, ◌||◌, List, [], ◌∷◌, ◌≡◌, ℕ, ◌+◌, ◌*◌, ◌/◌, ◌%◌, ◌<◌, ◌≤◌, eqb, leb, ltb, get_or, length, replicate}
+use Rattle.std.specs.Prelude.{Bool, cond, not, ◌||◌, List, [], ◌∷◌, ◌≡◌, ℕ, ◌+◌, ◌*◌, ◌/◌, ◌%◌, ◌<◌, ◌≤◌, eqb, leb, ltb}
+use Rattle.std.specs.Prelude.{get_or, length, replicate}
 use Rattle.std.proofs.Math.Option.{Option, none, some}
 use Rattle.bodies.specs.Refusals.{done, short_buffer, bad_question, refuse}
 use Rattle.lists.specs.Below.{any_below, set_below, tabulate}
@@ -74,7 +75,8 @@ questions_call n log page =
     cond (eqb (questions_refusal n log page) done)
     (record {
       refusal = done;
-      answers = set_below (question_count page) (λ i. answer_to n log (question_at page i)) (replicate most_questions never);
+      answers =
+          set_below (question_count page) (λ i. answer_to n log (question_at page i)) (replicate most_questions never);
     })
     (record { refusal = questions_refusal n log page; answers = replicate most_questions never })
 

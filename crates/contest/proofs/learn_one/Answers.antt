@@ -1,0 +1,34 @@
+-- The loop keeps: the set is united with those of the stations below j that p hears, all as they
+-- stood before the round.
+use Prim.Native.Nat.{ℕ}
+use mathlib.Core.Bool.{Bool, cond}
+use mathlib.Core.Path.{◌≡◌, sym, ap, ap₂, ◌∙◌}
+use native.Mathlib.Omega.{arith}
+use lib.Bits.{bit_or}
+use lib.ListN.{get_or}
+use Rattle.planning.specs.Sets.{with_receiver}
+use Rattle.planning_spec.specs.LinkLog.{mask_hears}
+use Rattle.planning.proofs.Rows.{united_zero, united_more}
+use Rattle.contest.specs.Inner.KnownSets.{learnt_one}
+use Rattle.contest.proofs.learn_one.Goals as goal
+
+pub loop-j-init : goal.loop-j-init
+loop-j-init c = (omega arith, sym (united_zero _ _ _))
+
+pub loop-j-preserved : goal.loop-j-preserved
+loop-j-preserved c =
+    let a = c.args in
+    let l = c.loop-j in (
+      omega arith,
+      c.joined-set.ensures
+          ∙ ap₂ (λ (b : Bool) (x : ℕ). cond b (bit_or x (get_or a.know.now l.j 0)) x) c.mask_hears.ensures l.invariant.1
+          ∙ sym (united_more (mask_hears a.mask a.p) (λ i. get_or a.know.now i 0) (get_or a.know.now a.p 0) l.j),
+    )
+
+pub returns : goal.returns
+unfolding learnt_one
+returns c =
+    let a = c.args in
+    let l = c.loop-j in
+    let e : l.j ≡ a.n = omega arith in
+    c.with_receiver.ensures ∙ ap (λ (x : ℕ). with_receiver a.p a.s x) (rw e at l.invariant.1)
