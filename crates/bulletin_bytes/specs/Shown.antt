@@ -18,7 +18,8 @@ abbrev pub shown_width : ℕ
 shown_width = word_width + notice_width * all_places
 
 unfoldable pub encode_shown : Shown → List ℕ
-encode_shown x = word_bytes (as_byte x.len) ++ joined_below all_places (λ i. encode_notice (get_or x.notices i no_notice))
+encode_shown x =
+    word_bytes (as_byte x.len) ++ joined_below all_places (λ i. encode_notice (get_or x.notices i no_notice))
 
 -- what is read past the end of a list of these
 abbrev pub absent_shown : Shown

@@ -1,6 +1,8 @@
 // Bulletins read from bytes and written as bytes, and what a round shows, written. All other bytes
 // are kept.
 
+#![tactic(auto)]
+
 ghost use Rattle.std.specs.Prelude.{◌≡◌, ◌+◌, ◌*◌, ◌≤◌, get_or, length};
 ghost use Rattle.std.proofs.lemmas.List.Edits.{sets};
 ghost use Rattle.lists.specs.Below.{tabulate};

@@ -37,4 +37,5 @@ both_returned group state masks reports shown =
     or_else (group_refusal group)
     (or_else (bulletins_refusal state)
     (or_else (both_answer group state masks).round.refusal
-    (or_else (room_refusal 16 masks) (or_else (room_refusal reports_width reports) (room_refusal all_shown_width shown)))))
+    (or_else (room_refusal 16 masks)
+    (or_else (room_refusal reports_width reports) (room_refusal all_shown_width shown)))))

@@ -1,5 +1,7 @@
 // The calls of a group on its bytes; in `bulletin_calls`, those of its bulletins.
 
+#![tactic(auto)]
+
 pub mod bulletin_calls;
 
 ghost use Rattle.std.specs.Prelude.{◌≡◌, get_or};

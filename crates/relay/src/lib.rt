@@ -1,5 +1,7 @@
 // What C programs call. The declarations for C are in include/relay.h.
 
+#![tactic(auto)]
+
 ghost use Rattle.std.specs.Prelude.{◌≡◌};
 ghost use Rattle.frame_spec.specs.Frame.{check_refusal};
 

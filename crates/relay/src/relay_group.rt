@@ -22,7 +22,8 @@ pub extern "C" fn relay_group_fresh(state: &mut [u8], n: u32) -> u32
 // Group fresh, with a limit named.
 #[unsafe(no_mangle)]
 pub extern "C" fn relay_group_fresh_limited(state: &mut [u8], n: u32, limit: u32) -> u32
-    ensures { (result ≡ group_fresh_returned (group_fresh_call (record { n = n; limit = limit; edition = 0 })) state.old)
+    ensures { (result
+        ≡ group_fresh_returned (group_fresh_call (record { n = n; limit = limit; edition = 0 })) state.old)
         × (state.new ≡ front_written result
         (encode_group (group_fresh_call (record { n = n; limit = limit; edition = 0 })).group) state.old) }
 {

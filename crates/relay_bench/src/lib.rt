@@ -1,6 +1,8 @@
 // The work of measurements: `relay_bench_rounds`, `relay_bench_bulletins` and `relay_bench_codec`
 // of bench/README.md.
 
+#![tactic(auto)]
+
 ghost use Rattle.std.specs.Prelude.{◌+◌, ◌≤◌, ◌<◌, length};
 
 use bodies::Body;

@@ -151,7 +151,7 @@ unfolding records_of
 frame_words bytes h = go (get_or bytes 2 0)
   where
     go : (m : ℕ) → AllWords (tabulate m (λ k. record_from (part bytes k)))
-    go m = elim m [
+    go m = elim m as (λ i. AllWords (tabulate i (λ k. record_from (part bytes k)))) [
       | zero ↦ unfold tabulate in no_words
       | suc (j → ih) ↦
           unfold tabulate in

@@ -192,7 +192,7 @@ unfolding sent_records filter_map
 sent_words s high f = go s.n high
   where
     go : (m : ℕ) → m ≤ 16 → AllWords (filter_map m (held_of s) (λ k. framed s.n (record_of s k)))
-    go m = elim m [
+    go m = elim m as (λ i. i ≤ 16 → AllWords (filter_map i (held_of s) (λ k. framed s.n (record_of s k)))) [
       | zero ↦ λ l. no_words
       | suc (j → ih) ↦ λ l. one j (held_of s j) l (ih (omega arith))
     ]

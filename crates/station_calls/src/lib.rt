@@ -1,5 +1,7 @@
 // The calls of a station that lies as bytes in lent memory. A refused call writes nothing.
 
+#![tactic(auto)]
+
 pub mod heard;
 
 ghost use Rattle.std.specs.Prelude.{◌≡◌, [], ◌∷◌, length};

@@ -1,10 +1,13 @@
 // Stations and groups read from bytes. Bytes are judged first, and then read: reading gives a
 // station for any bytes that are long enough.
 
+#![tactic(auto)]
+
 ghost use Rattle.std.specs.Prelude.{◌≡◌, true, ℕ, ◌+◌, ◌≤◌, ◌<◌, length, ◌*◌};
 ghost use Rattle.lists.specs.Below.{all_below};
 ghost use Rattle.station_bytes_spec.specs.Bytes.{byte_at};
-ghost use Rattle.station_bytes_spec.specs.Body.{body_of_words, words_right, decode_body, is_body, record_width, decode_record};
+ghost use Rattle.station_bytes_spec.specs.Body.{body_of_words, words_right, decode_body, is_body};
+ghost use Rattle.station_bytes_spec.specs.Body.{record_width, decode_record};
 ghost use Rattle.station_bytes_spec.specs.Body.{body_width, is_record};
 ghost use Rattle.station_bytes_spec.specs.Waiting.{edits_width, decode_edits, are_edits, waiting_width, decode_waiting};
 ghost use Rattle.station_bytes_spec.specs.Waiting.{is_waiting};

@@ -1,5 +1,7 @@
 // Stations and groups written as bytes, from a place on; all other bytes are kept.
 
+#![tactic(auto)]
+
 pub mod reports;
 
 ghost use Rattle.std.specs.Prelude.{◌≡◌, [], ◌∷◌, ◌+◌, ◌≤◌, length};
