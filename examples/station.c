@@ -5,8 +5,8 @@
    An insert is posted at station 0. The program prints what each call of station 0 did, and at last what the tests of a host should
    try too: a state that was damaged in the file is refused, and not changed.
 
-   gcc -O2 -Iinclude examples/station.c target/staticlib/librelay.a -o station && ./station STATE-FILE
-   (the archive: rt staticlib relay) */
+   gcc -O2 -Iinclude examples/station.c crates/relay/out/librelay.a -o station && ./station STATE-FILE
+   (the archive: rt lib, in crates/relay) */
 #include <stdio.h>
 #include <stdlib.h>
 #include <string.h>

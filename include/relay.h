@@ -1,7 +1,7 @@
 /* The edit relay for C: a station and a group that the host holds as bytes, with all their calls; a
    group's bulletins; the frame check; for planners the forecast, the merge of link logs, a page of
-   questions and the link contest; the load generator; and the comparison of two air logs. Link with the
-   archive that `rt staticlib relay` makes, target/staticlib/librelay.a; it needs no other library.
+   questions and the link contest; the load generator; and the comparison of two air logs. Link with
+   crates/relay/out/librelay.a, the archive that `rt lib` makes in crates/relay; it needs no other library.
    After `./relay install PREFIX` the options are those of `pkg-config --cflags --libs relay`.
 
    The library has no state of its own and allocates nothing. A call reads and writes the memory that it

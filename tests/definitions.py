@@ -6,7 +6,7 @@ import re
 
 ROOT = pathlib.Path(__file__).resolve().parent.parent
 HEAD = re.compile(r"(?:  )?(?:(?:abbrev|unfoldable)(?: pub)?|pub (?:record|data)) ([^\s:(]+)")
-USE = re.compile(r"^(?:pub )?use Rattle·(\w+?)(?:·specs\.specs|\.specs)\.([\w.]+)\.\{([^}]*)\}", re.MULTILINE)
+USE = re.compile(r"^(?:pub )?use Rattle\.(\w+)\.specs\.([\w.]+)\.\{([^}]*)\}", re.MULTILINE)
 WORD = re.compile(r"[^\s(){};,\[\]λ.«»]+")
 
 

@@ -1,9 +1,10 @@
 """The edits that the prover must refuse: the faults of each file, and the functions and definitions that a fault stands in.
 
-A file of edits has replacements of text in the code or the definitions of its crate. A file without a line 'fault: NAME' has one fault, named as the file. With
-such lines it has one fault under each. Either all of them are in the code and no two in one function; a fault in a constant counts for all functions that use it.
-The prover judges a function by its own code and the contracts of those that it calls, so it refuses the faults one by one, although the crate is proved only once.
-Or all of them are in definitions and no two in one. The prover judges a law by what the law names, so one that reaches a single changed definition tells of that.
+A file of edits has replacements of text in the code or the definitions of its crate. A file without a line 'fault: NAME' (or '# fault: NAME', which rt takes for a
+comment) has one fault, named as the file. With such lines it has one fault under each. Either all of them are in the code and no two in one function; a fault in a
+constant counts for all functions that use it. The prover judges a function by its own code and the contracts of those that it calls, so it refuses the faults one by
+one, although the crate is proved only once. Or all of them are in definitions and no two in one. The prover judges a law by what the law names, so one that reaches
+a single changed definition tells of that.
 """
 import pathlib
 import re
@@ -11,6 +12,7 @@ from typing import NamedTuple
 
 ROOT = pathlib.Path(__file__).resolve().parent.parent
 FUNCTION = re.compile(r'^(?:pub )?(?:extern "C" )?fn (\w+)', re.MULTILINE)
+CYCLE = re.compile(r'^#\[cycle\((\w+)\)\]\n(?:#\[.*\]\n)*(?:pub )?(?:extern "C" )?fn (\w+)', re.MULTILINE)
 CONSTANT = re.compile(r"(?:pub )?const (\w+):")
 
 
@@ -23,13 +25,13 @@ class Replacement(NamedTuple):
 class Fault(NamedTuple):
     name: str
     says: str  # what is wrong
-    replacements: list
+    replacements: tuple
 
 
 class Edit(NamedTuple):
     path: pathlib.Path
     together: bool  # several faults, each to be refused by itself
-    faults: list
+    faults: tuple
 
     @property
     def crate(self):
@@ -56,16 +58,28 @@ def fault_in(name, lines):
             old = line[5:]
         elif line.startswith("new:"):
             found.append(Replacement(file, old, line[4:].removeprefix(" ")))
-    return Fault(name, says, found)
+    return Fault(name, says, tuple(found))
 
 
 def read(path):
     """The edit in a file."""
-    before, *parts = re.split(r"(?m)^fault: ", path.read_text(encoding="utf-8"))
+    before, *parts = re.split(r"(?m)^(?:# )?fault: ", path.read_text(encoding="utf-8"))
     if not parts:
-        return Edit(path, False, [fault_in(path.stem, before.splitlines())])
+        return Edit(path, False, (fault_in(path.stem, before.splitlines()),))
     named = [part.splitlines() for part in parts]
-    return Edit(path, True, [fault_in(lines[0], lines[1:]) for lines in named])
+    return Edit(path, True, tuple(fault_in(lines[0], lines[1:]) for lines in named))
+
+
+def edited(edit):
+    """The files that an edit changes, each with its text under all its faults. An old text that does not stand once is an error."""
+    texts = {}
+    for fault in edit.faults:
+        for file, old, new in fault.replacements:
+            text = texts.get(file) or (edit.crate / file).read_text(encoding="utf-8")
+            if text.count(old) != 1:
+                raise ValueError(f"{edit.name}: {fault.name}: this stands {text.count(old)} times in {file}, and not once: {old}")
+            texts[file] = text.replace(old, new)
+    return texts
 
 
 def edits():
@@ -83,6 +97,15 @@ def bodies_in(file, crate):
         begins = text.find("\n{\n", head.start(), ends)  # behind the contract; without one the brace stands in the head
         found[module, head[1]] = (max(begins, head.start()), ends)
     return text, found
+
+
+def cycles_of(crate):
+    """The functions of a crate that call each other, by the name of their cycle; each as its module and name."""
+    found = {}
+    for path in sorted((crate / "src").glob("*.rt")):
+        for name, function in CYCLE.findall(path.read_text(encoding="utf-8")):
+            found.setdefault(name, set()).add(("" if path.stem in ("lib", "main") else path.stem, function))
+    return found
 
 
 def functions_of(crate, fault):

@@ -10,7 +10,8 @@ from typing import NamedTuple
 
 HEADS = r"(?:(?:abbrev|unfoldable|opaque|pub|private|record|data) )*"
 DECLARED = re.compile(rf"( *){HEADS}([^\s:(){{}}=]+)(?: [({{].*)? :(?: |$)|( *)(?:pub )?(?:record|data) ([^\s:(){{}}=]+)")
-IMPORTED = re.compile(r"^(?:pub )?use Rattle·(\w+)(?:·(?:specs|proofs))?\.((?:specs|proofs)\.[^\s{]+)\.\{([^}]*)\}", re.MULTILINE)
+IMPORTED = re.compile(r"^(?:pub )?use Rattle\.(\w+)\.((?:specs|proofs)\.[^\s{]+)\.\{([^}]*)\}", re.MULTILINE)
+OF_A_FUNCTION = ("Proof.antt", "Answers.antt", "Invariants.antt")
 IMPORT = re.compile(r" *(?:(?:pub )?(?:use|mod)) ")
 MODULE = re.compile(r" *module ")
 WORD = re.compile(r"[^\s(){};,\[\]λ.«»]+")
@@ -25,12 +26,12 @@ class Text(NamedTuple):
 
 
 class Crate:
-    """The definitions and laws of a crate, or of a copy of it in another folder."""
+    """The definitions and laws of a crate, or of one with some files changed."""
 
-    def __init__(self, folder, name):
+    def __init__(self, folder, name, changed=()):
         self.name = name
         self.files = {str(path.relative_to(folder)): path.read_text(encoding="utf-8")
-                      for part in ("specs", "proofs") for path in sorted((folder / part).glob("**/*.antt"))}
+                      for part in ("specs", "proofs") for path in sorted((folder / part).glob("**/*.antt"))} | dict(changed)
 
     @functools.cache
     def texts(self, file):
@@ -53,7 +54,7 @@ class Crate:
 
     def text_at(self, file, line):
         """The text of a law or of a definition at a line, or None."""
-        if file not in self.files or file.endswith("Proof.antt"):
+        if file not in self.files or file.endswith(OF_A_FUNCTION):
             return None
         return next((text for text in self.texts(file) if text.first <= line <= text.last), None)
 

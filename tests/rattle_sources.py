@@ -3,7 +3,7 @@
 What counts: a `const` or `static` whose type or value has an array; an array literal with two or more constant
 elements, wherever it stands; a byte string. What does not: `[v; n]` outside a constant, which is filled when the code
 runs; types, indices, attributes and patterns that bind names; anything in a comment, in a text or character literal,
-or in the terms of a contract.
+in the terms of a contract or of another ghost item, or in a line that imports names for them.
 """
 
 import os
@@ -22,6 +22,10 @@ TOKEN = re.compile(r"""
 """, re.VERBOSE | re.DOTALL)
 
 FORMS = ("gap", "bytes", "text", "char", "number", "name", "mark")
+# What begins terms for proofs alone: a clause, with its name where it has one, and a ghost field or member. These words
+# are kept for that: nothing else may have them as its name.
+TERMS = re.compile(r"(?:requires|ensures)\b\*?\s*(?:\w+\s*)?(?=\{)|ghost\s+\w+\s*(?:[:=]\s*)?(?=\{)")
+GHOST_USE = re.compile(r"ghost\s+use\b[^;]*;")
 PRIMITIVE = {"u8", "u16", "u32", "u64", "usize", "i8", "i16", "i32", "i64", "isize", "bool", "as"}
 BEFORE_AN_INDEX = {"name", "number", "bytes", "text"}
 BEFORE_AN_EXPRESSION = {"return", "in", "if", "else", "match", "while", "break", "mut"}  # after these [ is no index
@@ -40,12 +44,7 @@ class Found(NamedTuple):
 
 
 def remark_end(source, at):
-    """The end of what begins at a place with /*, where such comments nest, or with ⌜, the terms of a contract.
-
-    Where neither begins: the place itself.
-    """
-    if source[at] == "⌜":
-        return source.index("⌝", at) + 1
+    """The end of what begins at a place with /*, where such comments nest. Where none begins: the place itself."""
     if not source.startswith("/*", at):
         return at
     depth = 0
@@ -56,8 +55,25 @@ def remark_end(source, at):
     return len(source)
 
 
+def ghost_end(source, at):
+    """The end of what begins at a name and is there for proofs alone: an import, or terms up to the bracket that closes them.
+
+    Where no such thing begins: the place itself.
+    """
+    if use := GHOST_USE.match(source, at):
+        return use.end()
+    if not (begun := TERMS.match(source, at)):
+        return at
+    depth = 0
+    for bracket in re.finditer(r"[{}]", source[begun.end():]):
+        depth += 1 if bracket.group() == "{" else -1
+        if depth == 0:
+            return begun.end() + bracket.end()
+    raise ValueError(f"terms are not closed: {source[at:begun.end()]}")
+
+
 def tokens(source):
-    """The tokens of a source, without gaps, comments and the terms of contracts."""
+    """The tokens of a source, without gaps, comments and what is there for proofs alone."""
     found, at = [], 0
     while at < len(source):
         end = remark_end(source, at)
@@ -65,7 +81,10 @@ def tokens(source):
             match = TOKEN.match(source, at)
             end = match.end()
             form = next(form for form in FORMS if match.group(form) is not None)
-            if form != "gap":
+            ghost = ghost_end(source, at) if form == "name" else at
+            if ghost > at:
+                end = ghost
+            elif form != "gap":
                 found.append(Token(form, match.group(), at))
         at = end
     return found
@@ -159,6 +178,6 @@ def sources(root):
     """All Rattle sources below a folder, but for what is built: that is not looked at, for a proof may be writing there."""
     found = []
     for folder, below, files in os.walk(root):
-        below[:] = set(below) - {"target", ".git"}
+        below[:] = set(below) - {"target", "out", ".git"}
         found += [pathlib.Path(folder, name) for name in files if name.endswith(".rt")]
     return sorted(found)

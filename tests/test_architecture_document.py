@@ -14,7 +14,7 @@ def crates():
     """Name -> what it stands on, from crates.txt, lowest first."""
     lines = (ROOT / "crates.txt").read_text(encoding="utf-8").splitlines()
     pairs = [line.split(":") for line in lines if line and not line.startswith("#")]
-    return {name: rest.split() for name, rest in pairs}
+    return {named.split()[0]: rest.split() for named, rest in pairs}     # behind a name stands `staticlib` where it is one
 
 
 def reached(below):
@@ -94,7 +94,7 @@ class Architecture(unittest.TestCase):
         self.assertEqual({name: sorted(below) for name, below in rows().items()}, direct())
 
     def test_lowest_first(self):
-        seen = {"io", "libc"}  # the toolchain's
+        seen = set()
         for name, below in rows().items():
             self.assertLessEqual(set(below), seen, name)
             seen.add(name)

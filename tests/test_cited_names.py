@@ -45,10 +45,10 @@ class Cited(unittest.TestCase):
         crates = ROOT / "crates"
         known = {path.name for path in crates.iterdir()} | {"must-fail", "specs"}
         form = re.compile(r"(?m)^\s*(?:\w+ )*([\w-]+) :|^\s*(?:pub )?(?:record|data) (\w+)")
-        for path in crates.rglob("*.antt"):
+        for path in [*crates.glob("*/specs/**/*.antt"), *crates.glob("*/proofs/**/*.antt")]:
             for named in form.findall(path.read_text(encoding="utf-8")):
                 known.update(named)
-        for path in crates.rglob("*.rt"):
+        for path in crates.glob("*/src/**/*.rt"):
             known.update(re.findall(r"\b(?:fn|struct|enum) (\w+)", path.read_text(encoding="utf-8")))
         names = set(re.findall(r"`(?:\w+\.)?([a-z][\w-]*|[A-Z][a-z][\w-]*)`", DOCUMENTS["GUARANTEES.md"]))
         self.assertGreater(len(names), 200)
@@ -82,7 +82,7 @@ class Cited(unittest.TestCase):
         """The wrong versions of docs/DECISIONS.md, each with the faults of edits that stand for it, in whatever crate."""
         faults = {fault.name for edit in edits() for fault in edit.faults}
         section = DOCUMENTS["DECISIONS.md"].split("### What refuses each wrong version")[1].split("\n## ")[0]
-        rows = [row.split(". Refused by")[0] for row in section.split("\n- ")[1:]]
+        rows = [" ".join(row.split()).split(". Refused by")[0] for row in section.split("\n- ")[1:]]
         named = [name for row in rows for name in re.findall(r"`(\w+)`", row)]
         self.assertGreater(len(named), 60)
         for name in named:

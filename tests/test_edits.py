@@ -8,7 +8,7 @@ import re
 import tempfile
 import unittest
 
-from edits import ROOT, definitions_of, edits, functions_of, read
+from edits import ROOT, cycles_of, definitions_of, edits, functions_of, read
 from laws import Crate
 
 LOADER = importlib.machinery.SourceFileLoader("check_edits", str(ROOT / "tests" / "check-edits"))
@@ -25,28 +25,33 @@ FEWER = {
     ("station_encoder", "", "put_body"): "each of its lines stands twice, in most cases in put_record too, and old text must stand once",
 }
 
-FACT = "/copy/proofs/f/Proof.antt:14:13: error: `returns`: expected type `x`, but this has type `y`"
-NAME = "/copy/proofs/f/Proof.antt:9:12: error: `cast`: `tie.Need-cast`: module `M.Tie` has no `Need-cast` that can be named from here"
-FIELD = "/copy/proofs/f/Proof.antt:9:12: error: `loop-again`: record `Rattle·f·proofs.proofs.f.Lts.In-loop` has no field `args`"
-NOTE = "note: /copy/src/lib.rt:3:1: it is not proved that what the function ensures holds when it returns (`returns`)"
-RESTS = ("/copy/proofs/g/Proof.antt:9:12: error: `g-spec`: `close` was not admitted (it has holes or undetermined implicits, or was rejected), "
-         "so this cannot be checked")
+FACT = "./proofs/f/Answers.antt:14:13: error: `returns`: expected type `x`, but this has type `y`"
+NAME = "./proofs/f/Answers.antt:9:12: error: `cast`: `goal.cast`: module `Rattle.c.proofs.f.Goals` has no `cast` that can be named from here"
+FIELD = "./proofs/f/Answers.antt:9:12: error: `again`: record `Rattle.c.proofs.f.Lts.In-loop` has no field `args`"
+LOOP = "./proofs/f/Invariants.antt:5:31: error: `invariant-loop-i`: `goal.invariant-loop-i`: module `Rattle.c.proofs.f.Given` has no `invariant-loop-i` that can be named from here"
+NOTE = "note: src/lib.rt:3:1: it is not proved that what the function ensures holds when it returns (`returns`)"
+RESTS = "./proofs/g/Answers.antt:9:12: error: 1 declaration that depends on `law`, which was not admitted, was not checked: returns"
+RESTS_BELOW = "./proofs/Laws.antt:9:12: error: 2 declarations that depend on `law`, which was rejected, were not checked: other, third"
 INNER = FACT.replace("proofs/f", "proofs/m/f")
-CYCLE = FACT.replace("proofs/f", "proofs/+f+h")
-MADE = "fn c::f: no proof: expected `f-spec` in /copy/proofs/f/Proof.antt; `search` does not close `returns`"
-CALLS = "fn c::g: not proved; it calls `c::f`, which is not proved"
+CYCLE = FACT.replace("proofs/f", "proofs/+both")
+MADE = "fn c::f: no proof: expected answers in ./proofs/f/Answers.antt; `search` did not prove `returns`"
+NOT_PROVED = "fn c::f: not proved"
+PROVED = "fn c::f: proved"
+CALLS = "fn c::g: no proof: it calls `c::f`, which is not proved"
+UNREAD = "src/lib.rt:7:5: error[mismatched-types]: expected `bool`, found `u32`"
 
 SOURCE = """// Two functions and a constant.
 const MOST: u32 = 7;
 
 pub fn f(n: u32) -> u32
-    ensures { λ r. ⌜ r ≡ n ⌝ }
+    ensures { result ≡ n }
 {
     n + 0
 }
 
+#[cycle(both)]
 fn g() -> u32
-    ensures { λ r. ⌜ r ≡ 7 ⌝ }
+    ensures { result ≡ 7 }
 {
     MOST
 }
@@ -68,14 +73,14 @@ new: = 8;
 fault: other_promise
 # f promises something else
 file: src/lib.rt
-old: r ≡ n
-new: r ≡ 0
+old: result ≡ n
+new: result ≡ 0
 """
 
 
 def planted(crate, text):
     """An edit of a crate that has the two functions and the constant."""
-    (crate / "src").mkdir()
+    (crate / "src").mkdir(parents=True)
     (crate / "must-fail").mkdir()
     (crate / "src" / "lib.rt").write_text(SOURCE, encoding="utf-8")
     (crate / "must-fail" / "code_1.edit").write_text(text, encoding="utf-8")
@@ -83,7 +88,7 @@ def planted(crate, text):
 
 
 DEFINITIONS = """-- Three numbers, the second made of the first.
-use Prim.Native.Nat.{ℕ}
+use Rattle.std.specs.Prelude.{ℕ}
 
 -- the first
 abbrev pub first : ℕ
@@ -96,7 +101,7 @@ abbrev pub third : ℕ
 third = 3
 """
 LAWS = """-- What they are.
-use Rattle·c·specs.specs.Numbers.{first, second as next, third}
+use Rattle.c.specs.Numbers.{first, second as next, third}
 
 module _ (n : ℕ) where
   pub first-law : first ≡ 1
@@ -196,56 +201,92 @@ class TestEdits(unittest.TestCase):
                              [("one_more", "f adds one"), ("other_constant", "the constant is another"), ("other_promise", "f promises something else")])
             self.assertEqual([functions_of(crate, fault) for fault in edit.faults], [{("", "f")}, {("", "g")}, {None}])
 
+    def first_error(self, *lines):
+        """The error that counts of an edit with one fault, in the function f."""
+        with tempfile.TemporaryDirectory() as folder:
+            edit = planted(pathlib.Path(folder, "c"), TOGETHER.replace("fault: one_more", "").partition("\nfault: ")[0])
+            self.assertFalse(edit.together)
+            return CHECK.judged(edit, "\n".join(lines))[0][0][1]
+
+    def refusals(self, *lines):
+        return CHECK.refusals("\n".join(lines), "c", {"both": {("", "f"), ("", "h")}})
+
     def test_a_fact_shows_something(self):
-        error = CHECK.first_error(f"{NOTE}\n{FACT}\n{NAME}\n", "/copy")
-        self.assertEqual(error, FACT.replace("/copy/", ""))
-        self.assertTrue(CHECK.shows(error))
+        self.assertEqual(self.first_error(NOTE, FACT, NAME, NOT_PROVED), FACT)
+        self.assertTrue(CHECK.shows(FACT))
 
     def test_a_name_alone_shows_nothing(self):
-        self.assertFalse(CHECK.shows(CHECK.first_error(f"{NAME}\n{FACT}\n", "/copy")))
+        self.assertEqual(self.first_error(NAME, NOT_PROVED), NAME)
+        self.assertFalse(CHECK.shows(NAME))
+        self.assertFalse(CHECK.shows(FIELD))
 
-    def test_a_fact_looked_for_elsewhere_shows_nothing(self):
-        self.assertFalse(CHECK.shows(CHECK.first_error(f"{FIELD}\n{FACT}\n", "/copy")))
-        self.assertTrue(CHECK.shows(CHECK.first_error(f"{FACT}\n{FIELD}\n", "/copy")))
+    def test_a_name_beside_a_fact_is_left_out(self):
+        self.assertEqual(self.first_error(NAME, FACT, NOT_PROVED), FACT)
+        self.assertEqual(self.first_error(FIELD, NOTE, NOT_PROVED), NOTE)
+
+    def test_without_its_invariant_nothing_counts_of_a_function(self):
+        self.assertEqual(self.first_error(FACT, LOOP, NOTE, NOT_PROVED), LOOP)
+        self.assertFalse(CHECK.shows(LOOP))
 
     def test_without_an_error_the_first_note_counts(self):
-        self.assertTrue(CHECK.shows(CHECK.first_error(f"logic\n{NOTE}\n", "/copy")))
-        self.assertFalse(CHECK.shows(CHECK.first_error("logic\n", "/copy")))
+        self.assertEqual(self.first_error("logic", NOTE, MADE), NOTE)
+        self.assertEqual(self.first_error("logic", MADE), MADE)
+        self.assertIsNone(self.first_error("logic", PROVED))
+        self.assertIsNone(self.first_error("logic", CALLS))
+
+    def test_what_cannot_be_read_shows_nothing(self):
+        error = self.first_error(UNREAD, FACT)
+        self.assertIn("expected `bool`", error)
+        self.assertFalse(CHECK.shows(error))
 
     def test_of_faults_together_each_wants_an_error_of_its_own(self):
-        found = CHECK.refusals(f"{FACT}\n{RESTS}\n{CALLS}\n", "/copy", "c")
-        self.assertEqual(found, {("", "f"): FACT.replace("/copy/", "")})
-        self.assertFalse(CHECK.shows(CHECK.refusals(f"{NAME}\n{FACT}\n", "/copy", "c")["", "f"]))
+        self.assertEqual(self.refusals(FACT, RESTS, RESTS_BELOW, CALLS), {("", "f"): FACT})
 
     def test_refusals_in_modules_cycles_made_proofs_and_laws(self):
-        self.assertEqual(set(CHECK.refusals(INNER, "/copy", "c")), {("m", "f")})
-        self.assertEqual(set(CHECK.refusals(CYCLE, "/copy", "c")), {("", "f"), ("", "h")})
-        self.assertEqual(set(CHECK.refusals(MADE, "/copy", "c")), {("", "f")})
-        self.assertEqual(set(CHECK.refusals(MADE.replace("fn c::f", "fn c::m::f"), "/copy", "c")), {("m", "f")})
-        self.assertEqual(set(CHECK.refusals(FACT.replace("proofs/f/Proof", "proofs/Law"), "/copy", "c")), {"proofs/Law.antt"})
-        self.assertEqual(CHECK.refusals(MADE.replace("no proof: ", "not proved: "), "/copy", "c"), {})
+        self.assertEqual(set(self.refusals(INNER)), {("m", "f")})
+        self.assertEqual(set(self.refusals(CYCLE)), {("", "f"), ("", "h")})
+        self.assertEqual(self.refusals(MADE), {("", "f"): MADE})
+        self.assertEqual(self.refusals(NOTE, MADE), {("", "f"): NOTE})
+        self.assertEqual(set(self.refusals(MADE.replace("fn c::f", "fn c::m::f"))), {("m", "f")})
+        self.assertEqual(set(self.refusals(FACT.replace("proofs/f/Answers", "proofs/Law"))), {"proofs/Law.antt"})
+        self.assertEqual(self.refusals(NOTE, PROVED, NOT_PROVED), {})
+
+    def test_the_functions_of_a_cycle(self):
+        with tempfile.TemporaryDirectory() as folder:
+            edit = planted(pathlib.Path(folder, "c"), TOGETHER)
+            self.assertEqual(cycles_of(edit.crate), {"both": {("", "g")}})
 
     def test_what_is_refused_without_a_fault_is_told(self):
         with tempfile.TemporaryDirectory() as folder:
-            edit = planted(pathlib.Path(folder), TOGETHER.rpartition("\nfault: ")[0])
-            both = f"{FACT}\n{FACT.replace('proofs/f', 'proofs/g')}\n"
-            errors, elsewhere = CHECK.judged(edit, both, "/copy")
+            edit = planted(pathlib.Path(folder, "c"), TOGETHER.rpartition("\nfault: ")[0])
+            errors, elsewhere = CHECK.judged(edit, f"{FACT}\n{FACT.replace('proofs/f', 'proofs/g')}\n")
             self.assertTrue(all(CHECK.shows(error) for _, error in errors))
             self.assertEqual([name for name, _ in errors], ["one_more", "other_constant"])
             self.assertEqual(elsewhere, [])
-            errors, elsewhere = CHECK.judged(edit, FACT.replace("proofs/f", "proofs/k"), "/copy")
+            errors, elsewhere = CHECK.judged(edit, FACT.replace("proofs/f", "proofs/k"))
             self.assertEqual([error for _, error in errors], [None, None])
             self.assertEqual(len(elsewhere), 1)
+
+    def test_a_proof_follows_the_names_of_another_condition(self):
+        with tempfile.TemporaryDirectory() as folder:
+            place = pathlib.Path(folder, "proofs", "m", "f")
+            place.mkdir(parents=True)
+            (place / "Answers.antt").write_text("pub returns-then-n-lt1 : goal.returns-then-n-lt1\nreturns-then-n-lt1 c = law c.if-n-lt1.true c.if-n-lt10.true\n", encoding="utf-8")
+            before = {"Rattle-c-proofs.m.f.Lts": {"needs": [["returns", "returns-then-n-lt1"], ["returns-2", "returns"]], "places": [["if-n-lt1", "if-n-lt10"]]}}
+            after = {"Rattle-c-proofs.m.f.Lts": {"needs": [["returns", "returns-then-n-lt0"], ["returns-2", "returns"]], "places": [["if-n-lt0", "if-n-lt10"]]}}
+            CHECK.follow(pathlib.Path(folder), "c", before, after)
+            self.assertEqual((place / "Answers.antt").read_text(encoding="utf-8"),
+                             "pub returns-then-n-lt0 : goal.returns-then-n-lt0\nreturns-then-n-lt0 c = law c.if-n-lt0.true c.if-n-lt10.true\n")
 
     def test_a_law_tells_of_the_one_changed_definition_that_it_reaches(self):
         with tempfile.TemporaryDirectory() as folder:
             crate = pathlib.Path(folder, "c")
             edit = planted_definitions(crate)
             self.assertTrue(edit.in_definitions)
-            failing = {name: f"{crate}/proofs/Laws.antt:{line}:9: error: `{name}`: expected type `x`, but this has type `y`" for name, line in LAWS_AT.items()}
+            failing = {name: f"./proofs/Laws.antt:{line}:9: error: `{name}`: expected type `x`, but this has type `y`" for name, line in LAWS_AT.items()}
             for laws, told in ((("first-law", "third-law"), {"other_first", "other_third"}), (("second-law",), {"other_first"}), (("both-law",), set()),
                                (("both-law", "third-law"), {"other_third"}), ((), set())):
-                errors, elsewhere = CHECK.judged(edit, "\n".join(failing[law] for law in laws), crate)
+                errors, elsewhere = CHECK.judged(edit, "\n".join(failing[law] for law in laws))
                 self.assertEqual({name for name, error in errors if CHECK.shows(error)}, told, laws)
                 self.assertEqual(elsewhere, [])
 
@@ -253,19 +294,29 @@ class TestEdits(unittest.TestCase):
         with tempfile.TemporaryDirectory() as folder:
             crate = pathlib.Path(folder, "c")
             edit = planted_definitions(crate)
-            place = f"{crate}/proofs/Laws.antt:{LAWS_AT['third-law']}:9: error: `third-law`: "
+            place = f"./proofs/Laws.antt:{LAWS_AT['third-law']}:9: error: `third-law`: "
             misfit = f"{place}`rw`: no occurrence of the path's left endpoint in the goal"
-            self.assertEqual(CHECK.judged(edit, misfit, crate), ([("other_first", None), ("other_third", None)], []))
-            self.assertTrue(CHECK.shows(dict(CHECK.judged(edit, f"{misfit}\n{place}expected type `x`", crate)[0])["other_third"]))
+            self.assertEqual(CHECK.judged(edit, misfit), ([("other_first", None), ("other_third", None)], []))
+            self.assertTrue(CHECK.shows(dict(CHECK.judged(edit, f"{misfit}\n{place}expected type `x`")[0])["other_third"]))
 
     def test_a_law_that_reaches_no_changed_definition_is_told(self):
         with tempfile.TemporaryDirectory() as folder:
             crate = pathlib.Path(folder, "c")
             edit = planted_definitions(crate)
-            error = f"{crate}/proofs/Laws.antt:{LAWS_AT['free-law']}:3: error: `free-law`: expected type `x`, but this has type `y`"
-            self.assertEqual(CHECK.judged(edit, error, crate), ([("other_first", None), ("other_third", None)], [error.replace(f"{crate}/", "")]))
-            self.assertEqual(CHECK.judged(edit, error + RESTS.partition("`g-spec`")[2], crate)[1], [])
-            self.assertEqual(CHECK.judged(edit, error.replace("Laws.antt", "f/Proof.antt"), crate)[1], [])
+            error = f"./proofs/Laws.antt:{LAWS_AT['free-law']}:3: error: `free-law`: expected type `x`, but this has type `y`"
+            self.assertEqual(CHECK.judged(edit, error), ([("other_first", None), ("other_third", None)], [error]))
+            self.assertEqual(CHECK.judged(edit, error.partition("`free-law`")[0] + RESTS.partition("error: ")[2])[1], [])
+            self.assertEqual(CHECK.judged(edit, error.replace("Laws.antt", "f/Answers.antt"))[1], [])
+
+    def test_a_definition_that_cannot_be_read_shows_nothing(self):
+        with tempfile.TemporaryDirectory() as folder:
+            crate = pathlib.Path(folder, "c")
+            edit = planted_definitions(crate)
+            error = "./specs/Numbers.antt:11:9: error: `third`: expected type `ℕ`, but this has type `Bool`"
+            self.assertEqual(CHECK.judged(edit, error), ([("other_first", None), ("other_third", None)], [error]))
+            alone = read(crate / "must-fail" / "definitions_1.edit")._replace(together=False, faults=edit.faults[1:])
+            self.assertFalse(CHECK.shows(CHECK.judged(alone, error)[0][0][1]))
+            self.assertTrue(CHECK.shows(CHECK.judged(alone, error.replace(":11:", ":8:"))[0][0][1]))
 
 
 if __name__ == "__main__":

@@ -1,5 +1,6 @@
 """Code, contracts and definitions are within 120 columns, comments and the prose of documents within 100."""
 
+import os
 import pathlib
 import re
 import unittest
@@ -8,6 +9,18 @@ ROOT = pathlib.Path(__file__).resolve().parent.parent
 WIDTH = 120
 PROSE_WIDTH = 100
 COMMENT = re.compile(r" *(?:--|//) ")
+
+
+BUILT = {"target", "out", ".git"}   # not looked into, for a proof may be writing there
+
+
+def documents():
+    """The documents of the repository, but for what is built."""
+    found = []
+    for folder, below, files in os.walk(ROOT):
+        below[:] = set(below) - BUILT
+        found += [pathlib.Path(folder, name) for name in files if name.endswith(".md")]
+    return sorted(found)
 
 
 def prose(text):
@@ -35,7 +48,7 @@ class Layout(unittest.TestCase):
         self.check_width(files, lambda text: [(number, line) for number, line in enumerate(text.splitlines(), 1) if COMMENT.match(line)], PROSE_WIDTH)
 
     def test_prose(self):
-        files = [path for path in ROOT.rglob("*.md") if "target" not in path.relative_to(ROOT).parts]
+        files = documents()
         self.assertGreater(len(files), 20)
         self.check_width(files, prose, PROSE_WIDTH)
 

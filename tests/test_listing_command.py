@@ -198,17 +198,18 @@ class Command(unittest.TestCase):
 
     def test_the_program_is_built(self):
         """Where there is no program yet; here rt is a stand-in that makes it."""
-        made = self.root / "target" / "bin" / "relay_listing"
+        made = self.root / "crates" / "relay_listing" / "out" / "relay_listing"
+        made.parent.parent.mkdir(parents=True)
         tools = self.root / "toolchain"
         tools.mkdir()
-        self.executable("toolchain/rt", f'echo "rt $*"; mkdir -p target/bin && cp {self.program} {made}')
+        self.executable("toolchain/rt", f'echo "rt $* in ${{PWD#{self.root.resolve()}/}}" >&2; mkdir -p out && cp {self.program} {made}; echo END')
         path = f"{tools}:{os.environ['PATH']}"
         example = (ROOT / "examples" / "two-stations.script").read_bytes()
         status, output, words = self.run_listing("-", script=example, RELAY_LISTING_PROGRAM="", PATH=path)
         self.assertEqual((status, output), (0, listing.listing(example)))
-        self.assertEqual(words.splitlines()[0], "listing: target/bin/relay_listing is missing; "
-                         "'rt check relay_listing' proves and builds it, which takes some minutes")
-        self.assertEqual(words.splitlines()[1:], ["rt check relay_listing"])
+        self.assertEqual(words.splitlines()[0], "listing: crates/relay_listing/out/relay_listing is missing; "
+                         "'rt run' in crates/relay_listing proves and builds it, which takes some minutes")
+        self.assertEqual(words.splitlines()[1:], ["rt run in crates/relay_listing"])
         self.assertEqual(self.run_listing("-", script=example, RELAY_LISTING_PROGRAM="", PATH=path), (0, output, ""))
         made.unlink()
         self.executable("toolchain/rt", "exit 1")

@@ -12,11 +12,15 @@ from model.malformed import GOOD_ROUND, N2
 from relay_command import ROOT, on_a_terminal
 
 RT = """#!/bin/sh
-echo "rt: places proved (1 s)"
-echo "rt: kinds proved (unchanged since it was last proved)"
-echo "rt: not a crate"
+[ "$1" = lib ] || { echo "what the program prints"; exec >&2; }
+echo "only=0 proved=0"
+echo "rt: chose --jobs 2 for places"
+echo "logic=proved functions=2"
+echo "rt: chose --jobs 2 for kinds"
+echo "logic=proved functions=1"
+echo "rt: chose --jobs 2 for listing"
 sleep 1.5
-echo "the last words of $*"
+echo "the last words of $* in ${PWD##*/}"
 exit %d
 """
 GONE = r"\r +\r$"
@@ -65,15 +69,16 @@ class Build(unittest.TestCase):
         self.addCleanup(self.folder.cleanup)
         self.root = pathlib.Path(self.folder.name)
         (self.root / "crates.txt").write_text("# crates\nplaces:\nkinds: places\nlinks: places\n"
-                                              "listing: places kinds io\n")
+                                              "listing staticlib: places kinds io\n")
+        (self.root / "crates" / "listing").mkdir(parents=True)
         self.environment = {**os.environ, "PATH": f"{self.root}:{os.environ['PATH']}"}
 
-    def build(self, status, terminal):
+    def build(self, status, terminal, how="lib"):
         rt = self.root / "rt"
         rt.write_text(RT % status)
         rt.chmod(0o755)
         program = (f"import sys; sys.path.insert(0, {str(ROOT / 'tools')!r}); import pathlib, rt_build; "
-                   f"sys.exit(rt_build.build('check', 'listing', pathlib.Path({str(self.root)!r})))")
+                   f"sys.exit(rt_build.build({how!r}, 'listing', pathlib.Path({str(self.root)!r})))")
         command = [sys.executable, "-B", "-c", program]
         if terminal:
             return on_a_terminal(command, env=self.environment)
@@ -81,19 +86,25 @@ class Build(unittest.TestCase):
         return done.returncode, done.stdout + done.stderr
 
     def test_on_a_terminal(self):
-        status, said = self.build(0, terminal=True)
-        self.assertEqual(status, 0)
-        self.assertRegex(said, r"^(\rlisting: 2 of 3 crates proved, \d s)+" + GONE)
+        for how in "lib", "run":
+            status, said = self.build(0, terminal=True, how=how)
+            self.assertEqual(status, 0)
+            self.assertRegex(said, r"^(\rlisting: 2 of at most 3 crates proved, \d s)+" + GONE)
 
     def test_a_failure(self):
         """What rt said last is shown."""
-        status, said = self.build(3, terminal=True)
-        self.assertEqual(status, 3)
-        self.assertTrue(said.endswith("rt: not a crate\r\nthe last words of check listing\r\n"), said)
+        for how in "lib", "run":
+            status, said = self.build(3, terminal=True, how=how)
+            self.assertEqual(status, 3)
+            self.assertTrue(said.endswith(f"rt: chose --jobs 2 for listing\r\nthe last words of {how} in listing\r\n"), said)
+            self.assertNotIn("what the program prints", said)
 
     def test_elsewhere(self):
-        status, said = self.build(3, terminal=False)
-        self.assertEqual((status, said.splitlines()[-2:]), (3, ["rt: not a crate", "the last words of check listing"]))
+        for how in "lib", "run":
+            status, said = self.build(3, terminal=False, how=how)
+            self.assertEqual((status, said.splitlines()[-2:]),
+                             (3, ["rt: chose --jobs 2 for listing", f"the last words of {how} in listing"]))
+            self.assertNotIn("what the program prints", said)
 
 
 class Run(unittest.TestCase):

@@ -100,7 +100,7 @@ class Library(unittest.TestCase):
         self.root = pathlib.Path(self.folder.name)
         shutil.copytree(ROOT / "tools", self.root / "tools", ignore=shutil.ignore_patterns("__pycache__"))
         (self.root / "bin").mkdir()
-        self.archive = self.root / "target" / "staticlib" / "librelay.a"
+        self.archive = self.root / "crates" / "relay" / "out" / "librelay.a"
         self.environment = {name: value for name, value in os.environ.items() if not name.startswith("RELAY_")}
 
     def tearDown(self):
@@ -145,7 +145,7 @@ class Library(unittest.TestCase):
         self.assertEqual(self.call(PATH=empty)[0], "this machine lacks 'rt', the command of the Rattle toolchain")
         self.build(1)
         self.assertEqual(self.call(PATH=empty)[0], "this machine lacks 'gcc': install Debian's package gcc")
-        self.assertIn("has no relay_product: 'rt staticlib relay' builds it anew", self.call("relay_product")[0])
+        self.assertIn("has no relay_product: 'rt lib' in crates/relay builds it anew", self.call("relay_product")[0])
         self.archive.write_text("no archive")
         self.assertIn("gcc cannot make a shared object of", self.call()[0])
 
@@ -154,13 +154,13 @@ class Library(unittest.TestCase):
         kept = self.root / "kept.a"
         self.archive.rename(kept)
         rt = self.root / "bin" / "rt"
-        rt.write_text(f'#!/bin/sh\necho "rt $*"; cp {kept} {self.archive}\n')
+        rt.write_text(f'#!/bin/sh\necho "rt $* in ${{PWD#{self.root.resolve()}/}}"; cp {kept} {self.archive}\n')
         rt.chmod(0o755)
         answer, words = self.call(PATH=f"{rt.parent}:{os.environ['PATH']}")
         self.assertEqual(answer, "7")
         self.assertEqual(words.splitlines(), [
-            "relay: target/staticlib/librelay.a is missing; "
-            "'rt staticlib relay' proves and builds it, which takes some minutes", "rt staticlib relay"])
+            "relay: crates/relay/out/librelay.a is missing; "
+            "'rt lib' in crates/relay proves and builds it, which takes some minutes", "rt lib in crates/relay"])
 
 
 if __name__ == "__main__":

@@ -49,7 +49,7 @@ def shown(name):
 
 
 def status_of(running, complaints):
-    """The exit status. The program's own is 0 also where it cannot read or write, and says so."""
+    """The exit status. A program's own may be 0 also where it cannot read or write, and says so."""
     if complaints:
         with contextlib.suppress(OSError):
             os.write(2, complaints)

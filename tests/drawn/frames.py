@@ -10,7 +10,7 @@ from model import frames, states
 from model.bodies import KINDS
 
 ROOT = pathlib.Path(__file__).resolve().parent.parent.parent
-ARCHIVE = pathlib.Path(os.environ.get("RELAY_ARCHIVE", ROOT / "target" / "staticlib" / "librelay.a"))
+ARCHIVE = pathlib.Path(os.environ.get("RELAY_ARCHIVE", ROOT / "crates" / "relay" / "out" / "librelay.a"))
 FAULTS = {1: "reads the byte after a frame", 2: "reads the byte before a frame", 3: "writes to a frame", 4: "accepts any record of sixteen stations",
           5: "refuses full frames", 6: "gives another refusal for some labels"}
 
@@ -135,7 +135,7 @@ def build_archive():
     """The archive, proved and built unless RELAY_ARCHIVE names another; gives the words of a failure."""
     if "RELAY_ARCHIVE" in os.environ:
         return ""
-    done = subprocess.run(["rt", "staticlib", "relay"], cwd=ROOT, stdout=subprocess.PIPE, stderr=subprocess.STDOUT, text=True, check=False)
+    done = subprocess.run(["rt", "lib"], cwd=ROOT / "crates" / "relay", stdout=subprocess.PIPE, stderr=subprocess.STDOUT, text=True, check=False)
     return "" if done.returncode == 0 else "\n".join(done.stdout.splitlines()[-5:])
 
 

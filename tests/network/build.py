@@ -11,8 +11,8 @@ SANITIZERS = ("-O1", "-g", "-fsanitize=address,undefined", "-fno-sanitize-recove
 
 
 def archive():
-    """The library, as RELAY_ARCHIVE names it or as `rt staticlib relay` makes it."""
-    return pathlib.Path(os.environ.get("RELAY_ARCHIVE", ROOT / "target" / "staticlib" / "librelay.a"))
+    """The library, as RELAY_ARCHIVE names it or as `rt lib` makes it in crates/relay."""
+    return pathlib.Path(os.environ.get("RELAY_ARCHIVE", ROOT / "crates" / "relay" / "out" / "librelay.a"))
 
 
 def host(folder, *options, name="host"):

@@ -15,8 +15,8 @@ SECONDS = 30  # for one script
 
 
 def chosen():
-    """The program that is compared: target/bin/relay_listing, or what RELAY_LISTING_PROGRAM names."""
-    return pathlib.Path(os.environ.get("RELAY_LISTING_PROGRAM", ROOT / "target" / "bin" / "relay_listing"))
+    """The program that is compared: crates/relay_listing/out/relay_listing, or what RELAY_LISTING_PROGRAM names."""
+    return pathlib.Path(os.environ.get("RELAY_LISTING_PROGRAM", ROOT / "crates" / "relay_listing" / "out" / "relay_listing"))
 
 
 class Finished(NamedTuple):

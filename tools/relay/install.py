@@ -22,7 +22,7 @@ from .faults import Misused, Missing
 
 ONLY_IN_REPOSITORY = True
 SONAME = f"librelay.so.{VERSION.partition('.')[0]}"
-PROGRAM = pathlib.Path("target", "bin", "relay_listing")
+PROGRAM = pathlib.Path("crates", "relay_listing", "out", "relay_listing")
 MODULES = "progress.py", "run_listing.py", "script_faults.py", "svg.py"    # of tools, for the command
 HERE_ONLY = "completion.py", "install.py", "manual.py"                    # of tools/relay
 DOCUMENTS = ("EXTENDED-SCRIPTS.md", "PLANNING.md", "SCRIPTS.md", "five-stations.svg", "killed-station.svg",
@@ -78,7 +78,7 @@ def listing_program():
     named = os.environ.get("RELAY_LISTING_PROGRAM")
     program = pathlib.Path(named) if named else places.ROOT / PROGRAM
     if not program.exists() and not named:
-        library.build("check", PROGRAM.name, PROGRAM)
+        library.build("run", PROGRAM.name, PROGRAM)
     if not program.exists():
         raise Missing(f"there is no program {program}")
     return program

@@ -1,6 +1,6 @@
 """The relay's C library from Python: finds or makes the shared object, and one function for each call.
 
-In the repository the shared object stands beside the archive target/staticlib/librelay.a and is made of it.
+In the repository the shared object stands beside the archive crates/relay/out/librelay.a and is made of it.
 RELAY_ARCHIVE names another archive, RELAY_LIBRARY another shared object.
 """
 
@@ -21,7 +21,7 @@ from . import places
 from .faults import Missing
 
 CRATE = "relay"
-ARCHIVE = pathlib.Path("target", "staticlib", f"lib{CRATE}.a")
+ARCHIVE = pathlib.Path("crates", CRATE, "out", f"lib{CRATE}.a")
 PLACES = 16
 
 
@@ -45,7 +45,7 @@ def archive_file():
     named = os.environ.get("RELAY_ARCHIVE")
     archive = pathlib.Path(named) if named else places.ROOT / ARCHIVE
     if not archive.exists() and not named:
-        build("staticlib", CRATE, ARCHIVE)
+        build("lib", CRATE, ARCHIVE)
     if not archive.exists():
         raise Missing(f"there is no archive {archive}")
     return archive
@@ -55,7 +55,7 @@ def build(how, name, made):
     """Has rt make a file of the repository that is missing."""
     if not shutil.which("rt"):
         raise Missing("this machine lacks 'rt', the command of the Rattle toolchain")
-    print(f"relay: {made} is missing; 'rt {how} {name}' proves and builds it, which takes some minutes",
+    print(f"relay: {made} is missing; 'rt {how}' in crates/{name} proves and builds it, which takes some minutes",
           file=sys.stderr)
     import rt_build     # of the repository, and not installed
     rt_build.build(how, name, places.ROOT)
@@ -84,7 +84,7 @@ def exported(name):
     except OSError as wrong:
         raise Missing(f"cannot load the library: {wrong}") from None
     except AttributeError:
-        raise Missing(f"{file} has no {name}: 'rt staticlib {CRATE}' builds it anew") from None
+        raise Missing(f"{file} has no {name}: 'rt lib' in crates/{CRATE} builds it anew") from None
     function.restype = ctypes.c_uint32
     return function
 
