@@ -18,5 +18,5 @@ always (then_fed {r} {read} {listed} part entry exit f g h) more =
     ∙ always g (take f.read part ++ more)
     ∙ ap listing_of (sym (append_assoc read (take f.read part) more))
 
-pub lists_whole_lem : ListsWhole
-lists_whole_lem r read listed g = always g [] ∙ ap listing_of (append-nil read)
+pub lists_whole : ListsWhole
+lists_whole r read listed g = always g [] ∙ ap listing_of (append-nil read)

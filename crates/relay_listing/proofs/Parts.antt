@@ -9,7 +9,7 @@ use Rattle.listing_spec.specs.declared.reading.FeedAnswer.{FeedAnswer}
 use Rattle.listing_spec.specs.Listing.{listing_of}
 use Rattle.listing_spec.specs.Remaining.{Feeds, remaining, beginning}
 use Rattle.listing_spec.specs.Whole.{at_first, then_fed}
-use Rattle.listing_spec.proofs.WholeScript.{lists_whole_lem}
+use Rattle.listing_spec.proofs.WholeScript.{lists_whole}
 use Rattle.relay_listing.specs.Passing.{Passes, PassesIf, Reads, ReadsIf, Lists, ListsIf}
 
 -- what is written twice
@@ -91,10 +91,10 @@ reads_end r part i i' i'' w w' e p t =
     }
 
 -- and then the end of the script
-pub lists_whole :
+pub lists_finished :
     (r : Reader) (i i' w w' w'' : Option (List ℕ)) → Reads r i i' w w' → Appends w' w'' (remaining r []) → Lists i i' w w''
-lists_whole r i i' w w' w'' p u =
-    let whole = lists_whole_lem r p.read p.text p.reached in
+lists_finished r i i' w w' w'' p u =
+    let whole = lists_whole r p.read p.text p.reached in
     let written = appends_more w w' w'' p.text (remaining r []) p.written u in
     record { read = p.read; taken = p.taken; written = rw whole at written }
 
@@ -115,7 +115,7 @@ reads_on sound r r' part i i' i'' w w' w'' e p t q = reads_more r r' part i i' i
 pub lists_if :
     (sound result : Bool) (r : Reader) (i i' w w' w'' : Option (List ℕ)) → (result ≡ true → sound ≡ true) →
     ReadsIf sound r i i' w w' → (result ≡ true → Appends w' w'' (remaining r [])) → ListsIf result i i' w w''
-lists_if sound true r i i' w w' w'' s p u = lists_whole r i i' w w' w'' (rw (s refl) at p) (u refl)
+lists_if sound true r i i' w w' w'' s p u = lists_finished r i i' w w' w'' (rw (s refl) at p) (u refl)
 lists_if sound false r i i' w w' w'' s p u = tt
 
 -- what a call put at the front of the buffer
