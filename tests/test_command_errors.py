@@ -1,12 +1,18 @@
 """Errors of ./relay: whatever file or number it is given, it says where and what was expected, in plain words."""
 
+import contextlib
 import os
 import pathlib
+import pty
 import re
 import subprocess
 import tempfile
+import tty
 import unittest
 
+from model import lines, listing
+from model.malformed import N2
+from program.command import SECONDS, chosen
 from relay_command import ROOT, run
 
 from relay import command, faults  # from tools, which relay_command puts on the path
@@ -18,6 +24,7 @@ USES = (  # every place at which a file is read
     ("ask", FILE, "0 1 1"), ("ask", PLAN, "--questions", FILE), ("contest", FILE), ("compare", FILE, "0", LISTING, "0"),
     ("compare", LISTING, "0", FILE, "0"), ("screen", FILE), ("screen", PLAN, FILE))
 READS_NONE = {"load", "install"}
+SCRIPT = (ROOT / "examples" / "two-stations.script").read_bytes()
 MALFORMED = {
     "empty": b"", "zeros": bytes(500), "random": bytes(range(255, -1, -1)) * 20, "one long line": b"7" * 5_000,
     "no line end": b"N        2\nR        2        1", "byte order mark": b"\xef\xbb\xbfN        2\n",
@@ -31,6 +38,17 @@ def named(use, file):
 def head(use):
     """What the words begin with; the listing is a command of its own."""
     return "listing" if use[0] == "listing" else f"relay {use[0]}"
+
+
+@contextlib.contextmanager
+def closed_pipe():
+    """The writing end of a pipe whose reading end is closed."""
+    read, write = os.pipe()
+    os.close(read)
+    try:
+        yield write
+    finally:
+        os.close(write)
 
 
 class Files(unittest.TestCase):
@@ -133,9 +151,13 @@ class Streams(unittest.TestCase):
                                      (2, "", f"{head}{words}\n"))
         self.assertEqual(self.shell("./relay listing >&-"), (2, "", "relay listing: standard output is closed\n"))
         for how in (">/dev/full", ">&-"):
-            status, _, words = self.shell(f"./listing {how}")
-            self.assertEqual(status, 2)
-            self.assertIn("cannot write", words)
+            self.assertEqual(self.shell(f"./listing {how}"), (2, "", "relay_listing: cannot write\n"))
+
+    def test_a_pipe_that_no_one_reads(self):
+        for line in ("./listing", "./relay listing"):
+            with closed_pipe() as pipe:
+                done = subprocess.run(line.split(), cwd=ROOT, stdout=pipe, stderr=subprocess.PIPE, check=False)
+            self.assertEqual((done.returncode, done.stderr), (2, b""))
 
     def test_input_that_is_closed(self):
         for line in ("forecast -", "run -", "contest -", "compare - 0 - 0", "merge examples/five-stations.plan -"):
@@ -147,6 +169,44 @@ class Streams(unittest.TestCase):
         self.assertEqual(self.shell("./relay forecast /nowhere 2>&-"), (2, "", ""))
         status, text, _ = self.shell("printf 'N        2\\nR\\n' | ./relay listing - 2>&-")
         self.assertEqual((status, text), (0, "     0 X  0 11 0        0        0\nEND\n"))
+
+
+class Program(unittest.TestCase):
+    """The listing program by itself: a read or a write that fails ends it with status 2, without the last line."""
+
+    def ended(self, **streams):
+        """Exit status, standard output where it is a pipe, and standard error."""
+        done = subprocess.run([chosen()], stderr=subprocess.PIPE, check=False, timeout=SECONDS, **streams)
+        return done.returncode, done.stdout, done.stderr
+
+    def test_whole(self):
+        for script in (SCRIPT, N2):
+            self.assertEqual(self.ended(input=script, stdout=subprocess.PIPE), (0, listing.listing(script), b""))
+
+    def test_a_full_device(self):
+        """Whether the first lines cannot be written, or the last one, which is all that there is."""
+        for script in (SCRIPT, N2):
+            with open("/dev/full", "wb") as full:
+                self.assertEqual(self.ended(input=script, stdout=full), (2, None, b"relay_listing: cannot write\n"))
+
+    def test_a_pipe_that_no_one_reads(self):
+        for script in (SCRIPT, N2):
+            with closed_pipe() as pipe:
+                self.assertEqual(self.ended(input=script, stdout=pipe), (2, None, b""))
+
+    def test_a_read_that_fails(self):
+        """At once, as of a folder, or after some lines, as of a terminal whose other side is closed."""
+        folder = os.open("/", os.O_RDONLY)
+        self.addCleanup(os.close, folder)
+        said = b"relay_listing: cannot read\n"
+        self.assertEqual(self.ended(stdin=folder, stdout=subprocess.PIPE), (2, b"", said))
+        terminal, other = pty.openpty()
+        self.addCleanup(os.close, terminal)
+        tty.setraw(other)
+        os.write(other, SCRIPT)
+        os.close(other)
+        self.assertEqual(self.ended(stdin=terminal, stdout=subprocess.PIPE),
+                         (2, listing.listing(SCRIPT).removesuffix(lines.END_LINE), said))
 
 
 if __name__ == "__main__":

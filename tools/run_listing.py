@@ -1,7 +1,7 @@
 """Runs the listing program on a script, for ./listing: python3 tools/run_listing.py PROGRAM SCRIPT ('-' is standard input).
 
 The program writes the listing itself. What is added goes to standard error: why a line stops the reading and, on a terminal, how far a long script is.
-The script is passed on while it is read, so it may be of any length.
+The script is passed on while it is read, so it may be of any length. The exit status is the program's: 2 where it could not read or write.
 """
 
 import contextlib
@@ -49,12 +49,12 @@ def shown(name):
 
 
 def status_of(running, complaints):
-    """The exit status. A program's own may be 0 also where it cannot read or write, and says so."""
+    """The exit status, which is the program's own; what it said is passed on."""
     if complaints:
         with contextlib.suppress(OSError):
             os.write(2, complaints)
     if running.returncode >= 0:
-        return running.returncode or (FAILED if complaints else 0)
+        return running.returncode
     if running.returncode != -signal.SIGPIPE:
         say(f"the program was ended by signal {-running.returncode}")
     return 128 - running.returncode
