@@ -9,6 +9,7 @@ ROOT = pathlib.Path(__file__).resolve().parent.parent
 WIDTH = 120
 PROSE_WIDTH = 100
 COMMENT = re.compile(r" *(?:--|//) ")
+COMMIT = re.compile(r"[0-9a-f]{40}: ")
 
 
 BUILT = {"target", "out", ".git"}   # not looked into, for a proof may be writing there
@@ -24,11 +25,11 @@ def documents():
 
 
 def prose(text):
-    """The numbered lines of a document that are neither a table, a block, a picture nor a tag."""
+    """The numbered lines of a document that are neither a table, a block, a picture nor a tag, and do not begin with a commit."""
     fenced = False
     for number, line in enumerate(text.splitlines(), 1):
         fenced ^= line.startswith("```")
-        if not fenced and not line.startswith(("|", "    ", "![", "<")):
+        if not fenced and not line.startswith(("|", "    ", "![", "<")) and not COMMIT.match(line):
             yield number, line
 
 

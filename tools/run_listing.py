@@ -49,12 +49,12 @@ def shown(name):
 
 
 def status_of(running, complaints):
-    """The exit status, which is the program's own; what it said is passed on."""
+    """The exit status. A program's own may be 0 also where it cannot read or write, and says so."""
     if complaints:
         with contextlib.suppress(OSError):
             os.write(2, complaints)
     if running.returncode >= 0:
-        return running.returncode
+        return running.returncode or (FAILED if complaints else 0)
     if running.returncode != -signal.SIGPIPE:
         say(f"the program was ended by signal {-running.returncode}")
     return 128 - running.returncode
