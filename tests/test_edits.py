@@ -212,17 +212,24 @@ class TestEdits(unittest.TestCase):
         return CHECK.refusals("\n".join(lines), "c", {"both": {("", "f"), ("", "h")}})
 
     def test_a_fact_shows_something(self):
-        self.assertEqual(self.first_error(NOTE, FACT, NAME, NOT_PROVED), FACT)
+        self.assertEqual(self.first_error(NOTE, FACT, NOT_PROVED), FACT)
         self.assertTrue(CHECK.shows(FACT))
 
     def test_a_name_alone_shows_nothing(self):
         self.assertEqual(self.first_error(NAME, NOT_PROVED), NAME)
         self.assertFalse(CHECK.shows(NAME))
         self.assertFalse(CHECK.shows(FIELD))
+        self.assertFalse(CHECK.shows(self.first_error(NAME, FACT, NOT_PROVED)))
 
-    def test_a_name_beside_a_fact_is_left_out(self):
-        self.assertEqual(self.first_error(NAME, FACT, NOT_PROVED), FACT)
-        self.assertEqual(self.first_error(FIELD, NOTE, NOT_PROVED), NOTE)
+    def test_a_fact_looked_for_elsewhere_shows_nothing(self):
+        """Wherever in the proof a name is missed: what the proof says without it is not what it would say of the edit."""
+        for lines in ((FIELD, FACT), (FACT, FIELD), (FACT, NAME), (FIELD, NOTE)):
+            self.assertFalse(CHECK.shows(self.first_error(*lines, NOT_PROVED)), lines)
+
+    def test_of_one_fault_what_is_refused_first_counts(self):
+        other = FACT.replace("proofs/f", "proofs/k")
+        self.assertEqual(self.first_error(other, FACT, NAME, NOT_PROVED), other)
+        self.assertEqual(self.first_error(NAME, other, NOT_PROVED), NAME)
 
     def test_without_its_invariant_nothing_counts_of_a_function(self):
         self.assertEqual(self.first_error(FACT, LOOP, NOTE, NOT_PROVED), LOOP)
@@ -241,6 +248,7 @@ class TestEdits(unittest.TestCase):
 
     def test_of_faults_together_each_wants_an_error_of_its_own(self):
         self.assertEqual(self.refusals(FACT, RESTS, RESTS_BELOW, CALLS), {("", "f"): FACT})
+        self.assertFalse(CHECK.shows(self.refusals(NAME, FACT)["", "f"]))
 
     def test_refusals_in_modules_cycles_made_proofs_and_laws(self):
         self.assertEqual(set(self.refusals(INNER)), {("m", "f")})
