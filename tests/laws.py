@@ -11,7 +11,7 @@ from typing import NamedTuple
 HEADS = r"(?:(?:abbrev|unfoldable|opaque|pub|private|record|data) )*"
 DECLARED = re.compile(rf"( *){HEADS}([^\s:(){{}}=]+)(?: [({{].*)? :(?: |$)|( *)(?:pub )?(?:record|data) ([^\s:(){{}}=]+)")
 IMPORTED = re.compile(r"^(?:pub )?use Rattle\.(\w+)\.((?:specs|proofs)\.[^\s{]+)\.\{([^}]*)\}", re.MULTILINE)
-OF_A_FUNCTION = ("Proof.antt", "Answers.antt", "Invariants.antt")
+OF_A_FUNCTION = ("Proof.antt", "Answers.antt", "Invariants.antt")  # in a folder of the function's name
 IMPORT = re.compile(r" *(?:(?:pub )?(?:use|mod)) ")
 MODULE = re.compile(r" *module ")
 WORD = re.compile(r"[^\s(){};,\[\]λ.«»]+")
@@ -54,7 +54,7 @@ class Crate:
 
     def text_at(self, file, line):
         """The text of a law or of a definition at a line, or None."""
-        if file not in self.files or file.endswith(OF_A_FUNCTION):
+        if file not in self.files or file.count("/") > 1 and file.rpartition("/")[2] in OF_A_FUNCTION:
             return None
         return next((text for text in self.texts(file) if text.first <= line <= text.last), None)
 

@@ -219,12 +219,16 @@ class TestEdits(unittest.TestCase):
         self.assertEqual(self.first_error(NAME, NOT_PROVED), NAME)
         self.assertFalse(CHECK.shows(NAME))
         self.assertFalse(CHECK.shows(FIELD))
-        self.assertFalse(CHECK.shows(self.first_error(NAME, FACT, NOT_PROVED)))
 
     def test_a_fact_looked_for_elsewhere_shows_nothing(self):
-        """Wherever in the proof a name is missed: what the proof says without it is not what it would say of the edit."""
-        for lines in ((FIELD, FACT), (FACT, FIELD), (FACT, NAME), (FIELD, NOTE)):
+        for lines in ((FIELD, FACT), (FACT, FIELD), (FIELD, NOTE), (NAME, FIELD, FACT)):
             self.assertFalse(CHECK.shows(self.first_error(*lines, NOT_PROVED)), lines)
+
+    def test_where_a_goal_is_gone_the_answers_to_the_others_count(self):
+        """But not that no proof was found of a goal that has no answer: it might have one under another name."""
+        self.assertEqual(self.first_error(NAME, FACT, NOT_PROVED), FACT)
+        for lines in ((NAME, NOTE, NOT_PROVED), (NAME, MADE)):
+            self.assertFalse(CHECK.shows(self.first_error(*lines)), lines)
 
     def test_of_one_fault_what_is_refused_first_counts(self):
         other = FACT.replace("proofs/f", "proofs/k")
@@ -248,7 +252,7 @@ class TestEdits(unittest.TestCase):
 
     def test_of_faults_together_each_wants_an_error_of_its_own(self):
         self.assertEqual(self.refusals(FACT, RESTS, RESTS_BELOW, CALLS), {("", "f"): FACT})
-        self.assertFalse(CHECK.shows(self.refusals(NAME, FACT)["", "f"]))
+        self.assertFalse(CHECK.shows(self.refusals(FIELD, FACT)["", "f"]))
 
     def test_refusals_in_modules_cycles_made_proofs_and_laws(self):
         self.assertEqual(set(self.refusals(INNER)), {("m", "f")})
@@ -258,6 +262,9 @@ class TestEdits(unittest.TestCase):
         self.assertEqual(set(self.refusals(MADE.replace("fn c::f", "fn c::m::f"))), {("m", "f")})
         self.assertEqual(set(self.refusals(FACT.replace("proofs/f/Answers", "proofs/Law"))), {"proofs/Law.antt"})
         self.assertEqual(self.refusals(NOTE, PROVED, NOT_PROVED), {})
+
+    def test_a_function_that_calls_itself(self):
+        self.assertEqual(set(self.refusals(FACT.replace("proofs/f", "proofs/+k"))), {("", "k")})
 
     def test_the_functions_of_a_cycle(self):
         with tempfile.TemporaryDirectory() as folder:
@@ -285,6 +292,11 @@ class TestEdits(unittest.TestCase):
             CHECK.follow(pathlib.Path(folder), "c", before, after)
             self.assertEqual((place / "Answers.antt").read_text(encoding="utf-8"),
                              "pub returns-then-n-lt0 : goal.returns-then-n-lt0\nreturns-then-n-lt0 c = law c.if-n-lt0.true c.if-n-lt10.true\n")
+
+    def test_names_go_together_where_a_place_more_is_passed(self):
+        before = {"places": [["Start", ["", ""]], ["Then1", ["if1", "if-s"]]]}
+        after = {"places": [["Start", ["", ""]], ["After-known", ["known", "known-1"]], ["Then1", ["if1", "if-not-s"]]]}
+        self.assertEqual([pair for pair in CHECK.pairs(before, after) if pair[0] != pair[1]], [("if-s", "if-not-s")])
 
     def test_a_law_tells_of_the_one_changed_definition_that_it_reaches(self):
         with tempfile.TemporaryDirectory() as folder:
