@@ -227,6 +227,7 @@ class TestEdits(unittest.TestCase):
     def test_where_a_goal_is_gone_the_answers_to_the_others_count(self):
         """But not that no proof was found of a goal that has no answer: it might have one under another name."""
         self.assertEqual(self.first_error(NAME, FACT, NOT_PROVED), FACT)
+        self.assertEqual(self.first_error(NOTE, FACT, NAME, NOT_PROVED), FACT)
         for lines in ((NAME, NOTE, NOT_PROVED), (NAME, MADE)):
             self.assertFalse(CHECK.shows(self.first_error(*lines)), lines)
 
