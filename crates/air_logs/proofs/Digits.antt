@@ -9,8 +9,7 @@ use native.Mathlib.Nat.{pow-suc}
 use native.Mathlib.Decide.{dec_le}
 use native.Mathlib.Omega.{arith}
 use lib.Dec.{leb, ltb, eqb}
-use lib.ListN.{length, drop, get_or, length-drop}
-use lib.Seq.{get_or-drop}
+use lib.ListN.{length, get_or}
 use borrow.Author.Tests.{leb-true, leb-false, ltb-true, ltb-false, eqb-true, eqb-false, ne_eqb, lt-ltb, le-ltb, le-leb, lt-leb}
 use Rattle.lists.proofs.Laws.{and_left, and_right}
 use Rattle.columns.specs.declared.reader.Reading.{Reading}
@@ -91,7 +90,7 @@ grown_other minus v b e = rw (digit_not b e)
 
 digits_read :
     (minus : Bool) (t : List ℕ) (k v : ℕ) → 0 < v → v < 10 ^ k → k + length t ≤ 9 → Verdict minus (all_digits t) (read_from (Number minus v) t)
-unfolding all_digits read_from
+unfolding read_from
 digits_read minus [] k v some few room =
     record { good = λ e. (v, refl, omega (arith, nine_most k (omega arith))); bad = λ e. absurd (true≢false e) }
 digits_read minus (b ∷ t) k v some few room = go (is_digit b) refl (λ d w s f. digits_read minus t (suc k) w s f (omega arith))
@@ -222,18 +221,9 @@ whole_read (b ∷ t) room h = rw (ne_eqb b 32 (h (omega arith))) (go (eqb b 45))
     go false = is_whole_lem false (is_unsigned (b ∷ t)) _ (unsigned_read b t (omega arith))
 
 -- columns behind their blanks
-module _ (s : List ℕ) (r : ℕ) (room : length s ≤ 9) (h : Unpadded s r) where
-  left_room : length (drop r s) ≤ 9
-  left_room = rw length-drop (omega arith)
+module _ (s t : List ℕ) (h : Unpadded s t) (room : length s ≤ 9) where
+  pub natural_columns : is_natural (read_columns s) ≡ is_unsigned t
+  natural_columns = ap is_natural h.read ∙ natural_read t (omega (arith, h.inside)) h.used
 
-  no_blank : 0 < length (drop r s) → get_or (drop r s) 0 0 ≡ 32 → ⊥
-  no_blank l e =
-      let some : r < length s = omega (arith, length-drop r s) in
-      let zeroth : r + 0 ≡ r = omega arith in
-      h.used some (sym (ap (λ (k : ℕ). get_or s k 0) zeroth) ∙ sym (get_or-drop r s 0 0) ∙ e)
-
-  pub natural_columns : is_natural (read_columns s) ≡ is_unsigned (drop r s)
-  natural_columns = ap is_natural h.read ∙ natural_read (drop r s) left_room no_blank
-
-  pub whole_columns : is_whole (read_columns s) ≡ is_signed (drop r s)
-  whole_columns = ap is_whole h.read ∙ whole_read (drop r s) left_room no_blank
+  pub whole_columns : is_whole (read_columns s) ≡ is_signed t
+  whole_columns = ap is_whole h.read ∙ whole_read t (omega (arith, h.inside)) h.used

@@ -1,85 +1,120 @@
 -- Lines by their bytes: a line fails where any of its parts does, a listing is judged in steps of
 -- 35 bytes, a kept line is told by four bytes, and two edits are the same exactly if the 23 bytes
 -- of their numbers are.
-use Prim.Native.Nat.{ℕ, suc, ◌+◌, ◌-◌, ◌/◌, ◌%◌, ◌≤◌, ◌<◌}
+use Prim.Native.Nat.{ℕ, suc, ◌*◌, ◌+◌, ◌-◌, ◌/◌, ◌%◌, ◌≤◌, ◌<◌}
 use mathlib.Core.Path.{◌≡◌, refl, sym, ap, ◌∙◌}
-use mathlib.Core.Bool.{Bool, true, false, cond, not, ◌&&◌, true≢false}
+use mathlib.Core.Bool.{Bool, true, false, cond, ◌&&◌}
 use mathlib.Core.List.{List, [], ◌∷◌, ◌++◌}
 use native.Mathlib.Omega.{arith}
 use lib.Dec.{ltb, eqb}
 use lib.ListN.{length, take, drop, get_or, length-drop}
-use lib.Seq.{length-take-le, take-add, drop-drop, drop-cons, get_or-drop}
-use borrow.Author.Tests.{eq-eqb, ne_eqb, ltb-false, not-true, not-false}
+use native.Mathlib.Decide.{dec_le}
+use Rattle.std.proofs.lemmas.List.{take_rest, take-append-le, get_or_append_left, length-append}
+use lib.Seq.{length-take-le, take-add, drop-drop, drop-cons, drop-append-add}
+use borrow.Author.Tests.{ltb-false}
 use Rattle.columns.specs.Writing.{lead, columns, nat_columns}
-use Rattle.script.specs.Line.{is_natural, is_whole}
 use Rattle.listing_lines.specs.Lines.{end_line}
-use Rattle.air_logs_spec.specs.Form.{field, is_letter, is_line, same_bytes, is_listing}
-use Rattle.air_logs_spec.specs.Logs.{edit_in, is_kept}
+use Rattle.air_logs_spec.specs.Form.{is_line, same_bytes, is_listing}
+use Rattle.air_logs_spec.specs.Logs.{edit_in, is_kept, log_of}
 use Rattle.air_logs_spec.specs.Compare.{same_edit}
 use Rattle.air_logs_spec.proofs.Fields.{same_append, same_natural, same_number, same_whole_lem}
-use Rattle.air_logs_spec.proofs.Form.{LineIs, line_is, goes_on, stops_here, last_left}
+use Rattle.air_logs_spec.proofs.Form.{line_is, line_stands, goes_on, stops_here, last_left, Step, step, no_more}
 use Rattle.air_logs_spec.proofs.ReadBack.{natural_fits}
-use Rattle.air_logs.specs.Inner.{tens_of}
+use Rattle.air_logs.specs.Inner.{tens_of, is_ended_line, KeptLine}
 
--- a part of a line that fails
-pub line_fails : (l : List ℕ) (test : Bool) → (LineIs l → test ≡ true) → test ≡ false → is_line l ≡ false
-line_fails l test f h = go (is_line l) refl
-  where
-    go : (u : Bool) → is_line l ≡ u → u ≡ false
-    go true e = absurd (true≢false (sym (f (line_is l e)) ∙ h))
-    go false e = refl
+pub line_long : (l : List ℕ) → is_line l ≡ true → length l ≡ 34
+line_long l h = (line_is l h).long
 
-pub line_short : (l : List ℕ) → (length l ≡ 34 → ⊥) → is_line l ≡ false
-line_short l d = line_fails l (eqb (length l) 34) (λ c. eq-eqb (length l) 34 c.long) (ne_eqb (length l) 34 d)
+-- bytes by their first 35
+module _ (line rest : List ℕ) (long : length line ≡ 35) where
+  room_first : 35 ≤ length (line ++ rest)
+  room_first = omega (arith, length-append line rest)
 
-pub line_spaced : (l : List ℕ) → (get_or l 6 0 ≡ 32 → ⊥) → is_line l ≡ false
-line_spaced l d = line_fails l (eqb (get_or l 6 0) 32) (λ c. eq-eqb (get_or l 6 0) 32 c.space) (ne_eqb (get_or l 6 0) 32 d)
+  ended_first : line_stands (line ++ rest) ≡ is_ended_line line
+  ended_first = rw (take-append-le 34 line rest (omega arith), get_or_append_left line rest 0 34 (omega arith))
 
--- all parts but the last
-pub line_left :
-    (l : List ℕ) → length l ≡ 34 → is_natural (field l 0 6) ≡ true → get_or l 6 0 ≡ 32 → is_letter (get_or l 7 0) ≡ true → is_natural (field l 8 3) ≡ true →
-    is_natural (field l 11 3) ≡ true → is_natural (field l 14 2) ≡ true → is_natural (field l 16 9) ≡ true → is_line l ≡ is_whole (field l 25 9)
-unfolding is_line
-line_left l long round space letter station source kind event =
-    (λ i. eqb (long i) 34 && (round i && (eqb (space i) 32 && (letter i && (station i && (source i && (kind i && (event i && is_whole (field l 25 9)))))))))
+  rest_first : drop 35 (line ++ rest) ≡ rest
+  rest_first = let e : 35 ≡ length line + 0 = omega arith in rw (e, drop-append-add line rest 0)
 
--- a test that was answered
-pub answered_no : (r t : Bool) → r ≡ t → not r ≡ true → t ≡ false
-answered_no r t e h = sym e ∙ not-true r h
+  pub judged_no : is_ended_line line ≡ false → is_listing (line ++ rest) ≡ false
+  judged_no e = stops_here (line ++ rest) room_first (ended_first ∙ e)
 
-pub answered_yes : (r t : Bool) → r ≡ t → not r ≡ false → t ≡ true
-answered_yes r t e h = sym e ∙ not-false r h
+  pub judged_yes : is_ended_line line ≡ true → is_listing rest ≡ is_listing (line ++ rest)
+  judged_yes e = sym (goes_on (line ++ rest) room_first (ended_first ∙ e) ∙ ap is_listing rest_first)
 
--- the 34 bytes of a line from a place on, as a part
-pub part_is : (bytes : List ℕ) (at : ℕ) → take (at + 34 - at) (drop at bytes) ≡ take 34 (drop at bytes)
-part_is bytes at = let e : at + 34 - at ≡ 34 = omega arith in rw e
+  pub last_onward :
+      drop (length (line ++ rest) - length (line ++ rest) % 35) (line ++ rest) ≡ drop (length rest - length rest % 35) rest
+  last_onward =
+      let n = length rest in
+      let e : length (line ++ rest) - length (line ++ rest) % 35 ≡ length line + (n - n % 35) = omega (arith, length-append line rest) in
+      rw (e, drop-append-add line rest (n - n % 35))
 
--- a listing from a place on
-module _ (bytes : List ℕ) (at : ℕ) where
+-- less than a line is left
+pub judged_last : (rest : List ℕ) → length rest < 35 → is_listing rest ≡ same_bytes (drop (length rest - length rest % 35) rest) end_line
+judged_last rest h = let e : length rest - length rest % 35 ≡ 0 = omega arith in rw e (last_left rest h)
+
+-- a listing from its line k on
+module _ (bytes : List ℕ) (k : ℕ) where
   abbrev s : List ℕ
-  s = drop at bytes
+  s = drop (35 * k) bytes
 
-  room : 35 ≤ length bytes - at → 35 ≤ length s
-  room h = rw length-drop h
+  onward : drop 35 s ≡ drop (35 * (k + 1)) bytes
+  onward =
+      let e : 35 * k + 35 ≡ 35 * (k + 1) = omega arith in
+      drop-drop 35 (35 * k) bytes ∙ ap (λ (n : ℕ). drop n bytes) e
 
-  end_is : get_or s 34 0 ≡ get_or bytes (at + 34) 0
-  end_is = get_or-drop at bytes 34 0
+  module _ (h : k < length bytes / 35) where
+    room : 35 ≤ length s
+    room = rw length-drop (omega arith)
 
-  pub judged_line : 35 ≤ length bytes - at → is_line (take 34 s) ≡ false → is_listing s ≡ false
-  judged_line h e = stops_here s (room h) (rw e)
+    -- where it is one
+    module _ (t : is_listing s ≡ true) where
+      one : Step s
+      one = step s t (omega (arith, room))
 
-  pub judged_end : 35 ≤ length bytes - at → is_line (take 34 s) ≡ true → (get_or bytes (at + 34) 0 ≡ 10 → ⊥) → is_listing s ≡ false
-  judged_end h e d = stops_here s (room h) (rw (e, end_is, ne_eqb (get_or bytes (at + 34) 0) 10 d))
+      abbrev part : List ℕ
+      part = take (35 * k + 34 - 35 * k) s
 
-  pub judged_next :
-      35 ≤ length bytes - at → is_line (take 34 s) ≡ true → get_or bytes (at + 34) 0 ≡ 10 → is_listing s ≡ is_listing (drop (at + 34 + 1) bytes)
-  judged_next h e f =
-      let k : at + 35 ≡ at + 34 + 1 = omega arith in
-      goes_on s (room h) (rw (e, end_is, f))
-      ∙ ap is_listing (drop-drop 35 at bytes ∙ ap (λ (n : ℕ). drop n bytes) k)
+      part_is : part ≡ take 34 s
+      part_is = let e : 35 * k + 34 - 35 * k ≡ 34 = omega arith in rw e
 
-  pub judged_last : length bytes - at < 35 → is_listing s ≡ same_bytes s end_line
-  judged_last h = last_left s (rw length-drop h)
+      pub part_line : is_line part ≡ true
+      part_line = ap is_line part_is ∙ one.form
+
+      pub left_more : is_listing (drop (35 * (k + 1)) bytes) ≡ true
+      left_more = ap is_listing (sym onward) ∙ one.next
+
+      log_is : (p : ℕ) (u : Bool) → is_kept p part ≡ u → log_of p s ≡ cond u (edit_in part ∷ []) [] ++ log_of p (drop (35 * (k + 1)) bytes)
+      log_is p u e =
+          one.log p
+          ∙ (λ i. cond (is_kept p (sym part_is i)) (edit_in (sym part_is i) ∷ []) [] ++ log_of p (onward i))
+          ∙ ap (λ (v : Bool). cond v (edit_in part ∷ []) [] ++ log_of p (drop (35 * (k + 1)) bytes)) e
+
+      pub passed_log : (p : ℕ) → is_kept p part ≡ false → log_of p s ≡ log_of p (drop (35 * (k + 1)) bytes)
+      passed_log p e = log_is p false e
+
+      pub kept_line :
+          (p : ℕ) → log_of p bytes ≡ log_of p s → is_kept p part ≡ true →
+          KeptLine p bytes part (take (length bytes - 35 * (k + 1)) (drop (35 * (k + 1)) bytes))
+      kept_line p e kept =
+          rw take_rest
+          (record {
+            form = part_line;
+            behind = left_more;
+            shorter = omega (arith, length-drop (35 * (k + 1)) bytes);
+            log = e ∙ log_is p true kept;
+          })
+
+-- less than a line is left of a listing: nothing is kept in it
+pub no_line : (bytes : List ℕ) (k p : ℕ) → k ≡ length bytes / 35 → is_listing (drop (35 * k) bytes) ≡ true → log_of p (drop (35 * k) bytes) ≡ []
+no_line bytes k p e h = no_more (drop (35 * k) bytes) h short p
+  where
+    short : length (drop (35 * k) bytes) ≤ 4
+    short =
+        elim (dec_le (length (drop (35 * k) bytes)) 4) [
+          | yes m ↦ m
+          | no m ↦ absurd (omega (arith, (step (drop (35 * k) bytes) h (omega arith)).room, length-drop (35 * k) bytes))
+        ]
 
 -- three bytes of a line
 three : (l : List ℕ) (at : ℕ) → at + 3 ≤ length l → take 3 (drop at l) ≡ get_or l at 0 ∷ get_or l (suc at) 0 ∷ get_or l (suc (suc at)) 0 ∷ []
@@ -119,25 +154,13 @@ module _ (l : List ℕ) (p : ℕ) (h : is_line l ≡ true) (small : p ≤ 15) wh
   station_long : length (take 3 (drop 8 l)) ≡ 3
   station_long = length-take-le 3 (drop 8 l) (rw length-drop (omega (arith, (line_is l h).long)))
 
-  kept_bytes :
+  pub kept_bytes :
       is_kept p l
       ≡ (eqb (get_or l 7 0) 65 && (eqb (get_or l 8 0) 32 && (eqb (get_or l 9 0) (tens_of p) && eqb (get_or l 10 0) (48 + p % 10))))
   unfolding is_kept
   kept_bytes =
       ap (λ (t : Bool). eqb (get_or l 7 0) 65 && t)
       (same_number (take 3 (drop 8 l)) 3 p station_long (line_is l h).station (natural_fits 3 p (omega arith) (omega arith) (omega arith)) ∙ station_bytes)
-
-  pub not_aired : (get_or l 7 0 ≡ 65 → ⊥) → is_kept p l ≡ false
-  not_aired d = kept_bytes ∙ rw (ne_eqb (get_or l 7 0) 65 d)
-
-  pub not_blank : get_or l 7 0 ≡ 65 → (get_or l 8 0 ≡ 32 → ⊥) → is_kept p l ≡ false
-  not_blank a d = kept_bytes ∙ rw (a, ne_eqb (get_or l 8 0) 32 d)
-
-  pub not_tens : get_or l 7 0 ≡ 65 → get_or l 8 0 ≡ 32 → (get_or l 9 0 ≡ tens_of p → ⊥) → is_kept p l ≡ false
-  not_tens a b d = kept_bytes ∙ rw (a, b, ne_eqb (get_or l 9 0) (tens_of p) d)
-
-  pub by_units : get_or l 7 0 ≡ 65 → get_or l 8 0 ≡ 32 → get_or l 9 0 ≡ tens_of p → is_kept p l ≡ eqb (get_or l 10 0) (48 + p % 10)
-  by_units a b d = kept_bytes ∙ (λ i. eqb (a i) 65 && (eqb (b i) 32 && (eqb (d i) (tens_of p) && eqb (get_or l 10 0) (48 + p % 10)))) ∙ rw (eq-eqb (tens_of p) (tens_of p) refl)
 
 -- the numbers of an edit side by side
 edit_bytes :

@@ -1,9 +1,9 @@
 -- Document 02, A8: how two air logs compare, the call with its refusals, and the claim about two
 -- logs of one listing.
-use Rattle.std.specs.Prelude.{ℕ, suc, ◌+◌, ◌≤◌, Bool, cond, not, ◌&&◌, ◌||◌, List, [], ◌∷◌, ◌++◌, ◌≡◌, ltb, eqb, ℤ}
-use Rattle.std.specs.Prelude.{length}
-use Rattle.std.specs.Int.Signed.{le_z}
-use Rattle.bodies.specs.Refusals.{done, bad_number, bad_listing, refuse}
+use Rattle.std.specs.Prelude.{ℕ, suc, ◌+◌, ◌≤◌, Bool, if◌then◌else◌, not, ◌&&◌, ◌||◌, List, [], ◌∷◌}
+use Rattle.std.specs.Prelude.{◌++◌, ◌≡◌, nat_lt, ◌==◌, ℤ}
+use Rattle.std.specs.Prelude.{length, int_le}
+use Rattle.bodies.specs.Refusals.{done, bad_number, bad_listing, refuse_number}
 use Rattle.listing_spec.specs.Listing.{listing_of}
 use Rattle.air_logs_spec.specs.declared.Compared.{Compared}
 use Rattle.air_logs_spec.specs.declared.Compared.TheVariants.{Equal, FirstBegins, SecondBegins}
@@ -12,20 +12,20 @@ use Rattle.air_logs_spec.specs.Form.{is_listing}
 use Rattle.air_logs_spec.specs.Logs.{Edit, log_of}
 
 abbrev pub same_whole : ℤ → ℤ → Bool
-same_whole a b = le_z a b && le_z b a
+same_whole a b = int_le a b && int_le b a
 
 -- two edits that are not different: source, kind, event and argument
 unfoldable pub same_edit : Edit → Edit → Bool
 same_edit x y =
-    eqb x.source y.source
-    && (eqb x.kind y.kind && (eqb x.event y.event && same_whole x.argument y.argument))
+    x.source == y.source
+    && (x.kind == y.kind && (x.event == y.event && same_whole x.argument y.argument))
 
 -- two logs, their first edits having this position
 unfoldable pub compared_from : ℕ → List Edit → List Edit → Compared
 compared_from k [] [] = Equal
 compared_from k [] (y ∷ ys) = FirstBegins
 compared_from k (x ∷ xs) [] = SecondBegins
-compared_from k (x ∷ xs) (y ∷ ys) = cond (same_edit x y) (compared_from (suc k) xs ys) (Different k)
+compared_from k (x ∷ xs) (y ∷ ys) = if same_edit x y then compared_from (suc k) xs ys else Different k
 
 -- a station number that a listing can have
 abbrev pub last_station : ℕ
@@ -34,16 +34,16 @@ last_station = 15
 -- 1, then 16 for the first listing and for the second
 unfoldable pub compare_refusal : List ℕ → ℕ → List ℕ → ℕ → ℕ
 compare_refusal first p second q =
-    refuse (ltb last_station p || ltb last_station q) bad_number
-    (refuse (not (is_listing first)) bad_listing (refuse (not (is_listing second)) bad_listing done))
+    refuse_number (nat_lt last_station p || nat_lt last_station q) bad_number
+    (refuse_number (not (is_listing first)) bad_listing (refuse_number (not (is_listing second)) bad_listing done))
 
 -- the comparison of the log of station p in the first listing with that of station q in the second;
 -- positions count from 1
 unfoldable pub compare_call : List ℕ → ℕ → List ℕ → ℕ → Compared
 compare_call first p second q =
-    cond (eqb (compare_refusal first p second q) done)
-    (compared_from 1 (log_of p first) (log_of q second))
-    (Refused (compare_refusal first p second q))
+    if compare_refusal first p second q == done
+    then compared_from 1 (log_of p first) (log_of q second)
+    else Refused (compare_refusal first p second q)
 
 -- what each answer is in numbers: its refusal, 0 where there is none; which of the four answers it
 -- is, in document 02's order from 0; and the position, 0 where there is none

@@ -1,6 +1,7 @@
 -- Document 02, A8: when bytes are a listing. Its lines, and the last one, are those of document 01,
 -- "The relay listing": what lines/specs writes is read here.
-use Rattle.std.specs.Prelude.{ℕ, Bool, true, false, cond, ◌&&◌, ◌||◌, List, [], ◌∷◌, ◌++◌, eqb, get_or, take, drop}
+use Rattle.std.specs.Prelude.{ℕ, Bool, true, false, if◌then◌else◌, ◌&&◌, ◌||◌, List, [], ◌∷◌, ◌++◌}
+use Rattle.std.specs.Prelude.{◌==◌, slice_index, take, drop}
 use Rattle.std.specs.Prelude.{length}
 use Rattle.columns.specs.declared.reader.Reading.{Reading}
 use Rattle.columns.specs.Reading.{read_columns}
@@ -14,17 +15,17 @@ field l at w = read_columns (take w (drop at l))
 
 -- A, D, E or X
 abbrev pub is_letter : ℕ → Bool
-is_letter b = eqb b airing || (eqb b delivered || (eqb b ending || eqb b turned_down))
+is_letter b = b == airing || (b == delivered || (b == ending || b == turned_down))
 
 -- the listing's form of a line, without its line end: round in 6 columns, a space, the letter,
 -- station in 3, source in 3, kind in 2, event in 9, argument in 9. Each number is right-justified,
 -- and only the argument may have a minus; values are not judged
 unfoldable pub is_line : List ℕ → Bool
 is_line l =
-    eqb (length l) 34
+    length l == 34
     && (is_natural (field l 0 6)
-    && (eqb (get_or l 6 0) 32
-    && (is_letter (get_or l 7 0)
+    && (slice_index l 6 == 32
+    && (is_letter (slice_index l 7)
     && (is_natural (field l 8 3)
     && (is_natural (field l 11 3)
     && (is_natural (field l 14 2)
@@ -36,7 +37,7 @@ unfoldable pub same_bytes : List ℕ → List ℕ → Bool
 same_bytes [] [] = true
 same_bytes [] (b ∷ t) = false
 same_bytes (a ∷ s) [] = false
-same_bytes (a ∷ s) (b ∷ t) = eqb a b && same_bytes s t
+same_bytes (a ∷ s) (b ∷ t) = a == b && same_bytes s t
 
 -- with its line end a line is the last one
 abbrev pub is_end : List ℕ → Bool
@@ -44,13 +45,13 @@ is_end l = same_bytes (l ++ (10 ∷ [])) end_line
 
 -- neither a line nor a byte is left
 abbrev pub none_left : Lines → Bool
-none_left (rest l) = eqb (length l) 0
+none_left (rest l) = length l == 0
 none_left (line l ls) = false
 
 -- lines of the form, then the last line, and nothing after it
 unfoldable pub are_listing : Lines → Bool
 are_listing (rest l) = false
-are_listing (line l ls) = cond (is_line l) (are_listing ls) (is_end l && none_left ls)
+are_listing (line l ls) = if is_line l then are_listing ls else is_end l && none_left ls
 
 -- the bytes are a listing
 abbrev pub is_listing : List ℕ → Bool

@@ -1,6 +1,6 @@
 -- Document 02, A8: the air log of a station in a listing, which is what its A lines say without
 -- their rounds.
-use Rattle.std.specs.Prelude.{ℕ, Bool, cond, ◌&&◌, List, [], ◌∷◌, ◌++◌, eqb, ℤ, get_or}
+use Rattle.std.specs.Prelude.{ℕ, Bool, if◌then◌else◌, ◌&&◌, List, [], ◌∷◌, ◌++◌, ◌==◌, ℤ, slice_index}
 use Rattle.script.specs.Line.{natural_of, whole_of}
 use Rattle.listing_lines.specs.Lines.{airing}
 use Rattle.listing_spec.specs.Listing.{Lines, rest, line, lines_of}
@@ -24,12 +24,12 @@ edit_in l =
 
 -- an A line of station p
 unfoldable pub is_kept : ℕ → List ℕ → Bool
-is_kept p l = eqb (get_or l 7 0) airing && eqb (natural_of (field l 8 3)) p
+is_kept p l = slice_index l 7 == airing && natural_of (field l 8 3) == p
 
 -- what is kept of lines, in their order
 unfoldable pub kept_in : ℕ → Lines → List Edit
 kept_in p (rest l) = []
-kept_in p (line l ls) = cond (is_kept p l) (edit_in l ∷ []) [] ++ kept_in p ls
+kept_in p (line l ls) = (if is_kept p l then edit_in l ∷ [] else []) ++ kept_in p ls
 
 -- the log of station p
 abbrev pub log_of : ℕ → List ℕ → List Edit

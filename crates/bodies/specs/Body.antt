@@ -1,7 +1,6 @@
 -- Document 01, "Bodies, labels and records", and document 02, A9: what each case of the body enum
 -- stands for, as the four numbers of a record.
-use Rattle.std.specs.Prelude.{ℕ, Bool, cond, ◌&&◌, leb, eqb, ℤ, pos}
-use Rattle.std.specs.Int.Signed.{le_z}
+use Rattle.std.specs.Prelude.{ℕ, Bool, if◌then◌else◌, ◌&&◌, nat_le, ◌==◌, ℤ, pos, int_le}
 use Rattle.bodies.specs.declared.Body.{Body}
 use Rattle.bodies.specs.declared.Body.TheVariants.{Empty, Neutral, Insert, Drop, Shift}
 
@@ -39,24 +38,25 @@ channel_of (Shift channel event frames) = channel
 
 -- kind 0, which is never taken
 abbrev pub is_empty : Body → Bool
-is_empty b = eqb (kind_of b) 0
+is_empty b = kind_of b == 0
 
 -- the term "edit": kinds 2 to 4, whatever the numbers
 abbrev pub is_edit : Body → Bool
-is_edit b = leb 2 (kind_of b)
+is_edit b = nat_le 2 (kind_of b)
 
 -- kind, event, argument and channel are the same
 abbrev pub same_body : Body → Body → Bool
 same_body a b =
-    (eqb (kind_of a) (kind_of b) && eqb (event_of a) (event_of b))
-    && (le_z (argument_of a) (argument_of b) && le_z (argument_of b) (argument_of a))
-    && eqb (channel_of a) (channel_of b)
+    (kind_of a == kind_of b && event_of a == event_of b)
+    && (int_le (argument_of a) (argument_of b) && int_le (argument_of b) (argument_of a))
+    && channel_of a == channel_of b
 
 -- the body of a kind with its event, argument and channel; numbers that the kind does not have are
 -- left out, and a number that is no kind gives Empty
 unfoldable pub body_of : ℕ → ℕ → ℤ → ℕ → Body
 body_of kind event argument channel =
-    cond (eqb kind 1) Neutral
-    (cond (eqb kind 2) (Insert channel event argument)
-    (cond (eqb kind 3) (Drop channel event)
-    (cond (eqb kind 4) (Shift channel event argument) Empty)))
+    if kind == 1 then Neutral
+    else if kind == 2 then Insert channel event argument
+    else if kind == 3 then Drop channel event
+    else if kind == 4 then Shift channel event argument
+    else Empty

@@ -1,7 +1,7 @@
 -- Document 01, "Bodies, labels and records", and document 02, A9: the table of kinds, the channels
 -- of an edition, and when a body is inside its limits.
-use Rattle.std.specs.Prelude.{ℕ, Bool, cond, ◌&&◌, List, [], ◌∷◌, leb, ltb, eqb, ℤ, pos, negsuc, length, get_or}
-use Rattle.std.specs.Int.Signed.{le_z}
+use Rattle.std.specs.Prelude.{ℕ, Bool, if◌then◌else◌, ◌&&◌, List, [], ◌∷◌, nat_le, nat_lt, ◌==◌, ℤ}
+use Rattle.std.specs.Prelude.{pos, negsuc, int_le, length, slice_index_or}
 use Rattle.bodies.specs.declared.Body.{Body}
 use Rattle.bodies.specs.declared.limits.Limits.{Limits}
 use Rattle.bodies.specs.Body.{kind_of, event_of, argument_of, channel_of, is_edit}
@@ -22,26 +22,26 @@ kinds =
 
 -- the row of a kind; a number that is no kind has none, and what stands here for it is never asked
 abbrev pub limits_of : ℕ → Limits
-limits_of kind = get_or kinds kind (row 0 0 (pos 0) (pos 0))
+limits_of kind = slice_index_or kinds kind (row 0 0 (pos 0) (pos 0))
 
 -- the event and the argument lie between a row's limits, both ends among them
 abbrev pub between : Limits → ℕ → ℤ → Bool
 between l event argument =
-    (leb l.least_event event && leb event l.most_event) &&
-    (le_z l.least_argument argument && le_z argument l.most_argument)
+    (nat_le l.least_event event && nat_le event l.most_event) &&
+    (int_le l.least_argument argument && int_le argument l.most_argument)
 
 -- these are the numbers of a kind, inside its limits
 unfoldable pub numbers_inside : ℕ → ℕ → ℤ → Bool
-numbers_inside kind event argument = ltb kind (length kinds) && between (limits_of kind) event argument
+numbers_inside kind event argument = nat_lt kind (length kinds) && between (limits_of kind) event argument
 
 -- what is an edition: 0 or 1
 abbrev pub is_edition : ℕ → Bool
-is_edition edition = ltb edition 2
+is_edition edition = nat_lt edition 2
 
 -- the channel of a body of a kind in an edition: 1 to 200 for an edit in edition 1, else 0
 unfoldable pub channel_inside : ℕ → ℕ → ℕ → Bool
 channel_inside edition kind channel =
-    cond (eqb edition 1 && leb 2 kind) (leb 1 channel && leb channel 200) (eqb channel 0)
+    if edition == 1 && nat_le 2 kind then nat_le 1 channel && nat_le channel 200 else channel == 0
 
 -- the body's channel is one of its edition (else refusal 17, where it is posted)
 abbrev pub on_channel : ℕ → Body → Bool

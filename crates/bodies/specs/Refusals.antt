@@ -1,5 +1,14 @@
 -- Document 01, "Turned down": what a call returns, and how refusals are judged in their order.
-use Rattle.std.specs.Prelude.{ℕ, Bool, cond}
+use Rattle.std.specs.Prelude.{ℕ, Bool, if◌then◌else◌, Result, Ok, Err, ⊤}
+use Rattle.bodies.specs.declared.refusals.Refusal.{Refusal}
+use Rattle.bodies.specs.declared.refusals.Refusal.TheVariants.{BadNumber, OutsideLimits, QueueFull}
+use Rattle.bodies.specs.declared.refusals.Refusal.TheVariants.{NotAnEdit, BadShape, BadAddress}
+use Rattle.bodies.specs.declared.refusals.Refusal.TheVariants.{BadRecord, LaneFull, ShortBuffer}
+use Rattle.bodies.specs.declared.refusals.Refusal.TheVariants.{CountTooHigh, MalformedLine}
+use Rattle.bodies.specs.declared.refusals.Refusal.TheVariants.{BadLinkLog, BadLimit, Conflict}
+use Rattle.bodies.specs.declared.refusals.Refusal.TheVariants.{BadDesk, BadListing, BadEdition}
+use Rattle.bodies.specs.declared.refusals.Refusal.TheVariants.{BadQuestion, AlreadyIssued}
+use Rattle.bodies.specs.declared.refusals.Refusal.TheVariants.{BadContest}
 
 abbrev pub done : ℕ
 done = 0
@@ -89,7 +98,45 @@ already_issued = 19
 abbrev pub bad_contest : ℕ
 bad_contest = 20
 
--- the first refusal that applies decides: where the test holds its number is the answer, else what
--- comes after it
-abbrev pub refuse : Bool → ℕ → ℕ → ℕ
-refuse test number rest = cond test number rest
+-- the number that the list gives each refusal
+abbrev pub number : Refusal → ℕ
+number BadNumber = bad_number
+number OutsideLimits = outside_limits
+number QueueFull = queue_full
+number NotAnEdit = not_an_edit
+number BadShape = bad_shape
+number BadAddress = bad_address
+number BadRecord = bad_record
+number LaneFull = lane_full
+number ShortBuffer = short_buffer
+number CountTooHigh = count_too_high
+number MalformedLine = malformed_line
+number BadLinkLog = bad_link_log
+number BadLimit = bad_limit
+number Conflict = conflict
+number BadDesk = bad_desk
+number BadListing = bad_listing
+number BadEdition = bad_edition
+number BadQuestion = bad_question
+number AlreadyIssued = already_issued
+number BadContest = bad_contest
+
+-- the number of an answer: 0 where it is done
+abbrev pub number_of : {A : Type 0} → Result A Refusal → ℕ
+number_of (Ok _) = done
+number_of (Err refusal) = number refusal
+
+-- the first refusal that applies decides: where the test holds it is the answer, else what comes
+-- after it
+abbrev pub refuse : {A : Type 0} → Bool → Refusal → Result A Refusal → Result A Refusal
+refuse test refusal rest = if test then Err refusal else rest
+
+-- what comes after a test that is passed
+abbrev pub then_ok : {A : Type 0} → Result ⊤ Refusal → A → Result A Refusal
+then_ok (Ok _) x = Ok x
+then_ok (Err refusal) x = Err refusal
+
+-- the first refusal that applies decides, by its number: where the test holds its number is the
+-- answer, else what comes after it
+abbrev pub refuse_number : Bool → ℕ → ℕ → ℕ
+refuse_number test number rest = if test then number else rest

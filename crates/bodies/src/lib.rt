@@ -5,13 +5,12 @@
 pub mod limits;
 
 ghost use Rattle.std.specs.Prelude.{◌≡◌};
-ghost use Rattle.bodies.specs.Body.{kind_of, event_of, argument_of, channel_of, body_of, is_empty, is_edit};
 
 pub mod refusals;
 
-// What a record carries: document 01's five kinds, each with its own numbers, and the channel of an
-// edit (document 02, A9).
-#[derive(Clone, Copy)]
+/// What a record carries: document 01's five kinds, each with its own numbers, and the channel of
+/// an edit (document 02, A9).
+#[derive(Clone, Copy, Debug, PartialEq, Eq)]
 pub enum Body {
     Empty,
     Neutral,
@@ -31,127 +30,84 @@ pub enum Body {
     },
 }
 
-pub fn kind_of(body: Body) -> u32
-    ensures { result ≡ kind_of body }
-{
-    match body {
-        Body::Empty => 0,
-        Body::Neutral => 1,
-        Body::Insert {
-            channel: _,
-            event: _,
-            start: _,
-        } => 2,
-        Body::Drop {
-            channel: _,
-            event: _,
-        } => 3,
-        Body::Shift {
-            channel: _,
-            event: _,
-            frames: _,
-        } => 4,
+impl Body {
+    ghost use Rattle.bodies.specs.Body.{kind_of, event_of, argument_of, channel_of, body_of, is_empty, is_edit};
+
+    /// The body of a kind with its event, argument and channel. A kind leaves out the numbers that
+    /// it does not have, and a number that is no kind gives Empty.
+    #[tactic(auto, unfolding(crate::specs::Body::body_of))]
+    pub fn new(kind: u32, event: u32, argument: i32, channel: u8) -> Self
+        ensures { result ≡ body_of kind event argument channel }
+    {
+        match kind {
+            1 => Body::Neutral,
+            2 => Body::Insert {
+                channel,
+                event,
+                start: argument,
+            },
+            3 => Body::Drop { channel, event },
+            4 => Body::Shift {
+                channel,
+                event,
+                frames: argument,
+            },
+            _ => Body::Empty,
+        }
     }
-}
 
-pub fn event_of(body: Body) -> u32
-    ensures { result ≡ event_of body }
-{
-    match body {
-        Body::Empty => 0,
-        Body::Neutral => 0,
-        Body::Insert {
-            channel: _,
-            event,
-            start: _,
-        } => event,
-        Body::Drop { channel: _, event } => event,
-        Body::Shift {
-            channel: _,
-            event,
-            frames: _,
-        } => event,
+    pub fn kind(self) -> u32
+        ensures { result ≡ kind_of self }
+    {
+        match self {
+            Body::Empty => 0,
+            Body::Neutral => 1,
+            Body::Insert { .. } => 2,
+            Body::Drop { .. } => 3,
+            Body::Shift { .. } => 4,
+        }
     }
-}
 
-pub fn argument_of(body: Body) -> i32
-    ensures { result ≡ argument_of body }
-{
-    match body {
-        Body::Empty => 0,
-        Body::Neutral => 0,
-        Body::Insert {
-            channel: _,
-            event: _,
-            start,
-        } => start,
-        Body::Drop {
-            channel: _,
-            event: _,
-        } => 0,
-        Body::Shift {
-            channel: _,
-            event: _,
-            frames,
-        } => frames,
+    pub fn event(self) -> u32
+        ensures { result ≡ event_of self }
+    {
+        match self {
+            Body::Empty | Body::Neutral => 0,
+            Body::Insert { event, .. } | Body::Drop { event, .. } | Body::Shift { event, .. } =>
+                event,
+        }
     }
-}
 
-pub fn channel_of(body: Body) -> u8
-    ensures { result ≡ channel_of body }
-{
-    match body {
-        Body::Empty => 0,
-        Body::Neutral => 0,
-        Body::Insert {
-            channel,
-            event: _,
-            start: _,
-        } => channel,
-        Body::Drop { channel, event: _ } => channel,
-        Body::Shift {
-            channel,
-            event: _,
-            frames: _,
-        } => channel,
+    pub fn argument(self) -> i32
+        ensures { result ≡ argument_of self }
+    {
+        match self {
+            Body::Insert { start, .. } => start,
+            Body::Shift { frames, .. } => frames,
+            Body::Empty | Body::Neutral | Body::Drop { .. } => 0,
+        }
     }
-}
 
-// Is the body Empty?
-pub fn is_empty(body: Body) -> bool
-    ensures { result ≡ is_empty body }
-{
-    kind_of(body) == 0
-}
+    pub fn channel(self) -> u8
+        ensures { result ≡ channel_of self }
+    {
+        match self {
+            Body::Empty | Body::Neutral => 0,
+            Body::Insert { channel, .. }
+            | Body::Drop { channel, .. }
+            | Body::Shift { channel, .. } => channel,
+        }
+    }
 
-// Is the body an edit?
-pub fn is_edit(body: Body) -> bool
-    ensures { result ≡ is_edit body }
-{
-    2 <= kind_of(body)
-}
+    pub fn is_empty(self) -> bool
+        ensures { result ≡ is_empty self }
+    {
+        self.kind() == 0
+    }
 
-// The body of a kind with its event, argument and channel. A kind leaves out the numbers that it
-// does not have, and a number that is no kind gives Empty.
-pub fn body_of(kind: u32, event: u32, argument: i32, channel: u8) -> Body
-    ensures { result ≡ body_of kind event argument channel }
-{
-    match kind {
-        1 => Body::Neutral,
-        2 => Body::Insert {
-            channel: channel,
-            event: event,
-            start: argument,
-        },
-        3 => Body::Drop {
-            channel: channel,
-            event: event,
-        },
-        4 => Body::Shift {
-            channel: channel,
-            event: event,
-            frames: argument,
-        },
-        _ => Body::Empty,
+    pub fn is_edit(self) -> bool
+        ensures { result ≡ is_edit self }
+    {
+        2 <= self.kind()
     }
 }

@@ -12,7 +12,7 @@ use lib.Bits.{bit_or, or_lt}
 use lib.Dec.{eqb, ltb, leb}
 use lib.ListN.{length-set, get_or-replicate, get_or-eq_default}
 use lib.Pow.{pow-lt}
-use Rattle.bodies.specs.Refusals.{done, bad_number, outside_limits, not_an_edit, already_issued, refuse}
+use Rattle.bodies.specs.Refusals.{done, bad_number, outside_limits, not_an_edit, already_issued, refuse_number}
 use Rattle.lists.proofs.Keeps.{cond_keeps, set_keeps}
 use Rattle.lists.proofs.Laws.{and_left, and_right, set_below_inside, set_below_above, length-set_below}
 use Rattle.links.specs.Log.{hears_in}
@@ -68,7 +68,7 @@ module _ (B : Bulletins) (f : Fits B) (i tag event : ℕ) (small_tag : Word tag)
       few h = leb-true B.n 16 (and_right (leb 1 B.n) (leb B.n 16) (and_left _ _ h))
 
       go : (a b c d e : Bool) → bulletins_inside B ≡ a → ltb i B.n ≡ b → has_four B i ≡ e
-          → refuse (not a) outside_limits (refuse (not b) bad_number (refuse (not c) not_an_edit (refuse (d || e) already_issued done))) ≡ done
+          → refuse_number (not a) outside_limits (refuse_number (not b) bad_number (refuse_number (not c) not_an_edit (refuse_number (d || e) already_issued done))) ≡ done
           → (i < 16) × (free_place B i < 64)
       go true true true false false p q r z =
           let below = ltb-true i B.n q in

@@ -1,7 +1,7 @@
 -- Bulletins as bytes: N, the tags of all places, their events, and the sets of sixteen stations.
 -- Every field is kept whole, from N up too, so that decoding is the inverse. include/relay.h gives
 -- the place of each field.
-use Rattle.std.specs.Prelude.{ℕ, ◌+◌, ◌*◌, ◌/◌, ◌%◌, Bool, ◌&&◌, List, ◌++◌, eqb, ltb, length}
+use Rattle.std.specs.Prelude.{ℕ, ◌+◌, ◌*◌, ◌/◌, ◌%◌, Bool, ◌&&◌, List, ◌++◌, ◌==◌, nat_lt, length}
 use Rattle.lists.specs.Below.{tabulate}
 use Rattle.frame_spec.specs.Words.{word_at, word_bytes}
 use Rattle.station_bytes_spec.specs.Bytes.{word_width, as_byte, joined_below}
@@ -53,4 +53,4 @@ decode_bulletins b =
 
 -- these bytes are bulletins
 unfoldable pub is_bulletins : List ℕ → Bool
-is_bulletins b = eqb (length b) bulletins_width && ltb (word_at b 0) 256
+is_bulletins b = length b == bulletins_width && nat_lt (word_at b 0) 256

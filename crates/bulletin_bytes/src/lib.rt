@@ -3,13 +3,13 @@
 
 #![tactic(auto)]
 
-ghost use Rattle.std.specs.Prelude.{◌≡◌, ◌+◌, ◌*◌, ◌≤◌, get_or, length};
+ghost use Rattle.std.specs.Prelude.{◌≡◌, ◌+◌, ◌*◌, ◌≤◌, ℕ, List, flat_map, length};
 ghost use Rattle.std.proofs.lemmas.List.Edits.{sets};
 ghost use Rattle.lists.specs.Below.{tabulate};
 ghost use Rattle.frame_spec.specs.Words.{word_at, word_bytes};
 ghost use Rattle.bulletins_spec.specs.State.{all_places};
-ghost use Rattle.station_bytes_spec.specs.Bytes.{joined_below, word_width};
-ghost use Rattle.bulletin_bytes.specs.Bulletins.{set_width, words_width, sets_width, sets_place, bulletins_width};
+ghost use Rattle.station_bytes_spec.specs.Bytes.{word_width};
+ghost use Rattle.bulletin_bytes.specs.Bulletins.{set_width, words_width, sets_place, bulletins_width};
 ghost use Rattle.bulletin_bytes.specs.Bulletins.{set_bytes, set_at, encode_bulletins, decode_bulletins, is_bulletins};
 ghost use Rattle.bulletin_bytes.specs.Shown.{notice_width, encode_notice, shown_width, encode_shown};
 ghost use Rattle.bulletin_bytes.specs.Shown.{all_shown_width, encode_all_shown};
@@ -19,41 +19,53 @@ use records::reader::word_at;
 use records::writer::put_word;
 use station_encoder::as_byte;
 
+// How many bytes a word takes, the set of a station, a notice, and what one station shows.
+const WORD_WIDTH: usize = 4;
+
+const SET_WIDTH: usize = 8;
+
+const NOTICE_WIDTH: usize = 12;
+
+const SHOWN_WIDTH: usize = 772;
+
+// Where the tags, the events and the sets stand in the bytes of bulletins; n stands in front.
+const TAGS_PLACE: usize = 4;
+
 const EVENTS_PLACE: usize = 260;
 
 const SETS_PLACE: usize = 516;
 
 const BULLETINS_WIDTH: usize = 644;
 
-const NOTICE_WIDTH: usize = 12;
-
-const SHOWN_WIDTH: usize = 772;
-
-// 2 to the power of 32.
-const WORD: u64 = 4_294_967_296;
-
-// The 64 words from a place on.
+// The 64 words from a place on. Kept as an index loop, here and for the sets: with
+// std::array::from_fn the proof of the answer did not close.
 fn read_words(bytes: &[u8], at: usize) -> [u32; 64]
     requires { at + words_width ≤ length bytes.now }
     ensures { result ≡ tabulate all_places (λ s. word_at bytes.now (at + word_width * s)) }
 {
-    let mut words = [0u32; 64];
-    let mut s: usize = 0;
-    while s < 64 {
-        words[s] = word_at(bytes, at + 4 * s);
-        s += 1;
+    let mut words = [0; 64];
+    for s in 0..64 {
+        words[s] = word_at(bytes, at + WORD_WIDTH * s);
     }
     words
 }
 
 // The set at a place.
+#[tactic(auto, unfolding(crate::specs::Bulletins::set_at, frame_spec::specs::Words::word_at))]
 fn read_set(bytes: &[u8], at: usize) -> u64
     requires { at + set_width ≤ length bytes.now }
     ensures { result ≡ set_at bytes.now at }
 {
-    let low = word_at(bytes, at) as u64;
-    let high = word_at(bytes, at + 4) as u64;
-    low + WORD * high
+    u64::from_le_bytes([
+        bytes[at],
+        bytes[at + 1],
+        bytes[at + 2],
+        bytes[at + 3],
+        bytes[at + 4],
+        bytes[at + 5],
+        bytes[at + 6],
+        bytes[at + 7],
+    ])
 }
 
 // The sets of sixteen stations.
@@ -61,123 +73,131 @@ fn read_sets(bytes: &[u8]) -> [u64; 16]
     requires { bulletins_width ≤ length bytes.now }
     ensures { result ≡ tabulate 16 (λ p. set_at bytes.now (sets_place + set_width * p)) }
 {
-    let mut held = [0u64; 16];
-    let mut p: usize = 0;
-    while p < 16 {
-        held[p] = read_set(bytes, SETS_PLACE + 8 * p);
-        p += 1;
+    let mut held = [0; 16];
+    for p in 0..16 {
+        held[p] = read_set(bytes, SETS_PLACE + SET_WIDTH * p);
     }
     held
 }
 
-// Are these bytes bulletins?
+/// Are these bytes bulletins?
+#[tactic(auto, unfolding(crate::specs::Bulletins::is_bulletins))]
 pub fn is_bulletins(bytes: &[u8]) -> bool
     ensures { result ≡ is_bulletins bytes.now }
 {
-    if bytes.len() != BULLETINS_WIDTH {
-        return false;
-    }
-    word_at(bytes, 0) < 256
+    bytes.len() == BULLETINS_WIDTH && word_at(bytes, 0) < 256
 }
 
-// The bulletins that the bytes are.
+/// The bulletins that the bytes are.
+#[tactic(auto, unfolding(crate::specs::Bulletins::decode_bulletins))]
 pub fn read_bulletins(bytes: &[u8]) -> Bulletins
     requires { bulletins_width ≤ length bytes.now }
     ensures { result ≡ decode_bulletins bytes.now }
 {
-    let n = word_at(bytes, 0) as usize;
-    let tags = read_words(bytes, 4);
-    let events = read_words(bytes, EVENTS_PLACE);
-    let held = read_sets(bytes);
     Bulletins {
-        n: n,
-        tags: tags,
-        events: events,
-        held: held,
+        n: word_at(bytes, 0) as usize,
+        tags: read_words(bytes, TAGS_PLACE),
+        events: read_words(bytes, EVENTS_PLACE),
+        held: read_sets(bytes),
     }
 }
 
-// 64 words, put from a place on.
-fn put_words(bytes: &mut [u8], at: usize, words: [u32; 64])
-    requires { at + words_width ≤ length bytes.old }
-    ensures { bytes.new
-        ≡ sets bytes.old at (joined_below all_places (λ s. word_bytes (get_or words s 0))) }
-{
-    let mut s: usize = 0;
-    while s < 64 {
-        put_word(bytes, at + 4 * s, words[s]);
-        s += 1;
+/// What is written as so many bytes.
+trait Bytes {
+    /// How many they are.
+    const WIDTH: usize;
+
+    ghost WIDTH: { ℕ };
+
+    ghost encoded: { Self → List ℕ };
+
+    /// Puts the bytes at a place.
+    fn put(&self, bytes: &mut [u8], at: usize)
+        requires room { at + WIDTH ≤ length bytes.old }
+        ensures put { bytes.new ≡ sets bytes.old at (encoded self.now) }
+        ensures wide { length (encoded self.now) ≡ WIDTH };
+}
+
+impl Bytes for u32 {
+    const WIDTH: usize = WORD_WIDTH;
+
+    ghost WIDTH = { word_width };
+
+    ghost encoded = { word_bytes };
+
+    #[tactic(auto, using(station_bytes_spec::proofs::Bytes::length_word))]
+    fn put(&self, bytes: &mut [u8], at: usize) {
+        put_word(bytes, at, *self);
     }
 }
 
-// A set, put at a place.
-fn put_set(bytes: &mut [u8], at: usize, set: u64)
-    requires { at + set_width ≤ length bytes.old }
-    ensures { bytes.new ≡ sets bytes.old at (set_bytes set) }
-{
-    put_word(bytes, at, (set % WORD) as u32);
-    put_word(bytes, at + 4, (set / WORD) as u32);
-}
+// A set, the lowest byte first.
+impl Bytes for u64 {
+    const WIDTH: usize = SET_WIDTH;
 
-// The sets of sixteen stations, put from a place on.
-fn put_sets(bytes: &mut [u8], at: usize, held: [u64; 16])
-    requires { at + sets_width ≤ length bytes.old }
-    ensures { bytes.new
-        ≡ sets bytes.old at (joined_below 16 (λ p. set_bytes (get_or held p 0))) }
-{
-    let mut p: usize = 0;
-    while p < 16 {
-        put_set(bytes, at + 8 * p, held[p]);
-        p += 1;
+    ghost WIDTH = { set_width };
+
+    ghost encoded = { set_bytes };
+
+    #[tactic(auto, using(crate::proofs::Bulletins::length_set_bytes))]
+    fn put(&self, bytes: &mut [u8], at: usize) {
+        bytes[at..at + Self::WIDTH].copy_from_slice(&self.to_le_bytes());
     }
 }
 
-// Bulletins, put to the front.
+impl Bytes for Notice {
+    const WIDTH: usize = NOTICE_WIDTH;
+
+    ghost WIDTH = { notice_width };
+
+    ghost encoded = { encode_notice };
+
+    #[tactic(auto, using(crate::proofs::Writing::notice_written))]
+    fn put(&self, bytes: &mut [u8], at: usize) {
+        put_word(bytes, at, self.issuer);
+        put_word(bytes, at + WORD_WIDTH, self.tag);
+        put_word(bytes, at + 2 * WORD_WIDTH, self.event);
+    }
+}
+
+impl Bytes for Shown {
+    const WIDTH: usize = SHOWN_WIDTH;
+
+    ghost WIDTH = { shown_width };
+
+    ghost encoded = { encode_shown };
+
+    fn put(&self, bytes: &mut [u8], at: usize) {
+        put_word(bytes, at, as_byte(self.len) as u32);
+        put_all(bytes, at + WORD_WIDTH, &self.notices);
+    }
+}
+
+// Parts of one type, put one behind the other from a place on.
+fn put_all<T: Bytes>(bytes: &mut [u8], at: usize, parts: &[T])
+    requires room { at + T.WIDTH * length parts.now ≤ length bytes.old }
+    ensures { bytes.new ≡ sets bytes.old at (flat_map T.encoded parts.now) }
+{
+    for k in 0..parts.len() {
+        parts[k].put(bytes, at + T::WIDTH * k);
+    }
+}
+
+/// Bulletins, put to the front.
 pub fn put_bulletins(bytes: &mut [u8], b: Bulletins)
     requires { bulletins_width ≤ length bytes.old }
     ensures { bytes.new ≡ sets bytes.old 0 (encode_bulletins b) }
 {
-    let tags = b.tags;
-    let events = b.events;
-    let held = b.held;
     put_word(bytes, 0, as_byte(b.n) as u32);
-    put_words(bytes, 4, tags);
-    put_words(bytes, EVENTS_PLACE, events);
-    put_sets(bytes, SETS_PLACE, held);
+    put_all(bytes, TAGS_PLACE, &b.tags);
+    put_all(bytes, EVENTS_PLACE, &b.events);
+    put_all(bytes, SETS_PLACE, &b.held);
 }
 
-// A notice, put at a place.
-fn put_notice(bytes: &mut [u8], at: usize, x: Notice)
-    requires { at + notice_width ≤ length bytes.old }
-    ensures { bytes.new ≡ sets bytes.old at (encode_notice x) }
-{
-    put_word(bytes, at, x.issuer);
-    put_word(bytes, at + 4, x.tag);
-    put_word(bytes, at + 8, x.event);
-}
-
-// What one station shows, put at a place.
-fn put_shown(bytes: &mut [u8], at: usize, x: Shown)
-    requires { at + shown_width ≤ length bytes.old }
-    ensures { bytes.new ≡ sets bytes.old at (encode_shown x) }
-{
-    let notices = x.notices;
-    put_word(bytes, at, as_byte(x.len) as u32);
-    let mut i: usize = 0;
-    while i < 64 {
-        put_notice(bytes, at + 4 + NOTICE_WIDTH * i, notices[i]);
-        i += 1;
-    }
-}
-
-// What sixteen stations show, put to the front.
+/// What sixteen stations show, put to the front.
 pub fn put_all_shown(bytes: &mut [u8], shown: [Shown; 16])
     requires { all_shown_width ≤ length bytes.old }
     ensures { bytes.new ≡ sets bytes.old 0 (encode_all_shown shown) }
 {
-    let mut p: usize = 0;
-    while p < 16 {
-        put_shown(bytes, SHOWN_WIDTH * p, shown[p]);
-        p += 1;
-    }
+    put_all(bytes, 0, &shown);
 }

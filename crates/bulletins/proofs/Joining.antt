@@ -1,17 +1,15 @@
 -- A round of the group and its bulletins, return by return: the parts are those of the definition.
 use mathlib.Core.Bool.{Bool, true, false}
-use mathlib.Core.List.{List, ◌++◌}
+use mathlib.Core.List.{List}
 use mathlib.Core.Path.{◌≡◌, refl, sym, ap, ◌∙◌}
-use Prim.Native.Nat.{ℕ, ◌*◌, ◌-◌, ◌<◌, ◌≤◌}
+use Prim.Native.Nat.{ℕ, ◌*◌, ◌≤◌}
 use native.Mathlib.Omega.{arith}
 use borrow.Author.Tests.{eq-eqb, ne_eqb}
 use lib.Dec.{eqb}
-use lib.ListN.{get_or, length, length-append, length-replicate, replicate, take}
+use lib.ListN.{get_or, length, replicate, take}
 use Rattle.bodies.specs.Refusals.{done, outside_limits}
-use Rattle.links.specs.Log.{hears_in}
 use Rattle.lists.specs.Below.{set_below}
 use Rattle.lists.proofs.Laws.{set_below_inside, set_below_ext, and_left}
-use Rattle.planning.specs.Sets.{united}
 use Rattle.station_spec.specs.declared.Station.{Station}
 use Rattle.group_spec.specs.declared.RoundDone.{RoundDone}
 use Rattle.group_spec.specs.State.{size_of}
@@ -19,64 +17,36 @@ use Rattle.group_spec.specs.Calls.{no_report, round_call}
 use Rattle.bulletins_spec.specs.declared.Bulletins.{Bulletins}
 use Rattle.bulletins_spec.specs.declared.Shown.{Shown}
 use Rattle.bulletins_spec.specs.declared.BulletinsRound.{BulletinsRound}
-use Rattle.bulletins_spec.specs.State.{tag_at, notice_at, bulletins_inside}
+use Rattle.bulletins_spec.specs.State.{set_of, tag_at, notice_at, bulletins_inside}
 use Rattle.bulletins_spec.specs.Order.{in_order, picked}
 use Rattle.bulletins_spec.specs.Calls.{set_after, bulletins_after, gains, shown_by, shown_of, none_shown, all_shown, fits, round_part, bulletins_round_call}
-use Rattle.bulletins.specs.LentSets.{new_in, notice_in}
-use Rattle.bulletins.proofs.Ordering.{order_length, order_below, order_front}
+use Rattle.bulletins.specs.Sets.{new_in}
 
 -- the bulletins of a round that is not refused, and what is shown in it
 module _ (B : Bulletins) (masks : List ℕ) (long : length B.held ≡ 16) (high : B.n ≤ 16) where
-  abbrev united_at : ℕ → ℕ
-  united_at p = united B.n (λ j. hears_in B.n masks p j) (λ j. get_or B.held j 0) (get_or B.held p 0)
-
-  set_is : (p : ℕ) → united_at p ≡ set_after B masks p
-  unfolding set_after
-  set_is p = refl
-
-  pub held_is : (after : List ℕ) → after ≡ set_below B.n united_at B.held
+  pub held_is : (after : List ℕ) → after ≡ set_below B.n (set_after B masks) B.held
       → ◌≡◌ {A = Bulletins} (record { n = B.n; tags = B.tags; events = B.events; held = after }) (bulletins_after B masks)
-  unfolding bulletins_after set_after
+  unfolding bulletins_after
   held_is after e = ap (λ (x : List ℕ). record { n = B.n; tags = B.tags; events = B.events; held = x }) e
 
-  new_is : (p : ℕ) → new_in (get_or B.held p 0) (set_after B masks p) ≡ gains B masks p
+  new_is : (p : ℕ) → new_in (set_of B p) (set_after B masks p) ≡ gains B masks p
   unfolding new_in gains
   new_is p = refl
 
-  shown_at : (after places : List ℕ) → after ≡ set_below B.n united_at B.held → places ≡ in_order (tag_at B) B.n ++ replicate (64 - 4 * B.n) 0
-      → (p : ℕ) → p < B.n
-      → shown_of (picked (new_in (get_or B.held p 0) (get_or after p 0)) (notice_in B.tags B.events) (take (4 * B.n) places))
-      ≡ shown_of (shown_by B masks p)
-  unfolding shown_by
-  shown_at after places e o p l =
-      let x : get_or after p 0 ≡ set_after B masks p =
-      ap (λ (t : List ℕ). get_or t p 0) e ∙ set_below_inside B.n united_at B.held p 0 l (omega (arith, long)) ∙ set_is p in
-      let y : take (4 * B.n) places ≡ in_order (tag_at B) B.n =
-      ap (take (4 * B.n)) o ∙ order_front (tag_at B) B.n (replicate (64 - 4 * B.n) 0) in
-      ap (λ (z : ℕ). shown_of (picked (new_in (get_or B.held p 0) z) (notice_in B.tags B.events) (take (4 * B.n) places))) x
-      ∙ ap (λ (t : List ℕ). shown_of (picked (new_in (get_or B.held p 0) (set_after B masks p)) (notice_in B.tags B.events) t)) y
-      ∙ ap (λ (f : ℕ → Bool). shown_of (picked f (notice_at B) (in_order (tag_at B) B.n))) (new_is p)
-
   pub shown_is : (after places : List ℕ) (shown : List Shown)
-      → after ≡ set_below B.n united_at B.held → places ≡ in_order (tag_at B) B.n ++ replicate (64 - 4 * B.n) 0
+      → after ≡ set_below B.n (set_after B masks) B.held → take (4 * B.n) places ≡ in_order (tag_at B) B.n
       → shown ≡ set_below B.n (λ p. shown_of
-      (picked (new_in (get_or B.held p 0) (get_or after p 0)) (notice_in B.tags B.events) (take (4 * B.n) places))) none_shown
+      (picked (new_in (set_of B p) (get_or after p 0)) (notice_at B) (take (4 * B.n) places))) none_shown
       → shown ≡ all_shown B masks
-  unfolding all_shown
-  shown_is after places shown e o s = s ∙ set_below_ext B.n _ _ none_shown (shown_at after places e o)
-
-  -- the places are those of a set, and sixty-four
-  pub places_below : (places : List ℕ) → places ≡ in_order (tag_at B) B.n ++ replicate (64 - 4 * B.n) 0
-      → ((t : ℕ) → t < 4 * B.n → get_or places t 0 < 64) × (length places ≡ 64)
-  places_below places o = (
-    λ t l. omega (arith, ap (λ (x : List ℕ). get_or x t 0) o, order_below (tag_at B) B.n t (replicate (64 - 4 * B.n) 0) l),
-    ap length o
-        ∙ length-append (in_order (tag_at B) B.n) (replicate (64 - 4 * B.n) 0)
-        ∙ omega (arith, order_length (tag_at B) B.n, zeros (64 - 4 * B.n)),
-  )
-    where
-      zeros : (m : ℕ) → length (replicate {A = ℕ} m 0) ≡ m
-      zeros m = length-replicate m _
+  unfolding all_shown shown_by
+  shown_is after places shown e o s =
+      s
+      ∙ ap (λ (l : List ℕ). set_below B.n (λ p. shown_of (picked (new_in (set_of B p) (get_or after p 0)) (notice_at B) l)) none_shown) o
+      ∙ set_below_ext B.n _ _ none_shown
+      (λ p l.
+      ap (λ (x : ℕ). shown_of (picked (new_in (set_of B p) x) (notice_at B) (in_order (tag_at B) B.n)))
+      (ap (λ (t : List ℕ). get_or t p 0) e ∙ set_below_inside B.n (set_after B masks) B.held p 0 l (omega (arith, long)))
+      ∙ ap (λ (f : ℕ → Bool). shown_of (picked f (notice_at B) (in_order (tag_at B) B.n))) (new_is p))
 
 module _ (g : List Station) (B : Bulletins) (masks : List ℕ) where
   pub fit_inside : fits g B ≡ true → bulletins_inside B ≡ true

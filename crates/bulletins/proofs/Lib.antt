@@ -1,9 +1,5 @@
 pub mod Subsets
-pub mod Judging
-pub mod Choice
 pub mod Free
 pub mod Ordering
 pub mod Pushing
-pub mod Beginning
-pub mod Issues
 pub mod Joining

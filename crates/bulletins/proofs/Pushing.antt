@@ -1,43 +1,46 @@
 -- Notices one behind the other in an array whose other entries are unused: one more, or none.
 use mathlib.Core.Bool.{Bool, true, false, cond, not, ◌&&◌}
 use mathlib.Core.List.{List, [], ◌∷◌, ◌++◌, append-nil, append_assoc}
-use mathlib.Core.Path.{◌≡◌, refl, sym, ap, ◌∙◌}
-use Prim.Native.Nat.{ℕ, suc, ◌+◌, ◌-◌, ◌<◌, ◌≤◌}
+use mathlib.Core.Path.{◌≡◌, refl, sym, ap, ap₂, ◌∙◌}
+use Prim.Native.Nat.{ℕ, suc, ◌+◌, ◌*◌, ◌-◌, ◌<◌, ◌≤◌}
 use native.Mathlib.Numerals.{add-one}
 use native.Mathlib.Omega.{arith}
-use lib.ListN.{get_or, length, length-append, replicate, set, take}
-use lib.Seq.{set_at, append_snoc, take-suc}
+use lib.ListN.{get_or, length, length-append, length-take, replicate, set, take, get_or-replicate}
+use lib.Seq.{set_at, append_snoc, take-suc, set-get_or}
+use Rattle.std.proofs.lemmas.List.{get_or-take}
 use Rattle.links.specs.Log.{bit}
+use Rattle.lists.specs.Below.{set_below}
+use Rattle.lists.proofs.Laws.{set_below_more, set_below_above}
 use Rattle.bulletins_spec.specs.declared.Notice.{Notice}
 use Rattle.bulletins_spec.specs.Order.{picked}
-use Rattle.bulletins_spec.specs.Calls.{no_notice}
-use Rattle.bulletins.specs.LentSets.{new_in}
+use Rattle.bulletins_spec.specs.declared.Shown.{Shown}
+use Rattle.bulletins_spec.specs.Calls.{no_notice, shown_of, none_shown}
+use Rattle.bulletins.specs.Sets.{new_in}
 
--- a list of notices, and unused entries up to 64
-abbrev pub padded : List Notice → List Notice
-padded l = l ++ replicate (64 - length l) no_notice
+-- the first 4 n of the places
+module _ (n : ℕ) (places : List ℕ) (few : n ≤ 16) where
+  pub items_few : length (take (4 * n) places) ≤ 64
+  items_few = omega (arith, length-take (4 * n) places)
 
-one_more : (l : List Notice) (x : Notice) → length l < 64 → set (padded l) (length l) x ≡ l ++ x ∷ replicate (64 - suc (length l)) no_notice
-one_more l x h =
-    let e : 64 - length l ≡ suc (64 - suc (length l)) = omega arith in
-    ap (λ (m : ℕ). set (l ++ replicate m no_notice) (length l) x) e
-    ∙ set_at l no_notice (replicate (64 - suc (length l)) no_notice) x (length l) refl
+  pub item_small :
+      ((t : ℕ) → t < 4 * n → get_or places t 0 < 64) →
+      (t : ℕ) → t < length (take (4 * n) places) → get_or (take (4 * n) places) t 0 < 64
+  item_small h t l =
+      let below : t < 4 * n = omega (arith, length-take (4 * n) places) in
+      omega (arith, get_or-take (4 * n) places t 0 below, h t below)
 
-pub pushed_length : (l : List Notice) (t : Bool) (x : Notice) → length (l ++ cond t (x ∷ []) []) ≡ length l + cond t 1 0
-pushed_length l true x = length-append l (x ∷ [])
-pushed_length l false x = length-append l []
-
-pub pushed : (l : List Notice) (t : Bool) (x : Notice) → length l < 64
-    → set (padded l) (length l) (cond t x no_notice) ≡ padded (l ++ cond t (x ∷ []) [])
-pushed l true x h =
-    one_more l x h
-    ∙ sym (append_snoc l x (replicate (64 - suc (length l)) no_notice))
-    ∙ ap (λ (m : ℕ). l ++ (x ∷ []) ++ replicate (64 - m) no_notice)
-    (let e : suc (length l) ≡ length (l ++ (x ∷ [])) = omega (arith, pushed_length l true x) in e)
-pushed l false x h =
-    one_more l no_notice h
-    ∙ ap (λ (m : ℕ). l ++ replicate m no_notice) (let e : suc (64 - suc (length l)) ≡ 64 - length l = omega arith in e)
-    ∙ ap padded (sym (append-nil l))
+-- one notice behind the others
+pub shown_more : (l : List Notice) (x : Notice) → length l < 64
+    → ◌≡◌ {A = Shown} (record { len = (shown_of l).len + 1; notices = set (shown_of l).notices (shown_of l).len x }) (shown_of (l ++ x ∷ []))
+unfolding shown_of
+shown_more l x h =
+    let long : length (l ++ x ∷ []) ≡ length l + 1 = length-append l (x ∷ []) in
+    let room : 64 - length l ≡ suc (64 - (length l + 1)) = omega arith in
+    let put : set (l ++ replicate (64 - length l) no_notice) (length l) x ≡ (l ++ x ∷ []) ++ replicate (64 - (length l + 1)) no_notice =
+    ap (λ (m : ℕ). set (l ++ replicate m no_notice) (length l) x) room
+    ∙ set_at l no_notice (replicate (64 - (length l + 1)) no_notice) x (length l) refl
+    ∙ sym (append_snoc l x (replicate (64 - (length l + 1)) no_notice)) in
+    rw long (ap (λ (m : List Notice). record { len = length l + 1; notices = m }) put)
 
 module _ (test : ℕ → Bool) (show : ℕ → Notice) where
   picked-append : (l m : List ℕ) → picked test show (l ++ m) ≡ picked test show l ++ picked test show m
@@ -57,10 +60,6 @@ module _ (test : ℕ → Bool) (show : ℕ → Notice) where
       ∙ picked-append (take t places) (get_or places t 0 ∷ [])
       ∙ ap (λ (x : List Notice). picked test show (take t places) ++ x) (append-nil (cond (test (get_or places t 0)) (show (get_or places t 0) ∷ []) []))
 
-  pub picked_start : (places : List ℕ) → [] ≡ picked test show (take 0 places)
-  unfolding picked
-  picked_start places = refl
-
   pub picked_none : (l : List ℕ) → ((s : ℕ) → test s ≡ false) → [] ≡ picked test show l
   unfolding picked
   picked_none [] h = refl
@@ -76,6 +75,27 @@ module _ (test : ℕ → Bool) (show : ℕ → Notice) where
       go true h = omega arith
       go false h = omega arith
 
+  module _ (places : List ℕ) (t : ℕ) (x : Shown) (e : x ≡ shown_of (picked test show (take t places))) where
+    pub room_left : t < length places → length places ≤ 64 → x.len < 64
+    unfolding shown_of
+    room_left l most = omega (arith, ap (λ (y : Shown). y.len) e, picked_few (take t places), length-take t places)
+
+    pub more_shown : t < length places → length places ≤ 64 → test (get_or places t 0) ≡ true → (n : Notice) → n ≡ show (get_or places t 0)
+        → ◌≡◌ {A = Shown} (record { len = x.len + 1; notices = set x.notices x.len n }) (shown_of (picked test show (take (t + 1) places)))
+    more_shown l long h n is =
+        ap₂ (λ (y : Shown) (m : Notice). record { len = y.len + 1; notices = set y.notices y.len m }) e is
+        ∙ shown_more (picked test show (take t places)) (show (get_or places t 0)) (omega (arith, picked_few (take t places), length-take t places))
+        ∙ ap shown_of (sym (picked_more places t (omega arith) ∙ ap (λ (b : Bool). picked test show (take t places) ++ cond b (show (get_or places t 0) ∷ []) []) h))
+
+    pub no_more_shown : t < length places → length places ≤ 64 → test (get_or places t 0) ≡ false → x ≡ shown_of (picked test show (take (t + 1) places))
+    no_more_shown l long h =
+        e
+        ∙ ap shown_of
+        (sym
+        (picked_more places t (omega arith)
+        ∙ ap (λ (b : Bool). picked test show (take t places) ++ cond b (show (get_or places t 0) ∷ []) []) h
+        ∙ append-nil (picked test show (take t places))))
+
 pub none_new : (x s : ℕ) → new_in x x s ≡ false
 unfolding new_in
 none_new x s = go (bit x s)
@@ -83,3 +103,14 @@ none_new x s = go (bit x s)
     go : (b : Bool) → (b && not b) ≡ false
     go true = refl
     go false = refl
+
+-- where a set is as before, nothing is shown, as nothing was
+pub same_set :
+    (f : ℕ → Shown) (p : ℕ) → p < 16 → f p ≡ shown_of [] →
+    set_below p f none_shown ≡ set_below (p + 1) f none_shown
+unfolding none_shown
+same_set f p l e =
+    sym (set-get_or (set_below p f none_shown) p (shown_of []))
+    ∙ ap (set (set_below p f none_shown) p)
+    (set_below_above p f none_shown p (shown_of []) (omega arith) ∙ get_or-replicate 16 p (shown_of []) (shown_of []) l ∙ sym e)
+    ∙ set_below_more p f none_shown

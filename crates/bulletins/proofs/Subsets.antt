@@ -2,25 +2,35 @@
 -- if their common part is the set itself; and the set of the places at which a bulletin stands, bit
 -- by bit.
 use mathlib.Core.Bool.{Bool, true, false, cond, not, ◌&&◌, ◌||◌, false≢true}
-use mathlib.Core.List.{List}
 use mathlib.Core.Path.{◌≡◌, refl, sym, ap, ◌∙◌}
-use Prim.Native.Nat.{ℕ, zero, suc, ◌+◌, ◌*◌, ◌/◌, ◌%◌, ◌^◌, ◌<◌}
+use Prim.Native.Nat.{ℕ, zero, suc, ◌+◌, ◌*◌, ◌/◌, ◌%◌, ◌^◌, ◌<◌, ◌≤◌}
 use native.Mathlib.Decide.{ℕ_discrete, dec_le}
-use native.Mathlib.Nat.{pow-suc}
+use native.Mathlib.Nat.{pow-suc, one-mul, mod-eq_of_lt}
 use native.Mathlib.Numerals.{add-one}
 use native.Mathlib.Omega.{arith}
 use borrow.Author.Tests.{eq-eqb, ne_eqb, eqb-true, lt-ltb, le-ltb}
 use lib.Bits.{bit_and, bit_or, and_le_l}
 use lib.Dec.{eqb, ltb}
-use lib.ListN.{get_or}
+use lib.Pow.{pow-lt}
 use Rattle.lists.specs.Below.{all_below}
 use Rattle.lists.proofs.Laws.{all_below_at, all_below_not, all_below_ext}
 use Rattle.links.specs.Log.{bit}
-use Rattle.links.proofs.Log.{bit_zero}
+use Rattle.links.proofs.Log.{bit_zero, bit_high}
 use Rattle.planning.proofs.Bits.{bit_or_lem, bit_and_lem, bit-pow}
 use Rattle.planning.proofs.Lowest.{bit_first, bit_half}
-use Rattle.bulletins_spec.specs.State.{issuer_of}
-use Rattle.bulletins.specs.LentLimits.{stands_in, held_in, standing_below}
+use Rattle.bulletins_spec.specs.declared.Bulletins.{Bulletins}
+use Rattle.bulletins_spec.specs.State.{issuer_of, holds, stands, held_inside}
+use Rattle.bulletins.specs.Sets.{standing_below}
+
+-- from 64 up a set has no bits
+pub bit_outside : (x s : ℕ) → x < 2 ^ 64 → 64 ≤ s → bit x s ≡ false
+bit_outside x s small l = bit_high x 64 s small l
+
+-- nothing is lost of a shift at 64 bits
+pub shifted64 : (s : ℕ) → s < 64 → (1 * 2 ^ s) % 18446744073709551616 ≡ 2 ^ s
+shifted64 s h =
+    let l : 2 ^ s < 2 ^ 64 = pow-lt h in
+    ap (λ (x : ℕ). x % 18446744073709551616) (one-mul (2 ^ s)) ∙ mod-eq_of_lt l
 
 same_digit : (x y : ℕ) → eqb (x % 2) 1 ≡ eqb (y % 2) 1 → x % 2 ≡ y % 2
 same_digit x y e =
@@ -68,29 +78,29 @@ within_bits x a h = go (all_below 64 (λ s. not (bit x s) || bit a s)) refl
         (λ q. lost (bit x r.0) (bit a r.0) r.2 (sym (bit_and_lem x a r.0) ∙ ap (λ (z : ℕ). bit z r.0) q))
 
 -- the set of the places at which a bulletin stands
-pub standing_more : (held : List ℕ) (s : ℕ)
-    → standing_below held (s + 1) ≡ cond (stands_in held s) (bit_or (standing_below held s) (2 ^ s)) (standing_below held s)
+pub standing_more : (B : Bulletins) (s : ℕ)
+    → standing_below B (s + 1) ≡ cond (stands B s) (bit_or (standing_below B s) (2 ^ s)) (standing_below B s)
 unfolding standing_below
-standing_more held s = rw (add-one s)
+standing_more B s = rw (add-one s)
 
-pub standing_bit : (held : List ℕ) (m s : ℕ) → bit (standing_below held m) s ≡ (ltb s m && stands_in held s)
+pub standing_bit : (B : Bulletins) (m s : ℕ) → bit (standing_below B m) s ≡ (ltb s m && stands B s)
 unfolding standing_below
-standing_bit held zero s = bit_zero s ∙ sym (ap (λ (b : Bool). b && stands_in held s) (le-ltb s 0 (omega arith)))
-standing_bit held (suc m) s =
+standing_bit B zero s = bit_zero s ∙ sym (ap (λ (b : Bool). b && stands B s) (le-ltb s 0 (omega arith)))
+standing_bit B (suc m) s =
     elim (ℕ_discrete s m) [
-      | yes e ↦ here e (stands_in held m) refl (standing_bit held m s)
-      | no d ↦ elsewhere d (stands_in held m) ∙ standing_bit held m s ∙ ap (λ (b : Bool). b && stands_in held s) (same d)
+      | yes e ↦ here e (stands B m) refl (standing_bit B m s)
+      | no d ↦ elsewhere d (stands B m) ∙ standing_bit B m s ∙ ap (λ (b : Bool). b && stands B s) (same d)
     ]
   where
     or_no : (b : Bool) → (b || false) ≡ b
     or_no true = refl
     or_no false = refl
 
-    elsewhere : (s ≡ m → ⊥) → (t : Bool) → bit (cond t (bit_or (standing_below held m) (2 ^ m)) (standing_below held m)) s ≡ bit (standing_below held m) s
+    elsewhere : (s ≡ m → ⊥) → (t : Bool) → bit (cond t (bit_or (standing_below B m) (2 ^ m)) (standing_below B m)) s ≡ bit (standing_below B m) s
     elsewhere d true =
-        bit_or_lem (standing_below held m) (2 ^ m) s
-        ∙ ap (λ (b : Bool). bit (standing_below held m) s || b) (bit-pow m s ∙ ne_eqb m s (λ q. d (sym q)))
-        ∙ or_no (bit (standing_below held m) s)
+        bit_or_lem (standing_below B m) (2 ^ m) s
+        ∙ ap (λ (b : Bool). bit (standing_below B m) s || b) (bit-pow m s ∙ ne_eqb m s (λ q. d (sym q)))
+        ∙ or_no (bit (standing_below B m) s)
     elsewhere d false = refl
 
     same : (s ≡ m → ⊥) → ltb s m ≡ ltb s (suc m)
@@ -104,35 +114,31 @@ standing_bit held (suc m) s =
     or_yes true = refl
     or_yes false = refl
 
-    here : s ≡ m → (t : Bool) → stands_in held m ≡ t → bit (standing_below held m) s ≡ (ltb s m && stands_in held s)
-        → bit (cond t (bit_or (standing_below held m) (2 ^ m)) (standing_below held m)) s ≡ (ltb s (suc m) && stands_in held s)
+    here : s ≡ m → (t : Bool) → stands B m ≡ t → bit (standing_below B m) s ≡ (ltb s m && stands B s)
+        → bit (cond t (bit_or (standing_below B m) (2 ^ m)) (standing_below B m)) s ≡ (ltb s (suc m) && stands B s)
     here e true q below =
-        bit_or_lem (standing_below held m) (2 ^ m) s
-        ∙ ap (λ (b : Bool). bit (standing_below held m) s || b) (bit-pow m s ∙ eq-eqb m s (sym e))
-        ∙ or_yes (bit (standing_below held m) s)
-        ∙ sym (rw (lt-ltb s (suc m) (omega arith)) (ap (stands_in held) e ∙ q))
+        bit_or_lem (standing_below B m) (2 ^ m) s
+        ∙ ap (λ (b : Bool). bit (standing_below B m) s || b) (bit-pow m s ∙ eq-eqb m s (sym e))
+        ∙ or_yes (bit (standing_below B m) s)
+        ∙ sym (rw (lt-ltb s (suc m) (omega arith)) (ap (stands B) e ∙ q))
     here e false q below =
         below
-        ∙ ap (λ (b : Bool). b && stands_in held s) (le-ltb s m (omega arith))
-        ∙ sym (rw (lt-ltb s (suc m) (omega arith)) (ap (stands_in held) e ∙ q))
+        ∙ ap (λ (b : Bool). b && stands B s) (le-ltb s m (omega arith))
+        ∙ sym (rw (lt-ltb s (suc m) (omega arith)) (ap (stands B) e ∙ q))
 
 -- what a station holds is inside its limits exactly if it is in that set
-pub held_within : (held : List ℕ) (n p : ℕ)
-    → all_below 64 (λ s. not (bit (get_or held p 0) s) || bit (standing_below held (4 * n)) s) ≡ all_below 64 (λ s. held_in held n p s)
-held_within held n p =
-    all_below_ext 64 _ _
+pub held_judged : (B : Bulletins) (p all : ℕ) → all ≡ standing_below B (4 * B.n)
+    → all_below 64 (λ s. not (holds B p s) || bit all s) ≡ all_below 64 (held_inside B p)
+held_judged B p all e =
+    ap (λ (x : ℕ). all_below 64 (λ s. not (holds B p s) || bit x s)) e
+    ∙ all_below_ext 64 _ _
     (λ s l.
-    ap (λ (b : Bool). not (bit (get_or held p 0) s) || b)
-    (standing_bit held (4 * n) s ∙ ap (λ (b : Bool). b && stands_in held s) (below s)))
+    ap (λ (b : Bool). not (holds B p s) || b)
+    (standing_bit B (4 * B.n) s ∙ ap (λ (b : Bool). b && stands B s) (below s)))
   where
-    below : (s : ℕ) → ltb s (4 * n) ≡ ltb (issuer_of s) n
+    below : (s : ℕ) → ltb s (4 * B.n) ≡ ltb (issuer_of s) B.n
     below s =
-        elim (dec_le (suc s) (4 * n)) [
-          | yes l ↦ lt-ltb s (4 * n) l ∙ sym (lt-ltb (issuer_of s) n (omega arith))
-          | no l ↦ le-ltb s (4 * n) (omega arith) ∙ sym (le-ltb (issuer_of s) n (omega arith))
+        elim (dec_le (suc s) (4 * B.n)) [
+          | yes l ↦ lt-ltb s (4 * B.n) l ∙ sym (lt-ltb (issuer_of s) B.n (omega arith))
+          | no l ↦ le-ltb s (4 * B.n) (omega arith) ∙ sym (le-ltb (issuer_of s) B.n (omega arith))
         ]
-
-pub held_judged : (held : List ℕ) (n p all : ℕ) → all ≡ standing_below held (4 * n)
-    → all_below 64 (λ s. not (bit (get_or held p 0) s) || bit all s) ≡ all_below 64 (λ s. held_in held n p s)
-held_judged held n p all e =
-    ap (λ (x : ℕ). all_below 64 (λ s. not (bit (get_or held p 0) s) || bit x s)) e ∙ held_within held n p

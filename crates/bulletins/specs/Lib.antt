@@ -1,2 +1,2 @@
-pub mod LentLimits
-pub mod LentSets
+pub mod Sets
+pub mod Order

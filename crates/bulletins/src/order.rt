@@ -1,73 +1,56 @@
 // The places of all issuers, by issuer and then by tag.
 
-ghost use Rattle.std.specs.Prelude.{◌≡◌, ◌++◌, ◌*◌, ◌-◌, ◌≤◌, ◌<◌, get_or, replicate};
-ghost use Rattle.bulletins_spec.specs.State.{quota, all_places};
-ghost use Rattle.bulletins_spec.specs.Order.{four_of, lower, higher, by_tag, in_order};
+ghost use Rattle.std.specs.Prelude.{◌≡◌, ◌++◌, ◌+◌, ◌*◌, ◌-◌, ◌≤◌, ◌<◌, All, replicate};
+ghost use Rattle.bulletins_spec.specs.State.{quota, all_places, tag_at};
+ghost use Rattle.bulletins_spec.specs.Order.{four_of, by_tag, in_order};
+ghost use Rattle.bulletins.specs.Order.{two_ordered};
 
-const OWN: usize = 4;
+use super::OWN;
+use bulletins_spec::Bulletins;
 
-// Of two places the one with the lower tag; of two with one tag the first.
-fn lower_of(tags: &[u32; 64], s: usize, r: usize) -> usize
-    requires { (s < all_places) × (r < all_places) }
-    ensures { (result ≡ lower (λ k. get_or tags.now k 0) s r) × (result < all_places) }
+// Of two places beside each other the one with the lower tag goes first; of two with one tag the
+// first.
+#[tactic(auto, using(crate::proofs::Ordering::two_lower, crate::proofs::Ordering::two_kept))]
+fn order_two(b: &Bulletins, places: &mut [usize; 4], k: usize)
+    requires pair { k < 3 }
+    requires small { All (λ s. s < all_places) places.old }
+    ensures small { All (λ s. s < all_places) places.new }
+    ensures ordered { places.new ≡ two_ordered (tag_at b.now) places.old k }
 {
-    if tags[r] < tags[s] {
-        return r;
+    if b.tags[places[k + 1]] < b.tags[places[k]] {
+        places.swap(k, k + 1);
     }
-    s
-}
-
-// The other one of the two.
-fn higher_of(tags: &[u32; 64], s: usize, r: usize) -> usize
-    requires { (s < all_places) × (r < all_places) }
-    ensures { (result ≡ higher (λ k. get_or tags.now k 0) s r) × (result < all_places) }
-{
-    if tags[r] < tags[s] {
-        return s;
-    }
-    r
 }
 
 // The four places of an issuer, by tag: the last two are ordered, and each of the others is put
-// among those behind it.
-fn four_by_tag(tags: &[u32; 64], issuer: usize) -> [usize; 4]
+// among those behind it. Kept as comparisons written out: std's unstable sorts leave open which of
+// two places with one tag goes first.
+fn four_by_tag(b: &Bulletins, issuer: usize) -> [usize; 4]
     requires { issuer < 16 }
-    ensures { result ≡ by_tag (λ k. get_or tags.now k 0) (four_of issuer) }
+    ensures { result ≡ by_tag (tag_at b.now) (four_of issuer) }
 {
-    let a = OWN * issuer;
-    let b = OWN * issuer + 1;
-    let c = OWN * issuer + 2;
-    let d = OWN * issuer + 3;
-    let c0 = lower_of(tags, c, d);
-    let c1 = higher_of(tags, c, d);
-    let b0 = lower_of(tags, b, c0);
-    let b_on = higher_of(tags, b, c0);
-    let b1 = lower_of(tags, b_on, c1);
-    let b2 = higher_of(tags, b_on, c1);
-    let a0 = lower_of(tags, a, b0);
-    let a_on = higher_of(tags, a, b0);
-    let a1 = lower_of(tags, a_on, b1);
-    let a_last = higher_of(tags, a_on, b1);
-    let a2 = lower_of(tags, a_last, b2);
-    let a3 = higher_of(tags, a_last, b2);
-    [a0, a1, a2, a3]
+    let first = OWN * issuer;
+    let mut places = [first, first + 1, first + 2, first + 3];
+    order_two(b, &mut places, 2);
+    order_two(b, &mut places, 1);
+    order_two(b, &mut places, 2);
+    order_two(b, &mut places, 0);
+    order_two(b, &mut places, 1);
+    order_two(b, &mut places, 2);
+    places
 }
 
-// The places of the issuers below n, by issuer and then by tag; 0 fills the rest.
-pub fn order_of(tags: &[u32; 64], n: usize) -> [usize; 64]
-    requires { n ≤ 16 }
-    ensures { result ≡ in_order (λ k. get_or tags.now k 0) n ++ replicate (all_places - quota * n) 0 }
+/// The places of the issuers below n, by issuer and then by tag; 0 fills the rest.
+#[tactic(auto, unfolding(bulletins_spec::specs::Order::in_order))]
+pub fn order_of(b: &Bulletins) -> [usize; 64]
+    requires few { b.now.n ≤ 16 }
+    ensures { result
+        ≡ in_order (tag_at b.now) b.now.n ++ replicate (all_places - quota * b.now.n) 0 }
 {
-    let mut order = [0usize; 64];
-    let mut i: usize = 0;
-    while i < n {
-        let four = four_by_tag(tags, i);
-        let at = OWN * i;
-        order[at] = four[0];
-        order[at + 1] = four[1];
-        order[at + 2] = four[2];
-        order[at + 3] = four[3];
-        i += 1;
+    let mut order = [0; 64];
+    for i in 0..b.n {
+        let four = four_by_tag(b, i);
+        order[OWN * i..OWN * i + OWN].copy_from_slice(&four);
     }
     order
 }

@@ -11,7 +11,7 @@ use lib.Bits.{bit_or}
 use lib.Dec.{eqb, ltb}
 use lib.ListN.{length, length-set}
 use lib.Seq.{get_or-set_same, get_or-set_other}
-use Rattle.bodies.specs.Refusals.{done, bad_number, outside_limits, not_an_edit, already_issued, refuse}
+use Rattle.bodies.specs.Refusals.{done, bad_number, outside_limits, not_an_edit, already_issued, refuse_number}
 use Rattle.lists.proofs.Laws.{any_below_at, and_both}
 use Rattle.links.specs.Log.{bit}
 use Rattle.links.specs.Relay.{Links}
@@ -58,7 +58,7 @@ accepted B i tag event e =
     go (bulletins_inside B) (ltb i B.n) (event_inside event) (has_tag B i tag) (has_four B i) refl refl refl refl e
   where
     go : (a b c d f : Bool) → ltb i B.n ≡ b → event_inside event ≡ c → has_tag B i tag ≡ d → has_four B i ≡ f
-        → refuse (not a) outside_limits (refuse (not b) bad_number (refuse (not c) not_an_edit (refuse (d || f) already_issued done))) ≡ done
+        → refuse_number (not a) outside_limits (refuse_number (not b) bad_number (refuse_number (not c) not_an_edit (refuse_number (d || f) already_issued done))) ≡ done
         → Accepted B i tag event
     go true true true false false q r s t z =
         record { below = ltb-true i B.n q; event_is_inside = r; new_tag = s; room = t }

@@ -12,7 +12,7 @@ use borrow.Author.Tests.{ne_eqb}
 use lib.Dec.{ltb}
 use lib.ListN.{length, get_or, length-append, get_or-append}
 use lib.Seq.{get_or_at}
-use Rattle.bodies.specs.Refusals.{done, outside_limits, bad_number, not_an_edit, already_issued, refuse}
+use Rattle.bodies.specs.Refusals.{done, outside_limits, bad_number, not_an_edit, already_issued, refuse_number}
 use Rattle.links.specs.Relay.{Links, of_log}
 use Rattle.links.specs.EndRule.{RelayBy}
 use Rattle.links.specs.Inner.Clock.{news}
@@ -344,7 +344,7 @@ module _ (setup : Setup) (ok : group_fresh_refusal setup ≡ done) (entries : Li
   not_2 i tag event e =
       go (ltb i H.bulletins.n) (event_inside event) (has_tag H.bulletins i tag || has_four H.bulletins i) (rw inside at e)
     where
-      go : (b c d : Bool) → refuse (not b) bad_number (refuse (not c) not_an_edit (refuse d already_issued done)) ≡ outside_limits → ⊥
+      go : (b c d : Bool) → refuse_number (not b) bad_number (refuse_number (not c) not_an_edit (refuse_number d already_issued done)) ≡ outside_limits → ⊥
       go true true true z = omega (arith, z)
       go true true false z = omega (arith, z)
       go true false d z = omega (arith, z)

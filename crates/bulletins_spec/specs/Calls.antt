@@ -1,8 +1,9 @@
 -- Document 02, A12: fresh, issue and round, each with its refusals in their order.
-use Rattle.std.specs.Prelude.{ℕ, zero, suc, ◌+◌, ◌*◌, ◌-◌, ◌^◌, Bool, cond, not, ◌&&◌, ◌||◌, List, [], ◌++◌, leb, ltb}
-use Rattle.std.specs.Prelude.{eqb, length, replicate, set, take}
+use Rattle.std.specs.Prelude.{ℕ, zero, suc, ◌+◌, ◌*◌, ◌-◌, ◌^◌, Bool, if◌then◌else◌, not, ◌&&◌}
+use Rattle.std.specs.Prelude.{◌||◌, List, [], ◌++◌, nat_le, nat_lt}
+use Rattle.std.specs.Prelude.{◌==◌, length, replicate, set, take}
 use Rattle.std.specs.Int.Bits.{bit_or}
-use Rattle.bodies.specs.Refusals.{done, bad_number, outside_limits, not_an_edit, already_issued, refuse}
+use Rattle.bodies.specs.Refusals.{done, bad_number, outside_limits, not_an_edit, already_issued, refuse_number}
 use Rattle.links.specs.Log.{bit, hears_in}
 use Rattle.lists.specs.Below.{any_below, set_below}
 use Rattle.planning.specs.Sets.{united}
@@ -22,39 +23,39 @@ use Rattle.bulletins_spec.specs.Order.{in_order, picked}
 
 -- fresh: 1; a refused call returns the fresh state of N = 1
 unfoldable pub bulletins_fresh_refusal : ℕ → ℕ
-bulletins_fresh_refusal n = refuse (not (leb 1 n && leb n 16)) bad_number done
+bulletins_fresh_refusal n = refuse_number (not (nat_le 1 n && nat_le n 16)) bad_number done
 
 unfoldable pub bulletins_fresh_call : ℕ → BulletinsAnswer
 bulletins_fresh_call n =
     record {
       refusal = bulletins_fresh_refusal n;
-      bulletins = fresh_bulletins (cond (eqb (bulletins_fresh_refusal n) done) n 1);
+      bulletins = fresh_bulletins (if bulletins_fresh_refusal n == done then n else 1);
     }
 
 -- the first of so many places, from s on, at which no bulletin stands; one past them where each has
 -- one
 unfoldable pub free_from : Bulletins → ℕ → ℕ → ℕ
 free_from B zero s = s
-free_from B (suc more) s = cond (stands B s) (free_from B more (suc s)) s
+free_from B (suc more) s = if stands B s then free_from B more (suc s) else s
 
 abbrev pub free_place : Bulletins → ℕ → ℕ
 free_place B i = free_from B quota (quota * i)
 
 -- a bulletin of i has that tag
 unfoldable pub has_tag : Bulletins → ℕ → ℕ → Bool
-has_tag B i tag = any_below quota (λ k. stands B (quota * i + k) && eqb (tag_at B (quota * i + k)) tag)
+has_tag B i tag = any_below quota (λ k. stands B (quota * i + k) && tag_at B (quota * i + k) == tag)
 
 -- i has issued four
 abbrev pub has_four : Bulletins → ℕ → Bool
-has_four B i = eqb (free_place B i) (quota * i + quota)
+has_four B i = free_place B i == quota * i + quota
 
 -- issue: 2, 1, 4, 19
 unfoldable pub issue_refusal : Bulletins → ℕ → ℕ → ℕ → ℕ
 issue_refusal B i tag event =
-    refuse (not (bulletins_inside B)) outside_limits
-    (refuse (not (ltb i B.n)) bad_number
-    (refuse (not (event_inside event)) not_an_edit
-    (refuse (has_tag B i tag || has_four B i) already_issued done)))
+    refuse_number (not (bulletins_inside B)) outside_limits
+    (refuse_number (not (nat_lt i B.n)) bad_number
+    (refuse_number (not (event_inside event)) not_an_edit
+    (refuse_number (has_tag B i tag || has_four B i) already_issued done)))
 
 -- the state after an issue that is not refused
 unfoldable pub issued : Bulletins → ℕ → ℕ → ℕ → Bulletins
@@ -72,11 +73,11 @@ no_notice = record { issuer = 0; tag = 0; event = 0 }
 -- the issuer shows it at once
 unfoldable pub issue_call : Bulletins → ℕ → ℕ → ℕ → IssueDone
 issue_call B i tag event =
-    let accepted = eqb (issue_refusal B i tag event) done in
+    let accepted = issue_refusal B i tag event == done in
     record {
       refusal = issue_refusal B i tag event;
-      bulletins = cond accepted (issued B i tag event) B;
-      shown = cond accepted (record { issuer = i; tag = tag; event = event }) no_notice;
+      bulletins = if accepted then issued B i tag event else B;
+      shown = if accepted then record { issuer = i; tag = tag; event = event } else no_notice;
     }
 
 -- what p holds after a round: its own, and what those that it hears held before the round
@@ -109,21 +110,21 @@ all_shown B masks = set_below B.n (λ p. shown_of (shown_by B masks p)) none_sho
 
 -- the bulletins are inside their limits and of this group: they have its N
 abbrev pub fits : List Station → Bulletins → Bool
-fits g B = bulletins_inside B && eqb (size_of g) B.n
+fits g B = bulletins_inside B && size_of g == B.n
 
 -- the group's part of the answer: 2 where the bulletins do not fit the group, else what the group's
 -- round gives (2, 10, then 14 or 8)
 unfoldable pub round_part : List Station → Bulletins → List ℕ → RoundDone
 round_part g B masks =
-    cond (fits g B) (round_call g masks)
-    (record { refusal = outside_limits; group = g; reports = replicate 16 no_report })
+    if fits g B then round_call g masks
+    else record { refusal = outside_limits; group = g; reports = replicate 16 no_report }
 
 -- a round of the group and of its bulletins, on the same masks
 unfoldable pub bulletins_round_call : List Station → Bulletins → List ℕ → BulletinsRound
 bulletins_round_call g B masks =
-    let accepted = eqb (round_part g B masks).refusal done in
+    let accepted = (round_part g B masks).refusal == done in
     record {
       round = round_part g B masks;
-      bulletins = cond accepted (bulletins_after B masks) B;
-      shown = cond accepted (all_shown B masks) none_shown;
+      bulletins = if accepted then bulletins_after B masks else B;
+      shown = if accepted then all_shown B masks else none_shown;
     }

@@ -1,5 +1,5 @@
 -- Document 02, A12, as one claim about one list of issues, posts and rounds.
-use Rattle.std.specs.Prelude.{ℕ, suc, ◌≤◌, ◌<◌, ◌⊎◌, ◌↔◌, ◌≡◌, get_or, length}
+use Rattle.std.specs.Prelude.{ℕ, suc, ◌≤◌, ◌<◌, ◌⊎◌, ◌↔◌, ◌≡◌, slice_index_or, length}
 use mathlib.Core.List.{List, [], ◌∷◌, Memᴰ}
 use Rattle.bodies.specs.Refusals.{done, outside_limits}
 use Rattle.links.specs.Relay.{Links, of_log}
@@ -61,12 +61,13 @@ pub record Claim (n : ℕ) (H : History) : Type 0 where
   pub answered_once : length H.answers ≡ length H.issues
   -- no list leaves a state that gives 2, and no round is refused
   pub issue_not_2 : (i tag event : ℕ) → (issue_call H.bulletins i tag event).refusal ≡ outside_limits → ⊥
-  pub no_round_refused : (u : ℕ) → u < length H.rounds → (get_or H.rounds u no_bulletins_round).round.refusal ≡ done
+  pub no_round_refused :
+      (u : ℕ) → u < length H.rounds → (slice_index_or H.rounds u no_bulletins_round).round.refusal ≡ done
   -- the group's part of each round is what the group's own round gave
   pub as_many : length H.rounds ≡ length H.group.rounds
   pub group_part :
       (u : ℕ) → u < length H.rounds →
-      (get_or H.rounds u no_bulletins_round).round ≡ get_or H.group.rounds u no_round
+      (slice_index_or H.rounds u no_bulletins_round).round ≡ slice_index_or H.group.rounds u no_round
 
 -- for every fresh group that is not refused and every list: the claim, and the group's history is
 -- that of the list without its issues

@@ -1,5 +1,5 @@
 -- Document 02, A12: one list of issues, posts and rounds from a fresh group, and what it leaves.
-use Rattle.std.specs.Prelude.{ℕ, zero, suc, cond, List, [], ◌∷◌, ◌++◌, eqb, get_or, length}
+use Rattle.std.specs.Prelude.{ℕ, zero, suc, if◌then◌else◌, List, [], ◌∷◌, ◌++◌, ◌==◌, slice_index_or, length}
 use Rattle.bodies.specs.Refusals.{done}
 use Rattle.station_spec.specs.declared.Setup.{Setup}
 use Rattle.group_spec.specs.History as group
@@ -64,15 +64,17 @@ next H (call (round masks)) =
     }
 next H (issue i tag event) =
     let made = issue_call H.bulletins i tag event in
-    let accepted = eqb made.refusal done in
+    let accepted = made.refusal == done in
     let u = length H.rounds in
     record {
       group = H.group;
       bulletins = made.bulletins;
       issues =
           H.issues
-          ++ cond accepted (record { notice = record { issuer = i; tag = tag; event = event }; after = u } ∷ []) [];
-      answers = H.answers ++ cond accepted (record { station = i; after = u; notice = made.shown } ∷ []) [];
+          ++ (if accepted
+          then record { notice = record { issuer = i; tag = tag; event = event }; after = u } ∷ []
+          else []);
+      answers = H.answers ++ (if accepted then record { station = i; after = u; notice = made.shown } ∷ [] else []);
       rounds = H.rounds;
     }
 
@@ -96,4 +98,4 @@ no_bulletins_round =
 -- what round u reports that station p shows; rounds are numbered from 1
 unfoldable pub shown_in : List BulletinsRound → ℕ → ℕ → List Notice
 shown_in rounds p zero = []
-shown_in rounds p (suc u) = notices (get_or (get_or rounds u no_bulletins_round).shown p (shown_of []))
+shown_in rounds p (suc u) = notices (slice_index_or (slice_index_or rounds u no_bulletins_round).shown p (shown_of []))

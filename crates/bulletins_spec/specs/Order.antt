@@ -1,5 +1,5 @@
 -- Document 02, A12: several bulletins that are shown in one round come by issuer, then tag.
-use Rattle.std.specs.Prelude.{ℕ, zero, suc, ◌+◌, ◌*◌, Bool, cond, List, [], ◌∷◌, ◌++◌, ltb}
+use Rattle.std.specs.Prelude.{ℕ, zero, suc, ◌+◌, ◌*◌, Bool, if◌then◌else◌, List, [], ◌∷◌, ◌++◌, nat_lt}
 use Rattle.bulletins_spec.specs.declared.Notice.{Notice}
 
 -- the places of issuer i
@@ -9,10 +9,10 @@ four_of i = (4 * i) ∷ (4 * i + 1) ∷ (4 * i + 2) ∷ (4 * i + 3) ∷ []
 module _ (tag : ℕ → ℕ) where
   -- of two places the one with the lower tag, and the other one
   unfoldable pub lower : ℕ → ℕ → ℕ
-  lower s r = cond (ltb (tag r) (tag s)) r s
+  lower s r = if nat_lt (tag r) (tag s) then r else s
 
   unfoldable pub higher : ℕ → ℕ → ℕ
-  higher s r = cond (ltb (tag r) (tag s)) s r
+  higher s r = if nat_lt (tag r) (tag s) then s else r
 
   -- a place among places that are ordered by their tags
   unfoldable pub inserted : ℕ → List ℕ → List ℕ
@@ -32,4 +32,4 @@ module _ (tag : ℕ → ℕ) where
 -- of a list of places those that pass the test, as they are shown
 unfoldable pub picked : (ℕ → Bool) → (ℕ → Notice) → List ℕ → List Notice
 picked test show [] = []
-picked test show (s ∷ rest) = cond (test s) (show s ∷ []) [] ++ picked test show rest
+picked test show (s ∷ rest) = (if test s then show s ∷ [] else []) ++ picked test show rest

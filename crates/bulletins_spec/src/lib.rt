@@ -5,10 +5,10 @@
 
 use group_spec::RoundDone;
 
-// The bulletins of a group, and who holds them. An issuer has four places, issuer i those from 4 *
-// i on, each with a tag and an event. Bit s of a station's set says that the station holds the
-// bulletin at place s. Where the issuer does not hold it there is none, and the tag and the event
-// say nothing.
+/// The bulletins of a group, and who holds them. An issuer has four places, issuer i those from
+/// 4 * i on, each with a tag and an event. Bit s of a station's set says that the station holds the
+/// bulletin at place s. Where the issuer does not hold it there is none, and the tag and the event
+/// say nothing.
 #[derive(Clone, Copy)]
 pub struct Bulletins {
     pub n: usize,
@@ -17,7 +17,7 @@ pub struct Bulletins {
     pub held: [u64; 16],
 }
 
-// A bulletin as it is shown.
+/// A bulletin as it is shown.
 #[derive(Clone, Copy)]
 pub struct Notice {
     pub issuer: u32,
@@ -25,21 +25,21 @@ pub struct Notice {
     pub event: u32,
 }
 
-// What one station shows in a round.
+/// What one station shows in a round: the first `len` notices. The others are unused.
 #[derive(Clone, Copy)]
 pub struct Shown {
     pub len: usize,
     pub notices: [Notice; 64],
 }
 
-// The answer of fresh.
+/// The answer of fresh.
 #[derive(Clone, Copy)]
 pub struct BulletinsAnswer {
     pub refusal: u32,
     pub bulletins: Bulletins,
 }
 
-// The answer of issue, with what the issuer shows.
+/// The answer of issue, with what the issuer shows.
 #[derive(Clone, Copy)]
 pub struct IssueDone {
     pub refusal: u32,
@@ -47,7 +47,8 @@ pub struct IssueDone {
     pub shown: Notice,
 }
 
-// The answer of a round of the group and its bulletins. The refusal is the one in the group's part.
+/// The answer of a round of the group and its bulletins. The refusal is the one in the group's
+/// part.
 #[derive(Clone, Copy)]
 pub struct BulletinsRound {
     pub round: RoundDone,

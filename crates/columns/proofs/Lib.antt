@@ -3,4 +3,3 @@ pub mod Steps
 pub mod RoundTrip
 pub mod Only
 pub mod Fields
-pub mod Sign

@@ -1,6 +1,7 @@
 -- Document 01, "The relay listing": a number written right-justified in its columns.
-use Rattle.std.specs.Prelude.{ℕ, zero, suc, ◌+◌, ◌*◌, ◌/◌, ◌%◌, ◌^◌, ◌<◌, ◌≡◌, Bool, true, false, cond, List, [], ◌∷◌}
-use Rattle.std.specs.Prelude.{◌++◌, replicate, ltb, ℤ, pos, nat_abs}
+use Rattle.std.specs.Prelude.{ℕ, zero, suc, ◌+◌, ◌*◌, ◌/◌, ◌%◌, ◌^◌, ◌<◌, ◌≡◌, Bool, true, false}
+use Rattle.std.specs.Prelude.{if◌then◌else◌, List, [], ◌∷◌}
+use Rattle.std.specs.Prelude.{◌++◌, replicate, nat_lt, ℤ, pos, nat_abs}
 use Rattle.std.specs.Int.Signed.{lt_z}
 
 -- what stands in the w columns before the first digit: blanks, or blanks with a minus in the last
@@ -14,7 +15,7 @@ lead true (suc w) = replicate w 32 ++ (45 ∷ [])
 -- number without that digit. A number that does not fit loses what stands first.
 unfoldable pub columns : Bool → ℕ → ℕ → List ℕ
 columns minus zero v = []
-columns minus (suc w) v = cond (ltb v 10) (lead minus w) (columns minus w (v / 10)) ++ ((48 + v % 10) ∷ [])
+columns minus (suc w) v = (if nat_lt v 10 then lead minus w else columns minus w (v / 10)) ++ ((48 + v % 10) ∷ [])
 
 -- a natural number in w columns
 abbrev pub nat_columns : ℕ → ℕ → List ℕ

@@ -1,4 +1,4 @@
-// Right-justified numbers, written into their columns and read from them.
+//! Right-justified numbers, written into their columns and read from them.
 
 #![tactic(auto)]
 

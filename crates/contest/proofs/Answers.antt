@@ -8,7 +8,7 @@ use native.Mathlib.Omega.{arith}
 use borrow.Author.Tests.{eq-eqb, ne_eqb}
 use lib.ListN.{length}
 use Rattle.bodies.specs.Refusals.{done}
-use Rattle.contest.specs.declared.ContestAnswer.TheVariants.{Refused, Breaker, Keeper}
+use Rattle.contest.specs.Answer.{Refused, Breaker, Keeper}
 use Rattle.contest.specs.Winner.{still, lowest, won, keeper_wins, first_pick}
 use Rattle.contest.specs.Answer.{contest_refusal, sets_of, contest_call}
 use Rattle.contest.proofs.Lowest.{lowest_ext}

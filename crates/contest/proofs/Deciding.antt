@@ -1,5 +1,5 @@
 -- What a loop over picks decides.
-use mathlib.Core.Bool.{Bool, true, false, not, beq, true≢false}
+use mathlib.Core.Bool.{Bool, true, false, not}
 use mathlib.Core.List.{List}
 use mathlib.Core.Path.{◌≡◌, refl, sym, ap, ◌∙◌}
 use Prim.Native.Nat.{ℕ, zero, suc, ◌-◌, ◌*◌, ◌<◌}
@@ -8,20 +8,14 @@ use lib.ListN.{get_or}
 use Rattle.lists.proofs.Laws.{all_below_make, all_below_fails, any_below_hit, any_below_none, all_below_ext, any_below_ext}
 use Rattle.planning.specs.Sets.{is_full}
 use Rattle.contest.specs.Winner.{decided}
-use Rattle.contest.specs.Inner.KnownSets.{after, mask_of, begun, wins_from, opening}
+use Rattle.contest.specs.declared.Player.{Player}
+use Rattle.contest.specs.declared.Player.TheVariants.{Keeper, Breaker}
+use Rattle.contest.specs.Inner.KnownSets.{after, mask_of, begun, is_keeper, wins_from, opening}
 
--- `==` of two bools.
-pub same_true : (a b : Bool) → beq a b ≡ true → a ≡ b
-same_true true true e = refl
-same_true true false e = absurd (true≢false (sym e))
-same_true false true e = absurd (true≢false (sym e))
-same_true false false e = refl
-
-pub same_false : (a b : Bool) → beq a b ≡ false → a ≡ b → ⊥
-same_false true true e h = true≢false e
-same_false true false e h = true≢false h
-same_false false true e h = true≢false (sym h)
-same_false false false e h = true≢false e
+-- Who is not the keeper is the breaker.
+pub breaker_is : (a : Player) → (a ≡ Keeper → ⊥) → is_keeper a ≡ false
+breaker_is Keeper d = absurd (d refl)
+breaker_is Breaker d = refl
 
 other : (b keeper : Bool) → (b ≡ keeper → ⊥) → b ≡ not keeper
 other true true d = absurd (d refl)

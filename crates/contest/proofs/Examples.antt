@@ -7,7 +7,7 @@ use Rattle.links.specs.Inner.Clock.{latest, news}
 use Rattle.links.specs.Inner.Number.{answers, full, start, ends, num}
 use Rattle.contest.specs.Contest.{log_of}
 use Rattle.contest.specs.Winner.{decided, still, lowest, won, keeper_wins, first_pick}
-use Rattle.contest.specs.declared.ContestAnswer.TheVariants.{Refused, Breaker, Keeper}
+use Rattle.contest.specs.Answer.{Refused, Breaker, Keeper}
 use Rattle.contest.specs.Answer.{contest_refusal, contest_call}
 
 -- Two stations; set 0 is silent, in set 1 they hear each other. In three rounds the keeper has two

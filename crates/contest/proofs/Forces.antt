@@ -18,7 +18,7 @@ use Rattle.links.specs.Inner.Number.{start, ends, num}
 use Rattle.links.proofs.Number.{step, num_mono, num_positive, num_zero, start_zero, same_start}
 use Rattle.links.proofs.EndRule.{ends_rule, num-starts, alone}
 use Rattle.contest.specs.Contest.{log_of, EndsFirst, Strategy, play, KeeperForces, KeeperForcesBy, BreakerForces}
-use Rattle.contest.specs.Winner.{decided, still, lowest, won, keeper_wins, first_pick}
+use Rattle.contest.specs.Winner.{decided, still, won, keeper_wins, first_pick}
 use Rattle.contest.proofs.Lowest.{Lowest, lowest_is}
 use Rattle.contest.proofs.Forcing.{play-length, still_step, still_end, keeper_holds, breaker_holds, best_of, worst_of, best_from}
 

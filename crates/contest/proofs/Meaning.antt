@@ -13,7 +13,7 @@ use lib.ListN.{length}
 use Rattle.lists.proofs.Laws.{both}
 use Rattle.bodies.specs.Refusals.{done, bad_number, bad_contest}
 use Rattle.links.proofs.Log.{cut-length}
-use Rattle.contest.specs.declared.ContestAnswer.TheVariants.{Breaker, Keeper}
+use Rattle.contest.specs.Answer.{Breaker, Keeper}
 use Rattle.contest.specs.Winner.{keeper_wins, first_pick}
 use Rattle.contest.specs.Answer.{contest_refusal, sets_of, contest_call, Means}
 use Rattle.contest.proofs.Forces.{breaker_can, pick_wins, pick_forces, pick_lowest, no_rounds}

@@ -1,6 +1,7 @@
 -- Document 02, A13: the link contest. The sets are a list, numbered from 0; a set is a list of
 -- masks, one a station. A play is the list of its picks, that of round 1 first.
-use Rattle.std.specs.Prelude.{Bool, cond, List, [], ◌∷◌, ◌++◌, ◌≡◌, ℕ, zero, suc, ◌%◌, ◌<◌, ◌≤◌, eqb, length, get_or}
+use Rattle.std.specs.Prelude.{Bool, if◌then◌else◌, List, [], ◌∷◌, ◌++◌, ◌≡◌, ℕ, zero, suc, ◌%◌, ◌<◌}
+use Rattle.std.specs.Prelude.{◌≤◌, ◌==◌, length, slice_index_or}
 use Rattle.links.specs.Relay.{of_log}
 use Rattle.links.specs.EndRule.{EndsIn}
 
@@ -11,7 +12,7 @@ most_stations = 4
 -- the log of a play: in each round the masks of the set that was picked for it
 unfoldable pub log_of : List (List ℕ) → List ℕ → List (List ℕ)
 log_of sets [] = []
-log_of sets (pick ∷ later) = get_or sets pick [] ∷ log_of sets later
+log_of sets (pick ∷ later) = slice_index_or sets pick [] ∷ log_of sets later
 
 -- in a play station s ends its first broadcast, the one that it started in round 0
 pub record EndsFirst (n : ℕ) (sets : List (List ℕ)) (s : ℕ) (play : List ℕ) : Type 0 where
@@ -26,14 +27,14 @@ pub record Strategy (count : ℕ) : Type 0 where
 
 -- after r rounds it is the keeper who picks: it picks for round 1, round 3 and so on
 abbrev pub keeper's : ℕ → Bool
-keeper's r = eqb (r % 2) 0
+keeper's r = r % 2 == 0
 
 -- the play of two strategies over so many rounds
 unfoldable pub play : {count : ℕ} → Strategy count → Strategy count → ℕ → List ℕ
 play keeper breaker zero = []
 play keeper breaker (suc r) =
     play keeper breaker r
-    ++ (cond (keeper's r) (keeper.pick (play keeper breaker r)) (breaker.pick (play keeper breaker r)) ∷ [])
+    ++ ((if keeper's r then keeper.pick (play keeper breaker r) else breaker.pick (play keeper breaker r)) ∷ [])
 
 -- the keeper can force the end: one strategy of its own reaches it against every strategy of the
 -- breaker

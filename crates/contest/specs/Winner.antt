@@ -1,6 +1,6 @@
 -- Document 02, A13: which side can force the result, by recursion on the rounds left.
 -- `answer_means` (proofs/Meaning) says what the answer made of it means by strategies.
-use Rattle.std.specs.Prelude.{Bool, cond, List, [], ◌∷◌, ◌++◌, ℕ, zero, suc, ◌-◌, ltb, length}
+use Rattle.std.specs.Prelude.{Bool, if◌then◌else◌, List, [], ◌∷◌, ◌++◌, ℕ, zero, suc, ◌-◌, nat_lt, length}
 use Rattle.lists.specs.Below.{all_below, any_below}
 use Rattle.links.specs.Relay.{of_log}
 use Rattle.links.specs.Inner.Number.{num}
@@ -8,7 +8,7 @@ use Rattle.contest.specs.Contest.{log_of, keeper's}
 
 -- some pick will do where the keeper picks, every pick must where the breaker does
 unfoldable pub decided : Bool → ℕ → (ℕ → Bool) → Bool
-decided keeper count test = cond keeper (any_below count test) (all_below count test)
+decided keeper count test = if keeper then any_below count test else all_below count test
 
 -- after these picks, with so many rounds left, the keeper can still reach a play that is won
 unfoldable pub still : (List ℕ → Bool) → ℕ → ℕ → List ℕ → Bool
@@ -19,11 +19,11 @@ still won count (suc left) picks =
 -- the lowest of n numbers from `at` on that meets the test; at + n where none does
 unfoldable pub lowest : ℕ → ℕ → (ℕ → Bool) → ℕ
 lowest zero at test = at
-lowest (suc n) at test = cond (test at) at (lowest n (suc at) test)
+lowest (suc n) at test = if test at then at else lowest n (suc at) test
 
 -- after a play s is beyond its first broadcast
 unfoldable pub won : ℕ → List (List ℕ) → ℕ → List ℕ → Bool
-won n sets s picks = ltb 1 (num (of_log n (log_of sets picks)) (length picks) s)
+won n sets s picks = nat_lt 1 (num (of_log n (log_of sets picks)) (length picks) s)
 
 -- the keeper can force the end in so many rounds
 unfoldable pub keeper_wins : ℕ → List (List ℕ) → ℕ → ℕ → Bool

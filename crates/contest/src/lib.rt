@@ -1,25 +1,18 @@
-// The link contest (document 02, A13). Of one station s, the set at place p has the stations of
-// which p knows that they have the broadcast of s.
+//! The link contest (document 02, A13). Of one station s, the set at place p has the stations of
+//! which p knows that they have the broadcast of s.
 
 #![tactic(auto)]
 
-ghost use Rattle.std.specs.Prelude.{◌≡◌, cond, false, ◌+◌, ◌*◌, ◌<◌, ◌≤◌, length};
-ghost use Rattle.std.specs.Int.Bits.{bit_or};
+ghost use Rattle.std.specs.Prelude.{◌≡◌, ◌*◌, ◌+◌, ◌<◌, ◌≤◌, length, unwrap_or, IfSome};
+ghost use Rattle.bodies.specs.Refusals.{number_of};
 ghost use Rattle.contest.specs.Contest.{most_stations};
 ghost use Rattle.contest.specs.Winner.{lowest};
-ghost use Rattle.contest.specs.Answer.{contest_refusal, contest_call};
-ghost use Rattle.contest.specs.Inner.KnownSets.{learnt_one, after, mask_of, begun, wins_from, opening};
+ghost use Rattle.contest.specs.Answer.{contest_refusal, contest_answer, contest_call};
+ghost use Rattle.contest.specs.Inner.KnownSets.{learnt_one, after, mask_of, is_keeper, wins_from, opening};
 
-use bodies::refusals::{BAD_CONTEST, BAD_NUMBER, DONE};
-
-// Who can force the result: the breaker, or the keeper with the lowest first pick from which it
-// still can; or why the contest is refused.
-#[derive(Clone, Copy)]
-pub enum ContestAnswer {
-    Refused { number: u32 },
-    Breaker,
-    Keeper { pick: u32 },
-}
+use bodies::refusals::Refusal;
+use planning::logs::mask_hears;
+use planning::sets::{first_set, is_full, with_receiver};
 
 // No group has more stations.
 const PLACES: usize = 16;
@@ -31,143 +24,142 @@ const MOST_SETS: usize = 4;
 
 const MOST_ROUNDS: usize = 6;
 
-// A set, united with another where that is heard.
-fn joined(set: u16, more: u16, heard: bool) -> u16
-    ensures { result ≡ cond heard (bit_or set more) set }
-{
-    if heard {
-        return set | more;
+// The two sides: the keeper wants the broadcast to end, the breaker prevents it.
+#[derive(Clone, Copy, PartialEq, Eq)]
+enum Player {
+    Keeper,
+    Breaker,
+}
+
+impl Player {
+    ghost use Rattle.std.specs.Prelude.{◌≡◌, not};
+    ghost use Rattle.contest.specs.Inner.KnownSets.{is_keeper};
+
+    fn other(self) -> Self
+        ensures { is_keeper result ≡ not (is_keeper self) }
+    {
+        match self {
+            Player::Keeper => Player::Breaker,
+            Player::Breaker => Player::Keeper,
+        }
     }
-    set
 }
 
 // The set at p after a round in which p has this mask.
+#[tactic(auto, unfolding(crate::specs::Inner::KnownSets::learnt_one), using(planning::proofs::Rows::united_zero, planning::proofs::Rows::united_more))]
 fn learn_one(know: &[u16; 4], mask: u16, n: usize, p: usize, s: usize) -> u16
-    requires { (n ≤ most_stations) × (p < n) × (s < n) }
+    requires few { n ≤ most_stations }
+    requires hearer { p < n }
+    requires sender { s < n }
     ensures { result ≡ learnt_one n s mask know.now p }
 {
     let mut set = know[p];
-    let mut j: usize = 0;
-    while j < n {
-        set = joined(set, know[j], planning::logs::mask_hears(mask, p, j));
-        j += 1;
+    for j in 0..n {
+        if mask_hears(mask, p, j) {
+            set |= know[j];
+        }
     }
-    planning::sets::with_receiver(set, s, p)
+    with_receiver(set, s, p)
 }
 
 // The sets after a round whose masks stand from `at` on.
+#[tactic(auto, unfolding(crate::specs::Inner::KnownSets::after, lists::specs::Below::set_below), using(lists::proofs::Laws::set_below_more))]
 fn learn(know: [u16; 4], masks: &[u16], at: usize, n: usize, s: usize) -> [u16; 4]
-    requires { (n ≤ most_stations) × (s < n) × (at + n ≤ length masks.now) }
+    requires few { n ≤ most_stations }
+    requires sender { s < n }
+    requires inside { at + n ≤ length masks.now }
     ensures { result ≡ after n s (mask_of masks.now at) know }
 {
     let mut next = know;
-    let mut p: usize = 0;
-    while p < n {
+    for p in 0..n {
         next[p] = learn_one(&know, masks[at + p], n, p, s);
-        p += 1;
     }
     next
 }
 
-// Can the keeper force the end from these sets, at least one round played, with so many rounds
-// left? The next pick is the keeper's or the breaker's.
-fn wins(
+// Who forces the result from these sets, at least one round played, with so many rounds left? The
+// next pick is the picker's.
+fn winner(
     know: [u16; 4],
     masks: &[u16],
     n: usize,
     s: usize,
     count: usize,
     left: usize,
-    keeper: bool,
-) -> bool
-    requires { (n ≤ most_stations) × (s < n) × (length masks.now ≡ count * n) }
-    ensures { result ≡ wins_from n s count masks.now left keeper know }
+    picker: Player,
+) -> Player
+    requires few { n ≤ most_stations }
+    requires sender { s < n }
+    requires whole { length masks.now ≡ count * n }
+    ensures { is_keeper result ≡ wins_from n s count masks.now left (is_keeper picker) know }
 {
-    if planning::sets::is_full(know[s], n) {
-        return true;
+    if is_full(know[s], n) {
+        return Player::Keeper;
     }
     if left == 0 {
-        return false;
+        return Player::Breaker;
     }
-    let mut i: usize = 0;
-    while i < count {
+    for i in 0..count {
         let next = learn(know, masks, i * n, n, s);
-        if wins(next, masks, n, s, count, left - 1, !keeper) == keeper {
-            return keeper;
+        if winner(next, masks, n, s, count, left - 1, picker.other()) == picker {
+            return picker;
         }
-        i += 1;
     }
-    !keeper
+    picker.other()
 }
 
-// The lowest first pick from which the keeper can force the end; the number of sets where there is
-// none.
-fn first_pick(masks: &[u16], n: usize, s: usize, count: usize, left: usize) -> usize
-    requires { (n ≤ most_stations) × (s < n) × (length masks.now ≡ count * n) }
-    ensures { result ≡ lowest count 0 (opening n s count masks.now left) }
+// The lowest first pick from which the keeper can force the end, if there is one.
+fn first_pick(masks: &[u16], n: usize, s: usize, count: usize, left: usize) -> Option<usize>
+    requires few { n ≤ most_stations }
+    requires sender { s < n }
+    requires whole { length masks.now ≡ count * n }
+    ensures lowest { unwrap_or result count ≡ lowest count 0 (opening n s count masks.now left) }
+    ensures below { IfSome result (λ i. i < count) }
 {
     let mut know = [0u16; 4];
-    know[s] = planning::sets::first_set(s, s);
-    let mut i: usize = 0;
-    while i < count {
+    know[s] = first_set(s, s);
+    for i in 0..count {
         let next = learn(know, masks, i * n, n, s);
-        if wins(next, masks, n, s, count, left, false) {
-            return i;
+        if winner(next, masks, n, s, count, left, Player::Breaker) == Player::Keeper {
+            return Some(i);
         }
-        i += 1;
     }
-    i
+    None
 }
 
-// 0, or the refusal of a contest about station s of n, with so many masks and rounds.
-fn refusal_of(n: usize, s: usize, masks: usize, rounds: usize) -> u32
-    ensures { result ≡ contest_refusal n s masks rounds }
+// Judges a contest about station s of n, with so many masks and rounds.
+#[tactic(auto, unfolding(crate::specs::Answer::contest_refusal))]
+fn judge(n: usize, s: usize, masks: usize, rounds: usize) -> Result<(), Refusal>
+    ensures { number_of result ≡ contest_refusal n s masks rounds }
 {
-    if n < 1 {
-        return BAD_NUMBER;
+    if n < 1 || PLACES < n || n <= s {
+        return Err(Refusal::BadNumber);
     }
-    if n > PLACES {
-        return BAD_NUMBER;
+    if MOST_STATIONS < n
+        || masks % n != 0
+        || masks / n < 1
+        || MOST_SETS < masks / n
+        || MOST_ROUNDS < rounds
+    {
+        return Err(Refusal::BadContest);
     }
-    if s >= n {
-        return BAD_NUMBER;
-    }
-    if n > MOST_STATIONS {
-        return BAD_CONTEST;
-    }
-    if masks % n != 0 {
-        return BAD_CONTEST;
-    }
-    if masks / n < 1 {
-        return BAD_CONTEST;
-    }
-    if masks / n > MOST_SETS {
-        return BAD_CONTEST;
-    }
-    if rounds > MOST_ROUNDS {
-        return BAD_CONTEST;
-    }
-    DONE
+    Ok(())
 }
 
-// Who can force the result about station s of n, with the sets that the masks hold, n a set, over
-// so many rounds. 1: n is not 1 to 16, or s is not below n. 20: n is above 4, the masks are not one
-// to four whole sets, or there are more than six rounds.
-pub fn contest(n: usize, s: usize, masks: &[u16], rounds: usize) -> ContestAnswer
-    ensures { result ≡ contest_call n s masks.now rounds }
+/// Who can force the result about station s of n, with the sets that the masks hold, n a set, over
+/// so many rounds: the keeper, with the lowest first pick from which it still can, or the breaker,
+/// which is None. BadNumber: n is not 1 to 16, or s is not below n. BadContest: n is above 4, the
+/// masks are not one to four whole sets, or there are more than six rounds.
+#[tactic(auto, unfolding(crate::specs::Answer::contest_call), using(planning_spec::proofs::Refused::refused))]
+pub fn contest(n: usize, s: usize, masks: &[u16], rounds: usize) -> Result<Option<u32>, Refusal>
+    ensures { contest_answer result ≡ contest_call n s masks.now rounds }
 {
-    let refusal = refusal_of(n, s, masks.len(), rounds);
-    if refusal != DONE {
-        return ContestAnswer::Refused { number: refusal };
-    }
+    judge(n, s, masks.len(), rounds)?;
     if rounds == 0 {
-        return ContestAnswer::Breaker;
+        return Ok(None);
     }
-    let count = masks.len() / n;
-    let pick = first_pick(masks, n, s, count, rounds - 1);
-    if pick < count {
-        let lowest = pick as u32;
-        return ContestAnswer::Keeper { pick: lowest };
+    match first_pick(masks, n, s, masks.len() / n, rounds - 1) {
+        Some(pick) => Ok(Some(pick as u32)),
+        None => Ok(None),
     }
-    ContestAnswer::Breaker
 }

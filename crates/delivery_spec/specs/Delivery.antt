@@ -1,6 +1,7 @@
 -- Beyond documents 01 and 02: every accepted edit is aired at every station, and by when, where the
 -- links are good enough from its post on. Which edit is which is told as in A14.
-use Rattle.std.specs.Prelude.{ℕ, zero, suc, ◌+◌, ◌*◌, ◌≤◌, ◌<◌, cond, List, ◌∷◌, ◌++◌, ◌≡◌, get_or, length, take}
+use Rattle.std.specs.Prelude.{ℕ, zero, suc, ◌+◌, ◌*◌, ◌≤◌, ◌<◌, if◌then◌else◌, List, ◌∷◌, ◌++◌, ◌≡◌}
+use Rattle.std.specs.Prelude.{slice_index_or, length, take}
 use Rattle.bodies.specs.Refusals.{done}
 use Rattle.links.specs.Relay.{Links, of_log}
 use Rattle.links.specs.EndRule.{RelayBy}
@@ -68,7 +69,9 @@ Delivery =
 unfoldable pub rows_aired : History → ℕ → ℕ → ℕ
 rows_aired H q zero = 0
 rows_aired H q (suc u) =
-    cond (report_in (get_or H.rounds u no_round) q).turn.aired (suc (rows_aired H q u)) (rows_aired H q u)
+    if (report_in (slice_index_or H.rounds u no_round) q).turn.aired
+    then suc (rows_aired H q u)
+    else rows_aired H q u
 
 -- what the rows do where the links are good enough from one round to another
 pub record RowsCome (n delay from to : ℕ) (H : History) : Type 0 where

@@ -1,25 +1,19 @@
 -- The check of a frame's records one after the other: after k of them all k are inside their
 -- limits, `found` says whether the sender's was among them, and the next one's station is at least
 -- `least`.
-use mathlib.Core.Path.{◌≡◌, refl, ap, ap₂}
+use mathlib.Core.Path.{◌≡◌, refl, ap₂}
 use mathlib.Core.Bool.{Bool, true, false, ◌&&◌, ◌||◌}
 use mathlib.Core.List.{List}
-use Prim.Native.Nat.{ℕ, zero, suc, pred, ◌+◌, ◌*◌, ◌-◌, ◌<◌, ◌≤◌}
+use Prim.Native.Nat.{ℕ, zero, suc, pred, ◌+◌, ◌<◌, ◌≤◌}
 use native.Mathlib.Numerals.{add-one}
 use native.Mathlib.Omega.{arith}
 use lib.Dec.{ltb, eqb}
-use lib.ListN.{get_or, take, drop}
+use lib.ListN.{get_or}
 use borrow.Author.Tests.{lt-ltb, le-ltb, ne_eqb}
 use Rattle.lists.specs.Below.{all_below, any_below}
 use Rattle.lists.proofs.Laws.{and_both, all_below_fails}
 use Rattle.frame_spec.specs.Record.{bytes_inside}
 use Rattle.frame_spec.specs.Frame.{part, record_station, records_inside}
-
--- a record's part as the code takes it
-pub part_is : (bytes : List ℕ) (k : ℕ) → take (4 + 16 * k + 16 - (4 + 16 * k)) (drop (4 + 16 * k) bytes) ≡ part bytes k
-part_is bytes k =
-    let e : 4 + 16 * k + 16 - (4 + 16 * k) ≡ 16 = omega arith in
-    ap (λ (i : ℕ). take i (drop (4 + 16 * k) bytes)) e
 
 module _ (edition : ℕ) (bytes : List ℕ) (n : ℕ) where
   -- record k is inside its limits, and its station above the one before it
@@ -84,3 +78,6 @@ module _ (edition : ℕ) (bytes : List ℕ) (n : ℕ) where
   pub checked_all : (k : ℕ) (found : Bool) (least : ℕ) → Checked k found least → k ≡ get_or bytes 2 0 → found ≡ records_inside edition bytes n
   unfolding records_inside
   checked_all k found least c e = rw (← e, c.all) c.hit
+
+-- what the loop over the records cites
+pub ruleset checked = (checked_none, checked_more, checked_order, checked_bytes, checked_all)

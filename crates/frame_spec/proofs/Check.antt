@@ -1,79 +1,26 @@
 -- The frame check test by test: where one fails the definition's answer is known, and where all
 -- hold they say what the later tests rest on.
-use mathlib.Core.Path.{◌≡◌, refl, ap, ◌∙◌}
+use Rattle.std.specs.Prelude.{Result, Ok, Err, ⊤}
+use mathlib.Core.Path.{◌≡◌, refl}
 use mathlib.Core.Bool.{Bool, true, false, not, ◌&&◌, ◌||◌}
 use mathlib.Core.List.{List}
-use Prim.Native.Nat.{ℕ, ◌+◌, ◌*◌, ◌-◌, ◌<◌, ◌≤◌}
+use Prim.Native.Nat.{ℕ, ◌+◌, ◌*◌, ◌<◌, ◌≤◌}
 use native.Mathlib.Omega.{arith}
 use lib.Dec.{ltb, leb, eqb}
 use lib.ListN.{get_or, length}
-use lib.IntN.{ℤ}
-use mir.Syntax.{w32}
-use mir.Val.{SFits, to_z, of_z}
-use mir.ValLaws.{to_z-of_z}
 use borrow.Author.Tests.{leb-true, ltb-true, ltb-false, eqb-true, eqb-false, not-false, lt-ltb, le-ltb, le-leb, lt-leb, eq-eqb, ne_eqb}
-use Rattle.bodies.specs.Refusals.{done, bad_number, bad_shape, bad_address, bad_record, bad_edition, refuse}
-use Rattle.bodies.specs.Limits.{is_edition, numbers_inside, channel_inside}
+use Rattle.bodies.specs.Refusals.{refuse}
+use Rattle.bodies.specs.declared.refusals.Refusal.{Refusal}
+use Rattle.bodies.specs.declared.refusals.Refusal.TheVariants.{BadNumber, BadShape, BadAddress, BadRecord, BadEdition}
+use Rattle.bodies.specs.Limits.{is_edition}
 use Rattle.lists.proofs.Laws.{and_left, and_right, or_left, or_right}
-use Rattle.labels.specs.Packing.{word_inside}
-use Rattle.frame_spec.specs.Words.{word_at, signed}
-use Rattle.frame_spec.specs.Record.{bytes_inside}
 use Rattle.frame_spec.specs.Frame.{shape_wrong, address_wrong, records_inside, valid_number, frame_refusal, check_refusal}
-
--- what the code makes of a body's three numbers, once the argument is read back from its bits
-pub judged :
-    {A : Type 0} (F : ℕ → ℤ → A) (p : List ℕ) (r : A) (e w : ℕ) (z : ℤ) → SFits w32 z → r ≡ F e (to_z w32 (of_z w32 z)) →
-    e ≡ word_at p 4 → w ≡ word_at p 8 → z ≡ signed w → r ≡ F (word_at p 4) (signed (word_at p 8))
-judged F p r e w z f h d q s =
-    h ∙ ap (F e) (to_z-of_z w32 z f) ∙ (λ i. F (d i) ((s ∙ ap signed q) i))
-
--- one record
-module _ (edition n : ℕ) (p : List ℕ) where
-  pub far : n ≤ get_or p 0 0 → false ≡ bytes_inside edition n p
-  unfolding bytes_inside
-  far a = simp (le-ltb _ _ a)
-
-  module _ (a : get_or p 0 0 < n) where
-    pub high : 2 * (n - 1) < get_or p 1 0 → false ≡ bytes_inside edition n p
-    unfolding bytes_inside
-    high b = simp (lt-ltb _ _ a, lt-leb _ _ b)
-
-    module _ (b : get_or p 1 0 ≤ 2 * (n - 1)) where
-      pub other_numbers : numbers_inside (get_or p 2 0) (word_at p 4) (signed (word_at p 8)) ≡ false → false ≡ bytes_inside edition n p
-      unfolding bytes_inside
-      other_numbers c = rw (lt-ltb _ _ a, le-leb _ _ b, c)
-
-      module _ (c : numbers_inside (get_or p 2 0) (word_at p 4) (signed (word_at p 8)) ≡ true) where
-        pub other_channel : channel_inside edition (get_or p 2 0) (get_or p 3 0) ≡ false → false ≡ bytes_inside edition n p
-        unfolding bytes_inside
-        other_channel d = rw (lt-ltb _ _ a, le-leb _ _ b, c, d)
-
-        pub by_labels :
-            channel_inside edition (get_or p 2 0) (get_or p 3 0) ≡ true → word_inside n (word_at p 12) ≡ bytes_inside edition n p
-        unfolding bytes_inside word_inside
-        by_labels d = rw (lt-ltb _ _ a, le-leb _ _ b, c, d)
 
 -- the shape
 module _ (s : List ℕ) where
-  pub short : length s < 4 → true ≡ shape_wrong s
-  unfolding shape_wrong
-  short a = simp (lt-ltb _ _ a)
-
   module _ (a : 4 ≤ length s) where
-    pub none : get_or s 2 0 ≡ 0 → true ≡ shape_wrong s
-    unfolding shape_wrong
-    none b = simp (le-ltb _ _ a, eq-eqb _ _ b)
-
     module _ (b : get_or s 2 0 ≡ 0 → ⊥) where
-      pub many : 16 < get_or s 2 0 → true ≡ shape_wrong s
-      unfolding shape_wrong
-      many c = simp (le-ltb _ _ a, ne_eqb _ _ b, lt-ltb _ _ c)
-
       module _ (c : get_or s 2 0 ≤ 16) where
-        pub no_edition : 2 ≤ get_or s 3 0 → true ≡ shape_wrong s
-        unfolding shape_wrong
-        no_edition d = simp (le-ltb _ _ a, ne_eqb _ _ b, le-ltb _ _ c, le-ltb _ _ d)
-
         pub by_length : get_or s 3 0 < 2 → not (eqb (length s) (4 + 16 * get_or s 2 0)) ≡ shape_wrong s
         unfolding shape_wrong
         by_length d = simp (le-ltb _ _ a, ne_eqb _ _ b, le-ltb _ _ c, lt-ltb _ _ d)
@@ -112,20 +59,8 @@ not_below a b = go (ltb a b) refl
     go false h = le-leb b a (ltb-false a b h)
 
 module _ (edition : ℕ) (s : List ℕ) (n own : ℕ) where
-  pub other_edition : (get_or s 3 0 ≡ edition → ⊥) → true ≡ address_wrong edition s n own
-  unfolding address_wrong
-  other_edition e = simp (ne_eqb _ _ e)
-
   module _ (e : get_or s 3 0 ≡ edition) where
-    pub other_number : (get_or s 0 0 ≡ n → ⊥) → true ≡ address_wrong edition s n own
-    unfolding address_wrong
-    other_number a = simp (eq-eqb _ _ e, ne_eqb _ _ a)
-
     module _ (a : get_or s 0 0 ≡ n) where
-      pub own_frame : get_or s 1 0 ≡ own → true ≡ address_wrong edition s n own
-      unfolding address_wrong
-      own_frame b = simp (eq-eqb _ _ e, eq-eqb _ _ a, eq-eqb _ _ b)
-
       pub by_sender : (get_or s 1 0 ≡ own → ⊥) → leb n (get_or s 1 0) ≡ address_wrong edition s n own
       unfolding address_wrong
       by_sender b = simp (eq-eqb _ _ e, eq-eqb _ _ a, ne_eqb _ _ b) (not_below (get_or s 1 0) n)
@@ -155,33 +90,17 @@ address edition s n own h =
 
 -- the refusals in their order
 module _ (edition : ℕ) (s : List ℕ) (n own : ℕ) where
-  pub refused_shape : shape_wrong s ≡ true → bad_shape ≡ frame_refusal edition s n own
-  unfolding frame_refusal
-  refused_shape a = rw a
-
   module _ (a : shape_wrong s ≡ false) where
-    pub refused_address : address_wrong edition s n own ≡ true → bad_address ≡ frame_refusal edition s n own
-    unfolding frame_refusal
-    refused_address b = rw (a, b)
-
     module _ (b : address_wrong edition s n own ≡ false) where
-      pub accepted : records_inside edition s n ≡ true → done ≡ frame_refusal edition s n own
+      pub accepted : records_inside edition s n ≡ true → Ok tt ≡ frame_refusal edition s n own
       unfolding frame_refusal
       accepted c = rw (a, b, c)
 
-      pub refused_records : records_inside edition s n ≡ false → bad_record ≡ frame_refusal edition s n own
+      pub refused_records : records_inside edition s n ≡ false → Err BadRecord ≡ frame_refusal edition s n own
       unfolding frame_refusal
       refused_records c = rw (a, b, c)
 
-  pub refused_number : valid_number n own ≡ false → bad_number ≡ check_refusal edition s n own
-  unfolding check_refusal
-  refused_number a = rw a
-
   module _ (a : valid_number n own ≡ true) where
-    pub refused_edition : is_edition edition ≡ false → bad_edition ≡ check_refusal edition s n own
-    unfolding check_refusal
-    refused_edition e = rw (a, e)
-
     pub by_frame : is_edition edition ≡ true → frame_refusal edition s n own ≡ check_refusal edition s n own
     unfolding check_refusal
     by_frame e = rw (a, e)
@@ -200,13 +119,16 @@ pub record Accepted (edition : ℕ) (s : List ℕ) (n own : ℕ) : Type 0 where
   pub address_right : address_wrong edition s n own ≡ false
   pub records_right : records_inside edition s n ≡ true
 
-chain : (a b c : Bool) → refuse a bad_shape (refuse b bad_address (refuse (not c) bad_record done)) ≡ done → (a ≡ false) × (b ≡ false) × (c ≡ true)
-chain true b c h = absurd (omega arith)
-chain false true c h = absurd (omega arith)
+chain :
+    (a b c : Bool) →
+    ◌≡◌ {A = Result ⊤ Refusal} (refuse a BadShape (refuse b BadAddress (refuse (not c) BadRecord (Ok tt)))) (Ok tt) →
+    (a ≡ false) × (b ≡ false) × (c ≡ true)
+chain true b c h = cc
+chain false true c h = cc
 chain false false true h = (refl, refl, refl)
-chain false false false h = absurd (omega arith)
+chain false false false h = cc
 
-pub accepted_frame : (edition : ℕ) (s : List ℕ) (n own : ℕ) → frame_refusal edition s n own ≡ done → Accepted edition s n own
+pub accepted_frame : (edition : ℕ) (s : List ℕ) (n own : ℕ) → frame_refusal edition s n own ≡ Ok tt → Accepted edition s n own
 unfolding frame_refusal
 accepted_frame edition s n own h =
     let r = chain (shape_wrong s) (address_wrong edition s n own) (records_inside edition s n) h in
@@ -216,16 +138,16 @@ accepted_frame edition s n own h =
 pub record Passed (edition : ℕ) (s : List ℕ) (n own : ℕ) : Type 0 where
   pub number : valid_number n own ≡ true
   pub known : is_edition edition ≡ true
-  pub heard : frame_refusal edition s n own ≡ done
+  pub heard : frame_refusal edition s n own ≡ Ok tt
 
 valid :
-    (v w : Bool) (rest : ℕ) → refuse (not v) bad_number (refuse (not w) bad_edition rest) ≡ done →
-    (v ≡ true) × (w ≡ true) × (rest ≡ done)
+    (v w : Bool) (rest : Result ⊤ Refusal) → refuse (not v) BadNumber (refuse (not w) BadEdition rest) ≡ Ok tt →
+    (v ≡ true) × (w ≡ true) × (rest ≡ Ok tt)
 valid true true rest h = (refl, refl, h)
-valid true false rest h = absurd (omega arith)
-valid false w rest h = absurd (omega arith)
+valid true false rest h = cc
+valid false w rest h = cc
 
-module _ (edition : ℕ) (s : List ℕ) (n own : ℕ) (h : check_refusal edition s n own ≡ done) where
+module _ (edition : ℕ) (s : List ℕ) (n own : ℕ) (h : check_refusal edition s n own ≡ Ok tt) where
   pub check_passed : Passed edition s n own
   unfolding check_refusal
   check_passed =
@@ -237,6 +159,3 @@ module _ (edition : ℕ) (s : List ℕ) (n own : ℕ) (h : check_refusal edition
 
   pub frame_shape : Shape s
   frame_shape = shape s accepted_check.shape_right
-
-  pub long_enough : 4 ≤ length s
-  long_enough = omega (arith, frame_shape.long)

@@ -1,4 +1,5 @@
 -- Receivers of document 01 alone beside those that know editions, by byte 3 of the frame.
+use Rattle.std.specs.Prelude.{Ok, Err}
 use mathlib.Core.Path.{◌≡◌, refl}
 use mathlib.Core.Bool.{Bool, true, false, not, ◌||◌}
 use mathlib.Core.List.{List}
@@ -8,12 +9,12 @@ use native.Mathlib.Omega.{arith}
 use lib.Dec.{ltb, eqb}
 use lib.ListN.{get_or, length}
 use borrow.Author.Tests.{le-ltb, lt-ltb, eq-eqb, ne_eqb}
-use Rattle.bodies.specs.Refusals.{done, bad_shape}
+use Rattle.bodies.specs.declared.refusals.Refusal.TheVariants.{BadShape}
 use Rattle.frame_spec.specs.Frame.{shape_wrong, address_wrong, frame_refusal, check_refusal}
 use Rattle.frame_spec.specs.Editions.{old_shape_wrong, old_address_wrong, old_refusal, OldReceivers, EditionZeroRemains}
 use Rattle.frame_spec.proofs.Check.{check_passed, accepted_check, frame_shape, address}
 
-module _ (bytes : List ℕ) (n own : ℕ) (h : check_refusal 1 bytes n own ≡ done) where
+module _ (bytes : List ℕ) (n own : ℕ) (h : check_refusal 1 bytes n own ≡ Ok tt) where
   shape_wrong_lem : old_shape_wrong bytes ≡ true
   unfolding old_shape_wrong
   shape_wrong_lem =
@@ -27,7 +28,7 @@ module _ (bytes : List ℕ) (n own : ℕ) (h : check_refusal 1 bytes n own ≡ d
         ne_eqb (get_or bytes 3 0) 0 (λ e. omega arith),
       )
 
-  refused_with_five : old_refusal bytes n own ≡ bad_shape
+  refused_with_five : old_refusal bytes n own ≡ Err BadShape
   unfolding old_refusal
   refused_with_five = rw ((check_passed 1 bytes n own h).number, shape_wrong_lem)
 

@@ -1,6 +1,7 @@
 -- A frame there and back, for every N. Record k of a written frame stands in part k, so each test
 -- of the check is one of the limits of the records; and the parts of an accepted frame are the
 -- bytes of the records that they hold, one after the other.
+use Rattle.std.specs.Prelude.{Ok}
 use mathlib.Core.Path.{◌≡◌, refl, sym, ap, ◌∙◌}
 use mathlib.Core.Bool.{Bool, true, false, ◌&&◌, ◌||◌, true≢false}
 use mathlib.Core.List.{List, [], ◌∷◌, ◌++◌, map, append-nil}
@@ -12,7 +13,6 @@ use lib.ListN.{get_or, take, drop, length, length-drop, get_or-eq_default}
 use lib.Seq.{drop-cons, take_at, drop_at, take_all, take-add, drop-drop, get_or-drop, get_or-take, length-take-le}
 use borrow.Author.Tests.{lt-leb, eq-eqb, ne_eqb, ltb-true}
 use Rattle.bodies.specs.Limits.{body_inside}
-use Rattle.bodies.specs.Refusals.{done}
 use Rattle.lists.specs.Below.{all_below, any_below, tabulate}
 use Rattle.lists.proofs.Laws.{and_both, and_left, and_right, all_below_at, all_below_make, any_below_ext, any_below_none, length-tabulate, tabulate_ext, tabulate-map}
 use Rattle.frame_spec.specs.declared.Record.{Record}
@@ -129,12 +129,12 @@ module _ (edition n sender : ℕ) (rs : List Record) where
           (λ k l. ap (λ (s : ℕ). eqb s sender) (station_of_frame k l))
           ∙ one_sent)
 
-      pub written_accepted : frame_refusal edition bytes n own ≡ done
+      pub written_accepted : frame_refusal edition bytes n own ≡ Ok tt
       written_accepted = sym (accepted edition bytes n own shape_is address_is records_are)
 
 -- ---- a frame that is read and written
 
-module _ (edition : ℕ) (bytes : List ℕ) (n own : ℕ) (h : frame_refusal edition bytes n own ≡ done) where
+module _ (edition : ℕ) (bytes : List ℕ) (n own : ℕ) (h : frame_refusal edition bytes n own ≡ Ok tt) where
   pub yes_frame : Accepted edition bytes n own
   yes_frame = accepted_frame edition bytes n own h
 

@@ -1,12 +1,13 @@
 -- A frame whose shape and address are right is refused with 7 if the body of any of its records is
 -- outside the limits of its kind. For if the records were inside their limits, so would be the
 -- numbers of each body. No limit of a kind is named: the table decides.
+use Rattle.std.specs.Prelude.{Err}
 use Prim.Native.Nat.{ℕ, ◌<◌}
 use mathlib.Core.Bool.{Bool, true, false, true≢false}
 use mathlib.Core.List.{List}
 use mathlib.Core.Path.{◌≡◌, refl, sym, ◌∙◌}
 use lib.ListN.{get_or}
-use Rattle.bodies.specs.Refusals.{bad_record}
+use Rattle.bodies.specs.declared.refusals.Refusal.TheVariants.{BadRecord}
 use Rattle.bodies.specs.Limits.{is_edition, numbers_inside}
 use Rattle.lists.proofs.Laws.{and_left, all_below_at}
 use Rattle.frame_spec.specs.Words.{word_at, signed}
@@ -28,7 +29,7 @@ module _ (edition : ℕ) (bytes : List ℕ) (n own k : ℕ) where
   pub body_outside :
       valid_number n own ≡ true → is_edition edition ≡ true → shape_wrong bytes ≡ false → address_wrong edition bytes n own ≡ false → k < get_or bytes 2 0 →
       numbers_inside (get_or record_part 2 0) (word_at record_part 4) (signed (word_at record_part 8)) ≡ false →
-      check_refusal edition bytes n own ≡ bad_record
+      check_refusal edition bytes n own ≡ Err BadRecord
   body_outside v w a b l h = sym (by_frame edition bytes n own v w) ∙ sym (refused_records edition bytes n own a b outside)
     where
       outside : records_inside edition bytes n ≡ false

@@ -1,6 +1,7 @@
 -- The frame of a table there and back: the records at the held places are in order and the sender's
 -- is among them, so the frame is accepted and read as the very records that were written. By
 -- induction over the places, each held one adding a record of a higher station.
+use Rattle.std.specs.Prelude.{Ok}
 use mathlib.Core.Path.{◌≡◌, refl, sym, ◌∙◌}
 use mathlib.Core.Bool.{Bool, true, false, cond, ◌&&◌, ◌||◌}
 use mathlib.Core.List.{List, [], ◌∷◌, ◌++◌, append-nil}
@@ -13,7 +14,6 @@ use lib.Seq.{get_or_at}
 use borrow.Author.Tests.{lt-ltb, eq-eqb, ne_eqb}
 use Rattle.bodies.specs.declared.Body.{Body}
 use Rattle.bodies.specs.Limits.{body_inside}
-use Rattle.bodies.specs.Refusals.{done}
 use Rattle.lists.specs.Below.{any_below, filter_map}
 use Rattle.lists.proofs.Laws.{and_both, all_below_make, any_below_hit, filter_map_ext, map_filter_map}
 use Rattle.frame_spec.specs.declared.Record.{Record}
@@ -167,6 +167,6 @@ module _ (edition n sender : ℕ) (held : List Bool) (table : List Record) (few 
     -- and every other station accepts it
     pub table_accepted :
         edition < 2 → (own : ℕ) → (sender ≡ own → ⊥) →
-        frame_refusal edition (frame_bytes edition n sender (table_records n held table)) n own ≡ done
+        frame_refusal edition (frame_bytes edition n sender (table_records n held table)) n own ≡ Ok tt
     table_accepted known own other =
         written_accepted edition n sender (table_records n held table) few table_fits own other valid known

@@ -1,5 +1,5 @@
 -- Document 01, "Frame bytes", and document 02, A9: the sixteen bytes of one record.
-use Rattle.std.specs.Prelude.{ℕ, ◌*◌, ◌-◌, Bool, false, ◌&&◌, ◌||◌, List, ◌∷◌, ◌++◌, get_or, leb, ltb, eqb}
+use Rattle.std.specs.Prelude.{ℕ, ◌*◌, ◌-◌, Bool, false, ◌&&◌, ◌||◌, List, ◌∷◌, ◌++◌, slice_index, nat_le, nat_lt, ◌==◌}
 use Rattle.bodies.specs.declared.Body.{Body}
 use Rattle.bodies.specs.declared.Body.TheVariants.{Empty}
 use Rattle.bodies.specs.Body.{kind_of, event_of, argument_of, channel_of, body_of}
@@ -16,9 +16,9 @@ record_label r k = label_in r.labels k
 unfoldable pub record_from : List ℕ → Record
 record_from bytes =
     record {
-      station = get_or bytes 0 0;
-      count = get_or bytes 1 0;
-      body = body_of (get_or bytes 2 0) (word_at bytes 4) (signed (word_at bytes 8)) (get_or bytes 3 0);
+      station = slice_index bytes 0;
+      count = slice_index bytes 1;
+      body = body_of (slice_index bytes 2) (word_at bytes 4) (signed (word_at bytes 8)) (slice_index bytes 3);
       labels = word_at bytes 12;
     }
 
@@ -35,7 +35,7 @@ record_bytes n r =
 
 -- "count at most 2 × (N - 1)"
 abbrev pub count_inside : ℕ → ℕ → Bool
-count_inside n count = leb count (2 * (n - 1))
+count_inside n count = nat_le count (2 * (n - 1))
 
 -- an entry that no record uses, and what is read past the end of a list of records
 abbrev pub no_record : Record
@@ -46,7 +46,7 @@ no_record = record { station = 0; count = 0; body = Empty; labels = 0 }
 -- stations 0 to 2
 abbrev pub fields_inside : ℕ → Bool → ℕ → ℕ → Bool → ℕ → Bool
 fields_inside n free station count inside labels =
-    ltb station n
+    nat_lt station n
     && (free || count_inside n count)
     && inside
     && labels_inside n labels
@@ -60,9 +60,9 @@ record_limits inside n free r = fields_inside n free r.station r.count (inside r
 unfoldable pub bytes_inside : ℕ → ℕ → List ℕ → Bool
 bytes_inside edition n bytes =
     let labels = word_at bytes 12 in
-    fields_inside n false (get_or bytes 0 0) (get_or bytes 1 0)
-    (numbers_inside (get_or bytes 2 0) (word_at bytes 4) (signed (word_at bytes 8))
-    && channel_inside edition (get_or bytes 2 0) (get_or bytes 3 0)) labels
+    fields_inside n false (slice_index bytes 0) (slice_index bytes 1)
+    (numbers_inside (slice_index bytes 2) (word_at bytes 4) (signed (word_at bytes 8))
+    && channel_inside edition (slice_index bytes 2) (slice_index bytes 3)) labels
     && zero_from n labels
 
 -- a record that a frame may carry
@@ -71,7 +71,7 @@ record_fits inside n r = record_limits inside n false r
 
 -- such a record, of station k
 unfoldable pub place_fits : (Body → Bool) → ℕ → ℕ → Record → Bool
-place_fits inside n k r = eqb r.station k && record_fits inside n r
+place_fits inside n k r = r.station == k && record_fits inside n r
 
 -- the record as a frame carries it: its labels from n up are 0
 unfoldable pub framed : ℕ → Record → Record

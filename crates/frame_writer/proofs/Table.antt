@@ -8,14 +8,17 @@ use native.Mathlib.Decide.{ℕ_discrete}
 use native.Mathlib.Nat.{add-zero}
 use native.Mathlib.Numerals.{add-one}
 use native.Mathlib.Omega.{arith}
-use lib.ListN.{get_or, set, take, drop, length, length-append}
-use lib.Seq.{sets-eq, take_at, drop_at, drop-drop, drop-set-lt}
+use borrow.Rule.Slice.PartMut.{put_mid}
+use lib.ListN.{get_or, take, drop, length, length-append}
+use lib.Seq.{take_at, drop_at, drop-drop}
 use lib.Dec.{ltb}
 use borrow.Author.Tests.{lt-ltb, le-ltb}
-use Rattle.bodies.specs.Refusals.{done, short_buffer}
+use Rattle.std.specs.Prelude.{Ok, Err}
+use Rattle.bodies.specs.declared.refusals.Refusal.TheVariants.{ShortBuffer}
+use Rattle.std.specs.List.{count_by}
+use Rattle.std.proofs.lemmas.List.Sums.{count_by_more_yes, count_by_more_no}
 use Rattle.lists.specs.Below.{filter_map}
 use Rattle.frame_spec.specs.declared.Record.{Record}
-use Rattle.frame_spec.specs.declared.Written.{Written}
 use Rattle.frame_spec.specs.Record.{record_bytes, framed, no_record}
 use Rattle.frame_spec.specs.Frame.{records_bytes, frame_bytes}
 use Rattle.frame_spec.specs.Calls.{table_records, written, buffer_with}
@@ -35,6 +38,18 @@ counted_more k held count one h e = rw (add-one k) (ap₂ ◌+◌ h e)
 pub start : (held : List Bool) → ◌≡◌ {A = ℕ} 4 (4 + 16 * held_count 0 held)
 unfolding held_count
 start held = refl
+
+-- the places counted one by one
+pub counted : (n : ℕ) (held : List Bool) → n ≤ length held → count_by (λ b. b) (take n held) ≡ held_count n held
+unfolding held_count
+counted zero held h = refl
+counted (suc k) held h = go (get_or held k false) refl (counted k held (omega arith))
+  where
+    go :
+        (b : Bool) → get_or held k false ≡ b → count_by (λ b. b) (take k held) ≡ held_count k held →
+        count_by (λ b. b) (take (suc k) held) ≡ held_count (suc k) held
+    go true e r = rw e ((rw add-one at (count_by_more_yes (λ b. b) held k false (omega arith) e)) ∙ ap (λ (m : ℕ). m + 1) r)
+    go false e r = rw (e, add-zero) ((rw add-one at (count_by_more_no (λ b. b) held k false (omega arith) e)) ∙ r)
 
 pub count_le : (k : ℕ) (held : List Bool) → held_count k held ≤ k
 unfolding held_count
@@ -87,22 +102,10 @@ module _ (edition n sender count : ℕ) (held : List Bool) (table : List Record)
     pub is : buffer ≡ front k ++ drop (4 + 16 * held_count k held) old
 
   -- the buffer with the four bytes of the head
-  abbrev headed : List ℕ → List ℕ
-  headed l = set (set (set (set l 0 n) 1 sender) 2 count) 3 edition
-
-  headed-drop : (l : List ℕ) (m : ℕ) → 4 ≤ m → drop m (headed l) ≡ drop m l
-  headed-drop l m h =
-      drop-set-lt m (set (set (set l 0 n) 1 sender) 2 count) 3 edition (omega arith)
-      ∙ drop-set-lt m (set (set l 0 n) 1 sender) 2 count (omega arith)
-      ∙ drop-set-lt m (set l 0 n) 1 sender (omega arith)
-      ∙ drop-set-lt m l 0 n (omega arith)
-
-  pub filled_none : (l : List ℕ) → 4 ≤ length l → Filled (headed l) 0 (headed l)
+  pub filled_none :
+      (old head : List ℕ) → head ≡ n ∷ sender ∷ count ∷ edition ∷ [] → Filled old 0 (put_mid 0 4 old head)
   unfolding held_count filter_map records_bytes
-  filled_none l h =
-      record {
-        is = sets-eq (n ∷ sender ∷ count ∷ edition ∷ []) l 0 h ∙ rw (headed-drop l 4 (omega arith));
-      }
+  filled_none old head e = record { is = rw e refl }
 
   module _ (old buffer : List ℕ) (k : ℕ) (f : Filled old k buffer) where
     -- a place that is not held is passed by
@@ -165,7 +168,7 @@ module _ (edition n sender : ℕ) (held : List Bool) (table : List Record) where
       shorter : ltb (length old) (length frame) ≡ true
       shorter = lt-ltb (length old) (length frame) (omega (arith, frame-length))
 
-      pub short_answer : ◌≡◌ {A = Written} (record { refusal = short_buffer; len = 0 }) (written frame (length old))
+      pub short_answer : Err ShortBuffer ≡ (written frame (length old))
       unfolding written
       short_answer = rw shorter
 
@@ -177,19 +180,17 @@ module _ (edition n sender : ℕ) (held : List Bool) (table : List Record) where
       fits : ltb (length old) (length frame) ≡ false
       fits = le-ltb (length old) (length frame) (omega (arith, frame-length))
 
-      pub done_answer : ◌≡◌ {A = Written} (record { refusal = done; len = 4 + 16 * count }) (written frame (length old))
+      pub done_answer : Ok (4 + 16 * count) ≡ (written frame (length old))
       unfolding written
       done_answer =
           let e : 4 + 16 * count ≡ length frame = omega (arith, frame-length) in
           rw (fits, e)
 
       pub done_buffer :
-          (k : ℕ) (buffer : List ℕ) → k ≡ n →
-          Filled edition n sender count held table (set (set (set (set old 0 n) 1 sender) 2 count) 3 edition) k buffer →
+          (k : ℕ) (buffer : List ℕ) → k ≡ n → Filled edition n sender count held table old k buffer →
           buffer ≡ buffer_with frame old
       unfolding buffer_with frame_bytes table_records
       done_buffer k buffer e f =
-          let past = headed-drop edition n sender count held table old (4 + 16 * held_count k held) (omega arith) in
           let len : 4 + 16 * held_count k held ≡ length frame = ap (λ (j : ℕ). 4 + 16 * held_count j held) e ∙ sym frame-length in
           let amount : count ≡ length (table_records n held table) = right ∙ sym (count_is edition n sender 0 held table n) in
-          f.is ∙ rw (fits, past, len, e, amount)
+          f.is ∙ rw (fits, len, e, amount)

@@ -4,75 +4,56 @@
 
 pub mod maker;
 
-ghost use Rattle.std.specs.Prelude.{◌≡◌, cond, ◌≤◌, ◌<◌, length};
+ghost use Rattle.std.specs.Prelude.{◌≡◌, ◌≤◌, ◌<◌, length};
 ghost use Rattle.frame_spec.specs.Frame.{frame_bytes};
 ghost use Rattle.frame_spec.specs.Calls.{table_records, written, buffer_with};
 ghost use Rattle.frame_spec.specs.Inner.Writing.{held_count};
 
-use bodies::refusals::{DONE, SHORT_BUFFER};
-use frame_spec::{Record, Written};
-
-// 1 where a place is held, else 0.
-fn one_if(held: bool) -> usize
-    ensures { result ≡ cond held 1 0 }
-{
-    if held { 1 } else { 0 }
-}
+use bodies::refusals::Refusal;
+use frame_spec::{HEAD_WIDTH, RECORD_WIDTH, Record};
+use records::writer::write_record;
 
 // How many of the first n places are held.
-fn held_count(held: [bool; 16], n: usize) -> usize
+#[tactic(auto, using(crate::proofs::Table::counted, crate::proofs::Table::count_le))]
+fn held_count(held: &[bool; 16], n: usize) -> usize
     requires { n ≤ 16 }
-    ensures { result ≡ held_count n held }
+    ensures count { result ≡ held_count n held.now }
+    ensures few { result ≤ n }
 {
-    let mut count: usize = 0;
-    let mut k: usize = 0;
-    while k < n {
-        count += one_if(held[k]);
-        k += 1;
-    }
-    count
+    held[..n].iter().filter(|held| **held).count()
 }
 
-// The frame of an edition that a sender among n stations makes of the records at the held places of
-// a table.
+/// The frame of an edition that a sender among n stations makes of the records at the held places
+/// of a table.
 pub fn write_table(
     buffer: &mut [u8],
-    held: [bool; 16],
-    table: [Record; 16],
+    held: &[bool; 16],
+    table: &[Record; 16],
     edition: usize,
     n: usize,
     sender: usize,
-) -> Written
-    requires { (n ≤ 16) × (sender < 256) × (edition < 256) }
-    ensures { (result ≡ written (frame_bytes edition n sender (table_records n held table)) (length buffer.old))
-        × (buffer.new
-        ≡ buffer_with (frame_bytes edition n sender (table_records n held table)) buffer.old) }
+) -> Result<usize, Refusal>
+    requires few { n ≤ 16 }
+    requires sender { sender < 256 }
+    requires edition { edition < 256 }
+    ensures answer { result
+        ≡ written (frame_bytes edition n sender (table_records n held.now table.now)) (length buffer.old) }
+    ensures buffer { buffer.new
+        ≡ buffer_with (frame_bytes edition n sender (table_records n held.now table.now)) buffer.old }
 {
     let count = held_count(held, n);
-    let len = 4 + 16 * count;
+    let len = HEAD_WIDTH + RECORD_WIDTH * count;
     if buffer.len() < len {
-        return Written {
-            refusal: SHORT_BUFFER,
-            len: 0,
-        };
+        return Err(Refusal::ShortBuffer);
     }
-    buffer[0] = n as u8;
-    buffer[1] = sender as u8;
-    buffer[2] = count as u8;
-    buffer[3] = edition as u8;
-    let mut at: usize = 4;
-    let mut k: usize = 0;
-    while k < n {
+    buffer[..HEAD_WIDTH].copy_from_slice(&[n as u8, sender as u8, count as u8, edition as u8]);
+    let mut at = HEAD_WIDTH;
+    for k in 0..n {
         if !held[k] {
-            k += 1;
             continue;
         }
-        records::writer::write_record(&mut buffer[at..at + 16], n, table[k]);
-        at += 16;
-        k += 1;
+        write_record(&mut buffer[at..at + RECORD_WIDTH], n, table[k]);
+        at += RECORD_WIDTH;
     }
-    Written {
-        refusal: DONE,
-        len: len,
-    }
+    Ok(len)
 }

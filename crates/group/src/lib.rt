@@ -5,103 +5,74 @@
 pub mod limits;
 
 ghost use Rattle.std.specs.Prelude.{◌≡◌, ◌≤◌};
+ghost use Rattle.bodies.specs.Refusals.{number_of};
 ghost use Rattle.station_spec.specs.State.{sized};
 ghost use Rattle.group_spec.specs.State.{fresh_group};
 ghost use Rattle.group_spec.specs.Calls.{group_fresh_call, group_post_call};
 
-use bodies::refusals::{BAD_EDITION, BAD_LIMIT, BAD_NUMBER, DONE, OUTSIDE_LIMITS};
+use bodies::refusals::{DONE, Refusal, number_of};
 use group_spec::{GroupAnswer, Post};
-use queues::DEFAULT_LIMIT;
 use station_spec::{Setup, Station};
 
 // The group, as it begins; a station alone, fresh, stands at each place from N up.
+#[tactic(auto, using(lists::proofs::Laws::set_below_more), unfolding(lists::specs::Below::set_below, group_spec::specs::State::fresh_group))]
 fn fresh_group(setup: Setup) -> [Station; 16]
-    requires { setup.n ≤ 16 }
+    requires few { setup.n ≤ 16 }
     ensures { result ≡ fresh_group setup }
 {
-    let alone = Setup {
-        n: 1,
-        limit: DEFAULT_LIMIT,
-        edition: 0,
-    };
-    let other = station::beginning::fresh_station(alone, 0);
+    let other = station::beginning::alone();
     let mut group = [other; 16];
-    let mut k: usize = 0;
-    while k < setup.n {
+    for k in 0..setup.n {
         group[k] = station::beginning::fresh_station(setup, k);
-        k += 1;
     }
     group
 }
 
-// Group fresh, with a limit and an edition named: the group, as it begins.
+/// Group fresh, with a limit and an edition named: the group, as it begins. A refused call answers
+/// with the fresh group of one.
+#[tactic(auto, unfolding(group_spec::specs::Calls::group_fresh_call, group_spec::specs::Calls::group_fresh_refusal))]
 pub fn fresh_limited(setup: Setup) -> GroupAnswer
     ensures { result ≡ group_fresh_call setup }
 {
-    let alone = Setup {
-        n: 1,
-        limit: DEFAULT_LIMIT,
-        edition: 0,
-    };
-    if !records::numbers::valid_number(setup.n, 0) {
-        let group = fresh_group(alone);
-        return GroupAnswer {
-            refusal: BAD_NUMBER,
-            group: group,
-        };
-    }
-    if !queues::limit_inside(setup.limit) {
-        let group = fresh_group(alone);
-        return GroupAnswer {
-            refusal: BAD_LIMIT,
-            group: group,
-        };
-    }
-    if !records::numbers::is_edition(setup.edition) {
-        let group = fresh_group(alone);
-        return GroupAnswer {
-            refusal: BAD_EDITION,
-            group: group,
-        };
-    }
-    let group = fresh_group(setup);
-    GroupAnswer {
-        refusal: DONE,
-        group: group,
+    match station::beginning::judge(setup, 0) {
+        Ok(()) => GroupAnswer {
+            refusal: DONE,
+            group: fresh_group(setup),
+        },
+        Err(refusal) => GroupAnswer {
+            refusal: refusal.number(),
+            group: fresh_group(station::beginning::sized(1)),
+        },
     }
 }
 
-// Group fresh, with neither named.
+/// Group fresh, with neither named.
 pub fn fresh(n: usize) -> GroupAnswer
     ensures { result ≡ group_fresh_call (sized n) }
 {
-    let setup = station::beginning::sized(n);
-    fresh_limited(setup)
+    fresh_limited(station::beginning::sized(n))
 }
 
-// Group post: one more waiting edit of the post's desk at its station, where the station does not
-// refuse it.
+// Posts in place: a refused post leaves the group as it is.
+fn try_post(g: &mut [Station; 16], post: Post) -> Result<(), Refusal>
+    ensures refusal { number_of result ≡ (group_post_call g.old post).refusal }
+    ensures group { g.new ≡ (group_post_call g.old post).group }
+{
+    if !limits::group_inside(g) {
+        return Err(Refusal::OutsideLimits);
+    }
+    if g[0].n <= post.station {
+        return Err(Refusal::BadNumber);
+    }
+    station::post_in_place(&mut g[post.station], post.desk, post.body)
+}
+
+/// Group post: one more waiting edit of the post's desk at its station, where the station does not
+/// refuse it.
 pub fn post(g: [Station; 16], post: Post) -> GroupAnswer
     ensures { result ≡ group_post_call g post }
 {
-    let mut z = GroupAnswer {
-        refusal: DONE,
-        group: g,
-    };
-    if !limits::group_inside(g) {
-        z.refusal = OUTSIDE_LIMITS;
-        return z;
-    }
-    let first = z.group[0];
-    let k = post.station;
-    if first.n <= k {
-        z.refusal = BAD_NUMBER;
-        return z;
-    }
-    let body = post.body;
-    let kept = station::post(z.group[k], post.desk, body);
-    let station = kept.station;
-    z.refusal = kept.refusal;
-    z.group[k] = station;
-    z
+    let mut group = g;
+    let refusal = number_of(try_post(&mut group, post));
+    GroupAnswer { refusal, group }
 }

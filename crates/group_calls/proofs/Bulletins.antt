@@ -71,14 +71,15 @@ module _ (group state masks reports shown : List ℕ) where
   refused_all : (r : ℕ) → (r ≡ done → ⊥) → r ≡ both_returned group state masks reports shown → Left group state masks reports shown r group state reports shown
   refused_all r d e = (e, kept_whole _ _ group d, kept_whole _ _ state d, kept_whole _ _ reports d, kept_whole _ _ shown d)
 
-  pub both_no_group : is_group group ≡ false → Left group state masks reports shown outside_limits group state reports shown
+  pub both_no_group : is_group group ≡ false → (r : ℕ) → r ≡ outside_limits → Left group state masks reports shown r group state reports shown
   unfolding both_returned
-  both_no_group h = refused_all outside_limits refused_is_2 (state_refused (is_group group) _ h)
+  both_no_group h r is = refused_all r (λ z. refused_is_2 (sym is ∙ z)) (is ∙ state_refused (is_group group) _ h)
 
   module _ (h : is_group group ≡ true) where
-    pub both_no_state : is_bulletins state ≡ false → Left group state masks reports shown outside_limits group state reports shown
+    pub both_no_state : is_bulletins state ≡ false → (r : ℕ) → r ≡ outside_limits → Left group state masks reports shown r group state reports shown
     unfolding both_returned
-    both_no_state q = refused_all outside_limits refused_is_2 (state_refused (is_bulletins state) _ q ∙ state_taken (is_group group) _ h)
+    both_no_state q r is =
+        refused_all r (λ z. refused_is_2 (sym is ∙ z)) (is ∙ state_refused (is_bulletins state) _ q ∙ state_taken (is_group group) _ h)
 
     module _ (q : is_bulletins state ≡ true) (k : BulletinsRound) (is : k ≡ both_answer group state masks) where
       pub both_refused : (k.round.refusal ≡ done → ⊥) → Left group state masks reports shown k.round.refusal group state reports shown
@@ -91,28 +92,30 @@ module _ (group state masks reports shown : List ℕ) where
         both_fine : (both_answer group state masks).round.refusal ≡ done
         both_fine = ap (λ (x : BulletinsRound). x.round.refusal) (sym is) ∙ fine
 
-        pub both_few : length masks < 16 → Left group state masks reports shown short_buffer group state reports shown
+        pub both_few : length masks < 16 → (r : ℕ) → r ≡ short_buffer → Left group state masks reports shown r group state reports shown
         unfolding both_returned
-        both_few few =
+        both_few few r is =
             let short = no_room 16 masks few in
-            refused_all short_buffer short_is_9
-            (short ∙ first_refused _ _ (λ z. short_is_9 (short ∙ z)) ∙ first_done _ _ both_fine ∙ state_taken (is_bulletins state) _ q ∙ state_taken (is_group group) _ h)
+            refused_all r (λ z. short_is_9 (sym is ∙ z))
+            (is ∙ short ∙ first_refused _ _ (λ z. short_is_9 (short ∙ z)) ∙ first_done _ _ both_fine ∙ state_taken (is_bulletins state) _ q ∙ state_taken (is_group group) _ h)
 
         module _ (enough : 16 ≤ length masks) where
-          pub both_short : length reports < reports_width → Left group state masks reports shown short_buffer group state reports shown
+          pub both_short :
+              length reports < reports_width → (r : ℕ) → r ≡ short_buffer → Left group state masks reports shown r group state reports shown
           unfolding both_returned
-          both_short few =
+          both_short few r is =
               let short = no_room reports_width reports few in
-              refused_all short_buffer short_is_9
-              (short ∙ first_refused _ _ (λ z. short_is_9 (short ∙ z)) ∙ first_done _ _ (sym (room 16 masks enough)) ∙ first_done _ _ both_fine
+              refused_all r (λ z. short_is_9 (sym is ∙ z))
+              (is ∙ short ∙ first_refused _ _ (λ z. short_is_9 (short ∙ z)) ∙ first_done _ _ (sym (room 16 masks enough)) ∙ first_done _ _ both_fine
               ∙ state_taken (is_bulletins state) _ q ∙ state_taken (is_group group) _ h)
 
           module _ (wide : reports_width ≤ length reports) where
-            pub both_unshown : length shown < all_shown_width → Left group state masks reports shown short_buffer group state reports shown
+            pub both_unshown :
+                length shown < all_shown_width → (r : ℕ) → r ≡ short_buffer → Left group state masks reports shown r group state reports shown
             unfolding both_returned
-            both_unshown few =
-                refused_all short_buffer short_is_9
-                (no_room all_shown_width shown few ∙ first_done _ _ (sym (room reports_width reports wide)) ∙ first_done _ _ (sym (room 16 masks enough)) ∙ first_done _ _ both_fine
+            both_unshown few r is =
+                refused_all r (λ z. short_is_9 (sym is ∙ z))
+                (is ∙ no_room all_shown_width shown few ∙ first_done _ _ (sym (room reports_width reports wide)) ∙ first_done _ _ (sym (room 16 masks enough)) ∙ first_done _ _ both_fine
                 ∙ state_taken (is_bulletins state) _ q ∙ state_taken (is_group group) _ h)
 
             pub both_done :

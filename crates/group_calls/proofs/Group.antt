@@ -1,6 +1,6 @@
--- What the calls on a group that lies as bytes share: what fresh answered, and how long the bytes
--- are.
-use mathlib.Core.Path.{◌≡◌, ap, ◌∙◌}
+-- What the calls on a group that lies as bytes share: what is written of an answer, and how long
+-- the bytes are.
+use mathlib.Core.Path.{◌≡◌}
 use mathlib.Core.Bool.{true}
 use mathlib.Core.List.{List}
 use Prim.Native.Nat.{ℕ, ◌*◌}
@@ -9,11 +9,9 @@ use lib.ListN.{length}
 use borrow.Author.Tests.{eqb-true}
 use Rattle.lists.specs.Below.{all_below}
 use Rattle.lists.proofs.Laws.{and_left}
-use Rattle.planning_spec.specs.Merge.{front_written}
 use Rattle.group_spec.specs.declared.GroupAnswer.{GroupAnswer}
 use Rattle.station_bytes_spec.specs.Station.{station_width, is_station_at}
 use Rattle.station_bytes_spec.specs.Group.{group_width, encode_group, is_group}
-use Rattle.group_calls.specs.Group.{group_fresh_returned}
 
 -- what an answer is refused with, and what is written of it
 abbrev pub refusal : GroupAnswer → ℕ
@@ -21,13 +19,6 @@ refusal x = x.refusal
 
 abbrev pub encoded : GroupAnswer → List ℕ
 encoded x = encode_group x.group
-
--- what is put is what the call's definition answers
-pub fresh_answered :
-    (k made : GroupAnswer) (r : ℕ) (state l : List ℕ) → k ≡ made → (r ≡ group_fresh_returned k state) × (l ≡ front_written r (encode_group k.group) state) →
-    (r ≡ group_fresh_returned made state) × (l ≡ front_written r (encode_group made.group) state)
-fresh_answered k made r state l e h =
-    (h.0 ∙ ap (λ (x : GroupAnswer). group_fresh_returned x state) e, h.1 ∙ ap (λ (x : GroupAnswer). front_written r (encode_group x.group) state) e)
 
 -- ---- bytes that are a group
 

@@ -6,7 +6,7 @@ use mathlib.Core.List.{List, [], ◌∷◌}
 use Prim.Native.Nat.{ℕ, zero, suc, max, ◌<◌}
 use native.Mathlib.Omega.{arith}
 use lib.Dec.{eqb}
-use Rattle.bodies.specs.Refusals.{done, outside_limits, lane_full, count_too_high, refuse}
+use Rattle.bodies.specs.Refusals.{done, outside_limits, lane_full, count_too_high, refuse_number}
 use Rattle.lists.specs.Below.{any_below}
 use Rattle.lists.proofs.Keeps.{cond_keeps}
 use Rattle.frame_spec.specs.declared.Record.{Record}
@@ -30,7 +30,7 @@ unfolding heard_one
 record_small h r s =
     hear_record_cases SmallHearing h r (λ e. record { refusal = newer (overfills h.station r) }) (λ e. record { refusal = omega arith }) (λ e f. s)
   where
-    newer : (full : Bool) → max h.refusal (refuse full lane_full done) < 256
+    newer : (full : Bool) → max h.refusal (refuse_number full lane_full done) < 256
     newer true = omega (arith, s.refusal)
     newer false = omega (arith, s.refusal)
 
@@ -62,7 +62,7 @@ module _ (g : List Station) (masks : List ℕ) where
   refusal_small =
       let hearing = first_refusal (size_of g) (λ i. (heard g masks i).refusal) in
       let counts : Bool = any_below (size_of g) (λ k. not (own_count_inside (station_at g k))) in
-      cond_keeps (λ (x : ℕ). x < 256) (not (group_inside g)) outside_limits (refuse counts count_too_high hearing) (omega arith)
+      cond_keeps (λ (x : ℕ). x < 256) (not (group_inside g)) outside_limits (refuse_number counts count_too_high hearing) (omega arith)
       (cond_keeps (λ (x : ℕ). x < 256) counts count_too_high hearing (omega arith)
       (first_small (size_of g) (λ i. (heard g masks i).refusal) (λ i. (below_small g masks i (size_of g)).refusal)))
 

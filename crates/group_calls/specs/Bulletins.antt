@@ -2,7 +2,7 @@
 -- A12, on the decoded state: bytes that are none are refused with 2 as a state outside its limits
 -- is, and a lent buffer that is too short is refused last.
 use Rattle.std.specs.Prelude.{ℕ, not, List}
-use Rattle.bodies.specs.Refusals.{done, outside_limits, refuse}
+use Rattle.bodies.specs.Refusals.{done, outside_limits, refuse_number}
 use Rattle.station_bytes_spec.specs.Group.{decode_group}
 use Rattle.station_bytes_spec.specs.Reports.{reports_width}
 use Rattle.bulletins_spec.specs.declared.IssueDone.{IssueDone}
@@ -15,7 +15,7 @@ use Rattle.group_calls.specs.Group.{group_refusal, sixteen_masks}
 
 -- 2: the bytes are no bulletins
 abbrev pub bulletins_refusal : List ℕ → ℕ
-bulletins_refusal b = refuse (not (is_bulletins b)) outside_limits done
+bulletins_refusal b = refuse_number (not (is_bulletins b)) outside_limits done
 
 -- fresh: 1, 9
 unfoldable pub bulletins_fresh_returned : ℕ → List ℕ → ℕ

@@ -2,7 +2,7 @@
 -- document 01 on the decoded group: bytes that are no group are refused with 2 as a group outside
 -- its limits is, and a lent buffer that is too short is refused last.
 use Rattle.std.specs.Prelude.{ℕ, not, List, get_or}
-use Rattle.bodies.specs.Refusals.{done, outside_limits, refuse}
+use Rattle.bodies.specs.Refusals.{done, outside_limits, refuse_number}
 use Rattle.lists.specs.Below.{tabulate}
 use Rattle.group_spec.specs.declared.GroupAnswer.{GroupAnswer}
 use Rattle.group_spec.specs.declared.Post.{Post}
@@ -14,7 +14,7 @@ use Rattle.station_calls.specs.Station.{or_else, room_refusal}
 
 -- 2: the bytes are no group
 abbrev pub group_refusal : List ℕ → ℕ
-group_refusal b = refuse (not (is_group b)) outside_limits done
+group_refusal b = refuse_number (not (is_group b)) outside_limits done
 
 -- group fresh, by what the group's call answers: 1, 13, 17, 9
 unfoldable pub group_fresh_returned : GroupAnswer → List ℕ → ℕ

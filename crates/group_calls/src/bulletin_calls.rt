@@ -12,8 +12,12 @@ ghost use Rattle.group_calls.specs.Bulletins.{bulletins_fresh_returned, issue_an
 ghost use Rattle.group_calls.specs.Bulletins.{both_answer, both_returned};
 
 use super::REPORTS_WIDTH;
-use bodies::refusals::{DONE, OUTSIDE_LIMITS, SHORT_BUFFER};
+use bodies::refusals::{DONE, Refusal};
+use bulletin_bytes::{is_bulletins, put_all_shown, put_bulletins, read_bulletins};
 use bulletins_spec::BulletinsRound;
+use station_decoder::is_group;
+use station_encoder::put_group;
+use station_encoder::reports::put_reports;
 
 // The bytes of the bulletins of a group.
 const BULLETINS_WIDTH: usize = 644;
@@ -21,50 +25,49 @@ const BULLETINS_WIDTH: usize = 644;
 // The bytes of what all stations show in a round.
 const SHOWN_WIDTH: usize = 12352;
 
-// Fresh: the bulletins of a group of n, as they begin.
+/// Fresh: the bulletins of a group of n, as they begin.
 pub fn fresh(state: &mut [u8], n: u32) -> u32
-    ensures { (result ≡ bulletins_fresh_returned n state.old)
-        × (state.new
-        ≡ front_written result (encode_bulletins (bulletins_fresh_call n).bulletins) state.old) }
+    ensures returned { result ≡ bulletins_fresh_returned n state.old }
+    ensures written { state.new
+        ≡ front_written result (encode_bulletins (bulletins_fresh_call n).bulletins) state.old }
 {
     let made = bulletins::fresh(n as usize);
     if made.refusal != DONE {
         return made.refusal;
     }
     if state.len() < BULLETINS_WIDTH {
-        return SHORT_BUFFER;
+        return Refusal::ShortBuffer.number();
     }
-    let fresh = made.bulletins;
-    bulletin_bytes::put_bulletins(state, fresh);
+    put_bulletins(state, made.bulletins);
     DONE
 }
 
-// Issue: one more bulletin of an issuer, which shows it at once.
+/// Issue: one more bulletin of an issuer, which shows it at once.
 pub fn issue(state: &mut [u8], issuer: u32, tag: u32, event: u32) -> u32
-    ensures { (result ≡ issue_returned state.old issuer tag event)
-        × (state.new ≡ front_written result
-        (encode_bulletins (issue_answer state.old issuer tag event).bulletins) state.old) }
+    ensures returned { result ≡ issue_returned state.old issuer tag event }
+    ensures written { state.new ≡ front_written result
+        (encode_bulletins (issue_answer state.old issuer tag event).bulletins) state.old }
 {
-    if !bulletin_bytes::is_bulletins(state) {
-        return OUTSIDE_LIMITS;
+    if !is_bulletins(state) {
+        return Refusal::OutsideLimits.number();
     }
-    let before = bulletin_bytes::read_bulletins(state);
+    let before = read_bulletins(state);
     let issued = bulletins::issue(before, issuer as usize, tag, event);
     if issued.refusal != DONE {
         return issued.refusal;
     }
-    let after = issued.bulletins;
-    bulletin_bytes::put_bulletins(state, after);
+    put_bulletins(state, issued.bulletins);
     DONE
 }
 
 // The round of the group and of the bulletins that lie in the bytes.
 fn both_round(group: &[u8], state: &[u8], masks: &[u16]) -> BulletinsRound
-    requires { (group_width ≤ length group.now) × (bulletins_width ≤ length state.now) }
+    requires group { group_width ≤ length group.now }
+    requires state { bulletins_width ≤ length state.now }
     ensures { result ≡ both_answer group.now state.now masks.now }
 {
     let stations = station_decoder::read_group(group);
-    let before = bulletin_bytes::read_bulletins(state);
+    let before = read_bulletins(state);
     let sixteen = super::sixteen_masks(masks);
     bulletins::round(stations, before, sixteen)
 }
@@ -77,26 +80,23 @@ fn put_both(
     shown: &mut [u8],
     done: BulletinsRound,
 )
-    requires { (group_width ≤ length group.old) × (bulletins_width ≤ length state.old)
-        × (reports_width ≤ length reports.old) × (all_shown_width ≤ length shown.old) }
-    ensures { (group.new ≡ sets group.old 0 (encode_group done.round.group))
-        × (state.new ≡ sets state.old 0 (encode_bulletins done.bulletins))
-        × (reports.new ≡ sets reports.old 0 (encode_reports done.round.reports))
-        × (shown.new ≡ sets shown.old 0 (encode_all_shown done.shown)) }
+    requires group { group_width ≤ length group.old }
+    requires state { bulletins_width ≤ length state.old }
+    requires reports { reports_width ≤ length reports.old }
+    requires shown { all_shown_width ≤ length shown.old }
+    ensures group { group.new ≡ sets group.old 0 (encode_group done.round.group) }
+    ensures state { state.new ≡ sets state.old 0 (encode_bulletins done.bulletins) }
+    ensures reports { reports.new ≡ sets reports.old 0 (encode_reports done.round.reports) }
+    ensures shown { shown.new ≡ sets shown.old 0 (encode_all_shown done.shown) }
 {
-    let part = done.round;
-    let after = part.group;
-    let told = part.reports;
-    let kept = done.bulletins;
-    let notices = done.shown;
-    station_encoder::put_group(group, after);
-    bulletin_bytes::put_bulletins(state, kept);
-    station_encoder::reports::put_reports(reports, told);
-    bulletin_bytes::put_all_shown(shown, notices);
+    put_group(group, &done.round.group);
+    put_bulletins(state, done.bulletins);
+    put_reports(reports, &done.round.reports);
+    put_all_shown(shown, done.shown);
 }
 
-// Round: the group's round, and on the same masks everyone takes over the bulletins of those that
-// it hears.
+/// Round: the group's round, and on the same masks everyone takes over the bulletins of those that
+/// it hears.
 pub fn round(
     group: &mut [u8],
     state: &mut [u8],
@@ -104,41 +104,40 @@ pub fn round(
     reports: &mut [u8],
     shown: &mut [u8],
 ) -> u32
-    ensures { (result ≡ both_returned group.old state.old masks.now
-        reports.old shown.old)
-        × (group.new ≡ front_written result
+    ensures returned { result ≡ both_returned group.old state.old masks.now
+        reports.old shown.old }
+    ensures group { group.new ≡ front_written result
         (encode_group (both_answer group.old state.old masks.now).round.group)
-        group.old)
-        × (state.new ≡ front_written result
+        group.old }
+    ensures state { state.new ≡ front_written result
         (encode_bulletins (both_answer group.old state.old masks.now).bulletins)
-        state.old)
-        × (reports.new ≡ front_written result
+        state.old }
+    ensures reports { reports.new ≡ front_written result
         (encode_reports (both_answer group.old state.old masks.now).round.reports)
-        reports.old)
-        × (shown.new ≡ front_written result
+        reports.old }
+    ensures shown { shown.new ≡ front_written result
         (encode_all_shown (both_answer group.old state.old masks.now).shown)
-        shown.old) }
+        shown.old }
 {
-    if !station_decoder::is_group(group) {
-        return OUTSIDE_LIMITS;
+    if !is_group(group) {
+        return Refusal::OutsideLimits.number();
     }
-    if !bulletin_bytes::is_bulletins(state) {
-        return OUTSIDE_LIMITS;
+    if !is_bulletins(state) {
+        return Refusal::OutsideLimits.number();
     }
     let done = both_round(group, state, masks);
-    let part = done.round;
-    let refusal = part.refusal as u32;
+    let refusal = done.round.refusal as u32;
     if refusal != DONE {
         return refusal;
     }
     if masks.len() < 16 {
-        return SHORT_BUFFER;
+        return Refusal::ShortBuffer.number();
     }
     if reports.len() < REPORTS_WIDTH {
-        return SHORT_BUFFER;
+        return Refusal::ShortBuffer.number();
     }
     if shown.len() < SHOWN_WIDTH {
-        return SHORT_BUFFER;
+        return Refusal::ShortBuffer.number();
     }
     put_both(group, state, reports, shown, done);
     DONE

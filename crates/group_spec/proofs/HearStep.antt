@@ -29,7 +29,7 @@ use Rattle.lists.proofs.Laws.{any_below_ext, any_below_add}
 use Rattle.station_spec.specs.declared.Station.{Station}
 use Rattle.station_spec.specs.declared.Taking.{Taking}
 use Rattle.queues.specs.Lane.{pushed}
-use Rattle.bodies.specs.Refusals.{done, lane_full, refuse}
+use Rattle.bodies.specs.Refusals.{done, lane_full, refuse_number}
 use Rattle.station_spec.specs.State.{Cell, label_of, acked_of, record_of, lane_at}
 use Rattle.station_spec.specs.Hearing.{Hearing, advances, takes, overfills, saturating_suc, heard_newer, hear_record}
 use Rattle.station_spec.proofs.HearRecord.{accepts, heard_one, hear_record_skips, hear_record-accepts}
@@ -43,7 +43,7 @@ use Rattle.group_spec.proofs.HearParts.{acked_mod, label_step, saturating_suc_st
 use Rattle.group_spec.proofs.Takings.{takings_of-append, taking_other, taking_here}
 
 -- one refusal after another with the same number
-either : (a b : Bool) → max (refuse b lane_full done) (refuse a lane_full done) ≡ refuse (b || a) lane_full done
+either : (a b : Bool) → max (refuse_number b lane_full done) (refuse_number a lane_full done) ≡ refuse_number (b || a) lane_full done
 either true true = refl
 either true false = refl
 either false true = refl
@@ -255,9 +255,9 @@ module _ (R : Run) where
               caught = λ q l. caught_after q l (ℕ_discrete q k);
               count = count_after;
               refusal =
-                  ap (λ (q : ℕ). max q (refuse (overfills s r) lane_full done)) c.refusal
+                  ap (λ (q : ℕ). max q (refuse_number (overfills s r) lane_full done)) c.refusal
                   ∙ either (overfills s r) (any_below R.n (λ q. gains R u p q (vs q) && leb 2 (lane_at first q).len))
-                  ∙ ap (λ (t : Bool). refuse t lane_full done) (overfull_after b refl);
+                  ∙ ap (λ (t : Bool). refuse_number t lane_full done) (overfull_after b refl);
             })
           where
             low_after : (q : ℕ) → q < R.n → Dec (q ≡ k) → news L u p q ≤ vs' q

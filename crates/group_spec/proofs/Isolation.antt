@@ -7,7 +7,7 @@ use native.Mathlib.Omega.{arith}
 use lib.Dec.{ltb}
 use lib.ListN.{length}
 use borrow.Author.Tests.{ltb-true}
-use Rattle.bodies.specs.Refusals.{bad_number, not_an_edit, bad_desk, bad_edition, queue_full, done, refuse}
+use Rattle.bodies.specs.Refusals.{bad_number, not_an_edit, bad_desk, bad_edition, queue_full, done, refuse_number}
 use Rattle.bodies.specs.Limits.{postable, on_channel}
 use Rattle.queues.specs.Waiting.{is_desk}
 use Rattle.queues.proofs.WaitingLaws.{edits_count, room_same}
@@ -24,8 +24,8 @@ isolated g h x ig ih size edition limit edits = rw (ig, ih, size) (go (ltb x.sta
   where
     go :
         (t : Bool) → ltb x.station (size_of h) ≡ t →
-        refuse (not t) bad_number (post_refusal (station_at g x.station) x.desk x.body)
-        ≡ refuse (not t) bad_number (post_refusal (station_at h x.station) x.desk x.body)
+        refuse_number (not t) bad_number (post_refusal (station_at g x.station) x.desk x.body)
+        ≡ refuse_number (not t) bad_number (post_refusal (station_at h x.station) x.desk x.body)
     go true e =
         let below : x.station < size_of h = ltb-true x.station (size_of h) e in
         let v = (station_at g x.station).waiting in
@@ -38,7 +38,7 @@ isolated g h x ig ih size edition limit edits = rw (ig, ih, size) (go (ltb x.sta
         (member_at g ig x.station (omega arith)).edition ∙ edition ∙ sym (member_at h ih x.station below).edition in
         let room = room_same v w x.desk limit counts in
         (λ i.
-        refuse (not (is_desk x.desk)) bad_desk
-        (refuse (not (postable x.body)) not_an_edit
-        (refuse (not (on_channel (same i) x.body)) bad_edition (refuse (not (room i)) queue_full done))))
+        refuse_number (not (is_desk x.desk)) bad_desk
+        (refuse_number (not (postable x.body)) not_an_edit
+        (refuse_number (not (on_channel (same i) x.body)) bad_edition (refuse_number (not (room i)) queue_full done))))
     go false e = refl

@@ -23,7 +23,7 @@ use Rattle.queues.specs.declared.Lane.{Lane}
 use Rattle.station_spec.specs.declared.Setup.{Setup}
 use Rattle.station_spec.specs.declared.Station.{Station}
 use Rattle.queues.specs.Lane.{no_lane, pushed, popped}
-use Rattle.bodies.specs.Refusals.{done, lane_full, refuse}
+use Rattle.bodies.specs.Refusals.{done, lane_full, refuse_number}
 use Rattle.station_spec.specs.State.{Cell, lane_at, fresh_station}
 use Rattle.station_spec.specs.Hearing.{Hearing}
 use Rattle.station_spec.specs.Turn.{airs, may_start, started_body, after_turn}
@@ -360,7 +360,7 @@ module _ (R : Run) where
   pub through_done : (u p : ℕ) → p < R.n → (hearing_in R u p).refusal ≡ done
   through_done u p lp =
       (simulated R).refusal u p lp
-      ∙ ap (λ (t : Bool). refuse t lane_full done)
+      ∙ ap (λ (t : Bool). refuse_number t lane_full done)
       (any_below_none
       R.n
       (λ s. not (eqb p s) && (comes R u p s && leb 2 (lane_at (station_at (R.ready u) p) s).len))

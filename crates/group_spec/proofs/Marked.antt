@@ -1,5 +1,6 @@
 -- Document 01's marked examples M1 to M12, of the definitions. Those of labels, words, frames and
 -- posts are shown in the crates below; a group of one computes, once its edit is known to be one.
+use Rattle.std.specs.Prelude.{Ok}
 use Prim.Native.Nat.{ℕ, ◌<◌}
 use mathlib.Core.Bool.{true, false}
 use mathlib.Core.List.{List, [], ◌∷◌}
@@ -136,7 +137,7 @@ posts s d i k room a b p o q = (station.taken s i d k a p o room, station.refuse
 framed :
     (edition channel : ℕ) (start : ℤ) → is_edition edition ≡ true → channel_inside edition 2 channel ≡ true →
     inside_kind (Insert channel 1 start) ≡ true →
-    check_refusal edition (insert_frame edition channel start) 2 0 ≡ done
+    check_refusal edition (insert_frame edition channel start) 2 0 ≡ Ok tt
 unfolding records_fit record_fits body_inside inside_kind labels_inside label_in all_below any_below
 framed edition channel start w on h =
     sym (by_frame edition (insert_frame edition channel start) 2 0 refl w)

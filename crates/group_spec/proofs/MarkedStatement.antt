@@ -1,5 +1,6 @@
 -- Document 01, "Marked examples of the trade": M1 to M12 as one list of statements about the
 -- definitions. M10 is read with the numbers of request A6, which asks of frames and states as well.
+use Rattle.std.specs.Prelude.{Ok, Err}
 use Prim.Native.Nat.{ℕ, ◌+◌, ◌≤◌, ◌<◌}
 use mathlib.Core.Bool.{true, false}
 use mathlib.Core.List.{List, [], ◌∷◌}
@@ -9,7 +10,8 @@ use lib.ListN.{get_or, length, replicate}
 use Rattle.bodies.specs.declared.Body.{Body}
 use Rattle.bodies.specs.declared.Body.TheVariants.{Empty, Neutral, Insert, Shift}
 use Rattle.bodies.specs.Limits.{is_edition, channel_inside, on_channel, postable}
-use Rattle.bodies.specs.Refusals.{done, outside_limits, queue_full, not_an_edit, bad_record}
+use Rattle.bodies.specs.Refusals.{done, outside_limits, queue_full, not_an_edit}
+use Rattle.bodies.specs.declared.refusals.Refusal.TheVariants.{BadRecord}
 use Rattle.labels.specs.Packing.{packed}
 use Rattle.labels.specs.Newer.{is_newer}
 use Rattle.frame_spec.specs.declared.Record.{Record}
@@ -70,12 +72,12 @@ pub record Marked : Type 0 where
   -- record of the frame has one at 2,700,000, unless the frame is refused earlier
   pub m10_framed :
       (edition channel : ℕ) → is_edition edition ≡ true → channel_inside edition 2 channel ≡ true →
-      check_refusal edition (insert_frame edition channel (pos 2_699_999)) 2 0 ≡ done
+      check_refusal edition (insert_frame edition channel (pos 2_699_999)) 2 0 ≡ Ok tt
   pub m10_frame :
       (edition : ℕ) (bytes : List ℕ) (n own k : ℕ) →
       valid_number n own ≡ true → is_edition edition ≡ true → shape_wrong bytes ≡ false → address_wrong edition bytes n own ≡ false →
       k < get_or bytes 2 0 → get_or (part bytes k) 2 0 ≡ 2 → signed (word_at (part bytes k) 8) ≡ pos 2_700_000 →
-      check_refusal edition bytes n own ≡ bad_record
+      check_refusal edition bytes n own ≡ Err BadRecord
   -- A6, in a state: on a station that holds a start at 2,700,000, wherever it stands, each call
   -- gives 2
   pub m10_held :

@@ -25,7 +25,7 @@ use Rattle.frame_spec.specs.Record.{framed}
 use Rattle.lists.specs.Below.{filter_map}
 use Rattle.lists.proofs.Laws.{any_below_none}
 use Rattle.station_spec.specs.declared.Station.{Station}
-use Rattle.bodies.specs.Refusals.{done, lane_full, refuse}
+use Rattle.bodies.specs.Refusals.{done, lane_full, refuse_number}
 use Rattle.station_spec.specs.State.{held_of, record_of, lane_at, sent_records}
 use Rattle.station_spec.specs.Hearing.{Hearing, initial_hearing, hear_record, hear_records}
 use Rattle.station_spec.proofs.HearRecord.{conflicts, hear_record_skips}
@@ -65,7 +65,7 @@ module _ (R : Run) where
         caught = λ q l. record { lane_now = rw (still q); taken_now = rw (still q) };
         count = a.count;
         refusal =
-            ap (λ (t : Bool). refuse t lane_full done)
+            ap (λ (t : Bool). refuse_number t lane_full done)
             (sym
             (any_below_none R.n (λ q. gains R u p q (news L u p q) && leb 2 (lane_at s q).len) (λ q l. rw (still q))));
       }

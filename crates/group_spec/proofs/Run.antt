@@ -17,7 +17,7 @@ use Rattle.lists.specs.Below.{any_below}
 use Rattle.station_spec.specs.declared.Setup.{Setup}
 use Rattle.station_spec.specs.declared.Station.{Station}
 use Rattle.queues.specs.Lane.{pushed}
-use Rattle.bodies.specs.Refusals.{done, lane_full, refuse}
+use Rattle.bodies.specs.Refusals.{done, lane_full, refuse_number}
 use Rattle.station_spec.specs.State.{lane_at}
 use Rattle.station_spec.specs.Hearing.{Hearing}
 use Rattle.station_spec.specs.Turn as turn
@@ -82,4 +82,4 @@ pub record Simulated (R : Run) : Type 0 where
   pub refusal :
       (u p : ℕ) → p < R.n →
       (hearing_in R u p).refusal
-      ≡ refuse (any_below R.n (λ s. not (eqb p s) && (comes R u p s && leb 2 (lane_at (station_at (R.ready u) p) s).len))) lane_full done
+      ≡ refuse_number (any_below R.n (λ s. not (eqb p s) && (comes R u p s && leb 2 (lane_at (station_at (R.ready u) p) s).len))) lane_full done

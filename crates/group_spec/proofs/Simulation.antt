@@ -22,7 +22,7 @@ use Rattle.frame_spec.specs.declared.Record.{Record}
 use Rattle.frame_spec.specs.Record.{record_label}
 use Rattle.lists.proofs.Laws.{any_below_ext}
 use Rattle.queues.specs.Lane.{pushed}
-use Rattle.bodies.specs.Refusals.{done, lane_full, refuse}
+use Rattle.bodies.specs.Refusals.{done, lane_full, refuse_number}
 use Rattle.station_spec.specs.State.{label_of, acked_of, held_of, record_of, lane_at}
 use Rattle.station_spec.specs.Calls.{own_count_inside}
 use Rattle.station_spec.specs.Turn as turn
@@ -194,7 +194,7 @@ module _ (R : Run) where
         refusal =
             λ u p lp.
             (heard_standing u p lp).refusal
-            ∙ ap (λ (t : Bool). refuse t lane_full done)
+            ∙ ap (λ (t : Bool). refuse_number t lane_full done)
             (any_below_ext R.n _
             (λ s. not (eqb p s) && (comes R u p s && leb 2 (lane_at (station_at (R.ready u) p) s).len))
             (λ s ls. one u p lp s ls (ℕ_discrete p s)));

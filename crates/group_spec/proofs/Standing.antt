@@ -17,7 +17,7 @@ use Rattle.links.proofs.Tally.{tally_same, tally_limit}
 use Rattle.lists.specs.Below.{any_below}
 use Rattle.lists.proofs.Laws.{any_below_ext}
 use Rattle.station_spec.specs.declared.Station.{Station}
-use Rattle.bodies.specs.Refusals.{done, lane_full, refuse}
+use Rattle.bodies.specs.Refusals.{done, lane_full, refuse_number}
 use Rattle.station_spec.specs.State.{lane_at}
 use Rattle.station_spec.specs.Hearing.{Hearing}
 use Rattle.station_spec.proofs.Setters.{Shaped}
@@ -48,7 +48,7 @@ module _ (R : Run) where
     pub caught : (q : ℕ) → q < R.n → Caught R u p q (vs q) (lane_at first q) (lane_at h.station q) (takings_of q h.takings)
     pub count : h.station.count ≡ tally R.n p (λ q. num_of L q (vs q)) (λ q. got L (start L u p) p q)
     pub refusal :
-        h.refusal ≡ refuse (any_below R.n (λ q. gains R u p q (vs q) && leb 2 (lane_at first q).len)) lane_full done
+        h.refusal ≡ refuse_number (any_below R.n (λ q. gains R u p q (vs q) && leb 2 (lane_at first q).len)) lane_full done
 
   alike_later : (q v v' : ℕ) → Alike R q v v' → v ≤ v'
   alike_later q v v' (inl e) = omega arith
@@ -76,7 +76,7 @@ module _ (R : Run) where
             (λ q l d. (number q l, refl));
         refusal =
             c.refusal
-            ∙ ap (λ (t : Bool). refuse t lane_full done)
+            ∙ ap (λ (t : Bool). refuse_number t lane_full done)
             (any_below_ext R.n (λ q. gains R u p q (vs q) && leb 2 (lane_at first q).len)
             (λ q. gains R u p q (vs' q) && leb 2 (lane_at first q).len)
             (λ q l. gains_same q (vs q) (vs' q) (leb 2 (lane_at first q).len) (number q l)));

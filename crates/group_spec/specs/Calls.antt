@@ -1,7 +1,8 @@
 -- Document 01, "A group and its rounds" and "Turned down": group fresh, group post and round, each
 -- with its refusals in their order.
 use Rattle.std.specs.Prelude.{ℕ, zero, suc, ◌-◌, cond, not, ◌&&◌, List, ◌++◌, set, replicate, length, leb, ltb, eqb}
-use Rattle.bodies.specs.Refusals.{done, bad_number, bad_limit, bad_edition, outside_limits, count_too_high, refuse}
+use Rattle.bodies.specs.Refusals.{done, bad_number, bad_limit, bad_edition, outside_limits}
+use Rattle.bodies.specs.Refusals.{count_too_high, refuse_number}
 use Rattle.bodies.specs.Limits.{is_edition}
 use Rattle.links.specs.Log.{hears_in}
 use Rattle.lists.specs.Below.{any_below, set_below}
@@ -22,9 +23,9 @@ use Rattle.group_spec.specs.State.{station_at, size_of, group_inside, fresh_grou
 -- group fresh: 1, 13, 17
 unfoldable pub group_fresh_refusal : Setup → ℕ
 group_fresh_refusal setup =
-    refuse (not (leb 1 setup.n && leb setup.n 16)) bad_number
-    (refuse (not (limit_inside setup.limit)) bad_limit
-    (refuse (not (is_edition setup.edition)) bad_edition done))
+    refuse_number (not (leb 1 setup.n && leb setup.n 16)) bad_number
+    (refuse_number (not (limit_inside setup.limit)) bad_limit
+    (refuse_number (not (is_edition setup.edition)) bad_edition done))
 
 -- a refused call returns the fresh group of N = 1
 unfoldable pub group_fresh_call : Setup → GroupAnswer
@@ -36,8 +37,8 @@ group_fresh_call setup =
 -- group post: 2, 1, 15, 4, 17, 3
 unfoldable pub group_post_refusal : List Station → Post → ℕ
 group_post_refusal g x =
-    refuse (not (group_inside g)) outside_limits
-    (refuse (not (ltb x.station (size_of g))) bad_number (post_refusal (station_at g x.station) x.desk x.body))
+    refuse_number (not (group_inside g)) outside_limits
+    (refuse_number (not (ltb x.station (size_of g))) bad_number (post_refusal (station_at g x.station) x.desk x.body))
 
 -- the group after a post that is not refused
 abbrev pub after_post : List Station → Post → List Station
@@ -83,8 +84,8 @@ first_refusal (suc k) refusal =
 -- 2, 10, then the first refused frame's: 14 or 8
 unfoldable pub round_refusal : List Station → List ℕ → ℕ
 round_refusal g masks =
-    refuse (not (group_inside g)) outside_limits
-    (refuse (any_below (size_of g) (λ k. not (own_count_inside (station_at g k)))) count_too_high
+    refuse_number (not (group_inside g)) outside_limits
+    (refuse_number (any_below (size_of g) (λ k. not (own_count_inside (station_at g k)))) count_too_high
     (first_refusal (size_of g) (λ i. (heard g masks i).refusal)))
 
 -- the group after a round that is not refused

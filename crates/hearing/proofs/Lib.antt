@@ -1,4 +1,3 @@
+pub mod RecordParts
 pub mod RecordCases
 pub mod SameBytes
-pub mod HeedCases
-pub mod RecordParts

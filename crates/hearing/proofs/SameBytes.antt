@@ -10,7 +10,7 @@ use native.Mathlib.Omega.{arith}
 use lib.Dec.{eqb}
 use lib.ListN.{get_or, length}
 use lib.Seq.{ext_get_or}
-use borrow.Author.Tests.{eqb-true, eq-eqb}
+use borrow.Author.Tests.{eqb-true, eq-eqb, ne_eqb}
 use Rattle.lists.proofs.Laws.{both, and_both}
 use Rattle.frame_spec.specs.Words.{word_at}
 use Rattle.hearing_spec.specs.Heeding.{same_bytes}
@@ -77,3 +77,10 @@ module _ (p q : List ℕ) (small_p : (i : ℕ) → get_or p i 0 < 256) (small_q 
             (false≢true
             (sym e ∙ and_both (eq-eqb _ _ (ap (λ (l : List ℕ). long_at l 0) equal)) (eq-eqb _ _ (ap (λ (l : List ℕ). long_at l 8) equal))))
         go false false e f = refl
+
+    -- the two numbers, one after the other
+    pub same_then : long_at p 0 ≡ long_at q 0 → eqb (long_at p 8) (long_at q 8) ≡ same_bytes p q
+    same_then e = rw (eq-eqb (long_at p 0) (long_at q 0) e) at same_is
+
+    pub same_else : (long_at p 0 ≡ long_at q 0 → ⊥) → eqb (long_at p 0) (long_at q 0) ≡ same_bytes p q
+    same_else d = ne_eqb (long_at p 0) (long_at q 0) d ∙ (rw (ne_eqb (long_at p 0) (long_at q 0) d) at same_is)

@@ -12,7 +12,7 @@ use lib.Dec.{eqb, leb}
 use lib.ListN.{get_or, set, take, length, length-set}
 use lib.Seq.{get_or-set_same, get_or-set_other, take-suc-set}
 use borrow.Author.Tests.{eq-eqb, ne_eqb, leb-true, leb-false}
-use Rattle.bodies.specs.Refusals.{done, lane_full, refuse}
+use Rattle.bodies.specs.Refusals.{done, lane_full, refuse_number}
 use Rattle.labels.specs.Label.{successor}
 use Rattle.lists.specs.Inner.Total.{total}
 use Rattle.lists.proofs.Total.{total_gap, total_raised}
@@ -97,7 +97,7 @@ takings_most n own lens taken len high o c =
         go false = c.two j b
 
 -- while no record of the frame conflicted, a full lane's refusal is the larger one
-full_larger : (full : Bool) (refusal : ℕ) → refusal ≤ lane_full → refuse full lane_full refusal ≡ max refusal (refuse full lane_full done)
+full_larger : (full : Bool) (refusal : ℕ) → refusal ≤ lane_full → refuse_number full lane_full refusal ≡ max refusal (refuse_number full lane_full done)
 full_larger true refusal l = omega arith
 full_larger false refusal l = omega arith
 
@@ -105,7 +105,7 @@ pub after_calm : (own : ℕ) (lens : List ℕ) (e : Ear) (r : Record) → e.refu
 unfolding ear_after
 after_calm own lens e r l = go (ear_takes e r && lane_has_two lens r)
   where
-    go : (full : Bool) → refuse full lane_full e.refusal ≤ lane_full
+    go : (full : Bool) → refuse_number full lane_full e.refusal ≤ lane_full
     go true = omega arith
     go false = l
 
@@ -171,9 +171,9 @@ module _ (s : Station) (most : s.n ≤ 16) (own : ℕ) (mine : s.own ≡ own) (b
       (top_at s bytes y.places) tops (gathered_newer s most st h.takings (top_at s bytes x.places) c.gathered shape r below)
 
   -- the numbers
-  refusal' : y.ear.refusal ≡ max h.refusal (refuse (overfills st r) lane_full done)
+  refusal' : y.ear.refusal ≡ max h.refusal (refuse_number (overfills st r) lane_full done)
   unfolding ear_after
-  refusal' = (λ i. refuse (takes_is i && two_is i) lane_full (c.refusal i)) ∙ full_larger (overfills st r) h.refusal calm
+  refusal' = (λ i. refuse_number (takes_is i && two_is i) lane_full (c.refusal i)) ∙ full_larger (overfills st r) h.refusal calm
 
   count' : y.ear.count ≡ (heard_newer st r).count
   unfolding ear_after
@@ -238,7 +238,7 @@ module _ (s : Station) (most : s.n ≤ 16) (own : ℕ) (mine : s.own ≡ own) (b
       other false d = refl
 
   takings' :
-      max h.refusal (refuse (overfills st r) lane_full done) ≡ done →
+      max h.refusal (refuse_number (overfills st r) lane_full done) ≡ done →
       h.takings ++ taking_of st r ≡ map (taking_at bytes) (take y.ear.len y.taken)
   unfolding ear_after taken_after
   takings' fine =

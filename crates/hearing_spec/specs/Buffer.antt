@@ -1,7 +1,8 @@
 -- Document 01, "Frame bytes" and "A group and its rounds": the frames that a station may hear stand
 -- in one list of bytes. A record is told by its place, which is where its sixteen bytes begin; no
 -- record begins at 0.
-use Rattle.std.specs.Prelude.{ℕ, zero, suc, ◌+◌, ◌*◌, Bool, cond, not, ◌&&◌, List, get_or, take, drop, eqb}
+use Rattle.std.specs.Prelude.{ℕ, zero, suc, ◌+◌, ◌*◌, Bool, if◌then◌else◌, not, ◌&&◌, List}
+use Rattle.std.specs.Prelude.{slice_index, take, drop, ◌==◌}
 use Rattle.links.specs.Log.{bit}
 use Rattle.lists.specs.Below.{tabulate}
 use Rattle.frame_spec.specs.declared.Record.{Record}
@@ -20,7 +21,7 @@ frame_start j = frame_room * j
 
 -- N: byte 0 of the first frame
 abbrev pub size_in : List ℕ → ℕ
-size_in bytes = get_or bytes 0 0
+size_in bytes = slice_index bytes 0
 
 -- the sixteen bytes at a place, the record there, and the taking of its body
 abbrev pub bytes_at : List ℕ → ℕ → List ℕ
@@ -42,12 +43,12 @@ first_records bytes start r = tabulate r (λ i. record_at bytes (start + 4 + 16 
 
 -- station `own` hears sender j: another station, whose bit its mask has
 abbrev pub hears_sender : ℕ → ℕ → ℕ → Bool
-hears_sender own mask j = not (eqb own j) && bit mask j
+hears_sender own mask j = not (own == j) && bit mask j
 
 -- the frames of the senders below j that station `own` hears, by ascending sender
 unfoldable pub hear_senders : Hearing → List ℕ → ℕ → ℕ → ℕ → Hearing
 hear_senders h bytes own mask zero = h
 hear_senders h bytes own mask (suc j) =
-    cond (hears_sender own mask j)
-    (hear_frame (hear_senders h bytes own mask j) (records_at bytes (frame_start j)))
-    (hear_senders h bytes own mask j)
+    if hears_sender own mask j
+    then hear_frame (hear_senders h bytes own mask j) (records_at bytes (frame_start j))
+    else hear_senders h bytes own mask j

@@ -1,6 +1,6 @@
 -- What hearing leaves of a station, read off what was heard: the table has the newest record heard
 -- of each station, the lanes have the takings.
-use Rattle.std.specs.Prelude.{ℕ, ◌≤◌, ◌<◌, ◌≡◌, Bool, List, [], ◌∷◌, get_or, set}
+use Rattle.std.specs.Prelude.{ℕ, ◌≤◌, ◌<◌, ◌≡◌, Bool, List, [], ◌∷◌, slice_index_or, set}
 use Rattle.lists.specs.Below.{set_below}
 use Rattle.frame_spec.specs.declared.Record.{Record}
 use Rattle.queues.specs.declared.Lane.{Lane}
@@ -13,7 +13,7 @@ use Rattle.station_spec.specs.Hearing.{replaced}
 -- the bodies of takings, each put last into the lane of its source, in order
 unfoldable pub pushed_all : List Lane → List Taking → List Lane
 pushed_all lanes [] = lanes
-pushed_all lanes (t ∷ ts) = pushed_all (set lanes t.source (pushed (get_or lanes t.source no_lane) t.body)) ts
+pushed_all lanes (t ∷ ts) = pushed_all (set lanes t.source (pushed (slice_index_or lanes t.source no_lane) t.body)) ts
 
 -- the station s with a record for each station below n, which of them are held, the takings in
 -- their lanes, and other numbers

@@ -19,6 +19,17 @@ pub record HearsRecord (own : ℕ) (bytes : List ℕ) (at : ℕ) (x y : Notes) :
       (s : Station) (h : Hearing) → Named s (size_in bytes) own → StandsFor s bytes x h → Shaped h.station →
       h.refusal ≤ lane_full → StandsFor s bytes y (hear_record h (record_at bytes at))
 
+-- the same, and of which record of each station was heard last; once the record conflicted nobody
+-- asks for the notes any more
+pub record HearsNext
+    (own : ℕ) (bytes : List ℕ) (at : ℕ) (last : List ℕ) (x : Notes) (last' : List ℕ) (y : Notes) : Type 0 where
+  pub refusal :
+      (s : Station) (h : Hearing) → Named s (size_in bytes) own → Stands s bytes last x h → h.refusal ≤ lane_full →
+      y.ear.refusal ≡ (hear_record h (record_at bytes at)).refusal
+  pub stands :
+      (s : Station) (h : Hearing) → Named s (size_in bytes) own → Stands s bytes last x h → h.refusal ≤ lane_full →
+      y.ear.refusal ≤ lane_full → Stands s bytes last' y (hear_record h (record_at bytes at))
+
 -- one step or several, said as what becomes of a hearing of which no frame was refused: the refusal
 -- afterwards is that of the hearing, and where there is none, the notes stand for it
 pub record Hears

@@ -1,5 +1,5 @@
 -- What hearing keeps in numbers, and what the numbers stand for: a station that hears.
-use Rattle.std.specs.Prelude.{ℕ, ◌<◌, ◌≡◌, Bool, cond, not, List, map, get_or, take, eqb}
+use Rattle.std.specs.Prelude.{ℕ, ◌<◌, ◌≡◌, Bool, if◌then◌else◌, not, List, map, slice_index, take, ◌==◌}
 use Rattle.bodies.specs.Refusals.{done}
 use Rattle.frame_spec.specs.declared.Record.{Record}
 use Rattle.frame_spec.specs.Record.{framed}
@@ -25,11 +25,12 @@ notes places lens taken ear = record { places = places; lens = lens; taken = tak
 
 -- a record of k is held
 abbrev pub holds_at : List ℕ → ℕ → Bool
-holds_at places k = not (eqb (get_or places k 0) 0)
+holds_at places k = not (slice_index places k == 0)
 
 -- the newest record of k: the one at its place; where none is held, what the table of s has there
 abbrev pub top_at : Station → List ℕ → List ℕ → ℕ → Record
-top_at s bytes places k = cond (holds_at places k) (record_at bytes (get_or places k 0)) (framed s.n (record_of s k))
+top_at s bytes places k =
+    if holds_at places k then record_at bytes (slice_index places k) else framed s.n (record_of s k)
 
 -- the notes stand for the hearing h, which began at the station s. Once a frame is refused nobody
 -- asks for the takings any more
@@ -40,14 +41,14 @@ pub record StandsFor (s : Station) (bytes : List ℕ) (x : Notes) (h : Hearing) 
   pub count : x.ear.count ≡ h.station.count
   pub acked : x.ear.acked ≡ h.station.acked
   pub labels : x.ear.labels ≡ h.station.labels
-  pub bodies : (k : ℕ) → k < s.n → get_or x.lens k 0 ≡ (lane_at h.station k).len
+  pub bodies : (k : ℕ) → k < s.n → slice_index x.lens k ≡ (lane_at h.station k).len
   pub takings : h.refusal ≡ done → h.takings ≡ map (taking_at bytes) (take x.ear.len x.taken)
 
 -- `last` has where the record of k heard last begins: it is settled, and may be passed over where
 -- it comes again
 pub record Stands (s : Station) (bytes last : List ℕ) (x : Notes) (h : Hearing) : Type 0 where
   pub numbers : StandsFor s bytes x h
-  pub settled : AllSettled h.station (λ k. record_at bytes (get_or last k 0))
+  pub settled : AllSettled h.station (λ k. record_at bytes (slice_index last k))
   pub shaped : Shaped h.station
 
 -- what was heard, taken into the station that began

@@ -1,9 +1,9 @@
 -- Document 01, "Bodies, labels and records": the three labels, which follow each other in a circle.
-use Rattle.std.specs.Prelude.{ℕ, ◌+◌, ◌%◌, Bool, leb}
+use Rattle.std.specs.Prelude.{ℕ, ◌+◌, ◌%◌, Bool, nat_le}
 
 -- "label"
 abbrev pub is_label : ℕ → Bool
-is_label label = leb label 2
+is_label label = nat_le label 2
 
 -- "successor"
 abbrev pub successor : ℕ → ℕ

@@ -1,6 +1,6 @@
 -- Document 01, "Bodies, labels and records": of two records of one station, when the seen one
 -- counts as newer than the held one.
-use Rattle.std.specs.Prelude.{ℕ, Bool, not, cond, ◌&&◌, ◌||◌, ltb, eqb}
+use Rattle.std.specs.Prelude.{ℕ, Bool, not, if◌then◌else◌, ◌&&◌, ◌||◌, nat_lt, ◌==◌}
 use Rattle.labels.specs.declared.Age.{Age}
 use Rattle.labels.specs.declared.Age.TheVariants.{Newer, Same, Conflicting, Older}
 use Rattle.labels.specs.Label.{successor}
@@ -10,12 +10,15 @@ use Rattle.labels.specs.Label.{successor}
 -- 1, the order of labels with counts)
 unfoldable pub is_newer : Bool → ℕ → ℕ → ℕ → ℕ → Bool
 is_newer held held_label held_count seen_label seen_count =
-    not held || (eqb seen_label (successor held_label) || (eqb seen_label held_label && ltb held_count seen_count))
+    not held
+    || (seen_label == successor held_label || (seen_label == held_label && nat_lt held_count seen_count))
 
 -- document 02, A4: the four outcomes. A record that is not newer, with the own label and the count
 -- of the held one, is the same where all else is equal too, and conflicting where anything is not;
 -- any other that is not newer is older
 unfoldable pub age_of : Bool → ℕ → ℕ → ℕ → ℕ → Bool → Age
 age_of held held_label held_count seen_label seen_count equal =
-    cond (is_newer held held_label held_count seen_label seen_count) Newer
-    (cond (eqb seen_label held_label && eqb seen_count held_count) (cond equal Same Conflicting) Older)
+    if is_newer held held_label held_count seen_label seen_count then Newer
+    else if seen_label == held_label && seen_count == held_count
+    then (if equal then Same else Conflicting)
+    else Older

@@ -1,6 +1,6 @@
 -- Document 01, "Frame bytes": the labels of a record in one word of 32 bits, the label of station k
 -- at bits 2k and 2k + 1.
-use Rattle.std.specs.Prelude.{ℕ, suc, zero, ◌+◌, ◌*◌, ◌/◌, ◌%◌, ◌^◌, Bool, ◌&&◌, ◌||◌, List, [], ◌∷◌, eqb, ltb}
+use Rattle.std.specs.Prelude.{ℕ, suc, zero, ◌+◌, ◌*◌, ◌/◌, ◌%◌, ◌^◌, Bool, ◌&&◌, ◌||◌, List, [], ◌∷◌, ◌==◌, nat_lt}
 use Rattle.labels.specs.Label.{is_label}
 use Rattle.lists.specs.Below.{all_below}
 
@@ -29,7 +29,7 @@ labels_inside n word = all_below n (λ k. is_label (label_in word k))
 
 -- the labels of the stations from n up are 0
 unfoldable pub zero_from : ℕ → ℕ → Bool
-zero_from n word = all_below 16 (λ k. ltb k n || eqb (label_in word k) 0)
+zero_from n word = all_below 16 (λ k. nat_lt k n || label_in word k == 0)
 
 -- the limit of a frame's record: its first n labels are labels, and nothing but zeros stands above
 -- them

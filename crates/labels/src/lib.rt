@@ -8,8 +8,10 @@ ghost use Rattle.std.specs.Prelude.{◌≡◌};
 ghost use Rattle.labels.specs.Label.{successor};
 ghost use Rattle.labels.specs.Newer.{age_of};
 
-// What is decided of a seen record beside the held one.
-#[derive(Clone, Copy)]
+use std::cmp::Ordering;
+
+/// What is decided of a seen record beside the held one.
+#[derive(Clone, Copy, Debug, PartialEq, Eq)]
 pub enum Age {
     Newer,
     Same,
@@ -17,15 +19,16 @@ pub enum Age {
     Older,
 }
 
-// The label after this one.
+/// The label after this one.
 pub fn successor(label: u8) -> u8
     ensures { result ≡ successor label }
 {
-    (((label as u32) + 1) % 3) as u8
+    ((u32::from(label) + 1) % 3) as u8
 }
 
-// What a seen record with this own label and count is beside the held one, if one is held; `equal`
-// says whether all else is equal.
+/// What a seen record with this own label and count is beside the held one, if one is held; `equal`
+/// says whether all else is equal.
+#[tactic(auto, unfolding(crate::specs::Newer::is_newer, crate::specs::Newer::age_of))]
 pub fn age_beside(
     held: bool,
     held_label: u8,
@@ -36,24 +39,16 @@ pub fn age_beside(
 ) -> Age
     ensures { result ≡ age_of held held_label held_count seen_label seen_count equal }
 {
-    if !held {
-        return Age::Newer;
-    }
-    let next = successor(held_label);
-    if seen_label == next {
+    if !held || seen_label == successor(held_label) {
         return Age::Newer;
     }
     if seen_label != held_label {
         return Age::Older;
     }
-    if held_count < seen_count {
-        return Age::Newer;
+    match seen_count.cmp(&held_count) {
+        Ordering::Greater => Age::Newer,
+        Ordering::Less => Age::Older,
+        Ordering::Equal if equal => Age::Same,
+        Ordering::Equal => Age::Conflicting,
     }
-    if seen_count < held_count {
-        return Age::Older;
-    }
-    if equal {
-        return Age::Same;
-    }
-    Age::Conflicting
 }

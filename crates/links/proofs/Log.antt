@@ -30,6 +30,14 @@ bit_high mask k j h l =
     let z : mask / (2 ^ j) ≡ 0 = omega arith in
     rw z
 
+-- The code's own tests: a mask of sixteen bits has none from 16 up, and there is no mask past the
+-- sixteenth.
+pub bit_past : (mask j : ℕ) → mask < 65_536 → 16 ≤ j → bit mask j ≡ false
+bit_past mask j h l = bit_high mask 16 j h l
+
+pub bit_none : (masks : List ℕ) (i j : ℕ) → length masks ≤ i → bit (get_or masks i 0) j ≡ false
+bit_none masks i j l = rw (get_or-eq_default masks 0 l) (bit_zero j)
+
 -- Between two stations below n it is the bit alone that decides.
 pub hears_in-bit : (n : ℕ) (masks : List ℕ) (i j : ℕ) → i < n → j < n → (i ≡ j → ⊥) → hears_in n masks i j ≡ bit (get_or masks i 0) j
 unfolding hears_in

@@ -1,5 +1,5 @@
 -- Document 02, A11: by which round a station has received a broadcast.
-use Rattle.std.specs.Prelude.{cond, ◌⊎◌, ◌≡◌, ℕ, zero, suc, ◌<◌, ◌≤◌, leb}
+use Rattle.std.specs.Prelude.{if◌then◌else◌, ◌⊎◌, ◌≡◌, ℕ, zero, suc, ◌<◌, ◌≤◌, nat_le}
 use Rattle.std.proofs.Math.Option.{Option, none, some}
 use Rattle.links.specs.Relay.{Links}
 use Rattle.links.specs.EndRule.{RelayBy, Starts}
@@ -32,7 +32,7 @@ pub data Extends (last more : ℕ) : Option ℕ → Option ℕ → Type 0 where
 
 -- What was answered before round u stays; else u is the answer, if it brings the broadcast.
 unfoldable pub otherwise : Option ℕ → ℕ → ℕ → ℕ → Option ℕ
-otherwise none k have u = cond (leb k have) (some u) none
+otherwise none k have u = if nat_le k have then some u else none
 otherwise (some v) k have u = some v
 
 -- The answer by the numbers of broadcasts that r has: the first round from 0 on in which it has k

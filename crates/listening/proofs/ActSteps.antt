@@ -1,6 +1,6 @@
--- What was heard, taken into the table station by station, as the loop goes: below k the table
--- holds the newest record heard of each station, and from k up it is as it was. Where nothing is
--- held of a station its record stays, for it is put in the place of itself.
+-- What was heard, taken into a station whose bytes stand for it, station by station: below k its
+-- table holds the newest record heard of each station, and from k up it is as it was. Where nothing
+-- is held of a station its record stays, for it is put in the place of itself.
 use Prim.Native.Nat.{ℕ, ◌+◌}
 use mathlib.Core.Bool.{Bool}
 use mathlib.Core.List.{List}

@@ -4,5 +4,6 @@ pub mod OwnFrame
 pub mod PlacesLoop
 -- what was heard, read from the bytes
 pub mod TakingSteps
+pub mod EntrySteps
 pub mod ActSteps
 pub mod Begins

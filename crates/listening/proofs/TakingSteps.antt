@@ -5,8 +5,8 @@ use mathlib.Core.List.{List, [], ◌∷◌, ◌++◌, append_assoc, map-append}
 use mathlib.Core.Path.{◌≡◌, sym, ap, ◌∙◌}
 use native.Mathlib.Numerals.{add-one}
 use native.Mathlib.Omega.{arith}
-use lib.ListN.{get_or, set, take, drop, length, length-map, replicate}
-use lib.Seq.{take-suc, set_at, length-take-le}
+use lib.ListN.{get_or, set, take, drop, length, length-map}
+use lib.Seq.{take-suc, drop-cons, set_at, length-take-le}
 use Rattle.frame_spec.specs.Record.{record_from}
 use Rattle.queues.specs.declared.Lane.{Lane}
 use Rattle.queues.specs.Lane.{no_lane, pushed}
@@ -33,13 +33,12 @@ module _ (bytes taken : List ℕ) (i : ℕ) (low : i < 30) (long : length taken 
   takings_length = length-map (take i taken) (taking_at bytes) ∙ length-take-le i taken (omega arith)
 
   pub takings_more :
-      (t : Taking) → t ≡ next →
-      set (takings_at bytes taken i ++ replicate (30 - i) no_taking) i t ≡ takings_at bytes taken (i + 1) ++ replicate (30 - (i + 1)) no_taking
-  takings_more t e =
-      let rest : List Taking = replicate (30 - (i + 1)) no_taking in
-      let more : 30 - i ≡ suc (30 - (i + 1)) = omega arith in
-      rw (more, takings_next, e)
-      (set_at (takings_at bytes taken i) no_taking rest next i takings_length ∙ sym (append_assoc (takings_at bytes taken i) (next ∷ []) rest))
+      (old : List Taking) → i < length old → (t : Taking) → t ≡ next →
+      set (takings_at bytes taken i ++ drop i old) i t ≡ takings_at bytes taken (i + 1) ++ drop (i + 1) old
+  takings_more old h t e =
+      let rest : List Taking = drop (suc i) old in
+      rw (takings_next, e, drop-cons old i no_taking h, add-one i)
+      (set_at (takings_at bytes taken i) (get_or old i no_taking) rest next i takings_length ∙ sym (append_assoc (takings_at bytes taken i) (next ∷ []) rest))
 
   pub filled_more :
       (lanes : List Lane) →

@@ -1,3 +1,4 @@
 pub mod OwnPlaces
 pub mod Listened
 pub mod Listening
+pub mod Begins

@@ -1,76 +1,84 @@
-// One script line applied to a session, and the listing that comes of it.
+//! One script line applied to a session, and the listing that comes of it.
 
 #![tactic(auto)]
 
 pub mod commands;
 pub mod ends;
 
-ghost use Rattle.std.specs.Prelude.{◌≡◌, ◌≤◌, ◌<◌, length};
+ghost use Rattle.std.specs.Prelude.{◌≡◌, ◌≤◌, length};
 ghost use Rattle.script.specs.Line.{command_of, masks_of};
+ghost use Rattle.listing_lines.specs.Lines.{Put, line_length};
 ghost use Rattle.listing_lines.specs.Reports.{round_room};
-ghost use Rattle.listing_spec.specs.Listing.{last_round, Answer, AnswersRound, obeyed, answered, after, printed};
+ghost use Rattle.listing_spec.specs.Listing.{refusal_text, obeyed, answered, after, printed};
 
-use group_spec::{Post, RoundDone};
-use listing_spec::{Applied, Session};
+use bodies::Body;
+use group_spec::Post;
+use listing_lines::{Line, REFUSED};
+use listing_spec::Session;
 use script::Command;
 
 // The most that a round's columns can number.
 const LAST_ROUND: u32 = 999_999;
 
-// The session after a round, and what the round prints.
-fn after_round(s: Session, made: RoundDone, out: &mut [u8]) -> Applied
-    requires { (s.n ≤ 16) × (s.rounds < last_round) × (round_room ≤ length out.old) }
-    ensures { AnswersRound s made out.old out.new result }
+// The line of a refusal, with the number of rounds done, put at the front of the buffer.
+fn put_refusal(rounds: u32, station: usize, refusal: u32, out: &mut [u8]) -> usize
+    requires { line_length ≤ length out.old }
+    ensures { Put out.old out.new 0 result (refusal_text rounds station refusal) }
 {
-    let rounds = s.rounds + 1;
-    let reports = made.reports;
-    let len = listing_lines::rounds::put_round(out, s.n, rounds, reports);
-    let group = made.group;
-    let session = Session {
-        n: s.n,
-        rounds,
-        stopped: false,
-        group,
+    let line = Line {
+        round: rounds,
+        letter: REFUSED,
+        station,
+        source: refusal as usize,
+        body: Body::Empty,
     };
-    Applied { len, session }
+    line.put(out, 0)
 }
 
 // A round's line, whose masks the group hears by; a round past the last that can be numbered stops
 // the reading.
-fn apply_round(s: Session, line: &[u8], out: &mut [u8]) -> Applied
-    requires { (s.n ≤ 16) × (round_room ≤ length out.old) }
-    ensures { Answer (obeyed s (masks_of s.n line.now) Command.Round)
-        (answered s (masks_of s.n line.now) Command.Round) out.old out.new result }
+#[tactic(auto, unfolding(listing_spec::specs::Listing::obeyed, listing_spec::specs::Listing::answered, listing_spec::specs::Listing::rounded_by))]
+fn apply_round(s: &mut Session, line: &[u8], out: &mut [u8]) -> usize
+    requires few { s.old.n ≤ 16 }
+    requires room { round_room ≤ length out.old }
+    ensures session { s.new ≡ obeyed s.old (masks_of s.old.n line.now) Command.Round }
+    ensures text { Put out.old out.new 0 result
+        (answered s.old (masks_of s.old.n line.now) Command.Round) }
 {
     if LAST_ROUND <= s.rounds {
         return ends::halt(s, out);
     }
-    let group = s.group;
-    let masks = script::masks(line, s.n);
-    let made = rounds::round(group, masks);
-    after_round(s, made, out)
+    let made = rounds::round(s.group, script::masks(line, s.n));
+    s.rounds += 1;
+    s.stopped = false;
+    s.group = made.group;
+    listing_lines::rounds::put_round(out, s.n, s.rounds, &made.reports)
 }
 
 // What a line says, done.
-fn obey(s: Session, command: Command, line: &[u8], out: &mut [u8]) -> Applied
-    requires { (command ≡ command_of s.n line.now) × (round_room ≤ length out.old) }
-    ensures { Answer (obeyed s (masks_of s.n line.now) command)
-        (answered s (masks_of s.n line.now) command) out.old out.new result }
+#[tactic(auto, unfolding(listing_spec::specs::Listing::obeyed, listing_spec::specs::Listing::answered), using(script::proofs::Rounds::round_size, listing_lines::proofs::Placed::put_none))]
+fn obey(s: &mut Session, command: Command, line: &[u8], out: &mut [u8]) -> usize
+    requires said { command ≡ command_of s.old.n line.now }
+    requires room { round_room ≤ length out.old }
+    ensures session { s.new ≡ obeyed s.old (masks_of s.old.n line.now) command }
+    ensures text { Put out.old out.new 0 result
+        (answered s.old (masks_of s.old.n line.now) command) }
 {
     match command {
-        Command::Size { n } => commands::apply_size(s, n),
+        Command::Size { n } => {
+            commands::apply_size(s, n);
+            0
+        }
         Command::Post {
             station,
             kind,
             event,
             argument,
         } => {
-            let body = commands::posted_body(kind, event, argument);
-            let place = station as usize;
             let post = Post {
-                station: place,
+                station: station as usize,
                 desk: 0,
-                body,
+                body: commands::posted_body(kind, event, argument),
             };
             commands::apply_post(s, post, out)
         }
@@ -79,15 +87,17 @@ fn obey(s: Session, command: Command, line: &[u8], out: &mut [u8]) -> Applied
     }
 }
 
-// One line, without its line end; nothing once the reading has stopped. The buffer has room for
-// what sixteen stations can report of a round.
-pub fn apply(s: Session, line: &[u8], out: &mut [u8]) -> Applied
+/// One line, without its line end; nothing once the reading has stopped. What it prints is put at
+/// the front of the buffer, which has room for what sixteen stations can report of a round. Returns
+/// how many bytes were put.
+#[tactic(auto, unfolding(listing_spec::specs::Listing::after, listing_spec::specs::Listing::printed), using(listing_lines::proofs::Placed::put_none))]
+pub fn apply(s: &mut Session, line: &[u8], out: &mut [u8]) -> usize
     requires { round_room ≤ length out.old }
-    ensures { Answer (after s line.now) (printed s line.now)
-        out.old out.new result }
+    ensures session { s.new ≡ after s.old line.now }
+    ensures text { Put out.old out.new 0 result (printed s.old line.now) }
 {
     if s.stopped {
-        return Applied { len: 0, session: s };
+        return 0;
     }
     let command = script::read_line(line, s.n);
     obey(s, command, line, out)

@@ -1,7 +1,8 @@
 -- Document 01, "The relay listing": what a round prints, station by station, in the order in which
 -- a station does it: what it took (D), what it aired (A), what it ended (E), what it started (D
 -- again, with itself as the source).
-use Rattle.std.specs.Prelude.{ℕ, zero, suc, ◌+◌, ◌*◌, Bool, false, cond, not, ◌&&◌, List, [], ◌++◌, get_or, ltb}
+use Rattle.std.specs.Prelude.{ℕ, zero, suc, ◌+◌, ◌*◌, Bool, false, if◌then◌else◌, not, ◌&&◌, List}
+use Rattle.std.specs.Prelude.{[], ◌++◌, slice_index_or, nat_lt}
 use Rattle.bodies.specs.declared.Body.TheVariants.{Empty}
 use Rattle.bodies.specs.declared.Body.{Body}
 use Rattle.bodies.specs.Body.{is_empty, is_edit}
@@ -38,12 +39,14 @@ joined (suc k) f = joined k f ++ f k
 
 -- a line where it is wanted
 abbrev pub line_if : Bool → ℕ → ℕ → ℕ → ℕ → Body → List ℕ
-line_if wanted round letter station source body = cond wanted (line_bytes round letter station source body) []
+line_if wanted round letter station source body =
+    if wanted then line_bytes round letter station source body else []
 
 -- a D line for a body taken; they come in the order heard
 abbrev pub taking_text : ℕ → ℕ → ℕ → List Taking → ℕ → List ℕ
 taking_text round p len takings k =
-    line_if (ltb k len) round delivered p (get_or takings k no_taking).source (get_or takings k no_taking).body
+    line_if (nat_lt k len) round delivered p (slice_index_or takings k no_taking).source
+    (slice_index_or takings k no_taking).body
 
 unfoldable pub taken_text : ℕ → ℕ → Report → List ℕ
 taken_text round p r = joined 30 (taking_text round p r.takings_len r.takings)
@@ -52,7 +55,8 @@ taken_text round p r = joined 30 (taking_text round p r.takings_len r.takings)
 -- no line
 abbrev pub edit_text : ℕ → ℕ → Bool → List Slot → ℕ → List ℕ
 edit_text round p aired row k =
-    line_if (aired && is_edit (get_or row k no_slot).body) round airing p k (get_or row k no_slot).body
+    line_if (aired && is_edit (slice_index_or row k no_slot).body) round airing p k
+    (slice_index_or row k no_slot).body
 
 unfoldable pub aired_text : ℕ → ℕ → ℕ → TurnReport → List ℕ
 aired_text n round p t = joined n (edit_text round p t.aired t.row)
@@ -78,4 +82,4 @@ absent =
 
 -- what n stations report of a round
 unfoldable pub round_text : ℕ → ℕ → List Report → List ℕ
-round_text n round reports = joined n (λ p. report_text n round p (get_or reports p absent))
+round_text n round reports = joined n (λ p. report_text n round p (slice_index_or reports p absent))

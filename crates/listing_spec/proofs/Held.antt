@@ -1,39 +1,71 @@
--- Bytes taken into the line that is held: one is kept, or lost where the line is too long already,
--- and a run of them is taken one by one.
-use mathlib.Core.Path.{◌≡◌, refl, ap, ◌∙◌}
-use mathlib.Core.List.{List, [], ◌∷◌, append_assoc}
+-- Bytes taken into the line that is held, by recursion on them: one is kept, or lost where the line
+-- is too long already.
+use mathlib.Core.Path.{◌≡◌, refl, sym, ◌∙◌}
+use mathlib.Core.Bool.{Bool, true, false}
+use mathlib.Core.List.{List, [], ◌∷◌, ◌++◌, append_assoc, append-nil}
 use Prim.Native.Nat.{ℕ, suc, ◌+◌, ◌-◌, ◌≤◌, ◌<◌}
 use native.Mathlib.Omega.{arith}
-use native.Mathlib.Numerals.{add-one}
-use lib.ListN.{length, take, drop, set, get_or, length-drop}
-use lib.Seq.{length-take-le, take-suc, take-suc-set, get_or-drop}
-use Rattle.listing_spec.specs.Remaining.{remaining_at, Same}
+use lib.Dec.{leb}
+use lib.ListN.{length, take, drop, get_or, length-append, length-take}
+use lib.Seq.{length-take-le, take_all, take_at}
+use borrow.Author.Tests.{leb-true, leb-false}
+use Rattle.std.proofs.lemmas.List.{get_or-take, take-take}
+use Rattle.listing_spec.specs.Remaining.{Same}
 use Rattle.listing_spec.proofs.Steps.{joins, drops}
 
-pub same_none : (held : List ℕ) → Same held [] held
+same_none : (held : List ℕ) → Same held [] held
 same_none held = record { same = λ s more. refl }
 
-pub keeps : (line : List ℕ) (len b : ℕ) → len < length line → (b ≡ 10 → ⊥) → Same (take len line) (b ∷ []) (take (len + 1) (set line len b))
-keeps line len b h d =
-    rw (add-one, take-suc-set line len b h) (record { same = λ s more. joins s (take len line) b more d })
+-- a run of bytes without a line end, of which as many are kept as there is room for
+run :
+    (bytes held : List ℕ) → ((k : ℕ) → k < length bytes → get_or bytes k 0 ≡ 10 → ⊥) →
+    Same held bytes (held ++ take (146 - length held) bytes)
+run [] held n = rw (take_all {A = ℕ} (146 - length held) [] (omega arith), append-nil) (same_none held)
+run (b ∷ bytes) held n = go (leb 146 (length held)) refl (run bytes held later) (run bytes (held ++ (b ∷ [])) later)
+  where
+    first : b ≡ 10 → ⊥
+    first e = n 0 (omega arith) e
 
-pub loses : (line : List ℕ) (len b : ℕ) → 146 ≤ len → len ≤ length line → (b ≡ 10 → ⊥) → Same (take len line) (b ∷ []) (take len line)
-loses line len b h k d =
-    let size : length (take len line) ≡ len = length-take-le len line k in
-    record { same = λ s more. drops s (take len line) b more d (omega arith) }
+    later : (k : ℕ) → k < length bytes → get_or bytes k 0 ≡ 10 → ⊥
+    later k h e = n (suc k) (omega arith) e
 
--- one byte more of a part
-pub same_more :
-    (part held held' held'' : List ℕ) (from next : ℕ) → from ≤ next → next < length part → Same held (take (next - from) (drop from part)) held' →
-    Same held' (get_or part next 0 ∷ []) held'' → Same held (take (next + 1 - from) (drop from part)) held''
-same_more part held held' held'' from next f h p q =
-    let count : next + 1 - from ≡ suc (next - from) = omega arith in
-    let place : from + (next - from) ≡ next = omega arith in
-    let inside : next - from < length (drop from part) = omega (arith, length-drop from part) in
-    let byte : get_or (drop from part) (next - from) 0 ≡ get_or part next 0 = get_or-drop from part (next - from) 0 ∙ ap (λ (n : ℕ). get_or part n 0) place in
-    rw (count, take-suc (drop from part) (next - from) 0 inside, byte) (record {
-      same = λ s more.
-          ap (remaining_at s held) (append_assoc (take (next - from) (drop from part)) (get_or part next 0 ∷ []) more)
-          ∙ p.same s (get_or part next 0 ∷ more)
-          ∙ q.same s more;
-    })
+    go :
+        (t : Bool) → leb 146 (length held) ≡ t → Same held bytes (held ++ take (146 - length held) bytes) →
+        Same (held ++ (b ∷ [])) bytes ((held ++ (b ∷ [])) ++ take (146 - length (held ++ (b ∷ []))) bytes) →
+        Same held (b ∷ bytes) (held ++ take (146 - length held) (b ∷ bytes))
+    go true e p q =
+        let full = leb-true 146 (length held) e in
+        let none : 146 - length held ≡ 0 = omega arith in
+        let rest = rw (none, append-nil) at p in
+        rw (none, append-nil) (record { same = λ s more. drops s held b (bytes ++ more) first (omega arith) ∙ rest.same s more })
+    go false e p q =
+        let room = leb-false 146 (length held) e in
+        let size : length (held ++ (b ∷ [])) ≡ length held + 1 = length-append held (b ∷ []) in
+        let one : 146 - length held ≡ suc (146 - length (held ++ (b ∷ []))) = omega arith in
+        let rest = rw append_assoc at q in
+        rw one (record { same = λ s more. joins s held b (bytes ++ more) first ∙ rest.same s more })
+
+-- the same of a part of the line, into which the kept bytes are copied
+pub takes :
+    (line rest text : List ℕ) (held read kept : ℕ) → held ≤ 146 → 146 ≡ length line → read ≤ length rest → kept ≤ read →
+    held + kept ≤ 146 → (kept < read → held + kept ≡ 146) → ((k : ℕ) → k < read → get_or rest k 0 ≡ 10 → ⊥) → text ≡ take kept rest →
+    Same (take held line) (take read rest) (take (held + kept) (take held line ++ (text ++ drop kept (drop held line))))
+takes line rest text held read kept h l r f room full n e =
+    let size : length (take held line) ≡ held = length-take-le held line (omega arith) in
+    let got : length (take kept rest) ≡ kept = length-take-le kept rest (omega arith) in
+    let long : length (take held line ++ take kept rest) ≡ held + kept = length-append (take held line) (take kept rest) ∙ omega arith in
+    let inner : (k : ℕ) → k < length (take read rest) → get_or (take read rest) k 0 ≡ 10 → ⊥ = λ k b q.
+    let few : k < read = omega (arith, length-take-le read rest r) in n k few (sym (get_or-take read rest k 0 few) ∙ q) in
+    let front : take (146 - length (take held line)) (take read rest) ≡ take kept rest = kept_front rest read kept (146 - length (take held line)) f (omega arith) (λ k. omega arith) in
+    rw (e, ← append_assoc, take_at (take held line ++ take kept rest) (drop kept (drop held line)) (held + kept) long, ← front) (run (take read rest) (take held line) inner)
+  where
+    kept_front : (rest : List ℕ) (read kept room : ℕ) → kept ≤ read → kept ≤ room → (kept < read → kept ≡ room) → take room (take read rest) ≡ take kept rest
+    kept_front rest read kept room f g w = go (leb read kept) refl
+      where
+        go : (t : Bool) → leb read kept ≡ t → take room (take read rest) ≡ take kept rest
+        go true e =
+            let all : read ≡ kept = omega (arith, leb-true read kept e) in
+            rw all (take_all room (take kept rest) (omega (arith, length-take kept rest)))
+        go false e =
+            let k : kept ≡ room = w (leb-false read kept e) in
+            rw k (take-take room read rest (omega arith))

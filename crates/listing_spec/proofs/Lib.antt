@@ -1,4 +1,3 @@
-pub mod Answers
 pub mod Computing
 pub mod Example
 pub mod Stopped

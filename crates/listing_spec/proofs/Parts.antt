@@ -9,7 +9,6 @@ use lib.Seq.{take_all, take_at, take-add, take-suc, length-take-le, drop-drop}
 use Rattle.listing_lines.specs.Lines.{Put, placed}
 use Rattle.listing_lines.proofs.Placed.{put_none, put_more}
 use Rattle.listing_spec.specs.declared.Session.{Session}
-use Rattle.listing_spec.specs.declared.Applied.{Applied}
 use Rattle.listing_spec.specs.Listing.{after, printed}
 use Rattle.listing_spec.specs.declared.reading.Reader.{Reader}
 use Rattle.listing_spec.specs.declared.reading.FeedAnswer.{FeedAnswer}
@@ -70,16 +69,16 @@ module _ (s : Session) (held part entry : List ℕ) where
 
     -- a line end, whose line was applied to the session
     pub listed_line :
-        (exit' : List ℕ) (a : Applied) → read < length part → get_or part read 0 ≡ 10 → len ≤ length exit →
-        a.session ≡ after s' held' → Put exit exit' len (len + a.len) (printed s' held') →
-        Listed s held part entry a.session [] (read + 1) (len + a.len) exit'
-    listed_line exit' a inside ends room e q =
-        let text = front exit exit' (printed s' held') len (len + a.len) room q in
+        (exit' : List ℕ) (s'' : Session) (put : ℕ) → read < length part → get_or part read 0 ≡ 10 → len ≤ length exit →
+        s'' ≡ after s' held' → Put exit exit' len (len + put) (printed s' held') →
+        Listed s held part entry s'' [] (read + 1) (len + put) exit'
+    listed_line exit' s'' put inside ends room e q =
+        let text = front exit exit' (printed s' held') len (len + put) room q in
         let parts : take (read + 1) part ≡ take read part ++ (10 ∷ []) =
         rw (add-one, take-suc part read 0 inside, ends) in
         record {
           inside = omega arith;
-          put = rw text (put_more entry exit exit' 0 len (len + a.len) (take len exit) (printed s' held') (omega arith) p.put q);
+          put = rw text (put_more entry exit exit' 0 len (len + put) (take len exit) (printed s' held') (omega arith) p.put q);
           lists = λ more.
               ap (λ (l : List ℕ). remaining_at s held (l ++ more)) parts
               ∙ ap (remaining_at s held) (append_assoc (take read part) (10 ∷ []) more)

@@ -24,7 +24,7 @@ use Rattle.listing_lines.specs.Reports.{round_text}
 use Rattle.listing_spec.specs.declared.Session.{Session}
 use Rattle.listing_spec.specs.Listing as listing
 use Rattle.listing_spec.specs.Listing.{setup_of, post_of, last_round, refusal_text, malformed_text, halted, sized_by, posted_by, rounded_by, refused_text, obeyed, answered, after, printed, rest_text, Lines, rest, line, lines_of, listed, listing_of}
-use Rattle.listing_spec.specs.Calls.{called, calls_in, stops_at, stops_in, size_said, size_in, lines_after, size_of, calls_of, stops, session_in, call_text, calls_text, RunsCalls, ScriptsRun}
+use Rattle.listing_spec.specs.Calls.{called, calls_in, stops_at, stops_in, size_said, size_in, lines_after, size_of, calls_of, session_in, call_text, calls_text, RunsCalls, ScriptsRun}
 use Rattle.listing_spec.proofs.Stopped.{stopped_silent}
 use Rattle.listing_spec.proofs.Commands.{Later, command_later, First, command_first}
 

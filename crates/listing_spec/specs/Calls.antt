@@ -1,7 +1,8 @@
 -- Document 01, "The relay listing", over the lists of calls that demand 3 speaks of: the calls that
 -- a script makes, read off its lines alone; and that its listing is what the history of these calls
 -- gives, call by call.
-use Rattle.std.specs.Prelude.{ℕ, ◌+◌, ◌≤◌, Bool, true, cond, not, ◌≡◌, List, [], ◌∷◌, ◌++◌, ltb, eqb, length}
+use Rattle.std.specs.Prelude.{ℕ, ◌+◌, ◌≤◌, Bool, true, if◌then◌else◌, not, ◌≡◌, List, [], ◌∷◌, ◌++◌}
+use Rattle.std.specs.Prelude.{nat_lt, ◌==◌, length}
 use Rattle.bodies.specs.Refusals.{malformed_line}
 use Rattle.group_spec.specs.Calls.{group_post_call, round_call}
 use Rattle.group_spec.specs.History.{Call, post, round, History, next, begun, history_of}
@@ -19,7 +20,7 @@ use Rattle.listing_spec.specs.Listing.{Lines, rest, line, lines_of, listing_of}
 -- none from where the reading stops
 unfoldable pub called : ℕ → List ℕ → Command → List Call → List Call → List Call
 called rounds masks (Post station kind event argument) more later = post (post_of station kind event argument) ∷ more
-called rounds masks Round more later = cond (ltb rounds last_round) (round masks ∷ later) []
+called rounds masks Round more later = if nat_lt rounds last_round then round masks ∷ later else []
 called rounds masks Malformed more later = []
 called rounds masks (Size n) more later = []
 
@@ -32,13 +33,13 @@ calls_in n rounds (line l ls) =
 -- the reading stops at a command, or somewhere after it
 unfoldable pub stops_at : ℕ → Command → Bool → Bool → Bool
 stops_at rounds (Post station kind event argument) more later = more
-stops_at rounds Round more later = cond (ltb rounds last_round) later true
+stops_at rounds Round more later = if nat_lt rounds last_round then later else true
 stops_at rounds Malformed more later = true
 stops_at rounds (Size n) more later = true
 
 -- the reading stops in lines after the `N` line, or they break off in a line
 unfoldable pub stops_in : ℕ → ℕ → Lines → Bool
-stops_in n rounds (rest l) = not (eqb (length l) 0)
+stops_in n rounds (rest l) = not (length l == 0)
 stops_in n rounds (line l ls) = stops_at rounds (command_of n l) (stops_in n rounds ls) (stops_in n (rounds + 1) ls)
 
 -- N as an `N` line says it; 0 where there is none
@@ -94,7 +95,7 @@ pub record RunsCalls (script : List ℕ) : Type 0 where
   pub lists :
       listing_of script
       ≡ calls_text (size_of script) (begun (setup_of (size_of script))) (calls_of script)
-      ++ cond (stops script) (refusal_text (session_of script).rounds 0 malformed_line) []
+      ++ (if stops script then refusal_text (session_of script).rounds 0 malformed_line else [])
       ++ end_line
 
 -- Every script runs its calls; one that does not begin with an `N` line makes none, and its listing

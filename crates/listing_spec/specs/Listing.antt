@@ -1,5 +1,6 @@
 -- Document 01, "The relay listing": the whole listing of a whole script, over the group's calls.
-use Rattle.std.specs.Prelude.{ℕ, ◌+◌, true, false, cond, ◌&&◌, ◌||◌, ◌≡◌, List, [], ◌∷◌, ◌++◌, ltb, eqb, ℤ, length}
+use Rattle.std.specs.Prelude.{ℕ, ◌+◌, true, false, if◌then◌else◌, ◌&&◌, ◌||◌, List, [], ◌∷◌, ◌++◌}
+use Rattle.std.specs.Prelude.{nat_lt, ◌==◌, ℤ, length}
 use Rattle.bodies.specs.declared.Body.{Body}
 use Rattle.bodies.specs.declared.Body.TheVariants.{Empty}
 use Rattle.bodies.specs.Body.{body_of}
@@ -16,8 +17,7 @@ use Rattle.script.specs.declared.Command.{Command}
 use Rattle.script.specs.declared.Command.TheVariants.{Size, Post, Round, Malformed}
 use Rattle.script.specs.Line.{command_of, masks_of}
 use Rattle.listing_spec.specs.declared.Session.{Session}
-use Rattle.listing_spec.specs.declared.Applied.{Applied}
-use Rattle.listing_lines.specs.Lines.{turned_down, line_bytes, line_length, end_line, end_length, Put}
+use Rattle.listing_lines.specs.Lines.{turned_down, line_bytes, line_length, end_line, end_length}
 use Rattle.listing_lines.specs.Reports.{round_text}
 
 -- before any line is read: no size yet, no round done
@@ -36,7 +36,8 @@ setup_of n = record { n = n; limit = listing_limit; edition = 0 }
 -- the body that a post's numbers name, without a channel; numbers that no body has are posted as
 -- Empty, which is no edit
 unfoldable pub posted_body : ℕ → ℕ → ℤ → Body
-posted_body kind event argument = cond (numbers_inside kind event argument) (body_of kind event argument 0) Empty
+posted_body kind event argument =
+    if numbers_inside kind event argument then body_of kind event argument 0 else Empty
 
 -- what a `P` line gives the group post: scripts post as desk 0 (document 02, A7)
 abbrev pub post_of : ℕ → ℕ → ℕ → ℤ → group.Post
@@ -71,14 +72,15 @@ rounded_by s made = record { n = s.n; rounds = s.rounds + 1; stopped = false; gr
 -- n is printed as 0
 unfoldable pub refused_text : ℕ → ℕ → ℕ → ℕ → List ℕ
 refused_text n rounds station refusal =
-    cond (eqb refusal done) [] (refusal_text rounds (cond (ltb station n) station 0) refusal)
+    if refusal == done then [] else refusal_text rounds (if nat_lt station n then station else 0) refusal
 
 -- the session after a command, whose line has the masks of a round
 unfoldable pub obeyed : Session → List ℕ → Command → Session
 obeyed s masks (Size n) = sized_by s n (group_fresh_call (setup_of n))
 obeyed s masks (Post station kind event argument) =
     posted_by s (group_post_call s.group (post_of station kind event argument))
-obeyed s masks Round = cond (ltb s.rounds last_round) (rounded_by s (round_call s.group masks)) (halted s)
+obeyed s masks Round =
+    if nat_lt s.rounds last_round then rounded_by s (round_call s.group masks) else halted s
 obeyed s masks Malformed = halted s
 
 -- what a command prints
@@ -87,24 +89,24 @@ answered s masks (Size n) = []
 answered s masks (Post station kind event argument) =
     refused_text s.n s.rounds station (group_post_call s.group (post_of station kind event argument)).refusal
 answered s masks Round =
-    cond (ltb s.rounds last_round)
-    (round_text s.n (s.rounds + 1) (round_call s.group masks).reports)
-    (malformed_text s)
+    if nat_lt s.rounds last_round
+    then round_text s.n (s.rounds + 1) (round_call s.group masks).reports
+    else malformed_text s
 answered s masks Malformed = malformed_text s
 
 -- the session after a line, and what the line prints; a reading that has stopped neither changes
 -- nor prints any more
 unfoldable pub after : Session → List ℕ → Session
-after s line = cond s.stopped s (obeyed s (masks_of s.n line) (command_of s.n line))
+after s line = if s.stopped then s else obeyed s (masks_of s.n line) (command_of s.n line)
 
 unfoldable pub printed : Session → List ℕ → List ℕ
-printed s line = cond s.stopped [] (answered s (masks_of s.n line) (command_of s.n line))
+printed s line = if s.stopped then [] else answered s (masks_of s.n line) (command_of s.n line)
 
 -- the end of a script; so many bytes stand after its last line end. Nothing is printed where the
 -- reading has stopped, or where an `N` line was read and none stand there; else the script has no
 -- `N` line, or breaks off in a line, and that is malformed
 unfoldable pub rest_text : Session → ℕ → List ℕ
-rest_text s left = cond (s.stopped || (ltb 0 s.n && eqb left 0)) [] (malformed_text s)
+rest_text s left = if s.stopped || (nat_lt 0 s.n && left == 0) then [] else malformed_text s
 
 abbrev pub closed : Session → List ℕ → List ℕ
 closed s rest = rest_text s (length rest)
@@ -112,21 +114,6 @@ closed s rest = rest_text s (length rest)
 -- the most bytes that the end of a script prints: a refusal, and the last line
 abbrev pub closing_room : ℕ
 closing_room = line_length + end_length
-
--- what a call on a session promises: the session after it, and the text put at the front of the
--- lent buffer
-pub record Answer (after : Session) (text entry exit : List ℕ) (r : Applied) : Type 0 where
-  pub session : r.session ≡ after
-  pub put : Put entry exit 0 r.len text
-
--- the same of a post and of a round, by what the group's call returned
-abbrev pub AnswersPost : Session → ℕ → GroupAnswer → List ℕ → List ℕ → Applied → Type 0
-AnswersPost s station made entry exit r =
-    Answer (posted_by s made) (refused_text s.n s.rounds station made.refusal) entry exit r
-
-abbrev pub AnswersRound : Session → RoundDone → List ℕ → List ℕ → Applied → Type 0
-AnswersRound s made entry exit r =
-    Answer (rounded_by s made) (round_text s.n (s.rounds + 1) made.reports) entry exit r
 
 -- a script's lines, each without its line end, and what stands after the last line end
 pub data Lines : Type 0 where
@@ -141,7 +128,7 @@ before b (line l ls) = line (b ∷ l) ls
 -- a line end is byte 10
 unfoldable pub lines_of : List ℕ → Lines
 lines_of [] = rest []
-lines_of (b ∷ bs) = cond (eqb b 10) (line [] (lines_of bs)) (before b (lines_of bs))
+lines_of (b ∷ bs) = if b == 10 then line [] (lines_of bs) else before b (lines_of bs)
 
 -- what the lines print
 unfoldable pub listed : Session → Lines → List ℕ

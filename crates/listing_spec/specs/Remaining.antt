@@ -1,6 +1,6 @@
 -- A script read in parts: what is still to be listed where the reading stands, and what each call
 -- says of it.
-use Rattle.std.specs.Prelude.{ℕ, ◌+◌, ◌≤◌, ◌<◌, ◌≡◌, List, ◌++◌, length, take, get_or, replicate}
+use Rattle.std.specs.Prelude.{ℕ, ◌≤◌, ◌<◌, ◌≡◌, List, ◌++◌, length, take, slice_index, replicate}
 use Rattle.listing_lines.specs.Lines.{end_line, Put}
 use Rattle.listing_spec.specs.declared.Session.{Session}
 use Rattle.listing_spec.specs.Listing.{Lines, rest, line, session_begun, lines_of, listed}
@@ -60,4 +60,4 @@ pub record Same (held bytes held' : List ℕ) : Type 0 where
 
 -- at a place of a part a line end stands, or the part is over
 abbrev pub EndsAt : List ℕ → ℕ → Type 0
-EndsAt part next = (next ≤ length part) × (next < length part → get_or part next 0 ≡ 10)
+EndsAt part next = (next ≤ length part) × (next < length part → slice_index part next ≡ 10)

@@ -1,5 +1,5 @@
-// Where a script stands, and the answer of a line. The listing of a whole script and its laws stand
-// beside; there is no code.
+//! Where a script stands. The listing of a whole script and its laws stand beside; there is no
+//! code.
 
 #![tactic(auto)]
 
@@ -7,19 +7,12 @@ pub mod reading;
 
 use station_spec::Station;
 
-// Where a script stands: the group's size, 0 before the `N` line; the rounds done; whether the
-// reading has stopped; the group.
+/// Where a script stands: the group's size, 0 before the `N` line; the rounds done; whether the
+/// reading has stopped; the group.
 #[derive(Clone, Copy)]
 pub struct Session {
     pub n: usize,
     pub rounds: u32,
     pub stopped: bool,
     pub group: [Station; 16],
-}
-
-// A session after a line, and how many bytes the line put into the buffer.
-#[derive(Clone, Copy)]
-pub struct Applied {
-    pub len: usize,
-    pub session: Session,
 }

@@ -3,11 +3,11 @@
 
 use super::Session;
 
-// So many bytes of a line are kept: a line of more than 145 is malformed.
+/// So many bytes of a line are kept: a line of more than 145 is malformed.
 pub const KEPT: usize = 146;
 
-// Where the reading stands: the session after the lines read, and the bytes of a line whose line
-// end is still to come.
+/// Where the reading stands: the session after the lines read, and the bytes of a line whose line
+/// end is still to come.
 #[derive(Clone, Copy)]
 pub struct Reader {
     pub session: Session,
@@ -15,7 +15,7 @@ pub struct Reader {
     pub line: [u8; KEPT],
 }
 
-// A reader after a part: how many bytes of the part it read, and how many it put into the buffer.
+/// A reader after a part: how many bytes of the part it read, and how many it put into the buffer.
 #[derive(Clone, Copy)]
 pub struct FeedAnswer {
     pub read: usize,

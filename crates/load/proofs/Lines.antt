@@ -1,22 +1,16 @@
--- A letter, numbers and a line end, put one behind the other, are a line.
-use Rattle.std.proofs.Common.{◌≡◌, ℕ, ◌+◌, ◌-◌, ◌*◌, ◌^◌, ◌<◌, ◌≤◌, false, List, [], ◌∷◌, ◌++◌, length, set, sym, refl, ◌∙◌, append_assoc, append-nil, mul-le-mul, arith}
+-- A letter, numbers and a line end, put one behind the other, are a line; posts and a line of masks
+-- are a round.
+use Rattle.std.proofs.Common.{◌≡◌, ℕ, ◌+◌, ◌-◌, ◌<◌, ◌≤◌, false, List, [], ◌∷◌, ◌++◌, length, take, get_or, set, refl, ap, ◌∙◌, append-nil, add-one, arith}
+use Rattle.std.proofs.lemmas.List.{take_more, take_more_set}
 use Rattle.columns.specs.Writing.{nat_columns}
 use Rattle.columns.proofs.Fields.{length-columns}
 use Rattle.listing_lines.specs.Lines.{placed, Put}
 use Rattle.listing_lines.proofs.Placed.{placed_byte, put_none, put_more}
 use Rattle.lists.specs.Below.{tabulate}
-use Rattle.lists.proofs.Laws.{length-tabulate}
 use Rattle.load_spec.specs.Draws.{post_draw, mask_draw}
 use Rattle.load_spec.specs.Script.{fields, line_of, text_of, mask_line, post_lines, round_lines}
-use Rattle.load_spec.proofs.Text.{text_append, length_fields}
-use Rattle.load_spec.proofs.Steps.{post_if, posts_none, posts_more, fields_none, fields_more}
-
--- a product of two numbers of 32 bits has 64
-pub product_fits : (a b : ℕ) → a < 2 ^ 32 → b < 2 ^ 32 → a * b < 2 ^ 64
-product_fits a b h l =
-    let below_a : a ≤ 2 ^ 32 - 1 = omega arith in
-    let below_b : b ≤ 2 ^ 32 - 1 = omega arith in
-    let m : a * b ≤ (2 ^ 32 - 1) * (2 ^ 32 - 1) = mul-le-mul below_a below_b in omega arith
+use Rattle.load_spec.proofs.Text.{text_append, fields-append}
+use Rattle.load_spec.proofs.Steps.{post_if, posts_none, posts_more}
 
 pub put_byte : (l : List ℕ) (at b : ℕ) → at < length l → Put l (set l at b) at (at + 1) (b ∷ [])
 put_byte l at b h = record { holds = placed_byte l at b h; behind = refl }
@@ -37,27 +31,27 @@ module _
       put_more l₀ l₂ l₃ at e f (letter ∷ fields numbers) (10 ∷ []) inside
       (put_more l₀ l₁ l₂ at a e (letter ∷ []) (fields numbers) inside first middle) last
 
-pub one_field : (v : ℕ) → nat_columns 9 v ≡ fields (v ∷ [])
+-- no number, and one number more
+pub numbers_none : (l : List ℕ) (at : ℕ) (numbers : List ℕ) → Put l l at at (fields (take 0 numbers))
 unfolding fields
-one_field v = sym (append-nil (nat_columns 9 v))
+numbers_none l at numbers = put_none l at
 
-pub four_fields :
-    (a b c d : ℕ) → ((nat_columns 9 a ++ nat_columns 9 b) ++ nat_columns 9 c) ++ nat_columns 9 d ≡ fields (a ∷ b ∷ c ∷ d ∷ [])
+fields_more : (numbers : List ℕ) (k : ℕ) → k < length numbers → fields (take (k + 1) numbers) ≡ fields (take k numbers) ++ nat_columns 9 (get_or numbers k 0)
 unfolding fields
-four_fields a b c d = simp (append_assoc, append-nil)
+fields_more numbers k h =
+    ap fields (take_more numbers k 0 h)
+    ∙ fields-append (take k numbers) (get_or numbers k 0 ∷ [])
+    ∙ ap (λ (l : List ℕ). fields (take k numbers) ++ l) (append-nil _)
 
--- the masks, and then the posts, of no station and of one station more
-pub masks_none : (s : ℕ) (l : List ℕ) (at : ℕ) → Put l l at at (fields (tabulate 0 (mask_draw s)))
-masks_none s l at = rw fields_none (put_none l at)
+pub numbers_more :
+    (numbers l₀ l₁ l₂ : List ℕ) (k at mid end : ℕ) → k < length numbers → at ≤ length l₀ →
+    Put l₀ l₁ at mid (fields (take k numbers)) → Put l₁ l₂ mid end (nat_columns 9 (get_or numbers k 0)) →
+    Put l₀ l₂ at end (fields (take (k + 1) numbers))
+numbers_more numbers l₀ l₁ l₂ k at mid end k_in h first next =
+    rw (fields_more numbers k k_in)
+    (put_more l₀ l₁ l₂ at mid end (fields (take k numbers)) (nat_columns 9 (get_or numbers k 0)) h first next)
 
-pub masks_more :
-    (s p d : ℕ) (l₀ l₁ l₂ : List ℕ) (at mid end : ℕ) → at ≤ length l₀ → d ≡ mask_draw s p →
-    Put l₀ l₁ at mid (fields (tabulate p (mask_draw s))) → Put l₁ l₂ mid end (nat_columns 9 d) →
-    Put l₀ l₂ at end (fields (tabulate (p + 1) (mask_draw s)))
-masks_more s p d l₀ l₁ l₂ at mid end h e first next =
-    rw fields_more
-    (put_more l₀ l₁ l₂ at mid end (fields (tabulate p (mask_draw s))) (nat_columns 9 (mask_draw s p)) h first (rw e at next))
-
+-- the posts of no station, and of one station more
 pub posts_put_none : (s : ℕ) (l : List ℕ) → Put l l 0 0 (text_of (post_lines s 0))
 posts_put_none s l = rw posts_none (put_none l 0)
 
@@ -71,14 +65,17 @@ posts_put_more s p d l₀ l₁ l₂ mid end e first next =
 
 -- posts, and behind them a line of masks, are a round
 pub round_made :
-    (s n : ℕ) (l₀ l₁ l₂ l₃ l₄ : List ℕ) (at : ℕ) → at ≤ length l₁ → Put l₀ l₁ 0 at (text_of (post_lines s n)) →
-    Put l₁ l₂ at (at + 1) (82 ∷ []) → l₃ ≡ placed l₂ (at + 1) (fields (tabulate n (mask_draw s))) →
-    Put l₃ l₄ (at + 1 + 9 * n) (at + 1 + 9 * n + 1) (10 ∷ []) → l₄ ≡ placed l₀ 0 (text_of (round_lines s n))
+    (s n : ℕ) (l₀ l₁ l₂ numbers : List ℕ) (at end : ℕ) → numbers ≡ tabulate n (mask_draw s) →
+    Put l₀ l₁ 0 at (text_of (post_lines s n)) → Put l₁ l₂ at end (text_of (line_of 82 numbers ∷ [])) →
+    l₂ ≡ placed l₀ 0 (text_of (round_lines s n))
 unfolding round_lines mask_line
-round_made s n l₀ l₁ l₂ l₃ l₄ at h posts letter masks last =
-    let numbers = tabulate n (mask_draw s) in
-    let size : length (fields numbers) ≡ 9 * n = length_fields numbers ∙ rw length-tabulate in
-    let middle : Put l₂ l₃ (at + 1) (at + 1 + 9 * n) (fields numbers) = record { holds = masks; behind = omega arith } in
-    let line = line_made l₁ l₂ l₃ l₄ at (at + 1) (at + 1 + 9 * n) (at + 1 + 9 * n + 1) 82 h letter numbers middle last in
+round_made s n l₀ l₁ l₂ numbers at end e posts line =
     rw text_append
-    (put_more l₀ l₁ l₄ 0 at (at + 1 + 9 * n + 1) (text_of (post_lines s n)) (text_of (line_of 82 numbers ∷ [])) (omega arith) posts line).holds
+    (put_more l₀ l₁ l₂ 0 at end (text_of (post_lines s n)) (text_of (line_of 82 (tabulate n (mask_draw s)) ∷ [])) (omega arith) posts (rw e at line)).holds
+
+-- the mask of one station more
+pub masks_more :
+    (s p d : ℕ) (masks : List ℕ) → p < length masks → d ≡ mask_draw s p → take p masks ≡ tabulate p (mask_draw s) →
+    take (p + 1) (set masks p d) ≡ tabulate (p + 1) (mask_draw s)
+unfolding tabulate
+masks_more s p d masks h e f = take_more_set masks p d h ∙ rw (f, e, add-one)

@@ -4,15 +4,15 @@
 #![tactic(auto)]
 
 ghost use Rattle.std.specs.Prelude.{◌≡◌, ◌+◌, ◌*◌, ◌%◌, ◌^◌, ◌≤◌, [], ◌∷◌, length, if◌then◌else◌};
-ghost use Rattle.lists.specs.Below.{tabulate};
 ghost use Rattle.columns.specs.Writing.{nat_columns};
 ghost use Rattle.listing_lines.specs.Lines.{placed, Put};
-ghost use Rattle.load_spec.specs.Draws.{next_state, draw_of, posts, mask_draw, after_round};
-ghost use Rattle.load_spec.specs.Script.{fields, text_of, size_line, post_line, post_lines, round_lines};
+ghost use Rattle.load_spec.specs.Draws.{next_state, posts, after_round};
+ghost use Rattle.load_spec.specs.Script.{text_of, line_of, size_line, post_line, post_lines, round_lines};
 ghost use Rattle.load_spec.specs.Script.{field_width, size_length, post_length};
 ghost use Rattle.load_spec.specs.Calls.{numbers_fit, generated, buffer_after, Writes};
+ghost use Rattle.load.specs.Inner.{answer_of};
 
-use bodies::refusals::{BAD_NUMBER, DONE, SHORT_BUFFER};
+use bodies::refusals::Refusal;
 use load_spec::Generated;
 
 // The numbers of the generator's step, and what a new state is divided by for a draw.
@@ -22,45 +22,95 @@ const ADDEND: u32 = 1_013_904_223;
 
 const DIVISOR: u32 = 65_536;
 
-// As many rounds as a listing can number.
+// As many stations as a group can have, and as many rounds as a listing can number.
+const MOST_STATIONS: usize = 16;
+
 const MOST_ROUNDS: u32 = 999_999;
 
 // The letters of a script, and the end of its lines.
-const SIZE: u8 = 78;
+const SIZE: u8 = b'N';
 
-const POST: u8 = 80;
+const POST: u8 = b'P';
 
-const ROUND: u8 = 82;
+const ROUND: u8 = b'R';
 
-const LINE_END: u8 = 10;
+const LINE_END: u8 = b'\n';
 
-// Document 01's kind of an insert.
+// The kind of an insert.
 const INSERT: u64 = 2;
 
-// The bytes of an `N` line and of a post's line, with their line ends.
-const SIZE_LEN: usize = 11;
+// The columns of a number, and the bytes of an `N` line and of a post's line, with their line ends.
+const FIELD: usize = 9;
 
-const POST_LEN: usize = 38;
+const SIZE_LEN: usize = 1 + FIELD + 1;
 
-// A product that wraps at 32 bits.
+const POST_LEN: usize = 1 + 4 * FIELD + 1;
+
+// A product that wraps at 32 bits. Kept as a helper: document 01 names this form for its place.
 fn wrapping_mul(a: u32, b: u32) -> u32
     ensures { result ≡ a * b % 2 ^ 32 }
 {
-    ((a as u64) * (b as u64) % 4_294_967_296) as u32
+    (a as u64 * b as u64 % 4_294_967_296) as u32
 }
 
-// The generator's step.
+// The generator's step: a helper wraps the product at 32 bits, and std the sum.
+#[tactic(auto, unfolding(load_spec::specs::Draws::next_state))]
 fn next_state(state: u32) -> u32
     ensures { result ≡ next_state state }
 {
-    std::num::wrapping_add_u32(wrapping_mul(FACTOR, state), ADDEND)
+    wrapping_mul(FACTOR, state).wrapping_add(ADDEND)
 }
 
-// What is drawn with a new state.
-fn draw_of(state: u32) -> u32
-    ensures { result ≡ draw_of state }
-{
-    state / DIVISOR
+// The two draws of a station: on its post, and its mask.
+#[derive(Clone, Copy)]
+struct Drawn {
+    post: u32,
+    mask: u32,
+}
+
+// The generator, by its state.
+#[derive(Drop)]
+struct Generator {
+    state: u32,
+}
+
+impl Generator {
+    ghost use Rattle.std.specs.Prelude.{◌≡◌, ◌≤◌, take};
+    ghost use Rattle.lists.specs.Below.{tabulate};
+    ghost use Rattle.load_spec.specs.Draws.{next_state, draw_of, mask_draw, after_round};
+
+    // What is drawn with the next state.
+    fn draw(&mut self) -> u32
+        ensures step { self.new.state ≡ next_state self.old.state }
+        ensures drawn { result ≡ draw_of self.new.state }
+    {
+        self.state = next_state(self.state);
+        self.state / DIVISOR
+    }
+
+    // The draws of the next station.
+    fn station(&mut self) -> Drawn
+        ensures steps { self.new.state ≡ next_state (next_state self.old.state) }
+        ensures post { result.post ≡ draw_of (next_state self.old.state) }
+        ensures mask { result.mask ≡ draw_of self.new.state }
+    {
+        let post = self.draw();
+        let mask = self.draw();
+        Drawn { post, mask }
+    }
+
+    // The masks of a round of n stations, and 0 behind them.
+    fn masks(&mut self, n: usize) -> [u64; MOST_STATIONS]
+        requires { n ≤ 16 }
+        ensures masks { take n result ≡ tabulate n (mask_draw self.old.state) }
+        ensures after { self.new.state ≡ after_round n self.old.state }
+    {
+        let mut masks = [0; MOST_STATIONS];
+        for p in 0..n {
+            masks[p] = self.station().mask as u64;
+        }
+        masks
+    }
 }
 
 fn posts(draw: u32) -> bool
@@ -70,13 +120,11 @@ fn posts(draw: u32) -> bool
 }
 
 // The bytes that a draw for a station's post brings.
+#[tactic(auto, using(load_spec::proofs::Text::length_post_if))]
 fn post_len(station: usize, draw: u32) -> usize
     ensures { result ≡ length (text_of (if posts draw then post_line station draw ∷ [] else [])) }
 {
-    if posts(draw) {
-        return POST_LEN;
-    }
-    0
+    if posts(draw) { POST_LEN } else { 0 }
 }
 
 // The bytes of a round's posts.
@@ -84,185 +132,188 @@ fn posts_len(state: u32, n: usize) -> usize
     requires { n ≤ 16 }
     ensures { result ≡ length (text_of (post_lines state n)) }
 {
-    let mut s = state;
+    let mut generator = Generator { state };
     let mut len = 0;
-    let mut p = 0;
-    while p < n {
-        let drawn = next_state(s);
-        len += post_len(p, draw_of(drawn));
-        s = next_state(drawn);
-        p += 1;
+    for p in 0..n {
+        len += post_len(p, generator.station().post);
     }
     len
 }
 
-// A number put into nine columns. Returns the place behind them.
+// A number put into its columns. Returns the place behind them.
+#[tactic(auto, using(crate::proofs::Lines::put_columns))]
 fn put_field(out: &mut [u8], at: usize, value: u64) -> usize
     requires { at + field_width ≤ length out.old }
-    ensures { Put out.old out.new at result (nat_columns field_width value)
-        × (result ≡ at + field_width) }
+    ensures digits { Put out.old out.new at result (nat_columns field_width value) }
+    ensures behind { result ≡ at + field_width }
 {
-    listing_lines::put_natural(out, at, at + 9, value);
-    at + 9
+    listing_lines::put_natural(out, at, at + FIELD, value);
+    at + FIELD
 }
 
-// The line of a post put into the buffer. Returns the place behind it.
-fn put_post_line(out: &mut [u8], at: usize, station: usize, draw: u32) -> usize
-    requires { at + post_length ≤ length out.old }
-    ensures { Put out.old out.new at result (text_of (post_line station draw ∷ [])) }
+// A line put into the buffer: a letter, numbers and the line end. Returns the place behind it.
+fn put_line(out: &mut [u8], at: usize, letter: u8, numbers: &[u64]) -> usize
+    requires { at + (field_width * length numbers.now + 2) ≤ length out.old }
+    ensures { Put out.old out.new at result (text_of (line_of letter numbers.now ∷ [])) }
 {
-    out[at] = POST;
-    let kind = put_field(out, at + 1, station as u64);
-    let event = put_field(out, kind, INSERT);
-    let start = put_field(out, event, draw as u64 + 1);
-    let end = put_field(out, start, draw as u64);
+    out[at] = letter;
+    let mut end = at + 1;
+    for value in numbers {
+        end = put_field(out, end, *value);
+    }
     out[end] = LINE_END;
     end + 1
 }
 
-// The same where the draw posts.
-fn put_post(out: &mut [u8], at: usize, station: usize, draw: u32) -> usize
-    requires { at + length (text_of (if posts draw then post_line station draw ∷ [] else [])) ≤ length out.old }
-    ensures { Put out.old out.new at result (text_of (if posts draw then post_line station draw ∷ [] else [])) }
+// The line of a post put into the buffer. Returns the place behind it.
+#[tactic(auto, unfolding(load_spec::specs::Script::post_line))]
+fn put_post_line(out: &mut [u8], at: usize, station: usize, draw: u32) -> usize
+    requires { at + post_length ≤ length out.old }
+    ensures { Put out.old out.new at result (text_of (post_line station draw ∷ [])) }
 {
-    if posts(draw) {
-        return put_post_line(out, at, station, draw);
-    }
-    at
+    put_line(
+        out,
+        at,
+        POST,
+        &[station as u64, INSERT, draw as u64 + 1, draw as u64],
+    )
 }
 
-// The posts of a round put at the front of the buffer.
+// The same where the draw posts.
+fn put_post(out: &mut [u8], at: usize, station: usize, draw: u32) -> usize
+    requires { at + length (text_of (if posts draw then post_line station draw ∷ [] else []))
+        ≤ length out.old }
+    ensures { Put out.old out.new at result
+        (text_of (if posts draw then post_line station draw ∷ [] else [])) }
+{
+    if posts(draw) {
+        put_post_line(out, at, station, draw)
+    } else {
+        at
+    }
+}
+
+// The posts of a round put at the front of the buffer. Returns the place behind them.
 fn put_posts(out: &mut [u8], state: u32, n: usize) -> usize
     requires { length (text_of (post_lines state n)) ≤ length out.old }
     ensures { Put out.old out.new 0 result (text_of (post_lines state n)) }
 {
-    let mut s = state;
+    let mut generator = Generator { state };
     let mut end = 0;
-    let mut p = 0;
-    while p < n {
-        let first = next_state(s);
-        end = put_post(out, end, p, draw_of(first));
-        s = next_state(first);
-        p += 1;
+    for p in 0..n {
+        end = put_post(out, end, p, generator.station().post);
     }
     end
 }
 
-// The masks of a round put into their columns. Returns the state after the round.
-fn put_masks(out: &mut [u8], at: usize, state: u32, n: usize) -> u32
-    requires { (n ≤ 16) × (at + field_width * n ≤ length out.old) }
-    ensures { (result ≡ after_round n state)
-        × (out.new ≡ placed out.old at (fields (tabulate n (mask_draw state)))) }
-{
-    let mut s = state;
-    let mut end = at;
-    let mut p = 0;
-    while p < n {
-        let post = next_state(s);
-        s = next_state(post);
-        end = put_field(out, end, draw_of(s) as u64);
-        p += 1;
-    }
-    s
-}
-
 // The lines of a round put at the front of the buffer. Returns the state after the round.
 fn put_round(out: &mut [u8], state: u32, n: usize) -> u32
-    requires { (n ≤ 16) × (length (text_of (round_lines state n)) ≤ length out.old) }
-    ensures { (result ≡ after_round n state)
-        × (out.new ≡ placed out.old 0 (text_of (round_lines state n))) }
+    requires few { n ≤ 16 }
+    requires room { length (text_of (round_lines state n)) ≤ length out.old }
+    ensures after { result ≡ after_round n state }
+    ensures lines { out.new ≡ placed out.old 0 (text_of (round_lines state n)) }
 {
     let at = put_posts(out, state, n);
-    out[at] = ROUND;
-    let after = put_masks(out, at + 1, state, n);
-    out[at + 1 + 9 * n] = LINE_END;
-    after
+    let mut generator = Generator { state };
+    let masks = generator.masks(n);
+    put_line(out, at, ROUND, &masks[..n]);
+    generator.state
 }
 
 // The `N` line put at the front of the buffer.
+#[tactic(auto, unfolding(load_spec::specs::Script::size_line))]
 fn put_size(out: &mut [u8], n: usize)
     requires { size_length ≤ length out.old }
     ensures { out.new ≡ placed out.old 0 (text_of (size_line n ∷ [])) }
 {
-    out[0] = SIZE;
-    let end = put_field(out, 1, n as u64);
-    out[end] = LINE_END;
+    put_line(out, 0, SIZE, &[n as u64]);
 }
 
-// Is n a group's size, and is the number of rounds due one that a listing can number?
+/// Is n a group's size, and is the number of rounds due one that a listing can number?
+#[tactic(auto, unfolding(load_spec::specs::Calls::numbers_fit))]
 pub fn numbers_fit(n: usize, due: u32) -> bool
     ensures { result ≡ numbers_fit n due }
 {
-    if n < 1 {
-        return false;
-    }
-    if 16 < n {
-        return false;
-    }
-    due <= MOST_ROUNDS
+    1 <= n && n <= MOST_STATIONS && due <= MOST_ROUNDS
 }
 
-// The answer of a call that is refused: the state as given.
-fn refused(refusal: u32, state: u32) -> Generated
-    ensures { result ≡ record { refusal = refusal; len = 0; state = state } }
-{
-    Generated {
-        refusal,
-        len: 0,
-        state,
-    }
+// What was written: its bytes, and the state that the next call is given.
+#[derive(Clone, Copy)]
+struct Written {
+    len: usize,
+    state: u32,
 }
 
-// The next round where it fits: 9, or its length and the state after it.
-fn generate_round(out: &mut [u8], state: u32, n: usize) -> Generated
+// The next round where it fits.
+fn write_round(out: &mut [u8], state: u32, n: usize) -> Result<Written, Refusal>
     requires { n ≤ 16 }
-    ensures { Writes (text_of (round_lines state n)) state (after_round n state) out.old out.new result }
+    ensures { Writes (text_of (round_lines state n)) state (after_round n state) out.old out.new
+        (answer_of state result) }
 {
-    let len = posts_len(state, n) + 9 * n + 2;
+    // The line of masks has a letter and a line end too.
+    let len = posts_len(state, n) + FIELD * n + 2;
     if out.len() < len {
-        return refused(SHORT_BUFFER, state);
+        return Err(Refusal::ShortBuffer);
     }
     let after = put_round(out, state, n);
-    Generated {
-        refusal: DONE,
-        len,
-        state: after,
-    }
+    Ok(Written { len, state: after })
 }
 
-// The `N` line where it fits: 9, or its length. It draws nothing.
-fn generate_size(out: &mut [u8], state: u32, n: usize) -> Generated
-    ensures { Writes (text_of (size_line n ∷ [])) state state out.old out.new result }
+// The `N` line where it fits. It draws nothing.
+fn write_size(out: &mut [u8], state: u32, n: usize) -> Result<Written, Refusal>
+    ensures { Writes (text_of (size_line n ∷ [])) state state out.old out.new
+        (answer_of state result) }
 {
     if out.len() < SIZE_LEN {
-        return refused(SHORT_BUFFER, state);
+        return Err(Refusal::ShortBuffer);
     }
     put_size(out, n);
-    Generated {
-        refusal: DONE,
+    Ok(Written {
         len: SIZE_LEN,
         state,
-    }
+    })
 }
 
-// A call of the generator: 1, 9, or the `N` line where it is wanted, else the lines of the next
-// round, put at the front of the lent buffer.
+// The `N` line where it is wanted, else the lines of the next round where one is due.
+fn write_lines(
+    out: &mut [u8],
+    state: u32,
+    n: usize,
+    due: u32,
+    head: bool,
+) -> Result<Written, Refusal>
+    ensures answer { answer_of state result ≡ generated state n due head (length out.old) }
+    ensures buffer { out.new ≡ buffer_after state n due head out.old }
+{
+    if !numbers_fit(n, due) {
+        return Err(Refusal::BadNumber);
+    }
+    if head {
+        return write_size(out, state, n);
+    }
+    if due == 0 {
+        return Ok(Written { len: 0, state });
+    }
+    write_round(out, state, n)
+}
+
+/// A call of the generator: the `N` line where it is wanted, else the lines of the next round, put
+/// at the front of the lent buffer. Refused with 1 for numbers that do not fit and 9 for a buffer
+/// too short; then the length is 0 and the state as given.
 pub fn generate(out: &mut [u8], state: u32, n: usize, due: u32, head: bool) -> Generated
     ensures { (result ≡ generated state n due head (length out.old))
         × (out.new ≡ buffer_after state n due head out.old) }
 {
-    if !numbers_fit(n, due) {
-        return refused(BAD_NUMBER, state);
-    }
-    if head {
-        return generate_size(out, state, n);
-    }
-    if due == 0 {
-        return Generated {
-            refusal: DONE,
+    match write_lines(out, state, n, due, head) {
+        Ok(Written { len, state }) => Generated {
+            refusal: 0,
+            len,
+            state,
+        },
+        Err(refusal) => Generated {
+            refusal: refusal.number(),
             len: 0,
             state,
-        };
+        },
     }
-    generate_round(out, state, n)
 }

@@ -13,7 +13,7 @@ use lib.IntN.{pos}
 use borrow.Author.Tests.{lt-ltb, le-leb}
 use Rattle.bodies.specs.declared.Body.TheVariants.{Insert}
 use Rattle.bodies.specs.Body.{body_of}
-use Rattle.bodies.specs.Refusals.{done, queue_full, refuse}
+use Rattle.bodies.specs.Refusals.{done, queue_full, refuse_number}
 use Rattle.bodies.specs.Limits.{numbers_inside, channel_inside, on_channel, inside_kind, postable}
 use Rattle.bodies.proofs.Examples.{insert_small}
 use Rattle.lists.specs.Below.{filter_map}
@@ -76,7 +76,7 @@ post_room n g x c h d e o =
     on : on_channel (station_at g x.station).edition x.body ≡ true
     on = ap (λ (k : ℕ). on_channel k x.body) (c.member x.station h).edition ∙ o
 
-    go : (t : Bool) → (refuse t queue_full done ≡ done) ⊎ (refuse t queue_full done ≡ queue_full)
+    go : (t : Bool) → (refuse_number t queue_full done ≡ done) ⊎ (refuse_number t queue_full done ≡ queue_full)
     go true = inr refl
     go false = inl refl
 

@@ -2,17 +2,16 @@
 -- and the mask.
 use mathlib.Core.Path.{◌≡◌, refl, ap, ◌∙◌}
 use mathlib.Core.Bool.{cond}
-use mathlib.Core.List.{List, [], ◌∷◌, ◌++◌, append-nil}
+use mathlib.Core.List.{List, [], ◌∷◌, ◌++◌}
 use Prim.Native.Nat.{ℕ, zero, suc, ◌+◌, ◌*◌, ◌≤◌}
 use native.Mathlib.Omega.{arith}
 use native.Mathlib.Numerals.{add-one}
 use native.Mathlib.Decide.{ℕ_discrete}
 use lib.ListN.{length, length-append}
-use Rattle.lists.specs.Below.{filter_map, tabulate}
-use Rattle.columns.specs.Writing.{nat_columns}
+use Rattle.lists.specs.Below.{filter_map}
 use Rattle.load_spec.specs.Draws.{next_state, steps, draw_of, post_draw, mask_draw, posts}
-use Rattle.load_spec.specs.Script.{fields, text_of, post_line, post_lines}
-use Rattle.load_spec.proofs.Text.{fields-append, text_append}
+use Rattle.load_spec.specs.Script.{text_of, post_line, post_lines}
+use Rattle.load_spec.proofs.Text.{text_append}
 
 pub steps_none : (s : ℕ) → s ≡ steps (2 * 0) s
 unfolding steps
@@ -26,25 +25,19 @@ step_twice : (p s : ℕ) → steps (2 * p + 2) s ≡ next_state (next_state (ste
 unfolding steps
 step_twice p s = let e : 2 * p + 2 ≡ suc (suc (2 * p)) = omega arith in rw e
 
--- t is the state before the draws of station p, u the state after its first, v the state after its
--- second
-module _ (p s t u : ℕ) (before : t ≡ steps (2 * p) s) (first : u ≡ next_state t) where
-  -- the first draw is the post's
-  pub post_drawn : (d : ℕ) → d ≡ draw_of u → d ≡ post_draw s p
-  unfolding post_draw
-  post_drawn d e = e ∙ ap draw_of first ∙ rw (before, step_once)
+-- t is the state before the draws of station p, and v the state after them: the first draw is the
+-- post's, the second is the mask
+pub post_drawn : (p s t d : ℕ) → t ≡ steps (2 * p) s → d ≡ draw_of (next_state t) → d ≡ post_draw s p
+unfolding post_draw
+post_drawn p s t d before drawn = drawn ∙ rw (before, step_once)
 
-  module _ (v : ℕ) (second : v ≡ next_state u) where
-    both : v ≡ next_state (next_state (steps (2 * p) s))
-    both = second ∙ ap next_state first ∙ rw before
+pub steps_more : (p s t v : ℕ) → t ≡ steps (2 * p) s → v ≡ next_state (next_state t) → v ≡ steps (2 * (p + 1)) s
+steps_more p s t v before after =
+    let e : 2 * (p + 1) ≡ 2 * p + 2 = omega arith in after ∙ rw (before, e, step_twice)
 
-    -- the second is the mask
-    pub mask_drawn : (d : ℕ) → d ≡ draw_of v → d ≡ mask_draw s p
-    unfolding mask_draw
-    mask_drawn d e = e ∙ ap draw_of both ∙ rw step_twice
-
-    pub steps_more : v ≡ steps (2 * (p + 1)) s
-    steps_more = let e : 2 * (p + 1) ≡ 2 * p + 2 = omega arith in both ∙ rw (e, step_twice)
+pub mask_drawn : (p s t v d : ℕ) → t ≡ steps (2 * p) s → v ≡ next_state (next_state t) → d ≡ draw_of v → d ≡ mask_draw s p
+unfolding mask_draw
+mask_drawn p s t v d before after drawn = drawn ∙ rw (after, before, step_twice)
 
 -- the line of a station's post, where its draw posts
 abbrev pub post_if : ℕ → ℕ → List ℕ
@@ -80,11 +73,3 @@ length_grows s m (suc n) h =
             length-append (text_of (post_lines s n)) (post_if n (post_draw s n)),
           )
     ]
-
-pub fields_none : (f : ℕ → ℕ) → fields (tabulate 0 f) ≡ []
-unfolding tabulate fields
-fields_none f = refl
-
-pub fields_more : (f : ℕ → ℕ) (p : ℕ) → fields (tabulate (p + 1) f) ≡ fields (tabulate p f) ++ nat_columns 9 (f p)
-unfolding tabulate fields
-fields_more f p = rw add-one (fields-append (tabulate p f) (f p ∷ []) ∙ ap (λ (l : List ℕ). fields (tabulate p f) ++ l) (append-nil _))

@@ -1,5 +1,5 @@
 -- Document 02, A5: the states of the generator, and what is drawn from them.
-use Rattle.std.specs.Prelude.{ℕ, zero, suc, ◌+◌, ◌*◌, ◌/◌, ◌%◌, ◌^◌, Bool, eqb}
+use Rattle.std.specs.Prelude.{ℕ, zero, suc, ◌+◌, ◌*◌, ◌/◌, ◌%◌, ◌^◌, Bool, ◌==◌}
 
 -- the state after a state; it wraps at 32 bits
 unfoldable pub next_state : ℕ → ℕ
@@ -27,4 +27,4 @@ after_round n s = steps (2 * n) s
 
 -- a draw posts if it is a multiple of 8
 abbrev pub posts : ℕ → Bool
-posts draw = eqb (draw % 8) 0
+posts draw = draw % 8 == 0

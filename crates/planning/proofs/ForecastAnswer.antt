@@ -4,7 +4,7 @@ use mathlib.Core.Path.{◌≡◌, sym, ap₂, ◌∙◌}
 use Prim.Native.Nat.{ℕ}
 use lib.ListN.{length}
 use Rattle.links.specs.Forecast.{end_count, last_end}
-use Rattle.planning_spec.specs.declared.ForecastAnswer.{ForecastAnswer}
+use Rattle.planning_spec.specs.Forecast.{ForecastAnswer}
 use Rattle.planning_spec.specs.LinkLog.{rounds_of, links_of, log_refusal}
 use Rattle.planning_spec.specs.Forecast.{forecast_call}
 use Rattle.planning_spec.proofs.LinkLog.{accepted}

@@ -2,7 +2,8 @@
 -- ended by the other's masks alone, united with themselves.
 use mathlib.Core.List.{List}
 use mathlib.Core.Path.{◌≡◌, sym, ap, ◌∙◌}
-use Prim.Native.Nat.{ℕ, max, ◌+◌, ◌-◌, ◌/◌, ◌%◌, ◌^◌, ◌<◌, ◌≤◌}
+use Prim.Native.Nat.{ℕ, max, ◌+◌, ◌-◌, ◌*◌, ◌/◌, ◌%◌, ◌^◌, ◌<◌, ◌≤◌}
+use native.Mathlib.Nat.{mul-div_cancel}
 use native.Mathlib.Omega.{arith}
 use lib.Bits.{bit_and, bit_or, bit_xor, or_self, or_zero_l, or_zero_r}
 use lib.ListN.{get_or, length, replicate, length-replicate, get_or-eq_default}
@@ -66,11 +67,14 @@ module _ (n : ℕ) (first second others : List ℕ) (at : ℕ) (taken : logs_ref
       let none : get_or second (at + p) 0 ≡ 0 = get_or-eq_default second 0 (omega arith) in
       ap (λ (v : ℕ). bit_and v (get_or others p 0)) (or_self x ∙ sym (or_zero_r x) ∙ ap (λ (y : ℕ). bit_or x y) (sym none)) ∙ written p h)
 
--- Before the end of the merged log there is room for a whole round.
-pub count_fits : (n : ℕ) (first second : List ℕ) (at : ℕ) → logs_refusal n (length first) (length second) ≡ 0 → at % n ≡ 0
-    → at < max (length first) (length second) → at + n ≤ max (length first) (length second)
-count_fits n first second at taken z =
+-- The merged log is whole rounds.
+pub count_whole : (n : ℕ) (first second : List ℕ) → logs_refusal n (length first) (length second) ≡ 0
+    → max (length first) (length second) / n * n ≡ max (length first) (length second)
+count_whole n first second taken =
     let t = both_accepted n (length first) (length second) taken in
-    round_fits n (max (length first / n) (length second / n)) at (max (length first) (length second)) z
-    (sym (merged_length n first second)
-    ∙ merged_whole n (length first / n) (length second / n) first second t.one.whole t.two.whole)
+    let e : max (length first) (length second) ≡ max (length first / n) (length second / n) * n =
+    sym (merged_length n first second)
+    ∙ merged_whole n (length first / n) (length second / n) first second t.one.whole t.two.whole in
+    ap (λ (x : ℕ). x / n * n) e
+    ∙ ap (λ (x : ℕ). x * n) (mul-div_cancel (max (length first / n) (length second / n)) t.one.some)
+    ∙ sym e

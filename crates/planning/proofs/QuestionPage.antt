@@ -1,16 +1,17 @@
--- A page of replies, round after round. A reply that is settled is the reply of the answer one
--- round later (`settled_reply`), and what the sets and ends say that a station has received is the
+-- A page of replies, round after round. A reply that is settled is the answer one round
+-- later (`settled_reply`), and what the sets and ends say that a station has received is the
 -- number that it has got to (`received_got`). So the replies after each round are those of the
 -- answers within it.
-use mathlib.Core.Bool.{Bool, false, cond, ◌||◌}
+use mathlib.Core.Bool.{Bool, true, false, cond, ◌||◌}
+use Rattle.std.specs.Prelude.{Some, None}
 use mathlib.Core.List.{List}
 use mathlib.Core.Option.{Option, none, some}
 use mathlib.Core.Path.{◌≡◌, refl, sym, ap, ap₂, ◌∙◌}
-use Prim.Native.Nat.{ℕ, suc, ◌+◌, ◌*◌, ◌<◌, ◌≤◌}
-use native.Mathlib.Decide.{ℕ_discrete, dec_le}
+use Prim.Native.Nat.{ℕ, suc, ◌+◌, ◌*◌, ◌<◌}
+use native.Mathlib.Decide.{ℕ_discrete}
 use native.Mathlib.Numerals.{add-one}
 use native.Mathlib.Omega.{arith}
-use borrow.Author.Tests.{eq-eqb, ne_eqb, le-leb, lt-leb}
+use lib.Dec.{leb}
 use lib.ListN.{get_or, length, set, length-set}
 use lib.Seq.{get_or-set_same, get_or-set_other}
 use Rattle.lists.specs.Below.{any_below}
@@ -19,40 +20,28 @@ use Rattle.links.specs.Inner.Number.{got}
 use Rattle.links.specs.Question.{otherwise, answer_in}
 use Rattle.links.proofs.Question.{got-knows}
 use Rattle.planning.specs.Stands.{Stands}
-use Rattle.planning_spec.specs.Questions.{question_at, is_bad, Asked}
-use Rattle.planning.specs.Replies.{reply_of, settled, received_in, Settled, Replied}
+use Rattle.planning_spec.specs.Questions.{question_at, is_bad, arrival_of, never, Asked}
+use Rattle.planning_spec.specs.Arrival.{Arrival}
+use Rattle.planning.specs.Replies.{settled, received_in, Settled, Replied}
 
 -- One reply.
-module _ (reply k received u : ℕ) where
-  pub settled_kept : (reply ≡ 0 → ⊥) → settled reply k received u ≡ reply
-  unfolding settled
-  settled_kept d = rw (ne_eqb reply 0 d)
-
-  pub settled_not : reply ≡ 0 → received < k → settled reply k received u ≡ 0
-  unfolding settled
-  settled_not e l = rw (eq-eqb reply 0 e, lt-leb k received l)
-
-  pub settled_now : reply ≡ 0 → k ≤ received → settled reply k received u ≡ u + 1
-  unfolding settled
-  settled_now e l = rw (eq-eqb reply 0 e, le-leb k received l)
-
-settled_reply : (a : Option ℕ) (k received u : ℕ) → settled (reply_of a) k received u ≡ reply_of (otherwise a k received u)
-unfolding reply_of otherwise
-settled_reply none k received u =
-    elim (dec_le k received) [
-      | yes l ↦ settled_now 0 k received u refl l ∙ rw (le-leb k received l)
-      | no g ↦ (let l : received < k = omega arith in settled_not 0 k received u refl l ∙ rw (lt-leb k received l))
-    ]
-settled_reply (some v) k received u = settled_kept (v + 1) k received u (λ e. omega arith)
+settled_reply : (a : Option ℕ) (k received u : ℕ) → settled (arrival_of a) k received u ≡ arrival_of (otherwise a k received u)
+unfolding arrival_of settled otherwise
+settled_reply none k received u = go (leb k received)
+  where
+    go : (b : Bool) → ◌≡◌ {A = Arrival} (cond b (Some u) None) (arrival_of (cond b (some u) none))
+    go true = refl
+    go false = refl
+settled_reply (some v) k received u = refl
 
 -- All replies of a round.
-module _ (page sets ends : List ℕ) (u : ℕ) (before : List ℕ) where
+module _ (page sets ends : List ℕ) (u : ℕ) (before : List Arrival) where
   pub settled_start : Settled 0 page sets ends u before before
   settled_start = record { size = refl; first = λ i h. absurd (omega arith); rest = λ i h. refl }
 
-  pub settled_more : (mid : List ℕ) (i v received : ℕ) → i < length before
+  pub settled_more : (mid : List Arrival) (i : ℕ) (v : Arrival) (received : ℕ) → i < length before
       → received ≡ received_in sets ends (get_or page (3 * i + 1) 0) (get_or page (3 * i) 0)
-      → v ≡ settled (get_or mid i 0) (get_or page (3 * i + 2) 0) received u
+      → v ≡ settled (get_or mid i never) (get_or page (3 * i + 2) 0) received u
       → Settled i page sets ends u before mid → Settled (i + 1) page sets ends u before (set mid i v)
   unfolding question_at
   settled_more mid i v received l f e g =
@@ -63,12 +52,12 @@ module _ (page sets ends : List ℕ) (u : ℕ) (before : List ℕ) where
             elim (ℕ_discrete j i) [
               | yes q ↦
                   rw q
-                  (get_or-set_same mid i v 0 (omega (arith, g.size))
+                  (get_or-set_same mid i v never (omega (arith, g.size))
                   ∙ e
-                  ∙ ap₂ (λ (x y : ℕ). settled x (question_at page i).number y u) (g.rest i (omega arith)) f)
-              | no d ↦ get_or-set_other mid i j v 0 d ∙ g.first j (omega arith)
+                  ∙ ap₂ (λ (x : Arrival) (y : ℕ). settled x (question_at page i).number y u) (g.rest i (omega arith)) f)
+              | no d ↦ get_or-set_other mid i j v never d ∙ g.first j (omega arith)
             ];
-        rest = λ j h. get_or-set_other mid i j v 0 (λ q. omega arith) ∙ g.rest j (omega arith);
+        rest = λ j h. get_or-set_other mid i j v never (λ q. omega arith) ∙ g.rest j (omega arith);
       }
 
 -- What the sets and ends say of a station is what it has.
@@ -86,12 +75,12 @@ answer_suc : (L : Links) (r s k u : ℕ) → answer_in L r s k (suc u) ≡ other
 unfolding answer_in
 answer_suc L r s k u = refl
 
-reply_none : reply_of none ≡ 0
-unfolding reply_of
+reply_none : arrival_of none ≡ never
+unfolding arrival_of
 reply_none = refl
 
 module _ (L : Links) (count : ℕ) (page : List ℕ) (asked : Asked L.size count page) where
-  pub replied_start : (sets ends last before after : List ℕ) → length before ≡ 64 → ((i : ℕ) → get_or before i 0 ≡ 0)
+  pub replied_start : (sets ends last : List ℕ) (before after : List Arrival) → length before ≡ 64 → ((i : ℕ) → get_or before i never ≡ never)
       → Stands L 0 sets ends last → Settled count page sets ends 0 before after → Replied L 0 count page after
   replied_start sets ends last before after e z k g =
       record {
@@ -100,14 +89,14 @@ module _ (L : Links) (count : ℕ) (page : List ℕ) (asked : Asked L.size count
             λ i h.
             let q = question_at page i in
             g.first i h
-            ∙ ap₂ (λ (x y : ℕ). settled x q.number y 0) (z i ∙ sym reply_none)
+            ∙ ap₂ (λ (x : Arrival) (y : ℕ). settled x q.number y 0) (z i ∙ sym reply_none)
             (received_got L 0 sets ends last k q.receiver q.sender (asked.receivers i h) (asked.senders i h))
             ∙ settled_reply none q.number (got L 0 q.receiver q.sender) 0
-            ∙ ap reply_of (sym (answer_zero L q.receiver q.sender q.number));
+            ∙ ap arrival_of (sym (answer_zero L q.receiver q.sender q.number));
         rest = λ i h. g.rest i h ∙ z i;
       }
 
-  pub replied_more : (u : ℕ) (sets ends last before after : List ℕ) → Stands L (u + 1) sets ends last → Replied L u count page before
+  pub replied_more : (u : ℕ) (sets ends last : List ℕ) (before after : List Arrival) → Stands L (u + 1) sets ends last → Replied L u count page before
       → Settled count page sets ends (u + 1) before after → Replied L (u + 1) count page after
   replied_more u sets ends last before after k p g =
       rw (add-one u)
@@ -118,11 +107,11 @@ module _ (L : Links) (count : ℕ) (page : List ℕ) (asked : Asked L.size count
             let q = question_at page i in
             let e : u + 1 ≡ suc u = add-one u in
             g.first i h
-            ∙ ap₂ (λ (x y : ℕ). settled x q.number y (u + 1)) (p.each i h)
+            ∙ ap₂ (λ (x : Arrival) (y : ℕ). settled x q.number y (u + 1)) (p.each i h)
             (received_got L (u + 1) sets ends last k q.receiver q.sender (asked.receivers i h) (asked.senders i h))
-            ∙ ap (λ (w : ℕ). settled (reply_of (answer_in L q.receiver q.sender q.number u)) q.number (got L w q.receiver q.sender) w) e
+            ∙ ap (λ (w : ℕ). settled (arrival_of (answer_in L q.receiver q.sender q.number u)) q.number (got L w q.receiver q.sender) w) e
             ∙ settled_reply (answer_in L q.receiver q.sender q.number u) q.number (got L (suc u) q.receiver q.sender) (suc u)
-            ∙ ap reply_of (sym (answer_suc L q.receiver q.sender q.number u));
+            ∙ ap arrival_of (sym (answer_suc L q.receiver q.sender q.number u));
         rest = λ i h. g.rest i h ∙ p.rest i h;
       })
 

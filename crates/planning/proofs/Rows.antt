@@ -23,10 +23,6 @@ module _ (l : List ℕ) (p : ℕ) (f : ℕ → ℕ) where
   pub row_start : RowIs 0 l l p f
   row_start = record { size = refl; row = λ s h. absurd (omega arith); rest = λ q s h d. refl }
 
-  -- The next place is as it was.
-  pub row_next : (m : List ℕ) (s : ℕ) → s < 16 → RowIs s l m p f → cell m p s ≡ cell l p s
-  row_next m s h r = r.rest p s h (λ e. le_refl s)
-
   pub row_more : (m : List ℕ) (s v : ℕ) → s < 16 → 16 * p + s < length l → RowIs s l m p f → v ≡ f s → RowIs (s + 1) l (set m (16 * p + s) v) p f
   row_more m s v h b r e =
       record {

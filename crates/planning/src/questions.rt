@@ -1,55 +1,57 @@
-// A page of questions for one log (document 02, A11): by which round has a station received a
-// broadcast? One pass over the log answers the whole page.
-ghost use Rattle.std.specs.Prelude.{◌≡◌, ℕ, ◌*◌, ◌<◌, ◌≤◌, length, get_or};
+//! A page of questions for one log (document 02, A11): by which round has a station received a
+//! broadcast? One pass over the log answers the whole page.
+
+ghost use Rattle.std.specs.Prelude.{◌≡◌, ℕ, ◌*◌, ◌<◌, ◌≤◌, length, slice_index};
+ghost use Rattle.bodies.specs.Refusals.{number_of};
 ghost use Rattle.lists.specs.Below.{any_below};
-ghost use Rattle.planning_spec.specs.LinkLog.{rounds_of, links_of, log_refusal, most_rounds};
+ghost use Rattle.planning_spec.specs.LinkLog.{rounds_of, links_of, log_refusal};
 ghost use Rattle.planning_spec.specs.Questions.{question_at, is_bad, page_refusal, questions_refusal, Asked};
-ghost use Rattle.planning_spec.specs.Questions.{most_questions, never, questions_call};
+ghost use Rattle.planning_spec.specs.Questions.{most_questions, questions_call, page_answer};
 ghost use Rattle.planning.specs.Sets.{highest_count};
-ghost use Rattle.planning.specs.Replies.{settled, received_in, answer_of, Settled, Replied};
+ghost use Rattle.planning.specs.Replies.{settled, received_in, Settled, Replied};
 
+use super::PLACES;
+use super::logs::judge_log;
 use super::sets::{begin_all, close, learn};
-use bodies::refusals::{BAD_QUESTION, DONE};
-use planning_spec::{Arrival, PageAnswer, QuestionAnswer};
-
-// No group has more stations.
-const PLACES: usize = 16;
+use bodies::refusals::Refusal;
+use planning_spec::Arrival;
 
 // A question is three numbers: sender, receiver and the number of the broadcast.
 const PARTS: usize = 3;
 
 const MOST_QUESTIONS: usize = 64;
 
-// A reply after a round. While the rounds go a reply is 0 for none yet, else one more than its
-// round; what is replied stays.
-fn settle(reply: u16, number: u32, received: u16, round: u16) -> u16
-    requires { round ≤ most_rounds }
+// A reply after a round: what is replied stays.
+#[tactic(auto, unfolding(crate::specs::Replies::settled))]
+fn settle(reply: Arrival, number: u32, received: u16, round: u16) -> Arrival
     ensures { result ≡ settled reply number received round }
 {
-    if reply != 0 {
-        return reply;
+    match reply {
+        Some(_) => reply,
+        None if number <= received as u32 => Some(round),
+        None => None,
     }
-    if number > received as u32 {
-        return 0;
-    }
-    round + 1
 }
 
 // How many broadcasts of s station r has received: those that ended, and the present one where r
 // has it.
+#[tactic(auto, unfolding(crate::specs::Replies::received_in))]
 fn received(sets: &[u16; 256], ends: &[u16; 16], r: usize, s: usize) -> u16
-    requires { (r < 16) × (s < 16) × (get_or ends.now s 0 < highest_count) }
+    requires receiver { r < 16 }
+    requires sender { s < 16 }
+    requires room { slice_index ends.now s < highest_count }
     ensures { result ≡ received_in sets.now ends.now r s }
 {
     if links::set_at(sets[PLACES * r + s], s) {
-        return ends[s] + 1;
+        ends[s] + 1
+    } else {
+        ends[s]
     }
-    ends[s]
 }
 
 // All replies after a round.
 fn settle_all(
-    replies: &mut [u16; 64],
+    replies: &mut [Arrival; 64],
     page: &[u32],
     count: usize,
     sets: &[u16; 256],
@@ -57,55 +59,48 @@ fn settle_all(
     n: usize,
     round: u16,
 )
-    requires { Asked n count page.now × (n ≤ 16) × (length replies.old ≡ most_questions) × (round ≤ most_rounds)
-        × ((s : ℕ) → s < n → get_or ends.now s 0 < highest_count) }
-    ensures { Settled count page.now sets.now ends.now round
-        replies.old replies.new }
+    requires asked { Asked n count page.now }
+    requires few { n ≤ 16 }
+    requires size { length replies.old ≡ most_questions }
+    requires room { (s : ℕ) → s < n → slice_index ends.now s < highest_count }
+    ensures { Settled count page.now sets.now ends.now round replies.old replies.new }
 {
-    let mut i: usize = 0;
-    while i < count {
+    for i in 0..count {
         let s = page[PARTS * i] as usize;
         let r = page[PARTS * i + 1] as usize;
         let number = page[PARTS * i + 2];
         replies[i] = settle(replies[i], number, received(sets, ends, r, s), round);
-        i += 1;
     }
 }
 
 // The replies for a log and a page that are not refused.
-fn reply_all(log: &[u16], n: usize, rounds: usize, page: &[u32], count: usize) -> [u16; 64]
-    requires { Asked n count page.now × (log_refusal n (length log.now) ≡ 0)
-        × (rounds ≡ rounds_of n log.now) }
-    ensures { Replied (links_of n log.now) (rounds_of n log.now) count
-        page.now result }
+fn reply_all(log: &[u16], n: usize, rounds: usize, page: &[u32], count: usize) -> [Arrival; 64]
+    requires asked { Asked n count page.now }
+    requires accepted { log_refusal n (length log.now) ≡ 0 }
+    requires whole { rounds ≡ rounds_of n log.now }
+    ensures { Replied (links_of n log.now) (rounds_of n log.now) count page.now result }
 {
     let mut ends = [0u16; 16];
     let mut last = [0u16; 16];
     let mut sets = [0u16; 256];
-    let mut replies = [0u16; 64];
+    let mut replies = [None; 64];
     begin_all(&mut sets, n);
     settle_all(&mut replies, page, count, &sets, &ends, n, 0);
-    let mut u: usize = 0;
-    while u < rounds {
+    for u in 0..rounds {
+        let round = (u + 1) as u16;
         learn(&mut sets, log, u * n, n);
-        u += 1;
-        close(&mut sets, &mut ends, &mut last, n, u as u16);
-        settle_all(&mut replies, page, count, &sets, &ends, n, u as u16);
+        close(&mut sets, &mut ends, &mut last, n, round);
+        settle_all(&mut replies, page, count, &sets, &ends, n, round);
     }
     replies
 }
 
 // Does a question name a station not below n, or have a number below 1?
+#[tactic(auto, unfolding(planning_spec::specs::Questions::is_bad))]
 fn is_bad(s: u32, r: u32, number: u32, n: usize) -> bool
     ensures { result ≡ is_bad n (record { sender = s; receiver = r; number = number }) }
 {
-    if s as usize >= n {
-        return true;
-    }
-    if r as usize >= n {
-        return true;
-    }
-    number == 0
+    n <= s as usize || n <= r as usize || number == 0
 }
 
 // Is one of the first questions bad?
@@ -113,94 +108,43 @@ fn any_bad(page: &[u32], count: usize, n: usize) -> bool
     requires { 3 * count ≤ length page.now }
     ensures { result ≡ any_below count (λ i. is_bad n (question_at page.now i)) }
 {
-    let mut i: usize = 0;
-    let mut found = false;
-    while i < count {
-        found = found | is_bad(page[PARTS * i], page[PARTS * i + 1], page[PARTS * i + 2], n);
-        i += 1;
+    for i in 0..count {
+        if is_bad(page[PARTS * i], page[PARTS * i + 1], page[PARTS * i + 2], n) {
+            return true;
+        }
     }
-    found
+    false
 }
 
-// 0, or the refusal of a page for n stations.
-fn page_refusal(page: &[u32], n: usize) -> u32
-    ensures { result ≡ page_refusal n page.now }
+// Judges a page for n stations.
+#[tactic(auto, unfolding(planning_spec::specs::Questions::page_refusal))]
+fn judge_page(page: &[u32], n: usize) -> Result<(), Refusal>
+    ensures { number_of result ≡ page_refusal n page.now }
 {
-    if page.len() % PARTS != 0 {
-        return BAD_QUESTION;
-    }
     let count = page.len() / PARTS;
-    if count > MOST_QUESTIONS {
-        return BAD_QUESTION;
+    if page.len() % PARTS != 0 || MOST_QUESTIONS < count || any_bad(page, count, n) {
+        return Err(Refusal::BadQuestion);
     }
-    if any_bad(page, count, n) {
-        return BAD_QUESTION;
-    }
-    DONE
+    Ok(())
 }
 
-// 0, or the refusal of a log and a page: 1, 12, 18.
-fn refusal_of(log: &[u16], n: usize, page: &[u32]) -> u32
-    ensures { result ≡ questions_refusal n log.now page.now }
+// Judges a log and a page.
+#[tactic(auto, unfolding(planning_spec::specs::Questions::questions_refusal))]
+fn judge(log: &[u16], n: usize, page: &[u32]) -> Result<(), Refusal>
+    ensures { number_of result ≡ questions_refusal n log.now page.now }
 {
-    let refusal = super::logs::log_refusal(log.len(), n);
-    if refusal != DONE {
-        return refusal;
-    }
-    page_refusal(page, n)
+    judge_log(log.len(), n)?;
+    judge_page(page, n)
 }
 
-// The answer that a reply stands for.
-fn answer_of(reply: u16) -> QuestionAnswer
-    ensures { result ≡ answer_of reply }
+/// The answers to a page of questions for a log of n masks a round; None for never, and past the
+/// page. A question is three numbers: sender, receiver, and the number of the broadcast. BadNumber:
+/// n is not 1 to 16. BadLinkLog: the log is not whole rounds, or has more than 2,048. BadQuestion:
+/// a question names a station not below n, has a number below 1, is not whole, or is past the 64th.
+#[tactic(auto, unfolding(planning_spec::specs::Questions::questions_call), using(planning_spec::proofs::Refused::refused))]
+pub fn answer(log: &[u16], n: usize, page: &[u32]) -> Result<[Arrival; 64], Refusal>
+    ensures { page_answer result ≡ questions_call n log.now page.now }
 {
-    if reply == 0 {
-        return QuestionAnswer {
-            arrival: Arrival::Never,
-        };
-    }
-    let round = reply - 1;
-    QuestionAnswer {
-        arrival: Arrival::InRound { round: round },
-    }
-}
-
-// All answers of a page.
-fn answers_of(replies: [u16; 64]) -> [QuestionAnswer; 64]
-    ensures { (length result ≡ most_questions)
-        × ((i : ℕ) → i < most_questions → get_or result i never ≡ answer_of (get_or replies i 0)) }
-{
-    let mut answers = [QuestionAnswer {
-        arrival: Arrival::Never,
-    }; 64];
-    let mut i: usize = 0;
-    while i < MOST_QUESTIONS {
-        answers[i] = answer_of(replies[i]);
-        i += 1;
-    }
-    answers
-}
-
-// The answers to a page of questions for a log of n masks a round. A question is three numbers:
-// sender, receiver, and the number of the broadcast. 1: n is not 1 to 16. 12: the log is not whole
-// rounds, or has more than 2,048. 18: a question names a station not below n, has a number below 1,
-// is not whole, or is past the 64th.
-pub fn answer(log: &[u16], n: usize, page: &[u32]) -> PageAnswer
-    ensures { result ≡ questions_call n log.now page.now }
-{
-    let refusal = refusal_of(log, n, page);
-    if refusal != DONE {
-        return PageAnswer {
-            refusal: refusal,
-            answers: [QuestionAnswer {
-                arrival: Arrival::Never,
-            }; 64],
-        };
-    }
-    let replies = reply_all(log, n, log.len() / n, page, page.len() / PARTS);
-    let answers = answers_of(replies);
-    PageAnswer {
-        refusal: DONE,
-        answers: answers,
-    }
+    judge(log, n, page)?;
+    Ok(reply_all(log, n, log.len() / n, page, page.len() / PARTS))
 }

@@ -1,9 +1,7 @@
 -- What `contest_into` returns and writes: the answer of the contest as numbers.
 use Rattle.std.specs.Prelude.{List, ℕ}
 use Rattle.bodies.specs.Refusals.{done}
-use Rattle.contest.specs.declared.ContestAnswer.{ContestAnswer}
-use Rattle.contest.specs.declared.ContestAnswer.TheVariants.{Refused, Breaker, Keeper}
-use Rattle.contest.specs.Answer.{contest_call}
+use Rattle.contest.specs.Answer.{ContestAnswer, Refused, Breaker, Keeper, contest_call}
 use Rattle.planning_calls.specs.Pair.{pair_returned, pair_buffer}
 
 -- an answer's refusal, or 0

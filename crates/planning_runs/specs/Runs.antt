@@ -1,6 +1,7 @@
 -- The ends that the rounds of a list of calls report, and the link log that those rounds have or
 -- follow.
-use Rattle.std.specs.Prelude.{ℕ, zero, suc, ◌+◌, ◌*◌, ◌<◌, ◌≤◌, true, cond, List, [], ◌≡◌, get_or, length}
+use Rattle.std.specs.Prelude.{ℕ, zero, suc, ◌+◌, ◌*◌, ◌<◌, ◌≤◌, true, if◌then◌else◌, List, [], ◌≡◌}
+use Rattle.std.specs.Prelude.{slice_index, slice_index_or, length}
 use Rattle.bodies.specs.Refusals.{done}
 use Rattle.station_spec.specs.declared.Setup.{Setup}
 use Rattle.group_spec.specs.Calls.{group_fresh_refusal}
@@ -14,18 +15,19 @@ pub record FreshOf (n : ℕ) (setup : Setup) : Type 0 where
 -- how many ends s reports in the rounds up to u
 unfoldable pub ends_reported : History → ℕ → ℕ → ℕ
 ends_reported H s zero = 0
-ends_reported H s (suc u) = cond (ends_at H s (suc u)) (suc (ends_reported H s u)) (ends_reported H s u)
+ends_reported H s (suc u) = if ends_at H s (suc u) then suc (ends_reported H s u) else ends_reported H s u
 
 -- the last round up to u in which s reports an end; 0 where it reports none
 unfoldable pub last_reported : History → ℕ → ℕ → ℕ
 last_reported H s zero = 0
-last_reported H s (suc u) = cond (ends_at H s (suc u)) (suc u) (last_reported H s u)
+last_reported H s (suc u) = if ends_at H s (suc u) then suc u else last_reported H s u
 
 -- the rounds of a list of calls have this log: it is as many rounds, and each round was given its
 -- masks for the stations below n
 pub record RoundsHave (n : ℕ) (H : History) (log : List ℕ) : Type 0 where
   pub whole : length log ≡ length H.rounds * n
-  pub masks : (u p : ℕ) → u < length H.rounds → p < n → get_or (get_or H.log u []) p 0 ≡ get_or log (u * n + p) 0
+  pub masks :
+      (u p : ℕ) → u < length H.rounds → p < n → slice_index (slice_index_or H.log u []) p ≡ slice_index log (u * n + p)
 
 -- the k-th end that s reports is in round u
 pub record EndReported (H : History) (s k u : ℕ) : Type 0 where
@@ -42,4 +44,5 @@ pub record EndReportedBy (H : History) (s k u : ℕ) : Type 0 where
 -- the rounds of a list of calls, however many, were given the masks of this log; past its end
 -- nobody heard anybody
 pub record RoundsFollow (n : ℕ) (H : History) (log : List ℕ) : Type 0 where
-  pub masks : (v p : ℕ) → v < length H.rounds → p < n → get_or (get_or H.log v []) p 0 ≡ get_or log (v * n + p) 0
+  pub masks :
+      (v p : ℕ) → v < length H.rounds → p < n → slice_index (slice_index_or H.log v []) p ≡ slice_index log (v * n + p)

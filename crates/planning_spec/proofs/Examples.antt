@@ -9,7 +9,7 @@ use Rattle.links.specs.Inner.Clock.{latest, news}
 use Rattle.links.specs.Inner.Number.{answers, full, start, ends, num, num_of, got, got_of}
 use Rattle.links.specs.Question.{otherwise, answer_in}
 use Rattle.links.specs.Forecast.{end_count, last_end}
-use Rattle.planning_spec.specs.declared.Arrival.TheVariants.{InRound}
+use Rattle.std.specs.Prelude.{Some}
 use Rattle.planning_spec.specs.LinkLog.{log_refusal}
 use Rattle.planning_spec.specs.Forecast.{forecast_call}
 use Rattle.planning_spec.specs.Merge.{mask_of, merged_mask, merged_log, logs_refusal, merge_refusal, merge_call, front_written}
@@ -89,7 +89,7 @@ pub record Questions : Type 0 where
       questions_call 2 (2 ∷ 1 ∷ 2 ∷ 1 ∷ []) (0 ∷ 1 ∷ 1 ∷ 0 ∷ 0 ∷ 1 ∷ 0 ∷ 0 ∷ 2 ∷ 0 ∷ 1 ∷ 2 ∷ [])
       ≡ record {
         refusal = 0;
-        answers = record { arrival = InRound 1 } ∷ record { arrival = InRound 0 } ∷ record { arrival = InRound 2 } ∷ replicate 61 never;
+        answers = Some 1 ∷ Some 0 ∷ Some 2 ∷ replicate 61 never;
       }
   -- a round more brings it
   pub added :

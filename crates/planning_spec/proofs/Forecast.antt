@@ -13,7 +13,7 @@ use Rattle.links.specs.Forecast.{end_count, last_end}
 use Rattle.links.proofs.Forecast.{forecast_by_relays, station_only, end_count_zero, last_end_zero}
 use Rattle.lists.specs.Below.{set_below}
 use Rattle.lists.proofs.Laws.{length-set_below, set_below_inside, set_below_above, set_below_ext, set_below_all}
-use Rattle.planning_spec.specs.declared.ForecastAnswer.{ForecastAnswer}
+use Rattle.planning_spec.specs.Forecast.{ForecastAnswer}
 use Rattle.planning_spec.specs.LinkLog.{rounds_of, links_of, log_refusal}
 use Rattle.planning_spec.specs.Forecast.{per_station, forecast_call, RelayForecast}
 use Rattle.planning_spec.proofs.LinkLog.{accepted}

@@ -8,7 +8,7 @@ use native.Mathlib.Omega.{arith}
 use borrow.Author.Tests.{eq-eqb, ne_eqb, lt-ltb, le-ltb}
 use lib.ListN.{get_or, length}
 use Rattle.lists.specs.Below.{set_below}
-use Rattle.planning_spec.specs.declared.ForecastAnswer.{ForecastAnswer}
+use Rattle.planning_spec.specs.Forecast.{ForecastAnswer}
 use Rattle.planning_spec.specs.LinkLog.{log_refusal}
 use Rattle.planning_spec.specs.Forecast.{forecast_call, forecast_into_refusal, written_into}
 use Rattle.planning_spec.proofs.Forecast.{forecast_refused, forecast_done}

@@ -1,3 +1,4 @@
+pub mod Refused
 pub mod LinkLog
 pub mod Masks
 pub mod Forecast

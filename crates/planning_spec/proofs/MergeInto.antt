@@ -12,26 +12,12 @@ use lib.ListN.{get_or, length, set, drop, length-append, length-drop, get_or-app
 use lib.Seq.{ext_get_or, get_or-drop, get_or-append-add}
 use Rattle.lists.specs.Below.{set_below, tabulate}
 use Rattle.lists.proofs.Laws.{length-set_below, set_below_inside, set_below_above, length-tabulate, tabulate_at}
-use Rattle.planning_spec.specs.declared.MergeAnswer.{MergeAnswer}
-use Rattle.planning_spec.specs.LinkLog.{log_refusal}
+use Rattle.planning_spec.specs.Merge.{MergeAnswer}
 use Rattle.planning_spec.specs.Merge.{merged_mask, merged_log, logs_refusal, merge_refusal, merge_call, front_written, merge_into_refusal}
 use Rattle.planning_spec.proofs.LinkLog.{Accepted}
 use Rattle.planning_spec.proofs.Merge.{merged_length, both_accepted}
 
 module _ (n first second : ℕ) where
-  pub logs_first : (log_refusal n first ≡ 0 → ⊥) → logs_refusal n first second ≡ log_refusal n first
-  unfolding logs_refusal
-  logs_first d = rw (ne_eqb (log_refusal n first) 0 d)
-
-  pub logs_second : log_refusal n first ≡ 0 → logs_refusal n first second ≡ log_refusal n second
-  unfolding logs_refusal
-  logs_second e =
-      rw (eq-eqb (log_refusal n first) 0 e)
-      (elim (ℕ_discrete (log_refusal n second) 0) [
-        | yes f ↦ rw (eq-eqb (log_refusal n second) 0 f) (sym f)
-        | no d ↦ rw (ne_eqb (log_refusal n second) 0 d)
-      ])
-
   pub room_refused : (room : ℕ) → (logs_refusal n first second ≡ 0 → ⊥) → merge_refusal n first second room ≡ logs_refusal n first second
   unfolding merge_refusal
   room_refused room d = rw (ne_eqb (logs_refusal n first second) 0 d)
@@ -90,16 +76,6 @@ merged_front n first second buffer h =
 
 -- What a call returns and leaves in the buffer.
 module _ (n : ℕ) (first second buffer : List ℕ) where
-  pub merge_refused : (refusal : ℕ) → refusal ≡ logs_refusal n (length first) (length second) → (refusal ≡ 0 → ⊥)
-      → (◌≡◌ {A = MergeAnswer} (record { refusal = refusal; masks = 0 }) (merge_call n first second (length buffer)))
-      × (buffer ≡ front_written refusal (merged_log n first second) buffer)
-  unfolding merge_call
-  merge_refused refusal e d =
-      let r = room_refused n (length first) (length second) (length buffer) (λ h. d (e ∙ h)) in (
-        rw (ne_eqb (merge_refusal n (length first) (length second) (length buffer)) 0 (λ h. d (e ∙ sym r ∙ h)), r, e),
-        front_refused refusal (merged_log n first second) buffer d,
-      )
-
   pub merge_short : logs_refusal n (length first) (length second) ≡ 0 → length buffer < max (length first) (length second)
       → (◌≡◌ {A = MergeAnswer} (record { refusal = 9; masks = 0 }) (merge_call n first second (length buffer)))
       × (buffer ≡ front_written 9 (merged_log n first second) buffer)
@@ -164,18 +140,6 @@ module _ (n : ℕ) (first second merged masks : List ℕ) where
   abbrev count : List ℕ
   count = length (merged_log n first second) ∷ []
 
-  pub no_room_refused : (refusal : ℕ) → refusal ≡ logs_refusal n (length first) (length second) → (refusal ≡ 0 → ⊥)
-      → (refusal ≡ merge_into_refusal n first second merged masks)
-      × (merged ≡ front_written refusal (merged_log n first second) merged)
-      × (masks ≡ front_written refusal count masks)
-  unfolding merge_into_refusal
-  no_room_refused refusal e d =
-      let r = room_refused n (length first) (length second) room (λ h. d (e ∙ h)) in (
-        e ∙ sym r ∙ rw (ne_eqb (merge_refusal n (length first) (length second) room) 0 (λ h. d (e ∙ sym r ∙ h))),
-        front_refused refusal (merged_log n first second) merged d,
-        front_refused refusal count masks d,
-      )
-
   pub no_room : logs_refusal n (length first) (length second) ≡ 0 → length masks < 1
       → (9 ≡ merge_into_refusal n first second merged masks)
       × (merged ≡ front_written 9 (merged_log n first second) merged)
@@ -205,14 +169,6 @@ module _ (n : ℕ) (first second merged masks : List ℕ) where
       wrote,
       front_refused answer.refusal count masks d,
     )
-
-    pub into_small : answer.refusal ≡ 0 → answer.masks ≤ 32768
-    into_small e =
-        omega (
-          arith,
-          ap (λ (a : MergeAnswer). a.masks) is,
-          masks_small n first second merged (sym (ap (λ (a : MergeAnswer). a.refusal) is) ∙ e),
-        )
 
     pub into_done : answer.refusal ≡ 0 → 1 ≤ length masks
         → (0 ≡ merge_into_refusal n first second merged masks)

@@ -3,13 +3,12 @@
 -- at the end of the log leave every answer but never, which may become one of them.
 use mathlib.Core.Bool.{Bool, true, false, cond, not, ◌&&◌, ◌||◌, true≢false}
 use mathlib.Core.List.{List, ◌++◌}
-use mathlib.Core.Option.{Option}
 use mathlib.Core.Path.{◌≡◌, refl, sym, ap, ◌∙◌}
 use Prim.Native.Nat.{ℕ, zero, suc, ◌+◌, ◌*◌, ◌%◌, ◌<◌, ◌≤◌}
 use native.Mathlib.Decide.{dec_le}
 use native.Mathlib.Nat.{div-add-mod', mul-le-mul_right, suc-mul}
 use native.Mathlib.Omega.{arith}
-use borrow.Author.Tests.{eq-eqb, ne_eqb, le-leb, lt-leb, lt-ltb, le-ltb, leb-false, eqb-true, eqb-false, ltb-false}
+use borrow.Author.Tests.{eq-eqb, ne_eqb, lt-leb, le-ltb, leb-false, eqb-true, eqb-false, ltb-false}
 use lib.Dec.{eqb, leb, ltb}
 use lib.ListN.{get_or, length, replicate, length-replicate, length-append, get_or-append}
 use lib.Seq.{ext_get_or}
@@ -19,8 +18,8 @@ use Rattle.links.proofs.Prefix.{Same}
 use Rattle.links.proofs.Question.{answer_relays, answer_only, answer_extends}
 use Rattle.lists.specs.Below.{any_below, set_below}
 use Rattle.lists.proofs.Laws.{any_below_at, any_below_none, length-set_below, set_below_inside, set_below_above}
-use Rattle.planning_spec.specs.declared.QuestionAnswer.{QuestionAnswer}
-use Rattle.planning_spec.specs.declared.PageAnswer.{PageAnswer}
+use Rattle.planning_spec.specs.Arrival.{Arrival}
+use Rattle.planning_spec.specs.Questions.{PageAnswer}
 use Rattle.planning_spec.specs.LinkLog.{rounds_of, links_of, log_refusal}
 use Rattle.planning_spec.specs.Questions.{Question, question_at, question_count, is_bad, page_refusal, questions_refusal, Asked}
 use Rattle.planning_spec.specs.Questions.{arrival_of, answer_to, never, questions_call, RelayAnswer, LaterAnswer, one_page}
@@ -28,14 +27,6 @@ use Rattle.planning_spec.proofs.LinkLog.{accepted, whole_hears, hears_none, hear
 
 -- One question.
 module _ (n : ℕ) (q : Question) where
-  pub bad_sender : n ≤ q.sender → is_bad n q ≡ true
-  unfolding is_bad
-  bad_sender l = rw (le-leb n q.sender l)
-
-  pub bad_receiver : q.sender < n → n ≤ q.receiver → is_bad n q ≡ true
-  unfolding is_bad
-  bad_receiver l m = rw (lt-leb n q.sender l, le-leb n q.receiver m)
-
   pub bad_number : q.sender < n → q.receiver < n → is_bad n q ≡ eqb q.number 0
   unfolding is_bad
   bad_number l m = rw (lt-leb n q.sender l, lt-leb n q.receiver m)
@@ -54,18 +45,6 @@ module _ (n : ℕ) (q : Question) where
 module _ (n : ℕ) (page : List ℕ) where
   abbrev some_bad : Bool
   some_bad = any_below (question_count page) (λ i. is_bad n (question_at page i))
-
-  pub page_part : (length page % 3 ≡ 0 → ⊥) → page_refusal n page ≡ 18
-  unfolding page_refusal
-  page_part d = rw (ne_eqb (length page % 3) 0 d)
-
-  pub page_long : length page % 3 ≡ 0 → 64 < question_count page → page_refusal n page ≡ 18
-  unfolding page_refusal
-  page_long e l = rw (eq-eqb (length page % 3) 0 e, lt-ltb 64 (question_count page) l)
-
-  pub page_bad : length page % 3 ≡ 0 → question_count page ≤ 64 → some_bad ≡ true → page_refusal n page ≡ 18
-  unfolding page_refusal
-  page_bad e l b = rw (eq-eqb (length page % 3) 0 e, le-ltb 64 (question_count page) l, b)
 
   pub page_done : length page % 3 ≡ 0 → question_count page ≤ 64 → some_bad ≡ false → page_refusal n page ≡ 0
   unfolding page_refusal
@@ -91,10 +70,6 @@ module _ (n : ℕ) (page : List ℕ) where
 
 -- The refusals of a log and a page.
 module _ (n : ℕ) (log page : List ℕ) where
-  pub refused_log : (log_refusal n (length log) ≡ 0 → ⊥) → questions_refusal n log page ≡ log_refusal n (length log)
-  unfolding questions_refusal
-  refused_log d = rw (ne_eqb (log_refusal n (length log)) 0 d)
-
   pub refused_page : log_refusal n (length log) ≡ 0 → questions_refusal n log page ≡ page_refusal n page
   unfolding questions_refusal
   refused_page e = rw (eq-eqb (log_refusal n (length log)) 0 e)
@@ -115,7 +90,7 @@ module _ (n : ℕ) (log page : List ℕ) where
   unfolding questions_call
   call_refused refusal e d = rw (e, ne_eqb (questions_refusal n log page) 0 (λ h. d (e ∙ h)))
 
-nevers_at : (k i : ℕ) → get_or (replicate k never) i never ≡ never
+pub nevers_at : (k i : ℕ) → get_or (replicate k never) i never ≡ never
 nevers_at zero i = refl
 nevers_at (suc k) zero = refl
 nevers_at (suc k) (suc i) = nevers_at k i
@@ -125,7 +100,7 @@ module _ (n : ℕ) (log page : List ℕ) (e : questions_refusal n log page ≡ 0
   abbrev count : ℕ
   count = question_count page
 
-  abbrev answer : ℕ → QuestionAnswer
+  abbrev answer : ℕ → Arrival
   answer i = answer_to n log (question_at page i)
 
   few : count ≤ 64
@@ -139,23 +114,23 @@ module _ (n : ℕ) (log page : List ℕ) (e : questions_refusal n log page ≡ 0
   pub call_answer : (i : ℕ) → i < count → get_or (questions_call n log page).answers i never ≡ answer_to n log (question_at page i)
   call_answer i l =
       ap (λ (a : PageAnswer). get_or a.answers i never) call_done
-      ∙ set_below_inside count answer (replicate 64 never) i never l (omega (arith, few, length-replicate {A = QuestionAnswer} 64 never))
+      ∙ set_below_inside count answer (replicate 64 never) i never l (omega (arith, few, length-replicate {A = Arrival} 64 never))
 
   -- Sixty-four answers that are right at each question, and never past the page, are all of it.
-  pub call_is : (answers : List QuestionAnswer) → length answers ≡ 64 → ((i : ℕ) → i < count → get_or answers i never ≡ answer_to n log (question_at page i))
+  pub call_is : (answers : List Arrival) → length answers ≡ 64 → ((i : ℕ) → i < count → get_or answers i never ≡ answer_to n log (question_at page i))
       → ((i : ℕ) → count ≤ i → i < 64 → get_or answers i never ≡ never)
       → ◌≡◌ {A = PageAnswer} (record { refusal = 0; answers = answers }) (questions_call n log page)
   call_is answers size each rest =
-      ap (λ (l : List QuestionAnswer). record { refusal = 0; answers = l }) (ext_get_or never answers (set_below count answer (replicate 64 never)) same at)
+      ap (λ (l : List Arrival). record { refusal = 0; answers = l }) (ext_get_or never answers (set_below count answer (replicate 64 never)) same at)
       ∙ sym call_done
     where
       same : length answers ≡ length (set_below count answer (replicate 64 never))
-      same = size ∙ sym (length-set_below count answer (replicate 64 never) ∙ length-replicate {A = QuestionAnswer} 64 never)
+      same = size ∙ sym (length-set_below count answer (replicate 64 never) ∙ length-replicate {A = Arrival} 64 never)
 
       at : (i : ℕ) → i < length answers → get_or answers i never ≡ get_or (set_below count answer (replicate 64 never)) i never
       at i l =
           elim (dec_le (suc i) count) [
-            | yes h ↦ each i h ∙ sym (set_below_inside count answer (replicate 64 never) i never h (omega (arith, few, length-replicate {A = QuestionAnswer} 64 never)))
+            | yes h ↦ each i h ∙ sym (set_below_inside count answer (replicate 64 never) i never h (omega (arith, few, length-replicate {A = Arrival} 64 never)))
             | no g ↦
                 rest i (omega arith) (omega (arith, size))
                 ∙ sym (set_below_above count answer (replicate 64 never) i never (omega arith) ∙ nevers_at 64 i)
@@ -175,10 +150,10 @@ call_relays n log page e i l =
     }
 
 -- There is no other.
-pub relay_only : (n : ℕ) (log : List ℕ) (q : Question) (a b : QuestionAnswer) → 1 ≤ q.number → RelayAnswer n log q a → RelayAnswer n log q b → a ≡ b
+pub relay_only : (n : ℕ) (log : List ℕ) (q : Question) (a b : Arrival) → 1 ≤ q.number → RelayAnswer n log q a → RelayAnswer n log q b → a ≡ b
 relay_only n log q a b low x y =
     x.given
-    ∙ ap (λ (r : Option ℕ). record { arrival = arrival_of r })
+    ∙ ap arrival_of
     (answer_only (links_of n log) q.receiver q.sender q.number (rounds_of n log) x.round y.round low x.by_relays y.by_relays)
     ∙ sym y.given
 

@@ -9,8 +9,7 @@ use borrow.Author.Tests.{eq-eqb, ne_eqb, lt-ltb, le-ltb}
 use lib.ListN.{get_or, length, drop}
 use Rattle.lists.specs.Below.{set_below, tabulate}
 use Rattle.lists.proofs.Laws.{length-tabulate, set_below_ext}
-use Rattle.planning_spec.specs.declared.QuestionAnswer.{QuestionAnswer}
-use Rattle.planning_spec.specs.declared.PageAnswer.{PageAnswer}
+use Rattle.planning_spec.specs.Questions.{PageAnswer}
 use Rattle.planning_spec.specs.Merge.{front_written}
 use Rattle.planning_spec.specs.Questions.{question_at, question_count, questions_refusal, never, answer_to, questions_call}
 use Rattle.planning_spec.specs.Questions.{arrival_number, answer_numbers, questions_into_refusal}
@@ -25,15 +24,15 @@ call_refusal n log page =
     ]
 
 numbers_front : (n : ℕ) (log page buffer : List ℕ) → question_count page ≤ length buffer
-    → set_below (question_count page) (λ i. arrival_number (answer_to n log (question_at page i)).arrival) buffer
+    → set_below (question_count page) (λ i. arrival_number (answer_to n log (question_at page i))) buffer
     ≡ front_written 0 (answer_numbers n log page) buffer
 unfolding answer_numbers
 numbers_front n log page buffer h =
     let count = question_count page in
-    set_below_front count (λ i. arrival_number (answer_to n log (question_at page i)).arrival) buffer h
-    ∙ ap (λ (k : ℕ). tabulate count (λ i. arrival_number (answer_to n log (question_at page i)).arrival) ++ drop k buffer)
-    (sym (length-tabulate count (λ i. arrival_number (answer_to n log (question_at page i)).arrival)))
-    ∙ front_done (tabulate count (λ i. arrival_number (answer_to n log (question_at page i)).arrival)) buffer
+    set_below_front count (λ i. arrival_number (answer_to n log (question_at page i))) buffer h
+    ∙ ap (λ (k : ℕ). tabulate count (λ i. arrival_number (answer_to n log (question_at page i))) ++ drop k buffer)
+    (sym (length-tabulate count (λ i. arrival_number (answer_to n log (question_at page i)))))
+    ∙ front_done (tabulate count (λ i. arrival_number (answer_to n log (question_at page i)))) buffer
 
 -- What a return makes of a page's answers.
 module _ (n : ℕ) (log page buffer : List ℕ) (a : PageAnswer) (is : a ≡ questions_call n log page) where
@@ -60,17 +59,17 @@ module _ (n : ℕ) (log page buffer : List ℕ) (a : PageAnswer) (is : a ≡ que
   into_few e = (asked n page (taken n log page (sym same_refusal ∙ e)).1).few
 
   pub into_done : (after : List ℕ) → a.refusal ≡ 0 → question_count page ≤ length buffer
-      → after ≡ set_below (question_count page) (λ i. arrival_number (get_or a.answers i never).arrival) buffer
+      → after ≡ set_below (question_count page) (λ i. arrival_number (get_or a.answers i never)) buffer
       → (0 ≡ questions_into_refusal n log page buffer) × (after ≡ front_written 0 (answer_numbers n log page) buffer)
   unfolding questions_into_refusal
   into_done after e h w =
       let z = sym same_refusal ∙ e in (
         rw (eq-eqb (questions_refusal n log page) 0 z, le-ltb (length buffer) (question_count page) h),
         w
-            ∙ set_below_ext (question_count page) (λ i. arrival_number (get_or a.answers i never).arrival)
-            (λ i. arrival_number (answer_to n log (question_at page i)).arrival) buffer
+            ∙ set_below_ext (question_count page) (λ i. arrival_number (get_or a.answers i never))
+            (λ i. arrival_number (answer_to n log (question_at page i))) buffer
             (λ i l.
-            ap (λ (b : PageAnswer). arrival_number (get_or b.answers i never).arrival) is
-            ∙ ap (λ (x : QuestionAnswer). arrival_number x.arrival) (call_answer n log page z i l))
+            ap (λ (b : PageAnswer). arrival_number (get_or b.answers i never)) is
+            ∙ ap arrival_number (call_answer n log page z i l))
             ∙ numbers_front n log page buffer h,
       )

@@ -1,4 +1,5 @@
 pub mod LinkLog
+pub mod Arrival
 pub mod Forecast
 pub mod Merge
 pub mod Questions

@@ -1,3 +1,4 @@
+pub mod AllBelow
 pub mod LaneLaws
 pub mod LaneSteps
 pub mod QueueSteps

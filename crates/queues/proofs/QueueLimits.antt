@@ -52,9 +52,6 @@ pub queue_make : (inside : Body → Bool) (limit : ℕ) (q : Queue) → q.len �
 unfolding queue_inside
 queue_make inside limit q l h = and_both (le-leb q.len limit l) (all_below_make q.len (λ i. may_wait inside (slot_body q i)) h)
 
-pub queue_empty : (inside : Body → Bool) (limit : ℕ) (q : Queue) → q.len ≡ 0 → queue_inside inside limit q ≡ true
-queue_empty inside limit q e = queue_make inside limit q (omega (arith, e)) (λ i l. absurd (omega (arith, e)))
-
 pub queued_len : (q : Queue) (b : Body) → (queued q b).len ≡ suc q.len
 unfolding queued
 queued_len q b = omega arith

@@ -1,6 +1,7 @@
 -- Document 01, "A station and its calls": edits in the order posted, oldest first. What stands past
 -- the length is no part of the queue.
-use Rattle.std.specs.Prelude.{ℕ, ◌+◌, ◌-◌, Bool, ◌&&◌, List, ◌∷◌, ◌++◌, map, leb, take, drop, set, get_or, replicate}
+use Rattle.std.specs.Prelude.{ℕ, ◌+◌, ◌-◌, Bool, ◌&&◌, List, ◌∷◌, ◌++◌, map, nat_le, take, drop}
+use Rattle.std.specs.Prelude.{set, slice_index_or, replicate}
 use Rattle.bodies.specs.declared.Body.{Body}
 use Rattle.bodies.specs.declared.Body.TheVariants.{Empty}
 use Rattle.bodies.specs.Limits.{may_wait}
@@ -29,7 +30,7 @@ queued q b = record { len = q.len + 1; slots = set q.slots q.len (record { body 
 
 -- the oldest body
 unfoldable pub oldest : Queue → Body
-oldest q = (get_or q.slots 0 no_slot).body
+oldest q = (slice_index_or q.slots 0 no_slot).body
 
 -- the oldest removed: those after it move up by one place, and the place that becomes free holds
 -- Empty
@@ -43,4 +44,4 @@ unqueued q =
 -- no more than a limit, and each may wait
 unfoldable pub queue_inside : (Body → Bool) → ℕ → Queue → Bool
 queue_inside inside limit q =
-    leb q.len limit && all_below q.len (λ i. may_wait inside (get_or q.slots i no_slot).body)
+    nat_le q.len limit && all_below q.len (λ i. may_wait inside (slice_index_or q.slots i no_slot).body)

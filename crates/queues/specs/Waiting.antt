@@ -1,7 +1,7 @@
 -- Document 01, "A station and its calls", and document 02, A2 and A7: the edits of a station that
 -- wait to start, those of each of two desks in the order posted; how many of a desk may wait, the
 -- station's limit; and which desk goes first where both wait.
-use Rattle.std.specs.Prelude.{ℕ, ◌+◌, Bool, false, cond, ◌&&◌, List, leb, ltb, eqb, get_or}
+use Rattle.std.specs.Prelude.{ℕ, ◌+◌, Bool, false, if◌then◌else◌, ◌&&◌, List, nat_le, nat_lt, ◌==◌, slice_index_or}
 use Rattle.bodies.specs.declared.Body.{Body}
 use Rattle.queues.specs.declared.Queue.{Queue}
 use Rattle.queues.specs.declared.Waiting.{Waiting}
@@ -10,10 +10,10 @@ use Rattle.queues.specs.Queue.{queued, oldest, unqueued, queue_inside}
 
 -- what is a desk: 0 or 1
 abbrev pub is_desk : ℕ → Bool
-is_desk desk = ltb desk 2
+is_desk desk = nat_lt desk 2
 
 abbrev pub other_desk : ℕ → ℕ
-other_desk desk = cond (eqb desk 0) 1 0
+other_desk desk = if desk == 0 then 1 else 0
 
 -- nothing waits, with a limit, and desk 0 goes first
 unfoldable pub none_waiting : ℕ → Waiting
@@ -21,7 +21,7 @@ none_waiting limit = record { limit = limit; queue0 = empty_queue; queue1 = empt
 
 -- the queue of a desk
 unfoldable pub queue_of : Waiting → ℕ → Queue
-queue_of w desk = cond (eqb desk 0) w.queue0 w.queue1
+queue_of w desk = if desk == 0 then w.queue0 else w.queue1
 
 -- the waiting edits of a desk, in the order posted
 unfoldable pub waiting_edits : Waiting → ℕ → List Body
@@ -36,11 +36,11 @@ waiting_count w = desk_count w 0 + desk_count w 1
 
 -- the edit that waits behind i others of its desk
 unfoldable pub waiting_at : Waiting → ℕ → ℕ → Body
-waiting_at w desk i = (get_or (queue_of w desk).slots i no_slot).body
+waiting_at w desk i = (slice_index_or (queue_of w desk).slots i no_slot).body
 
 -- what may be a limit: 1 to 32
 abbrev pub limit_inside : ℕ → Bool
-limit_inside limit = leb 1 limit && leb limit queue_capacity
+limit_inside limit = nat_le 1 limit && nat_le limit queue_capacity
 
 -- the limit where none is named (document 02, A2)
 abbrev pub default_limit : ℕ
@@ -48,20 +48,20 @@ default_limit = 8
 
 -- one more of a desk may wait, whatever the other has
 unfoldable pub has_room : Waiting → ℕ → Bool
-has_room w desk = ltb (desk_count w desk) w.limit
+has_room w desk = nat_lt (desk_count w desk) w.limit
 
 -- with another queue of a desk, and another desk that goes first
 abbrev pub with_queue : Waiting → ℕ → Queue → Waiting
 with_queue w desk q =
     record {
       limit = w.limit;
-      queue0 = cond (eqb desk 0) q w.queue0;
-      queue1 = cond (eqb desk 0) w.queue1 q;
+      queue0 = if desk == 0 then q else w.queue0;
+      queue1 = if desk == 0 then w.queue1 else q;
       one_first = w.one_first;
     }
 
 abbrev pub with_first : Waiting → ℕ → Waiting
-with_first w desk = record { limit = w.limit; queue0 = w.queue0; queue1 = w.queue1; one_first = eqb desk 1 }
+with_first w desk = record { limit = w.limit; queue0 = w.queue0; queue1 = w.queue1; one_first = desk == 1 }
 
 -- one more edit of a desk, posted last
 unfoldable pub with_posted : Waiting → ℕ → Body → Waiting
@@ -69,11 +69,11 @@ with_posted w desk b = with_queue w desk (queued (queue_of w desk) b)
 
 -- the desk that goes first where both wait
 unfoldable pub first_desk : Waiting → ℕ
-first_desk w = cond w.one_first 1 0
+first_desk w = if w.one_first then 1 else 0
 
 -- the desk whose edit starts next: the one that goes first, or the other where that one has none
 unfoldable pub next_desk : Waiting → ℕ
-next_desk w = cond (ltb 0 (desk_count w (first_desk w))) (first_desk w) (other_desk (first_desk w))
+next_desk w = if nat_lt 0 (desk_count w (first_desk w)) then first_desk w else other_desk (first_desk w)
 
 -- the edit that starts next: the oldest of that desk
 unfoldable pub next_edit : Waiting → Body

@@ -3,7 +3,7 @@
 
 #![tactic(auto)]
 
-ghost use Rattle.std.specs.Prelude.{◌≡◌, true, cond, not, ◌≤◌, ◌<◌, ltb};
+ghost use Rattle.std.specs.Prelude.{◌≡◌, ◌≤◌, ◌<◌, nat_lt};
 ghost use Rattle.bodies.specs.Limits.{body_inside};
 ghost use Rattle.queues.specs.Lane as lane_spec;
 ghost use Rattle.queues.specs.Queue as queue_spec;
@@ -11,36 +11,37 @@ ghost use Rattle.queues.specs.Waiting as waiting_spec;
 
 use bodies::Body;
 
-// A body in an array.
-#[derive(Clone, Copy)]
+/// A body in an array.
+#[derive(Clone, Copy, Debug, PartialEq, Eq)]
 pub struct Slot {
     pub body: Body,
 }
 
-// The bodies taken from one station that are in no row yet, oldest first.
-#[derive(Clone, Copy)]
+/// The bodies taken from one station that are in no row yet, oldest first. What stands past the
+/// length is no part of the lane.
+#[derive(Clone, Copy, Debug, PartialEq, Eq)]
 pub struct Lane {
     pub len: u8,
     pub first: Body,
     pub second: Body,
 }
 
-// How many edits a queue has room for, whatever its limit.
+/// How many edits a queue has room for, whatever its limit.
 pub const QUEUE_CAPACITY: usize = 32;
 
-// How many edits may wait where no limit is named.
+/// How many edits may wait where no limit is named.
 pub const DEFAULT_LIMIT: usize = 8;
 
-// Edits in the order posted, oldest first.
-#[derive(Clone, Copy)]
+/// Edits in the order posted, oldest first. What stands past the length is no part of the queue.
+#[derive(Clone, Copy, Debug, PartialEq, Eq)]
 pub struct Queue {
     pub len: usize,
     pub slots: [Slot; QUEUE_CAPACITY],
 }
 
-// The edits of a station that wait to start, those of desk 0 and those of desk 1; how many of a
-// desk may wait, the station's limit; and whether desk 1 goes first where both wait.
-#[derive(Clone, Copy)]
+/// The edits of a station that wait to start, those of desk 0 and those of desk 1; how many of a
+/// desk may wait, the station's limit; and whether desk 1 goes first where both wait.
+#[derive(Clone, Copy, Debug, PartialEq, Eq)]
 pub struct Waiting {
     pub limit: usize,
     pub queue0: Queue,
@@ -48,247 +49,224 @@ pub struct Waiting {
     pub one_first: bool,
 }
 
-// The lane with one more body, put last.
-pub fn pushed(lane: Lane, body: Body) -> Lane
-    ensures { result ≡ lane_spec.pushed lane body }
-{
-    let len = lane.len;
-    if len == 0 {
-        return Lane {
-            len: 1,
-            first: body,
-            second: Body::Empty,
-        };
-    }
-    let first = lane.first;
-    if len == 1 {
-        return Lane {
-            len: 2,
-            first: first,
-            second: body,
-        };
-    }
-    let second = lane.second;
-    Lane {
-        len: 2,
-        first: first,
-        second: second,
-    }
+impl Slot {
+    /// A place without a body.
+    pub const EMPTY: Self = Slot { body: Body::Empty };
 }
 
-// A queue without edits.
-fn empty_queue() -> Queue
-    ensures { result ≡ queue_spec.empty_queue }
-{
-    let slot = Slot { body: Body::Empty };
-    let slots = [slot; QUEUE_CAPACITY];
-    Queue {
+impl Lane {
+    /// A lane without bodies.
+    pub const EMPTY: Self = Lane {
         len: 0,
-        slots: slots,
-    }
-}
+        first: Body::Empty,
+        second: Body::Empty,
+    };
 
-// The queue with one more body, put last.
-fn queued(queue: Queue, body: Body) -> Queue
-    requires { queue.len < queue_spec.queue_capacity }
-    ensures { result ≡ queue_spec.queued queue body }
-{
-    let len = queue.len;
-    let mut slots = queue.slots;
-    slots[len] = Slot { body: body };
-    Queue {
-        len: len + 1,
-        slots: slots,
-    }
-}
-
-// The oldest body.
-fn oldest(queue: Queue) -> Body
-    ensures { result ≡ queue_spec.oldest queue }
-{
-    let slot = queue.slots[0];
-    slot.body
-}
-
-// The queue without its oldest body.
-fn unqueued(queue: Queue) -> Queue
-    requires { (0 < queue.len) × (queue.len ≤ queue_spec.queue_capacity) }
-    ensures { result ≡ queue_spec.unqueued queue }
-{
-    let mut slots = queue.slots;
-    let last = queue.len - 1;
-    let mut i: usize = 0;
-    while i < last {
-        slots[i] = slots[i + 1];
-        i += 1;
-    }
-    slots[last] = Slot { body: Body::Empty };
-    Queue {
-        len: queue.len - 1,
-        slots: slots,
-    }
-}
-
-// Are there no more bodies in the queue than a limit, which it has room for, and may each wait in
-// this edition?
-fn queue_inside(queue: Queue, edition: usize, limit: usize) -> bool
-    requires { limit ≤ queue_spec.queue_capacity }
-    ensures { result ≡ queue_spec.queue_inside (body_inside edition) limit queue }
-{
-    let len = queue.len;
-    if limit < len {
-        return false;
-    }
-    let mut i: usize = 0;
-    while i < len {
-        let slot = queue.slots[i];
-        let body = slot.body;
-        if !bodies::limits::may_wait(edition, body) {
-            return false;
+    /// Puts a body last. A lane that has two stays as it is.
+    #[tactic(auto, unfolding(crate::specs::Lane::bodies, crate::specs::Lane::lane_of))]
+    pub fn push(&mut self, body: Body)
+        ensures { self.new ≡ lane_spec.pushed self.old body }
+    {
+        match self.len {
+            0 => *self = Lane {
+                len: 1,
+                first: body,
+                second: Body::Empty,
+            },
+            1 => {
+                self.second = body;
+                self.len = 2;
+            }
+            _ => self.len = 2,
         }
-        i += 1;
     }
-    true
+
+    /// Removes the oldest body.
+    #[tactic(auto, unfolding(crate::specs::Lane::bodies, crate::specs::Lane::lane_of))]
+    pub fn pop(&mut self)
+        ensures { self.new ≡ lane_spec.popped self.old }
+    {
+        *self = if self.len <= 1 {
+            Lane::EMPTY
+        } else {
+            Lane {
+                len: 1,
+                first: self.second,
+                second: Body::Empty,
+            }
+        };
+    }
 }
 
-// No edit waits, so many of a desk may, and desk 0 goes first.
-pub fn none_waiting(limit: usize) -> Waiting
-    ensures { result ≡ waiting_spec.none_waiting limit }
-{
-    let queue = empty_queue();
-    Waiting {
-        limit: limit,
-        queue0: queue,
-        queue1: queue,
-        one_first: false,
+impl Queue {
+    /// A queue without edits.
+    #[tactic(auto, unfolding(crate::specs::Queue::empty_queue))]
+    fn empty() -> Self
+        ensures { result ≡ queue_spec.empty_queue }
+    {
+        Queue {
+            len: 0,
+            slots: [Slot::EMPTY; QUEUE_CAPACITY],
+        }
+    }
+
+    /// Puts a body last.
+    #[tactic(auto, unfolding(crate::specs::Queue::queued))]
+    fn push(&mut self, body: Body)
+        requires { self.old.len < queue_spec.queue_capacity }
+        ensures { self.new ≡ queue_spec.queued self.old body }
+    {
+        self.slots[self.len] = Slot { body };
+        self.len += 1;
+    }
+
+    /// The oldest body.
+    #[tactic(auto, unfolding(crate::specs::Queue::oldest))]
+    fn oldest(&self) -> Body
+        ensures { result ≡ queue_spec.oldest self.now }
+    {
+        self.slots[0].body
+    }
+
+    /// Removes the oldest body.
+    #[tactic(auto, unfolding(crate::specs::Queue::unqueued))]
+    fn pop(&mut self)
+        requires waits { 0 < self.old.len }
+        requires room { self.old.len ≤ queue_spec.queue_capacity }
+        ensures { self.new ≡ queue_spec.unqueued self.old }
+    {
+        self.slots.copy_within(1..self.len, 0);
+        self.len -= 1;
+        self.slots[self.len] = Slot::EMPTY;
+    }
+
+    /// Are there no more bodies in the queue than a limit, which it has room for, and may each wait
+    /// in this edition?
+    #[tactic(auto, using(crate::proofs::AllBelow::all_below_take), unfolding(crate::specs::Queue::queue_inside))]
+    fn is_inside(&self, edition: usize, limit: usize) -> bool
+        requires { limit ≤ queue_spec.queue_capacity }
+        ensures { result ≡ queue_spec.queue_inside (body_inside edition) limit self.now }
+    {
+        self.len <= limit
+            && self.slots[..self.len]
+                .iter()
+                .all(|slot| slot.body.may_wait(edition))
     }
 }
 
-// Is there such a desk: 0 or 1?
+/// Is there such a desk: 0 or 1?
 pub fn is_desk(desk: usize) -> bool
     ensures { result ≡ waiting_spec.is_desk desk }
 {
     desk < 2
 }
 
-// Does an edit of either desk wait?
-pub fn any_waits(waiting: Waiting) -> bool
-    ensures { result ≡ ltb 0 (waiting_spec.waiting_count waiting) }
-{
-    if 0 < waiting.queue0.len {
-        return true;
-    }
-    0 < waiting.queue1.len
-}
-
-// Can this be a limit: 1 to 32?
+/// Can this be a limit: 1 to 32?
 pub fn limit_inside(limit: usize) -> bool
     ensures { result ≡ waiting_spec.limit_inside limit }
 {
-    if limit < 1 {
-        return false;
-    }
-    limit <= QUEUE_CAPACITY
+    1 <= limit && limit <= QUEUE_CAPACITY
 }
 
-// Is there room for one more edit of a desk?
-pub fn has_room(waiting: Waiting, desk: usize) -> bool
-    ensures { result ≡ waiting_spec.has_room waiting desk }
-{
-    if desk == 0 {
-        return waiting.queue0.len < waiting.limit;
-    }
-    waiting.queue1.len < waiting.limit
-}
-
-// The waiting edits once a desk has posted one more.
-pub fn with_posted(waiting: Waiting, desk: usize, body: Body) -> Waiting
-    requires { waiting_spec.desk_count waiting desk < queue_spec.queue_capacity }
-    ensures { result ≡ waiting_spec.with_posted waiting desk body }
-{
-    let queue0 = waiting.queue0;
-    let queue1 = waiting.queue1;
-    if desk == 0 {
-        let longer = queued(queue0, body);
-        return Waiting {
-            limit: waiting.limit,
-            queue0: longer,
-            queue1: queue1,
-            one_first: waiting.one_first,
-        };
-    }
-    let longer = queued(queue1, body);
-    Waiting {
-        limit: waiting.limit,
-        queue0: queue0,
-        queue1: longer,
-        one_first: waiting.one_first,
-    }
-}
-
-// Is the edit that starts next of desk 1, by who goes first and how many of each desk wait?
-fn one_next(one_first: bool, count0: usize, count1: usize) -> bool
-    ensures { result ≡ cond one_first (ltb 0 count1) (not (ltb 0 count0)) }
-{
-    if one_first {
-        return 0 < count1;
-    }
-    count0 == 0
-}
-
-// The edit that starts next.
-pub fn next_edit(waiting: Waiting) -> Body
-    ensures { result ≡ waiting_spec.next_edit waiting }
-{
-    if one_next(waiting.one_first, waiting.queue0.len, waiting.queue1.len) {
-        let queue = waiting.queue1;
-        return oldest(queue);
-    }
-    let queue = waiting.queue0;
-    oldest(queue)
-}
-
-// The waiting edits once the next one has started: the other desk goes first.
-pub fn without_next(waiting: Waiting) -> Waiting
-    requires { (0 < waiting_spec.waiting_count waiting)
-        × (waiting_spec.desk_count waiting (waiting_spec.next_desk waiting) ≤ queue_spec.queue_capacity) }
-    ensures { result ≡ waiting_spec.without_next waiting }
-{
-    let queue0 = waiting.queue0;
-    let queue1 = waiting.queue1;
-    if one_next(waiting.one_first, queue0.len, queue1.len) {
-        let shorter = unqueued(queue1);
-        return Waiting {
-            limit: waiting.limit,
-            queue0: queue0,
-            queue1: shorter,
+impl Waiting {
+    /// No edit waits, so many of a desk may, and desk 0 goes first.
+    #[tactic(auto, unfolding(crate::specs::Waiting::none_waiting))]
+    pub fn none(limit: usize) -> Self
+        ensures { result ≡ waiting_spec.none_waiting limit }
+    {
+        Waiting {
+            limit,
+            queue0: Queue::empty(),
+            queue1: Queue::empty(),
             one_first: false,
-        };
+        }
     }
-    let shorter = unqueued(queue0);
-    Waiting {
-        limit: waiting.limit,
-        queue0: shorter,
-        queue1: queue1,
-        one_first: true,
-    }
-}
 
-// Are the waiting edits inside their limits in an edition? Queues without edits are not looked at.
-pub fn waiting_inside(edition: usize, waiting: Waiting) -> bool
-    ensures { result ≡ waiting_spec.waiting_inside (body_inside edition) waiting }
-{
-    let limit = waiting.limit;
-    if !limit_inside(limit) {
-        return false;
+    // The queue of a desk.
+    #[tactic(auto, unfolding(crate::specs::Waiting::queue_of))]
+    fn queue(&self, desk: usize) -> &Queue
+        ensures { result.now ≡ waiting_spec.queue_of self.now desk }
+    {
+        if desk == 0 {
+            &self.queue0
+        } else {
+            &self.queue1
+        }
     }
-    if !any_waits(waiting) {
-        return true;
+
+    /// Does an edit of either desk wait?
+    #[tactic(auto, unfolding(crate::specs::Waiting::waiting_count, crate::specs::Waiting::desk_count, crate::specs::Waiting::queue_of))]
+    pub fn any_waits(&self) -> bool
+        ensures { result ≡ nat_lt 0 (waiting_spec.waiting_count self.now) }
+    {
+        0 < self.queue0.len || 0 < self.queue1.len
     }
-    let queue0 = waiting.queue0;
-    if !queue_inside(queue0, edition, limit) {
-        return false;
+
+    /// Is there room for one more edit of a desk?
+    #[tactic(auto, unfolding(crate::specs::Waiting::has_room, crate::specs::Waiting::desk_count))]
+    pub fn has_room(&self, desk: usize) -> bool
+        ensures { result ≡ waiting_spec.has_room self.now desk }
+    {
+        self.queue(desk).len < self.limit
     }
-    let queue1 = waiting.queue1;
-    queue_inside(queue1, edition, limit)
+
+    /// One more edit of a desk, posted last.
+    #[tactic(auto, unfolding(crate::specs::Waiting::with_posted, crate::specs::Waiting::desk_count, crate::specs::Waiting::queue_of))]
+    pub fn post(&mut self, desk: usize, body: Body)
+        requires { waiting_spec.desk_count self.old desk < queue_spec.queue_capacity }
+        ensures { self.new ≡ waiting_spec.with_posted self.old desk body }
+    {
+        if desk == 0 {
+            self.queue0.push(body);
+        } else {
+            self.queue1.push(body);
+        }
+    }
+
+    // The desk whose edit starts next: the one that goes first, or the other where that one has
+    // none.
+    #[tactic(auto, unfolding(crate::specs::Waiting::next_desk, crate::specs::Waiting::first_desk, crate::specs::Waiting::desk_count, crate::specs::Waiting::queue_of))]
+    fn next_desk(&self) -> usize
+        ensures { result ≡ waiting_spec.next_desk self.now }
+    {
+        match self.one_first {
+            true if 0 < self.queue1.len => 1,
+            false if self.queue0.len == 0 => 1,
+            _ => 0,
+        }
+    }
+
+    /// The edit that starts next.
+    #[tactic(auto, unfolding(crate::specs::Waiting::next_edit))]
+    pub fn next_edit(&self) -> Body
+        ensures { result ≡ waiting_spec.next_edit self.now }
+    {
+        self.queue(self.next_desk()).oldest()
+    }
+
+    /// The next edit has started: it waits no more, and the other desk goes first.
+    #[tactic(auto, unfolding(crate::specs::Waiting::without_next, crate::specs::Waiting::waiting_count, crate::specs::Waiting::next_desk, crate::specs::Waiting::first_desk, crate::specs::Waiting::desk_count, crate::specs::Waiting::queue_of))]
+    pub fn start_next(&mut self)
+        requires waits { 0 < waiting_spec.waiting_count self.old }
+        requires room { waiting_spec.desk_count self.old (waiting_spec.next_desk self.old) ≤ queue_spec.queue_capacity }
+        ensures { self.new ≡ waiting_spec.without_next self.old }
+    {
+        if self.next_desk() == 0 {
+            self.queue0.pop();
+            self.one_first = true;
+        } else {
+            self.queue1.pop();
+            self.one_first = false;
+        }
+    }
+
+    /// Are the waiting edits inside their limits in an edition?
+    #[tactic(auto, unfolding(crate::specs::Waiting::waiting_inside))]
+    pub fn is_inside(&self, edition: usize) -> bool
+        ensures { result ≡ waiting_spec.waiting_inside (body_inside edition) self.now }
+    {
+        limit_inside(self.limit)
+            && self.queue0.is_inside(edition, self.limit)
+            && self.queue1.is_inside(edition, self.limit)
+    }
 }

@@ -1,71 +1,70 @@
 // The steps of a reading: it begins, takes the bytes of a line, and finishes.
 
-ghost use Rattle.std.specs.Prelude.{◌≡◌, [], ◌∷◌, ◌-◌, ◌≤◌, length, take, drop};
+ghost use Rattle.std.specs.Prelude.{ℕ, ◌≡◌, [], ◌-◌, ◌≤◌, ◌<◌, length, take, drop, slice_index};
 ghost use Rattle.listing_lines.specs.Lines.{Put};
 ghost use Rattle.listing_spec.specs.Listing.{closing_room};
 ghost use Rattle.listing_spec.specs.Remaining.{kept_bytes, remaining, beginning, Same, EndsAt};
 
 use listing_spec::reading::{KEPT, Reader};
 
-// Bytes taken into a line, up to a line end or to the end of the part: the place behind them, and
-// how many bytes of the line are held then.
-#[derive(Clone, Copy)]
+/// Bytes taken into a line, up to a line end or to the end of the part: the place behind them, and
+/// how many bytes of the line are held then.
+#[derive(Clone, Copy, Debug, PartialEq, Eq)]
 pub struct LineScan {
     pub next: usize,
     pub len: usize,
 }
 
-// A reader before any byte is read.
+/// A reader before any byte is read.
 pub fn begin() -> Reader
     ensures { result ≡ beginning }
 {
-    let session = listing::ends::begin();
     Reader {
-        session,
+        session: listing::ends::begin(),
         len: 0,
         line: [0; KEPT],
     }
 }
 
-// One byte more of the line; the last that is kept and those behind it are not told apart.
-fn keep(line: &mut [u8], len: usize, b: u8) -> usize
-    requires { (len ≤ kept_bytes) × (kept_bytes ≡ length line.old) × (b ≡ 10 → ⊥) }
-    ensures { Same (take len line.old) (b ∷ []) (take result line.new) × (result ≤ kept_bytes) }
+// How many bytes stand before the first line end.
+fn line_len(bytes: &[u8]) -> usize
+    ensures ends { EndsAt bytes.now result }
+    ensures inner { (k : ℕ) → k < result → slice_index bytes.now k ≡ 10 → ⊥ }
 {
-    if KEPT <= len {
-        return len;
-    }
-    line[len] = b;
-    len + 1
+    bytes
+        .iter()
+        .position(|&b| b == b'\n')
+        .unwrap_or(bytes.len())
 }
 
-// The bytes of a part from a place up to a line end, taken into the line.
+/// The bytes of a part from a place up to a line end, taken into the line. Of a line that is too
+/// long only as many are kept as tell that it is.
 pub fn take_line(line: &mut [u8], held: usize, part: &[u8], from: usize) -> LineScan
-    requires { (held ≤ kept_bytes) × (kept_bytes ≡ length line.old) × (from ≤ length part.now) }
-    ensures { Same (take held line.old) (take (result.next - from) (drop from part.now))
-        (take result.len line.new)
-        × (result.len ≤ kept_bytes) × (from ≤ result.next) × EndsAt part.now result.next }
+    requires held { held ≤ kept_bytes }
+    requires whole { kept_bytes ≡ length line.old }
+    requires from { from ≤ length part.now }
+    ensures same { Same (take held line.old) (take (result.next - from) (drop from part.now))
+        (take result.len line.new) }
+    ensures kept { result.len ≤ kept_bytes }
+    ensures forward { from ≤ result.next }
+    ensures ends { EndsAt part.now result.next }
 {
-    let mut len = held;
-    let mut next = from;
-    while next < part.len() {
-        let b = part[next];
-        if b == 10 {
-            return LineScan { next, len };
-        }
-        len = keep(line, len, b);
-        next += 1;
+    let rest = &part[from..];
+    let read = line_len(rest);
+    let kept = read.min(KEPT - held);
+    line[held..held + kept].copy_from_slice(&rest[..kept]);
+    LineScan {
+        next: from + read,
+        len: held + kept,
     }
-    LineScan { next, len }
 }
 
-// The end of the script, and the last line.
+/// The end of the script, and the last line, put at the front of the buffer. Returns how many bytes
+/// were put.
 pub fn finish(r: Reader, out: &mut [u8]) -> usize
-    requires { (r.len ≤ kept_bytes) × (closing_room ≤ length out.old) }
+    requires held { r.len ≤ kept_bytes }
+    requires room { closing_room ≤ length out.old }
     ensures { Put out.old out.new 0 result (remaining r []) }
 {
-    let session = r.session;
-    let line = r.line;
-    let len = r.len;
-    listing::ends::close(session, &line[..len], out)
+    listing::ends::close(&r.session, &r.line[..r.len], out)
 }

@@ -1,22 +1,15 @@
--- Writing one record: sixteen stores into sixteen bytes leave just what was stored.
-use mathlib.Core.Path.{◌≡◌, ap, ◌∙◌}
-use mathlib.Core.List.{List, ◌∷◌, ◌++◌}
-use Prim.Native.Nat.{ℕ, ◌≤◌}
-use native.Mathlib.Omega.{arith}
-use lib.IntN.{ℤ}
-use lib.ListN.{length, set, drop_of_length-le}
-use lib.Seq.{sets, sets-eq}
-use mir.Syntax.{w32}
-use mir.Val.{SFits, to_z, of_z}
-use mir.ValLaws.{to_z-of_z}
+-- Writing one record: the sixteen bytes that are made are the definition's.
+use Rattle.std.proofs.Common.{◌≡◌, ℕ, ◌+◌, ◌≤◌, List, [], ◌∷◌, length, get_or, take, drop, sym, ◌∙◌, append_assoc, arith}
+use Rattle.std.proofs.lemmas.List.Edits.{sets, sets-eq}
+use borrow.Rule.Slice.PartMut.{put_mid}
+use lib.Seq.{drop-drop}
 use Rattle.bodies.specs.declared.Body.{Body}
 use Rattle.bodies.specs.declared.Body.TheVariants.{Empty, Neutral, Insert, Drop, Shift}
 use Rattle.bodies.specs.Body.{kind_of, event_of, argument_of, channel_of}
 use Rattle.labels.specs.Packing.{label_in, labels_over}
 use Rattle.frame_spec.specs.declared.Record.{Record}
 use Rattle.frame_spec.specs.Words.{word_bytes, unsigned}
-use Rattle.frame_spec.specs.Record.{record_bytes}
-use Rattle.frame_spec.proofs.Labels.{labels_of}
+use Rattle.frame_spec.specs.Record.{record_bytes, record_label}
 
 -- a kind is a byte
 pub kind_small : (b : Body) → kind_of b ≤ 4
@@ -26,28 +19,23 @@ kind_small (Insert channel event start) = omega arith
 kind_small (Drop channel event) = omega arith
 kind_small (Shift channel event frames) = omega arith
 
-sixteen :
-    (p : List ℕ) → length p ≡ 16 → (a b c d e f g : ℕ) →
-    sets (sets (sets (set (set (set (set p 0 a) 1 b) 2 c) 3 d) 4 (word_bytes e)) 8 (word_bytes f)) 12 (word_bytes g)
-    ≡ a ∷ b ∷ c ∷ d ∷ word_bytes e ++ word_bytes f ++ word_bytes g
-unfolding word_bytes
-sixteen p h a b c d e f g =
-    sets-eq (a ∷ b ∷ c ∷ d ∷ word_bytes e ++ word_bytes f ++ word_bytes g) p 0 (omega arith)
-    ∙ rw (drop_of_length-le p {i = 16} (omega arith))
+pub record_made :
+    (n : ℕ) (r : Record) (k c : ℕ) (e a l : List ℕ) →
+    k ≡ kind_of r.body → c ≡ channel_of r.body → e ≡ word_bytes (event_of r.body) →
+    a ≡ word_bytes (unsigned (argument_of r.body)) → l ≡ word_bytes (labels_over n (label_in r.labels) 0) →
+    ◌≡◌ {A = List ℕ}
+    (r.station ∷ r.count ∷ k ∷ c
+    ∷ get_or e 0 0 ∷ get_or e 1 0 ∷ get_or e 2 0 ∷ get_or e 3 0
+    ∷ get_or a 0 0 ∷ get_or a 1 0 ∷ get_or a 2 0 ∷ get_or a 3 0
+    ∷ get_or l 0 0 ∷ get_or l 1 0 ∷ get_or l 2 0 ∷ get_or l 3 0 ∷ [])
+    (record_bytes n r)
+unfolding record_bytes record_label word_bytes
+record_made n r k c e a l h₁ h₂ h₃ h₄ h₅ = rw (h₁, h₂, h₃, h₄, h₅)
 
-module _ (n : ℕ) (r : Record) (p : List ℕ) (fit : length p ≡ 16) where
-  pub record_made :
-      (k c e : ℕ) (z : ℤ) (u w : ℕ) (l₁ l₂ l₃ : List ℕ) →
-      k ≡ kind_of r.body → c ≡ channel_of r.body → e ≡ event_of r.body → SFits w32 z → z ≡ argument_of r.body → u ≡ unsigned (to_z w32 (of_z w32 z)) →
-      w ≡ labels_over n (label_in r.labels) 0 →
-      l₁ ≡ sets (set (set (set (set p 0 r.station) 1 r.count) 2 k) 3 c) 4 (word_bytes e) →
-      l₂ ≡ sets l₁ 8 (word_bytes u) →
-      l₃ ≡ sets l₂ 12 (word_bytes w) →
-      l₃ ≡ record_bytes n r
-  unfolding record_bytes
-  record_made k c e z u w l₁ l₂ l₃ kind channel event f argument number labels s₁ s₂ s₃ =
-      let u_is : u ≡ unsigned (argument_of r.body) = number ∙ ap unsigned (to_z-of_z w32 z f ∙ argument) in
-      s₃
-      ∙ ap (λ (l : List ℕ). sets l 12 (word_bytes w)) (s₂ ∙ ap (λ (l : List ℕ). sets l 8 (word_bytes u)) s₁)
-      ∙ sixteen p fit r.station r.count k c e u w
-      ∙ (λ i. r.station ∷ r.count ∷ kind i ∷ channel i ∷ word_bytes (event i) ++ word_bytes (u_is i) ++ word_bytes ((labels ∙ labels_of n r 0) i))
+-- four bytes put over four others
+pub word_put :
+    (at k word : ℕ) (bytes made : List ℕ) → k ≡ 4 → at + 4 ≤ length bytes → made ≡ word_bytes word →
+    put_mid at k bytes made ≡ sets bytes at (word_bytes word)
+unfolding word_bytes
+word_put at k word bytes made h l e =
+    rw (e, h) (rw (drop-drop 4 at bytes) (sym (sets-eq (word_bytes word) bytes at l ∙ append_assoc (take at bytes) (word_bytes word) (drop (at + 4) bytes))))

@@ -4,8 +4,8 @@ ghost use Rattle.std.specs.Prelude.{◌≡◌, length};
 ghost use Rattle.load_spec.specs.Calls.{wanted, host_refusal, host_buffer, host_places};
 ghost use Rattle.planning_calls.specs.Compare.{compare_returned, compare_buffer};
 
-// A call of the generator: 1, 9, or 0 with the lines in the buffer, the next state in next[0] and
-// their length in next[1]. The `N` line is wanted where head is not 0.
+/// A call of the generator: 1, 9, or 0 with the lines in the buffer, the next state in next[0] and
+/// their length in next[1]. The `N` line is wanted where head is not 0.
 #[unsafe(no_mangle)]
 pub extern "C" fn relay_load(
     state: u32,
@@ -15,16 +15,17 @@ pub extern "C" fn relay_load(
     buffer: &mut [u8],
     next: &mut [u32],
 ) -> u32
-    ensures { (result ≡ host_refusal state n due (wanted head) (length buffer.old) (length next.old))
-        × (buffer.new ≡ host_buffer state n due (wanted head) (length next.old) buffer.old)
-        × (next.new
-        ≡ host_places state n due (wanted head) (length buffer.old) next.old) }
+    ensures returned { result
+        ≡ host_refusal state n due (wanted head) (length buffer.old) (length next.old) }
+    ensures buffer { buffer.new
+        ≡ host_buffer state n due (wanted head) (length next.old) buffer.old }
+    ensures next { next.new ≡ host_places state n due (wanted head) (length buffer.old) next.old }
 {
     planning_calls::text::load_into(state, n, due, head, buffer, next)
 }
 
-// How two air logs compare, put as two numbers into a lent buffer: 0, or the refusal, and then the
-// buffer does not change.
+/// How two air logs compare, put as two numbers into a lent buffer: 0, or the refusal, and then the
+/// buffer does not change.
 #[unsafe(no_mangle)]
 pub extern "C" fn relay_compare(
     first: &[u8],
@@ -33,9 +34,8 @@ pub extern "C" fn relay_compare(
     q: u32,
     answer: &mut [u64],
 ) -> u32
-    ensures { (result ≡ compare_returned first.now p second.now q answer.old)
-        × (answer.new
-        ≡ compare_buffer first.now p second.now q answer.old) }
+    ensures returned { result ≡ compare_returned first.now p second.now q answer.old }
+    ensures answer { answer.new ≡ compare_buffer first.now p second.now q answer.old }
 {
     planning_calls::text::compare_into(first, p, second, q, answer)
 }

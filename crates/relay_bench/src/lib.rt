@@ -3,7 +3,7 @@
 
 #![tactic(auto)]
 
-ghost use Rattle.std.specs.Prelude.{◌+◌, ◌≤◌, ◌<◌, length};
+ghost use Rattle.std.specs.Prelude.{◌≡◌, true, ◌+◌, ◌≤◌, ◌<◌, length};
 
 use bodies::Body;
 use bulletins_spec::{Bulletins, Shown};
@@ -34,20 +34,14 @@ fn low(sum: u64) -> u32 {
 
 // A number of at most 99 as it is; there are no others here.
 fn small(number: usize) -> u32 {
-    if number < 100 {
-        return number as u32;
-    }
-    0
+    if number < 100 { number as u32 } else { 0 }
 }
 
 // A number where the mark is set, else 0.
 fn weight(mark: bool, number: u32) -> u32
     ensures { result ≤ number }
 {
-    if mark {
-        return number;
-    }
-    0
+    if mark { number } else { 0 }
 }
 
 // What the number of takings and the two marks of a turn say together.
@@ -57,36 +51,25 @@ fn flags(takings: usize, aired: bool, ended: bool) -> u32 {
 
 // The numbers of one report. One taking and one entry of the row, others in each round, stand for
 // all.
-fn mix_report(sum: u64, report: Report, number: u32) -> u64 {
-    let turn = report.turn;
+fn mix_report(sum: u64, report: &Report, number: u32) -> u64 {
+    let turn = &report.turn;
     let taking = report.takings[(number % 30) as usize];
-    let taken = taking.body;
-    let slot = turn.row[(number % 16) as usize];
-    let aired = slot.body;
-    let ended = turn.ended_body;
-    let started = turn.started_body;
+    let aired = turn.row[(number % 16) as usize].body;
     let mut mixed = mix(sum, flags(report.takings_len, turn.aired, turn.ended));
     mixed = mix(mixed, taking.source as u32);
-    mixed = mix(mixed, bodies::event_of(taken));
-    mixed = mix(mixed, bodies::event_of(aired));
-    mixed = mix(mixed, bodies::event_of(ended));
-    mix(mixed, bodies::kind_of(started))
-}
-
-// The number of two bytes, the lower first.
-fn joined(low: u8, high: u8) -> u16 {
-    (low as u16) + 256 * (high as u16)
+    mixed = mix(mixed, taking.body.event());
+    mixed = mix(mixed, aired.event());
+    mixed = mix(mixed, turn.ended_body.event());
+    mix(mixed, turn.started_body.kind())
 }
 
 // The masks of a round.
 fn masks_at(schedule: &[u8], at: usize) -> [u16; 16]
     requires { at + 32 ≤ length schedule.now }
 {
-    let mut masks = [0u16; 16];
-    let mut i: usize = 0;
-    while i < 16 {
-        masks[i] = joined(schedule[at + 2 * i], schedule[at + 2 * i + 1]);
-        i += 1;
+    let mut masks = [0; 16];
+    for i in 0..16 {
+        masks[i] = u16::from_le_bytes([schedule[at + 2 * i], schedule[at + 2 * i + 1]]);
     }
     masks
 }
@@ -129,33 +112,32 @@ fn posted(g: [Station; 16], n: usize, post: u32) -> GroupAnswer
     group::post(g, made)
 }
 
-// From a fresh group with the largest limit, so many rounds; gives a checksum of what they report.
-fn run(schedule: &[u8], n: usize, rounds: u32) -> u32
-    requires { (1 ≤ n) × (n ≤ 16) × (32 ≤ length schedule.now) }
-{
-    let setup = Setup {
+// The setup of a group with the largest limit.
+fn setup_of(n: usize) -> Setup {
+    Setup {
         n,
         limit: QUEUE_CAPACITY,
         edition: 0,
-    };
-    let fresh = group::fresh_limited(setup);
-    let mut g = fresh.group;
-    let mut sum: u64 = 0;
-    let mut number: u32 = 0;
-    while number < rounds {
+    }
+}
+
+// From a fresh group with the largest limit, so many rounds; gives a checksum of what they report.
+fn run(schedule: &[u8], n: usize, rounds: u32) -> u32
+    requires some { 1 ≤ n }
+    requires few { n ≤ 16 }
+    requires masks { 32 ≤ length schedule.now }
+{
+    let mut g = group::fresh_limited(setup_of(n)).group;
+    let mut sum = 0;
+    for number in 0..rounds {
         if number % POST_EVERY == 0 {
-            let kept = posted(g, n, number / POST_EVERY);
-            g = kept.group;
+            g = posted(g, n, number / POST_EVERY).group;
         }
         let done = rounds::round(g, masks_of(schedule, number));
-        let after = done.group;
-        g = after;
-        let mut k: usize = 0;
-        while k < n {
-            sum = mix_report(sum, done.reports[k], number);
-            k += 1;
+        g = done.group;
+        for k in 0..n {
+            sum = mix_report(sum, &done.reports[k], number);
         }
-        number += 1;
     }
     low(sum)
 }
@@ -172,27 +154,15 @@ fn tag_of(place: u32) -> u32 {
 fn all_issued(n: usize) -> Bulletins
     requires { n ≤ 16 }
 {
-    let fresh = bulletins::fresh(n);
-    let mut b = fresh.bulletins;
-    let mut place: u32 = 0;
-    while (place as usize) < 4 * n {
-        let issued = bulletins::issue(b, (place / 4) as usize, tag_of(place), place + 1);
-        b = issued.bulletins;
-        place += 1;
-    }
-    b
-}
-
-// The bulletins that a round begins with.
-fn bulletins_before(b: Bulletins, begun: Bulletins, number: u32) -> Bulletins {
-    if number % ANEW_EVERY == 0 {
-        return begun;
+    let mut b = bulletins::fresh(n).bulletins;
+    for place in 0..(4 * n) as u32 {
+        b = bulletins::issue(b, (place / 4) as usize, tag_of(place), place + 1).bulletins;
     }
     b
 }
 
 // What a station shows. One notice, another in each round, stands for all.
-fn mix_shown(sum: u64, shown: Shown, number: u32) -> u64 {
+fn mix_shown(sum: u64, shown: &Shown, number: u32) -> u64 {
     let notice = shown.notices[(number % 64) as usize];
     let mut mixed = mix(sum, small(shown.len));
     mixed = mix(mixed, notice.issuer);
@@ -201,100 +171,73 @@ fn mix_shown(sum: u64, shown: Shown, number: u32) -> u64 {
 
 // From fresh, so many rounds with bulletins; gives a checksum of what they report and show.
 fn run_bulletins(schedule: &[u8], n: usize, rounds: u32) -> u32
-    requires { (1 ≤ n) × (n ≤ 16) × (32 ≤ length schedule.now) }
+    requires some { 1 ≤ n }
+    requires few { n ≤ 16 }
+    requires masks { 32 ≤ length schedule.now }
 {
-    let setup = Setup {
-        n,
-        limit: QUEUE_CAPACITY,
-        edition: 0,
-    };
-    let fresh = group::fresh_limited(setup);
     let begun = all_issued(n);
-    let mut g = fresh.group;
+    let mut g = group::fresh_limited(setup_of(n)).group;
     let mut b = begun;
-    let mut sum: u64 = 0;
-    let mut number: u32 = 0;
-    while number < rounds {
+    let mut sum = 0;
+    for number in 0..rounds {
         if number % POST_EVERY == 0 {
-            let kept = posted(g, n, number / POST_EVERY);
-            g = kept.group;
+            g = posted(g, n, number / POST_EVERY).group;
         }
-        let before = bulletins_before(b, begun, number);
-        let done = bulletins::round(g, before, masks_of(schedule, number));
-        let after = done.round.group;
-        let reports = done.round.reports;
-        let shown = done.shown;
-        let kept = done.bulletins;
-        g = after;
-        b = kept;
-        let mut k: usize = 0;
-        while k < n {
-            sum = mix_report(sum, reports[k], number);
-            sum = mix_shown(sum, shown[k], number);
-            k += 1;
+        if number % ANEW_EVERY == 0 {
+            b = begun;
         }
-        number += 1;
+        let done = bulletins::round(g, b, masks_of(schedule, number));
+        g = done.round.group;
+        b = done.bulletins;
+        for k in 0..n {
+            sum = mix_report(sum, &done.round.reports[k], number);
+            sum = mix_shown(sum, &done.shown[k], number);
+        }
     }
     low(sum)
 }
 
-// From fresh, rounds with the masks of a schedule, again and again; gives a checksum of what they
-// report, and 0 if a number is refused.
+// Are there one to sixteen stations, and whole rounds of masks, one at least?
+fn may_run(schedule: &[u8], n: u32) -> bool
+    ensures { result ≡ true → (1 ≤ n) × (n ≤ 16) × (32 ≤ length schedule.now) }
+{
+    let len = schedule.len();
+    1 <= n && n <= 16 && MASKS_SIZE <= len && len % MASKS_SIZE == 0
+}
+
+/// From fresh, rounds with the masks of a schedule, again and again; gives a checksum of what they
+/// report, and 0 if a number is refused.
 #[unsafe(no_mangle)]
 pub extern "C" fn relay_bench_rounds(schedule: &[u8], n: u32, rounds: u32) -> u32 {
-    let len = schedule.len();
-    if n < 1 {
-        return 0;
-    }
-    if 16 < n {
-        return 0;
-    }
-    if len < MASKS_SIZE {
-        return 0;
-    }
-    if len % MASKS_SIZE != 0 {
+    if !may_run(schedule, n) {
         return 0;
     }
     run(schedule, n as usize, rounds)
 }
 
-// The same with bulletins, of which each station has issued four.
+/// The same with bulletins, of which each station has issued four.
 #[unsafe(no_mangle)]
 pub extern "C" fn relay_bench_bulletins(schedule: &[u8], n: u32, rounds: u32) -> u32 {
-    let len = schedule.len();
-    if n < 1 {
-        return 0;
-    }
-    if n > 16 {
-        return 0;
-    }
-    if len < MASKS_SIZE {
-        return 0;
-    }
-    if len % MASKS_SIZE != 0 {
+    if !may_run(schedule, n) {
         return 0;
     }
     run_bulletins(schedule, n as usize, rounds)
 }
 
-// A station's bytes, read and written again so many times, and judged each time before where a
-// number that is not 0 says so. Gives how often that was done: fewer times where the bytes are no
-// station, and never where they are too few.
+/// A station's bytes, read and written again so many times, and judged each time before where a
+/// number that is not 0 says so. Gives how often that was done: fewer times where the bytes are no
+/// station, and never where they are too few.
 #[unsafe(no_mangle)]
 pub extern "C" fn relay_bench_codec(state: &mut [u8], times: u32, judged: u32) -> u32 {
     if state.len() < STATION_WIDTH {
         return 0;
     }
-    let mut done: u32 = 0;
-    while done < times {
-        if judged != 0 {
-            if !station_decoder::is_station(state) {
-                return done;
-            }
+    for done in 0..times {
+        if judged != 0 && !station_decoder::is_station(state) {
+            return done;
         }
         let station = station_decoder::read_station(state);
-        station_encoder::put_station(state, 0, station);
-        done += 1;
+        station_encoder::put_station(state, 0, &station);
     }
-    done
+    times
 }

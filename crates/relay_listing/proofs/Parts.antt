@@ -1,16 +1,15 @@
 -- A part passed to the reader, call after call, and a script, part after part.
-use Rattle.std.proofs.Common.{ℕ, ◌+◌, ◌-◌, ◌≤◌, ◌≡◌, List, [], ◌++◌, length, take, drop, arith, sym, ap, refl, ◌∙◌, Option, None, Some, Bool, true, false}
+use Rattle.std.proofs.Common.{ℕ, ◌+◌, ◌-◌, ◌≤◌, ◌≡◌, List, [], ◌++◌, length, take, drop, arith, sym, ap, refl, ◌∙◌, Option, None, Some}
 use Rattle.std.proofs.lemmas.List.{append_assoc, append-nil, length-drop, take_all}
 use Rattle.std.proofs.Math.Seq.{take-add, take-append_seam}
 use Rattle.std.specs.Io.KnownBytes.{Appends, Consumes}
 use Rattle.listing_lines.specs.Lines.{Put, placed}
 use Rattle.listing_spec.specs.declared.reading.Reader.{Reader}
 use Rattle.listing_spec.specs.declared.reading.FeedAnswer.{FeedAnswer}
-use Rattle.listing_spec.specs.Listing.{listing_of}
 use Rattle.listing_spec.specs.Remaining.{Feeds, remaining, beginning}
 use Rattle.listing_spec.specs.Whole.{at_first, then_fed}
 use Rattle.listing_spec.proofs.WholeScript.{lists_whole}
-use Rattle.relay_listing.specs.Passing.{Passes, PassesIf, Reads, ReadsIf, Lists, ListsIf}
+use Rattle.relay_listing.specs.Passing.{Passes, Reads, Lists}
 
 -- what is written twice
 appends_none : (a : Option (List ℕ)) → Appends a a []
@@ -97,26 +96,6 @@ lists_finished r i i' w w' w'' p u =
     let whole = lists_whole r p.read p.text p.reached in
     let written = appends_more w w' w'' p.text (remaining r []) p.written u in
     record { read = p.read; taken = p.taken; written = rw whole at written }
-
--- a part passed after which the reading is over
-pub reads_over :
-    (sound : Bool) (r r' : Reader) (part : List ℕ) (i i' i'' w w' w'' : Option (List ℕ)) → Reads r i i' w w' →
-    Consumes i' i'' part → PassesIf sound r part r' w' w'' → ReadsIf sound r' i i'' w w''
-reads_over true r r' part i i' i'' w w' w'' p t q = reads_more r r' part i i' i'' w w' w'' p t q
-reads_over false r r' part i i' i'' w w' w'' p t q = tt
-
--- a part passed after which it is not
-pub reads_on :
-    (sound : Bool) (r r' : Reader) (part : List ℕ) (i i' i'' w w' w'' : Option (List ℕ)) → sound ≡ true → Reads r i i' w w' →
-    Consumes i' i'' part → PassesIf sound r part r' w' w'' → Reads r' i i'' w w''
-reads_on sound r r' part i i' i'' w w' w'' e p t q = reads_more r r' part i i' i'' w w' w'' p t (rw e at q)
-
--- the listing of what was read, where its end was written too
-pub lists_if :
-    (sound result : Bool) (r : Reader) (i i' w w' w'' : Option (List ℕ)) → (result ≡ true → sound ≡ true) →
-    ReadsIf sound r i i' w w' → (result ≡ true → Appends w' w'' (remaining r [])) → ListsIf result i i' w w''
-lists_if sound true r i i' w w' w'' s p u = lists_finished r i i' w w' w'' (rw (s refl) at p) (u refl)
-lists_if sound false r i i' w w' w'' s p u = tt
 
 -- what a call put at the front of the buffer
 pub put_front : (l m text : List ℕ) (len : ℕ) → Put l m 0 len text → take len m ≡ text

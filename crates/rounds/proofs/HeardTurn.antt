@@ -6,7 +6,8 @@ use mathlib.Core.Bool.{true}
 use mathlib.Core.List.{List, ◌++◌}
 use mathlib.Core.Path.{◌≡◌, sym, ap, ◌∙◌}
 use native.Mathlib.Omega.{arith}
-use lib.ListN.{get_or, length, length-map, length-take, take, replicate}
+use lib.ListN.{get_or, length, length-map, length-take, take, drop, replicate}
+use Rattle.std.proofs.lemmas.List.{drop-replicate}
 use Rattle.bodies.specs.Refusals.{done}
 use Rattle.station_spec.specs.declared.Station.{Station}
 use Rattle.station_spec.specs.declared.Taking.{Taking}
@@ -42,6 +43,10 @@ MayHear bytes s = MayListen s bytes (frame_start s.own) × ((j : ℕ) → j < si
 -- the takings as a report has them
 abbrev pub takings_in : List ℕ → List ℕ → ℕ → List Taking
 takings_in bytes taken len = takings_at bytes taken len ++ replicate (30 - len) no_taking
+
+-- past the takings the entries of a blank report are left
+pub blank_after : (old : List Taking) (len : ℕ) → old ≡ replicate 30 no_taking → drop len old ≡ replicate (30 - len) no_taking
+blank_after old len e = rw e (drop-replicate len 30 no_taking)
 
 module _ (g : List Station) (masks bytes : List ℕ) (sent : AllSent g bytes) (i : ℕ) (below : i < size_of g) where
   abbrev s : Station

@@ -8,14 +8,12 @@ use mathlib.Core.List.{List, []}
 use mathlib.Core.Path.{◌≡◌, refl, sym, ap, subst, ◌∙◌}
 use native.Mathlib.Decide.{ℕ_discrete}
 use native.Mathlib.Omega.{arith}
-use lib.ListN.{get_or, set, take, drop, length, length-set, length-take, length-drop, replicate}
+use lib.ListN.{get_or, set, take, drop, length, length-set, length-take, length-drop, replicate, get_or-replicate}
 use lib.Seq.{get_or-set_same, get_or-set_other, drop-drop}
 use Rattle.bodies.specs.Refusals.{done}
 use Rattle.lists.specs.Below.{set_below}
 use Rattle.lists.proofs.Laws.{set_below_more, set_below_above, set_below_ext}
 use Rattle.station_spec.specs.declared.Station.{Station}
-use Rattle.station_spec.specs.declared.Taking.{Taking}
-use Rattle.station_spec.specs.declared.Turned.{Turned}
 use Rattle.station_spec.specs.Limits.{station_inside}
 use Rattle.station_spec.specs.Turn.{after_turn, turn_report}
 use Rattle.station_spec.specs.Calls.{turn_done}
@@ -23,13 +21,16 @@ use Rattle.hearing_spec.specs.StandsFor.{acts_on}
 use Rattle.hearing_spec.specs.declared.Ear.{Ear}
 use Rattle.hearing_spec.specs.Buffer.{size_in}
 use Rattle.listening.specs.Listened.{heard_notes, Readable}
+use Rattle.frame_spec.specs.Frame.{valid_number}
+use Rattle.station_spec.proofs.CallSteps.{valid_parts}
 use Rattle.group_spec.specs.declared.Report.{Report}
 use Rattle.group_spec.specs.declared.RoundDone.{RoundDone}
 use Rattle.group_spec.specs.State.{no_station, station_at, size_of}
 use Rattle.group_spec.specs.Calls.{heard, no_report, report_of, after_round, round_call}
 use Rattle.group_spec.proofs.Members.{GroupShaped, group_high}
 use Rattle.group_spec.proofs.CallSteps.{round_stopped, round_done}
-use Rattle.rounds.proofs.WrittenFrames.{AllSent}
+use Rattle.rounds.specs.Reported.{heard_report}
+use Rattle.rounds.proofs.WrittenFrames.{AllSent, SentBelow, all_sent}
 use Rattle.rounds.proofs.Parts.{zeros_of, part, with_part, part_here, part_before, part_after, part_length, zeros_front, zeros_rest}
 use Rattle.rounds.proofs.HeardTurn.{HeardMask, MayHear, takings_in, may_hear, refusal_is, may_turn, after_is, report_is}
 
@@ -42,6 +43,13 @@ pub record Begun (g : List Station) (none : Report) (bytes : List ℕ) : Type 0 
   pub none_is : none ≡ no_report
   pub sent : AllSent g bytes
   pub shape : GroupShaped g
+
+-- it does where the loop over the frames ends with no refusal
+pub begun_sent :
+    (g : List Station) (k refusal : ℕ) (bytes : List ℕ) → SentBelow g k refusal bytes → k ≡ size_of g → valid_number (size_of g) 0 ≡ true →
+    refusal ≡ 0 → GroupShaped g → Begun g no_report bytes
+begun_sent g k refusal bytes sent all valid none shape =
+    record { none_is = refl; sent = all_sent g k refusal bytes sent all (valid_parts (size_of g) 0 valid).0 none; shape = shape }
 
 -- what is read past the end of a list of numbers that were heard
 abbrev pub no_ear : Ear
@@ -225,16 +233,16 @@ module _ (g : List Station) (bytes : List ℕ) (ears : List Ear) (places taken :
       turning_turns h = ap station_inside acts ∙ h
 
       pub turning_more :
-          (turn : Turned) → turn ≡ turn_done acted → (ts : List Taking) → ts ≡ takings_in bytes (part 30 (30 * i) taken) (get_or ears i no_ear).len →
-          Turning g bytes ears places taken blank (set group i turn.station)
-          (set reports i (record { takings_len = (get_or ears i no_ear).len; takings = ts; turn = turn.report })) (i + 1)
-      turning_more turn turned ts taken_are =
-          let is = turned ∙ ap turn_done acts in
+          (after : Station) → after ≡ after_turn acted → (report : Report) → report ≡ heard_report (get_or ears i no_ear) bytes (part 30 (30 * i) taken) acted →
+          Turning g bytes ears places taken blank (set group i after) (set reports i report) (i + 1)
+      turning_more after after_is report report_is =
+          let after_all = after_is ∙ ap after_turn acts in
+          let report_all = report_is ∙ ap (heard_report (get_or ears i no_ear) bytes (part 30 (30 * i) taken)) acts in
           record {
             group_is =
-                (λ j. set (t.group_is j) i (is j).station) ∙ set_below_more i (λ k. after_turn (acted_at g bytes ears places taken k)) g;
+                (λ j. set (t.group_is j) i (after_all j)) ∙ set_below_more i (λ k. after_turn (acted_at g bytes ears places taken k)) g;
             reports_are =
-                (λ j. set (t.reports_are j) i (record { takings_len = (get_or ears i no_ear).len; takings = taken_are j; turn = (is j).report }))
+                (λ j. set (t.reports_are j) i (report_all j))
                 ∙ set_below_more i (report_at g bytes ears places taken) blank;
           }
 
@@ -288,3 +296,20 @@ module _ (g : List Station) (masks : List ℕ) (none : Report) (bytes : List ℕ
       (λ k m.
       let low : k < n = omega arith in
       sym (refusal_is g masks bytes b.sent k m (part 16 (16 * k) places) (part 30 (30 * k) taken) (get_or ears k no_ear) (l.each k low)) ∙ l.fine k low)
+
+-- an answer, part by part
+pub in_parts :
+    (r : ℕ) (g : List Station) (reports : List Report) (d : RoundDone) → record { refusal = r; group = g; reports = reports } ≡ d →
+    (r ≡ d.refusal) × (g ≡ d.group) × (reports ≡ d.reports)
+in_parts r g reports d e =
+    (ap (λ (x : RoundDone). x.refusal) e, ap (λ (x : RoundDone). x.group) e, ap (λ (x : RoundDone). x.reports) e)
+
+-- the report of the station whose turn it is, is blank
+pub turning_blank :
+    (g : List Station) (bytes : List ℕ) (ears : List Ear) (places taken : List ℕ) (blank : List Report) (group : List Station) (reports : List Report)
+    (i : ℕ) (d : Report) → i < 16 → blank ≡ replicate 16 no_report → Turning g bytes ears places taken blank group reports i →
+    get_or reports i d ≡ no_report
+turning_blank g bytes ears places taken blank group reports i d low b t =
+    ap (λ (y : List Report). get_or y i d) t.reports_are
+    ∙ set_below_above i (report_at g bytes ears places taken) blank i d (omega arith)
+    ∙ ap (λ (y : List Report). get_or y i d) b ∙ get_or-replicate 16 i no_report d low

@@ -9,7 +9,7 @@ use mathlib.Core.Path.{◌≡◌, refl, sym, ap, ◌∙◌}
 use lib.Dec.{eqb, ltb}
 use lib.ListN.{take, drop, length, length-append, length-drop, take-append-drop}
 use borrow.Author.Tests.{ne_eqb, eqb-true, eqb-false, ltb-false}
-use Rattle.bodies.specs.Refusals.{refuse}
+use Rattle.bodies.specs.Refusals.{refuse_number}
 use Rattle.frame_spec.specs.Record.{count_inside}
 use Rattle.frame_spec.specs.Frame.{frame_bytes}
 use Rattle.frame_spec.specs.Calls.{table_records, buffer_with}
@@ -79,17 +79,20 @@ module _ (edition n k : ℕ) (s : Station) where
     abbrev rest : List ℕ
     rest = drop (260 * k) b
 
-    abbrev Sent : ℕ → List ℕ → Type 0
-    Sent r after = (r ≡ send_refusal edition n k s) × (after ≡ bytes_after edition n k s b)
+    pub record Sent (r : ℕ) (after : List ℕ) : Type 0 where
+      pub refusal : r ≡ send_refusal edition n k s
+      pub bytes : after ≡ bytes_after edition n k s b
 
     refused : (r : ℕ) → (r ≡ 0 → ⊥) → r ≡ send_refusal edition n k s → Sent r b
-    refused r d e = (
-      e,
-      sym
-          (ap (λ (x : List ℕ). take (260 * k) b ++ (x ++ drop 260 rest)) (part_kept (take 260 rest) (λ z. d (e ∙ z)))
-          ∙ ap (λ (x : List ℕ). take (260 * k) b ++ x) (take-append-drop 260 rest)
-          ∙ take-append-drop (260 * k) b),
-    )
+    refused r d e =
+        record {
+          refusal = e;
+          bytes =
+              sym
+              (ap (λ (x : List ℕ). take (260 * k) b ++ (x ++ drop 260 rest)) (part_kept (take 260 rest) (λ z. d (e ∙ z)))
+              ∙ ap (λ (x : List ℕ). take (260 * k) b ++ x) (take-append-drop 260 rest)
+              ∙ take-append-drop (260 * k) b);
+        }
 
     pub send_outside : member edition n k s ≡ false → Sent 2 b
     unfolding send_refusal
@@ -107,12 +110,14 @@ module _ (edition n k : ℕ) (s : Station) where
       done = rw (m, count_is m ∙ fits)
 
       pub send_frame : Sent 0 (take (260 * k) b ++ (made ++ drop w rest))
-      send_frame = (
-        done,
-        (λ i. take (260 * k) b ++ (is i ++ drop (size i) rest))
-            ∙ (λ i. take (260 * k) b ++ (buffer_with (frame m i) (take (size i) rest) ++ drop 260 rest))
-            ∙ ap (λ (x : List ℕ). take (260 * k) b ++ (x ++ drop 260 rest)) (sym (part_frame (take 260 rest) (sym done))),
-      )
+      send_frame =
+          record {
+            refusal = done;
+            bytes =
+                (λ i. take (260 * k) b ++ (is i ++ drop (size i) rest))
+                ∙ (λ i. take (260 * k) b ++ (buffer_with (frame m i) (take (size i) rest) ++ drop 260 rest))
+                ∙ ap (λ (x : List ℕ). take (260 * k) b ++ (x ++ drop 260 rest)) (sym (part_frame (take 260 rest) (sym done)));
+          }
 
 -- the part keeps its length
 length_with : (f b : List ℕ) → length (buffer_with f b) ≡ length b
@@ -135,8 +140,8 @@ length_after edition n k s b = go (eqb (send_refusal edition n k s) 0)
 -- all stations below a place
 worse_more :
     (A B a b : Bool) →
-    worse (refuse (not A) 2 (refuse (not B) 10 0)) (refuse (not a) 2 (refuse (not b) 10 0))
-    ≡ refuse (not (A && a)) 2 (refuse (not (B && b)) 10 0)
+    worse (refuse_number (not A) 2 (refuse_number (not B) 10 0)) (refuse_number (not a) 2 (refuse_number (not b) 10 0))
+    ≡ refuse_number (not (A && a)) 2 (refuse_number (not (B && b)) 10 0)
 unfolding worse
 worse_more true true true true = refl
 worse_more true true true false = refl
@@ -146,7 +151,7 @@ worse_more true false true false = refl
 worse_more true false false b = refl
 worse_more false B a b = refl
 
-both_hold : (A B : Bool) → refuse (not A) 2 (refuse (not B) 10 0) ≡ 0 → (A ≡ true) × (B ≡ true)
+both_hold : (A B : Bool) → refuse_number (not A) 2 (refuse_number (not B) 10 0) ≡ 0 → (A ≡ true) × (B ≡ true)
 both_hold true true h = (refl, refl)
 both_hold true false h = let z : ◌≡◌ {A = ℕ} 10 0 = h in absurd (omega (arith, z))
 both_hold false B h = let z : ◌≡◌ {A = ℕ} 2 0 = h in absurd (omega (arith, z))
@@ -178,6 +183,6 @@ module _ (g : List Station) where
 
   pub judged_is :
       (m : ℕ) (a : Bool) → all_below m (member_inside g) ≡ a → (b : Bool) → all_below m (λ k. own_count_inside (station_at g k)) ≡ b →
-      judged_below g m ≡ refuse (not a) 2 (refuse (not b) 10 0)
+      judged_below g m ≡ refuse_number (not a) 2 (refuse_number (not b) 10 0)
   unfolding judged_below
   judged_is m a p b q = rw (p, q)

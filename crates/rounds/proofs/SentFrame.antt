@@ -1,7 +1,7 @@
 -- The frame of a station inside its limits: it fits into 260 bytes, and where it stands in a list
 -- of bytes it is heard as the very records that the table sends. The bytes past the frame are in no
 -- record's part.
-use Prim.Native.Nat.{ℕ, suc, ◌+◌, ◌*◌, ◌-◌, ◌≤◌, ◌<◌}
+use Prim.Native.Nat.{ℕ, suc, ◌+◌, ◌*◌, ◌≤◌, ◌<◌}
 use mathlib.Core.Bool.{true}
 use mathlib.Core.List.{List, ◌++◌}
 use mathlib.Core.Path.{◌≡◌, refl, sym, ap, ◌∙◌}

@@ -1,7 +1,7 @@
 -- Document 01, "A group and its rounds": all frames of a round stand in one list of bytes before
 -- any station hears, that of station k from byte `frame_room` × k on.
-use Rattle.std.specs.Prelude.{ℕ, ◌+◌, ◌*◌, ◌<◌, ◌≡◌, cond, not, ◌&&◌, List, ◌++◌, take, drop, length, eqb}
-use Rattle.bodies.specs.Refusals.{done, outside_limits, count_too_high, refuse}
+use Rattle.std.specs.Prelude.{ℕ, ◌*◌, ◌<◌, ◌≡◌, if◌then◌else◌, not, ◌&&◌, List, ◌++◌, take, drop, length, ◌==◌}
+use Rattle.bodies.specs.Refusals.{done, outside_limits, count_too_high, refuse_number}
 use Rattle.frame_spec.specs.Calls.{buffer_with}
 use Rattle.lists.specs.Below.{all_below}
 use Rattle.station_spec.specs.declared.Station.{Station}
@@ -18,12 +18,12 @@ frames_room = frame_room * 16
 -- what a round judges of station k of a group of n in an edition before its frame is written: 2, 10
 unfoldable pub send_refusal : ℕ → ℕ → ℕ → Station → ℕ
 send_refusal edition n k s =
-    refuse (not (station_inside s && (eqb s.n n && eqb s.edition edition && eqb s.own k))) outside_limits
-    (refuse (not (own_count_inside s)) count_too_high done)
+    refuse_number (not (station_inside s && (s.n == n && s.edition == edition && s.own == k))) outside_limits
+    (refuse_number (not (own_count_inside s)) count_too_high done)
 
 -- its part of the bytes afterwards: its frame and then what stood past it, or as it was
 unfoldable pub part_after : ℕ → ℕ → ℕ → Station → List ℕ → List ℕ
-part_after edition n k s part = cond (eqb (send_refusal edition n k s) done) (buffer_with (frame_of s) part) part
+part_after edition n k s part = if send_refusal edition n k s == done then buffer_with (frame_of s) part else part
 
 -- all the bytes afterwards: the others stay
 abbrev pub bytes_after : ℕ → ℕ → ℕ → Station → List ℕ → List ℕ
@@ -33,13 +33,13 @@ bytes_after edition n k s bytes =
 
 -- of the refusals of two stations the one that the round answers: 2 before 10, and 10 before none
 unfoldable pub worse : ℕ → ℕ → ℕ
-worse a b = cond (eqb a outside_limits) a (cond (eqb b done) a b)
+worse a b = if a == outside_limits then a else if b == done then a else b
 
 -- what the round judges of the stations below m: 2, 10
 unfoldable pub judged_below : List Station → ℕ → ℕ
 judged_below g m =
-    refuse (not (all_below m (member_inside g))) outside_limits
-    (refuse (not (all_below m (λ k. own_count_inside (station_at g k)))) count_too_high done)
+    refuse_number (not (all_below m (member_inside g))) outside_limits
+    (refuse_number (not (all_below m (λ k. own_count_inside (station_at g k)))) count_too_high done)
 
 -- the frames of the stations below m stand in these bytes
 pub record FramesBelow (g : List Station) (m : ℕ) (bytes : List ℕ) : Type 0 where

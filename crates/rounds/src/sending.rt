@@ -1,53 +1,52 @@
-// The frames of a round: all are written before any station hears.
+//! The frames of a round: all are written before any station hears.
 
 ghost use Rattle.std.specs.Prelude.{◌≡◌, length};
+ghost use Rattle.bodies.specs.Refusals.{number_of};
 ghost use Rattle.rounds.specs.Frames as spec;
 
-use bodies::refusals::{COUNT_TOO_HIGH, DONE, OUTSIDE_LIMITS};
+use bodies::refusals::Refusal;
 use hearing_spec::FRAME_ROOM;
 use station_spec::Station;
 
-// Writes the frame of station k of a group of n in an edition into its part of the bytes; where it
-// may not be written, answers why.
-fn write_part(bytes: &mut [u8], s: Station, edition: usize, n: usize, k: usize) -> u32
+/// Writes the frame of station k of a group of n in an edition into its part of the bytes, if it
+/// may be written.
+pub fn send(
+    bytes: &mut [u8],
+    s: &Station,
+    edition: usize,
+    n: usize,
+    k: usize,
+) -> Result<(), Refusal>
     requires { length bytes.old ≡ spec.frames_room }
-    ensures { (result ≡ spec.send_refusal edition n k s)
-        × (bytes.new ≡ spec.bytes_after edition n k s bytes.old) }
+    ensures refusal { number_of result ≡ spec.send_refusal edition n k s.now }
+    ensures bytes { bytes.new ≡ spec.bytes_after edition n k s.now bytes.old }
 {
     if !group::limits::member_inside(s, edition, n, k) {
-        return OUTSIDE_LIMITS;
+        return Err(Refusal::OutsideLimits);
     }
-    let record = s.table[k];
-    if !records::numbers::count_fits(n, record.count) {
-        return COUNT_TOO_HIGH;
+    if !records::numbers::count_fits(n, s.table[k].count) {
+        return Err(Refusal::CountTooHigh);
     }
-    let held = s.held;
-    let table = s.table;
     let at = FRAME_ROOM * k;
-    frame_writer::write_table(&mut bytes[at..at + FRAME_ROOM], held, table, edition, n, k);
-    DONE
+    // It fits: a part has room for every frame.
+    let _length = frame_writer::write_table(
+        &mut bytes[at..at + FRAME_ROOM],
+        &s.held,
+        &s.table,
+        edition,
+        n,
+        k,
+    );
+    Ok(())
 }
 
-// Of the refusals of two stations, the one that the round answers.
-fn worse(a: u32, b: u32) -> u32
-    ensures { result ≡ spec.worse a b }
+/// Of the answers for two stations, that of the round.
+#[tactic(auto, unfolding(crate::specs::Frames::worse))]
+pub fn worse(a: Result<(), Refusal>, b: Result<(), Refusal>) -> Result<(), Refusal>
+    ensures { number_of result ≡ spec.worse (number_of a) (number_of b) }
 {
-    if a == OUTSIDE_LIMITS {
-        return a;
+    match (a, b) {
+        (Err(Refusal::OutsideLimits), _) | (_, Ok(())) => a,
+        _ => b,
     }
-    if b == DONE {
-        return a;
-    }
-    b
-}
-
-// Writes the frame of station k of a group of n in an edition, where it may be written; gives the
-// refusal of the round, which was `refusal` before this station.
-pub fn send(bytes: &mut [u8], s: Station, edition: usize, n: usize, k: usize, refusal: u32) -> u32
-    requires { length bytes.old ≡ spec.frames_room }
-    ensures { (result ≡ spec.worse refusal (spec.send_refusal edition n k s))
-        × (bytes.new ≡ spec.bytes_after edition n k s bytes.old) }
-{
-    let judged = write_part(bytes, s, edition, n, k);
-    worse(refusal, judged)
 }

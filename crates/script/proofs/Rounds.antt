@@ -9,20 +9,11 @@ use native.Mathlib.Numerals.{add-one}
 use lib.Dec.{leb, eqb}
 use lib.ListN.{length, take, set, get_or}
 use lib.Seq.{take-suc-set}
-use borrow.Author.Tests.{ne_eqb, le-leb, lt-leb, leb-true, leb-false}
-use Rattle.lists.specs.Below.{all_below, tabulate}
-use Rattle.lists.proofs.Laws.{and_both, all_below_fails}
-use Rattle.columns.specs.declared.reader.Reading.{Reading}
+use borrow.Author.Tests.{ne_eqb, leb-true, leb-false}
+use Rattle.lists.specs.Below.{tabulate}
+use Rattle.lists.proofs.Laws.{all_below_fails}
 use Rattle.script.specs.declared.Command.TheVariants.{Post, Round, Malformed}
 use Rattle.script.specs.Line.{natural_of, whole_of, is_mask, field_of, shaped, masks_inside, size_line, post_shaped, post_line, round_line, command_of, mask_at}
-
-pub mask_over : (r : Reading) → 65535 < natural_of r → is_mask r ≡ false
-unfolding is_mask
-mask_over r h = lt-leb (natural_of r) 65535 h
-
-pub mask_inside : (r : Reading) → natural_of r ≤ 65535 → is_mask r ≡ true
-unfolding is_mask
-mask_inside r h = le-leb (natural_of r) 65535 h
 
 seventeenth : (line : List ℕ) → is_mask (field_of line 16) ≡ false
 unfolding field_of is_mask
@@ -35,14 +26,6 @@ masks_over line n h = all_below_fails n (λ k. is_mask (field_of line k)) 16 h (
 pub masks_fail : (line : List ℕ) (n k : ℕ) → k < n → is_mask (field_of line k) ≡ false → masks_inside line n ≡ false
 unfolding masks_inside
 masks_fail line n k h e = all_below_fails n (λ k. is_mask (field_of line k)) k h e
-
-pub masks_more : (line : List ℕ) (k : ℕ) → masks_inside line k ≡ true → is_mask (field_of line k) ≡ true → masks_inside line (k + 1) ≡ true
-unfolding masks_inside all_below
-masks_more line k h e = rw add-one (and_both h e)
-
-pub masks_none : (line : List ℕ) → masks_inside line 0 ≡ true
-unfolding masks_inside all_below
-masks_none line = refl
 
 pub no_letter : (n : ℕ) (line : List ℕ) → (n ≡ 0 → ⊥) → length line ≡ 0 → Malformed ≡ command_of n line
 unfolding command_of round_line

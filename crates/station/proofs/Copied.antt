@@ -1,24 +1,13 @@
--- Bytes copied to the beginning of others, one after the other, and frames put into their rooms.
-use Prim.Native.Nat.{ℕ, suc, ◌+◌, ◌-◌, ◌≤◌, ◌<◌}
-use native.Mathlib.Numerals.{add-one}
+-- Frames put into their rooms: what is past a frame there is zeros.
+use Prim.Native.Nat.{ℕ, ◌+◌, ◌-◌, ◌≤◌}
 use native.Mathlib.Omega.{arith}
-use mathlib.Core.List.{List, ◌++◌, append-nil}
+use mathlib.Core.List.{List, ◌++◌}
 use mathlib.Core.Path.{◌≡◌, sym, ap, subst, ◌∙◌}
-use lib.ListN.{get_or, set, take, drop, length, length-append, length-replicate, replicate, replicate-append-replicate}
-use lib.Seq.{take-suc, drop-cons, set_at, append_snoc, length-take-le, take_at, drop_at, take-length}
+use lib.ListN.{take, drop, length, length-append, length-replicate, replicate, replicate-append-replicate}
+use lib.Seq.{take_at, drop_at}
 use borrow.Author.Tests.{le-ltb}
 use Rattle.frame_spec.specs.Calls.{buffer_with}
 use Rattle.station.specs.Beside.{roomed}
-
-pub copied_more :
-    (s d : List ℕ) (i : ℕ) → i < length s → length s ≤ length d → set (take i s ++ drop i d) i (get_or s i 0) ≡ take (i + 1) s ++ drop (i + 1) d
-copied_more s d i low room =
-    rw (drop-cons d i 0 (omega arith), add-one i, take-suc s i 0 low)
-    (set_at (take i s) (get_or d i 0) (drop (suc i) d) (get_or s i 0) i (length-take-le i s (omega arith))
-    ∙ sym (append_snoc (take i s) (get_or s i 0) (drop (suc i) d)))
-
-pub copied_all : (s d : List ℕ) (i : ℕ) → i ≡ length s → take i s ++ drop i d ≡ s ++ drop (length s) d
-copied_all s d i e = rw (e, take-length s)
 
 -- zeros past what is put
 module _ (w : ℕ) where
@@ -44,27 +33,24 @@ pub roomed-length : (f : List ℕ) → length f ≤ 260 → length (roomed f) �
 roomed-length f l = omega (arith, length-append f (replicate (260 - length f) 0), length-replicate {A = ℕ} (260 - length f) 0)
 
 -- two frames, each put into its room
-pub both_are :
-    (f h x y : List ℕ) → length f ≤ 260 → length h ≤ 260 → x ≡ buffer_with f (replicate 260 0) →
-    y ≡ h ++ drop (length h) (take 260 (drop 260 (x ++ replicate 260 0))) →
-    take 260 (x ++ replicate 260 0) ++ (y ++ drop 260 (drop 260 (x ++ replicate 260 0))) ≡ roomed f ++ roomed h
-both_are f h x y lf lh xe ye =
+both_are :
+    (f h x : List ℕ) (k : ℕ) → length f ≤ 260 → length h ≤ 260 → x ≡ buffer_with f (replicate 260 0) → k ≡ length h →
+    take 260 (x ++ replicate 260 0) ++ (h ++ drop k (drop 260 (x ++ replicate 260 0))) ≡ roomed f ++ roomed h
+both_are f h x k lf lh xe ke =
     let z : List ℕ = replicate 260 0 in
     let is : x ≡ roomed f = xe ∙ written_roomed f lf in
     let size : length x ≡ 260 = ap length is ∙ roomed-length f lf in
     let rest : drop 260 (x ++ z) ≡ z = drop_at x z 260 size in
-    let put : y ≡ roomed h = ye ∙ ap (λ (l : List ℕ). h ++ drop (length h) (take 260 l)) rest ∙ put_roomed h lh in
-    (λ i. take_at x z 260 size i ++ (put i ++ drop 260 (rest i)))
-    ∙ (λ i. is i ++ append-nil (roomed h) i)
+    let put : h ++ drop k (drop 260 (x ++ z)) ≡ roomed h = (λ i. h ++ drop (ke i) (rest i)) ∙ put_roomed h lh in
+    (λ i. take_at x z 260 size i ++ put i) ∙ ap (λ (l : List ℕ). l ++ roomed h) is
 
 -- the same in the room of both, which is lent
 pub both_put :
-    (f h x y z : List ℕ) → z ≡ replicate 520 0 → length f ≤ 260 → length h ≤ 260 → x ≡ buffer_with f (take 260 z) →
-    y ≡ h ++ drop (length h) (take 260 (drop 260 (x ++ drop 260 z))) →
-    take 260 (x ++ drop 260 z) ++ (y ++ drop 260 (drop 260 (x ++ drop 260 z))) ≡ roomed f ++ roomed h
-both_put f h x y z e lf lh =
+    (f h x z : List ℕ) (k : ℕ) → z ≡ replicate 520 0 → length f ≤ 260 → length h ≤ 260 → x ≡ buffer_with f (take 260 z) → k ≡ length h →
+    take 260 (x ++ drop 260 z) ++ (h ++ drop k (drop 260 (x ++ drop 260 z))) ≡ roomed f ++ roomed h
+both_put f h x z k e lf lh =
     subst
     (λ (l : List ℕ).
-    x ≡ buffer_with f (take 260 l) → y ≡ h ++ drop (length h) (take 260 (drop 260 (x ++ drop 260 l))) →
-    take 260 (x ++ drop 260 l) ++ (y ++ drop 260 (drop 260 (x ++ drop 260 l))) ≡ roomed f ++ roomed h)
-    (sym e) (both_are f h x y lf lh)
+    x ≡ buffer_with f (take 260 l) → k ≡ length h →
+    take 260 (x ++ drop 260 l) ++ (h ++ drop k (drop 260 (x ++ drop 260 l))) ≡ roomed f ++ roomed h)
+    (sym e) (both_are f h x k lf lh)

@@ -1,9 +1,12 @@
 -- A station may listen to a frame that it accepts, beside its own frame; what it hears there is
 -- what it hears of the frame alone.
-use Prim.Native.Nat.{ℕ, ◌+◌, ◌-◌, ◌≤◌, ◌<◌}
+use Prim.Native.Nat.{ℕ, ◌-◌, ◌≤◌, ◌<◌}
 use native.Mathlib.Omega.{arith}
 use mathlib.Core.Bool.{true, false}
-use Rattle.bodies.specs.Refusals.{done}
+use Rattle.std.specs.Prelude.{Ok}
+use Rattle.bodies.specs.declared.refusals.Refusal.{Refusal}
+use Rattle.bodies.specs.declared.refusals.Refusal.TheVariants.{BadNumber, OutsideLimits, QueueFull, NotAnEdit, BadShape, BadAddress, BadRecord, LaneFull, ShortBuffer, CountTooHigh, MalformedLine, BadLinkLog, BadLimit, Conflict, BadDesk, BadListing, BadEdition, BadQuestion, AlreadyIssued, BadContest}
+use Rattle.bodies.specs.Refusals.{done, number, number_of}
 use mathlib.Core.List.{List, ◌++◌, append_assoc}
 use mathlib.Core.Path.{◌≡◌, sym, ap, subst, ◌∙◌}
 use lib.ListN.{get_or, drop, length, replicate, length-append, get_or-append}
@@ -29,7 +32,7 @@ use Rattle.station.specs.Beside.{roomed, beside, HearsBeside}
 use Rattle.station.proofs.OwnFrame.{own_shape, own_fits, own_first, own_read, own_stations, own_written, frame_records, frame_room}
 use Rattle.station.proofs.Copied.{roomed-length}
 
-module _ (s : Station) (inside : station_inside s ≡ true) (bytes : List ℕ) (accepted : frame_refusal s.edition bytes s.n s.own ≡ 0) where
+module _ (s : Station) (inside : station_inside s ≡ true) (bytes : List ℕ) (accepted : frame_refusal s.edition bytes s.n s.own ≡ Ok tt) where
   c : Inside s
   c = inside_open s inside
 
@@ -104,18 +107,41 @@ module _ (s : Station) (inside : station_inside s ≡ true) (bytes : List ℕ) (
   hears_beside l places taken e is h =
       let same : frame_heard l 260 (initial_hearing s) ≡ hear_frame (initial_hearing s) (records_of bytes) = ap (λ (b : List ℕ). frame_heard b 260 (initial_hearing s)) is ∙ heard_is in
       record {
-        refused = λ d. hear_stopped s bytes inside accepted _ (h.refusal ∙ ap (λ (x : Hearing). x.refusal) same) d;
+        refused = λ d. hear_stopped s bytes inside (ap number_of accepted) _ (h.refusal ∙ ap (λ (x : Hearing). x.refusal) same) d;
         heard = λ fine.
             record {
               size = size ∙ ap size_in (sym is);
               readable = h.readable;
               answered =
-                  hear_done s bytes inside accepted _ _
+                  hear_done s bytes inside (ap number_of accepted) _ _
                   (sym (h.refusal ∙ ap (λ (x : Hearing). x.refusal) same) ∙ fine)
                   (h.station fine ∙ ap (λ (x : Hearing). x.station) same)
                   (ap sources_of (h.takings fine ∙ ap (λ (x : Hearing). x.takings) same));
             };
       }
+
+-- a refusal's number is none that is done
+pub refused_some : (q : Refusal) → number q ≡ done → ⊥
+refused_some BadNumber z = omega (arith, z)
+refused_some OutsideLimits z = omega (arith, z)
+refused_some QueueFull z = omega (arith, z)
+refused_some NotAnEdit z = omega (arith, z)
+refused_some BadShape z = omega (arith, z)
+refused_some BadAddress z = omega (arith, z)
+refused_some BadRecord z = omega (arith, z)
+refused_some LaneFull z = omega (arith, z)
+refused_some ShortBuffer z = omega (arith, z)
+refused_some CountTooHigh z = omega (arith, z)
+refused_some MalformedLine z = omega (arith, z)
+refused_some BadLinkLog z = omega (arith, z)
+refused_some BadLimit z = omega (arith, z)
+refused_some Conflict z = omega (arith, z)
+refused_some BadDesk z = omega (arith, z)
+refused_some BadListing z = omega (arith, z)
+refused_some BadEdition z = omega (arith, z)
+refused_some BadQuestion z = omega (arith, z)
+refused_some AlreadyIssued z = omega (arith, z)
+refused_some BadContest z = omega (arith, z)
 
 -- nothing is heard of a frame that is refused
 pub hears_refused :

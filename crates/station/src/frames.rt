@@ -1,87 +1,89 @@
 // The calls of a station that write or hear a frame.
 
-ghost use Rattle.std.specs.Prelude.{◌≡◌, true, ◌++◌, ◌≤◌, length, drop, replicate};
+ghost use Rattle.std.specs.Prelude.{◌≡◌, true, ◌≤◌, length, replicate};
+ghost use Rattle.bodies.specs.Refusals.{number};
 ghost use Rattle.station_spec.specs.Limits.{station_inside};
 ghost use Rattle.station_spec.specs.Calls.{write_call, buffer_after, sources_of, hear_call};
+ghost use Rattle.station_spec.proofs.WriteSteps.{as_written};
 ghost use Rattle.hearing_spec.specs.Buffer.{frame_room};
 ghost use Rattle.hearing_spec.specs.Room.{takings_room};
 ghost use Rattle.listening.specs.Listened.{takings_at, TakenRoom};
 ghost use Rattle.station.specs.Beside as spec;
 ghost use Rattle.station.specs.Beside.{both_room, HearsBeside};
 
-use bodies::refusals::{COUNT_TOO_HIGH, DONE, OUTSIDE_LIMITS};
+use bodies::Body;
+use bodies::refusals::{DONE, Refusal};
 use frame_spec::Written;
 use hearing_spec::{Ear, FRAME_ROOM};
-use station_spec::{Heard, Station};
+use station_spec::{Heard, Station, Taking};
 
-// The room of two frames.
-pub const BOTH_ROOM: usize = 520;
+/// The room of two frames.
+pub const BOTH_ROOM: usize = 2 * FRAME_ROOM;
 
-// Write frame: the table's records into the buffer, whose bytes past the frame are kept.
-pub fn write(s: Station, buffer: &mut [u8]) -> Written
-    ensures { (result ≡ write_call s (length buffer.old))
-        × (buffer.new ≡ buffer_after s buffer.old) }
+// Writes the table's records into the buffer, and answers with their number of bytes. What is
+// refused leaves the buffer as it is.
+#[tactic(auto, using(station_spec::proofs::StationLimits::inside_own, station_spec::proofs::StationLimits::inside_high), unfolding(station_spec::specs::State::cell_of))]
+fn try_write(s: &Station, buffer: &mut [u8]) -> Result<usize, Refusal>
+    ensures answer { as_written result ≡ write_call s.now (length buffer.old) }
+    ensures buffer { buffer.new ≡ buffer_after s.now buffer.old }
 {
     if !station_limits::station_inside(s) {
-        return Written {
-            refusal: OUTSIDE_LIMITS,
-            len: 0,
-        };
+        return Err(Refusal::OutsideLimits);
     }
-    let n = s.n;
-    let own = s.own;
-    let record = s.table[own];
-    if !records::numbers::count_fits(n, record.count) {
-        return Written {
-            refusal: COUNT_TOO_HIGH,
-            len: 0,
-        };
+    if !records::numbers::count_fits(s.n, s.table[s.own].count) {
+        return Err(Refusal::CountTooHigh);
     }
-    let held = s.held;
-    let table = s.table;
-    frame_writer::write_table(buffer, held, table, s.edition, n, own)
+    frame_writer::write_table(buffer, &s.held, &s.table, s.edition, s.n, s.own)
 }
 
-// Puts a frame at the beginning of a buffer, whose bytes past it are kept.
-fn put_frame(buffer: &mut [u8], frame: &[u8])
-    requires { length frame.now ≤ length buffer.old }
-    ensures { buffer.new ≡ frame.now ++ drop (length frame.now) buffer.old }
+/// Write frame: the table's records into the buffer, whose bytes past the frame are kept.
+pub fn write(s: Station, buffer: &mut [u8]) -> Written
+    ensures answer { result ≡ write_call s (length buffer.old) }
+    ensures buffer { buffer.new ≡ buffer_after s buffer.old }
 {
-    let mut i: usize = 0;
-    while i < frame.len() {
-        buffer[i] = frame[i];
-        i += 1;
+    match try_write(&s, buffer) {
+        Ok(len) => Written { refusal: DONE, len },
+        Err(refusal) => Written {
+            refusal: refusal.number(),
+            len: 0,
+        },
     }
 }
 
 // The station's own frame, and then a heard one, put into the room of two.
-fn put_both(both: &mut [u8], frame: &[u8], s: Station)
-    requires { (both.old ≡ replicate both_room 0) × (station_inside s ≡ true) × (length frame.now ≤ frame_room) }
-    ensures { both.new ≡ spec.beside s frame.now }
+fn put_both(both: &mut [u8], frame: &[u8], s: &Station)
+    requires empty { both.old ≡ replicate both_room 0 }
+    requires inside { station_inside s.now ≡ true }
+    requires short { length frame.now ≤ frame_room }
+    ensures { both.new ≡ spec.beside s.now frame.now }
 {
-    let held = s.held;
-    let table = s.table;
-    frame_writer::write_table(&mut both[0..FRAME_ROOM], held, table, s.edition, s.n, s.own);
-    put_frame(&mut both[FRAME_ROOM..BOTH_ROOM], frame);
+    let _ = frame_writer::write_table(
+        &mut both[..FRAME_ROOM],
+        &s.held,
+        &s.table,
+        s.edition,
+        s.n,
+        s.own,
+    );
+    both[FRAME_ROOM..FRAME_ROOM + frame.len()].copy_from_slice(frame);
 }
 
 // What a refused frame leaves: the refusal, and nothing heard.
-fn refused(refusal: u32) -> Ear
-    ensures { result.refusal ≡ refusal }
+fn refused(refusal: Refusal) -> Ear
+    ensures { result.refusal ≡ number refusal }
 {
-    let acked = [false; 16];
-    let labels = [0u8; 16];
+    let refusal = refusal.number();
     Ear {
-        refusal: refusal,
+        refusal,
         count: 0,
-        acked: acked,
-        labels: labels,
+        acked: [false; 16],
+        labels: [0; 16],
         len: 0,
     }
 }
 
-// What the call hear judges and hears, before it is taken into the station. The own frame and the
-// heard one are put into `both`, and what was heard is told by places there.
+/// What the call hear judges and hears, before it is taken into the station. The own frame and the
+/// heard one are put into `both`, and what was heard is told by places there.
 pub fn listen(
     both: &mut [u8],
     places: &mut [u16],
@@ -89,54 +91,58 @@ pub fn listen(
     frame: &[u8],
     s: Station,
 ) -> Ear
-    requires { (both.old ≡ replicate both_room 0)
-        × (places.old ≡ replicate 16 0) × (length taken.old ≡ takings_room) }
+    requires both { both.old ≡ replicate both_room 0 }
+    requires places { places.old ≡ replicate 16 0 }
+    requires taken { length taken.old ≡ takings_room }
     ensures { HearsBeside s frame.now both.new
         places.new taken.new result }
 {
-    if !station_limits::station_inside(s) {
-        return refused(OUTSIDE_LIMITS);
+    if !station_limits::station_inside(&s) {
+        return refused(Refusal::OutsideLimits);
     }
-    let n = s.n;
-    let own = s.own;
-    let refusal = frame_check::frame_refusal(frame, s.edition, n, own);
-    if refusal != DONE {
-        return refused(refusal);
+    match frame_check::frame_refusal(frame, s.edition, s.n, s.own) {
+        Ok(()) => {
+            put_both(both, frame, &s);
+            listening::listen_to(both, FRAME_ROOM, places, taken, &s)
+        }
+        Err(refusal) => refused(refusal),
     }
-    put_both(both, frame, s);
-    listening::listen_to(both, FRAME_ROOM, places, taken, s)
 }
 
-// The stations that the records at the first places are of, whose bodies are taken.
+/// The stations that the records at the first places are of, whose bodies are taken.
 pub fn sources_of(both: &[u8], taken: &[u16], len: usize) -> [bool; 16]
     requires { TakenRoom both.now taken.now len }
     ensures { result ≡ sources_of (takings_at both.now taken.now len) }
 {
-    let takings = listening::acting::takings_of(both, taken, len);
+    let mut takings = [Taking {
+        source: 0,
+        body: Body::Empty,
+    }; 30];
+    listening::acting::put_takings(both, taken, len, &mut takings);
     super::heard::sources(takings, len)
 }
 
-// Hear: one frame's records in order.
+/// Hear: one frame's records in order.
 pub fn hear(s: Station, bytes: &[u8]) -> Heard
     ensures { result ≡ hear_call s bytes.now }
 {
-    let mut both = [0u8; BOTH_ROOM];
-    let mut places = [0u16; 16];
-    let mut taken = [0u16; 30];
+    let mut both = [0; BOTH_ROOM];
+    let mut places = [0; 16];
+    let mut taken = [0; 30];
     let heard = listen(&mut both, &mut places, &mut taken, bytes, s);
     if heard.refusal != DONE {
-        let none = [false; 16];
         return Heard {
             refusal: heard.refusal,
             station: s,
-            taken: none,
+            taken: [false; 16],
         };
     }
     let sources = sources_of(&both, &taken, heard.len);
-    let station = listening::acting::acted(heard, &both, &places, &taken, s);
+    let mut station = s;
+    listening::acting::act(&heard, &both, &places, &taken, &mut station);
     Heard {
         refusal: DONE,
-        station: station,
+        station,
         taken: sources,
     }
 }

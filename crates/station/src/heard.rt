@@ -6,30 +6,24 @@ ghost use Rattle.hearing_spec.specs.Room.{takings_room};
 
 use station_spec::Taking;
 
-// The places with one more marked.
-fn marked(places: [bool; 16], source: usize) -> [bool; 16]
-    ensures { result ≡ set places source true }
+// Marks one more place, if there is such a place.
+fn mark(places: &mut [bool; 16], source: usize)
+    ensures { places.new ≡ set places.old source true }
 {
-    let mut more = places;
     if source < 16 {
-        more[source] = true;
-        return more;
+        places[source] = true;
     }
-    places
 }
 
-// The stations that the first takings are of.
+/// The stations that the first takings are of.
+#[tactic(auto, using(crate::proofs::SourceSteps::sources_none, crate::proofs::SourceSteps::sources_more))]
 pub fn sources(takings: [Taking; 30], len: usize) -> [bool; 16]
     requires { len ≤ takings_room }
     ensures { result ≡ sources_of (take len takings) }
 {
     let mut places = [false; 16];
-    let mut i = len;
-    while 0 < i {
-        i -= 1;
-        let taking = takings[i];
-        let more = marked(places, taking.source as usize);
-        places = more;
+    for i in (0..len).rev() {
+        mark(&mut places, takings[i].source as usize);
     }
     places
 }

@@ -2,6 +2,7 @@
 -- and decoded to just the station that the call gave; so calls on bytes are the calls of document
 -- 01, one after the other, on the station itself, and a state that the library made is never
 -- refused with 2.
+use Rattle.std.specs.Prelude.{Ok, ⊤}
 use mathlib.Core.Path.{◌≡◌, refl, sym, subst, ◌∙◌}
 use mathlib.Core.Bool.{Bool, true, false, not, false≢true}
 use mathlib.Core.List.{List}
@@ -10,7 +11,8 @@ use native.Mathlib.Omega.{arith}
 use lib.Dec.{eqb}
 use borrow.Author.Tests.{eqb-true, eq-eqb}
 use Rattle.bodies.specs.declared.Body.{Body}
-use Rattle.bodies.specs.Refusals.{done, outside_limits, refuse}
+use Rattle.bodies.specs.Refusals.{done, outside_limits, refuse_number, number_of, refuse}
+use Rattle.bodies.specs.declared.refusals.Refusal.TheVariants.{BadShape, BadAddress, BadRecord}
 use Rattle.frame_spec.specs.Frame.{valid_number, frame_refusal, records_of, records_inside, shape_wrong, address_wrong}
 use Rattle.bodies.specs.Limits.{is_edition}
 use Rattle.queues.specs.Waiting.{limit_inside}
@@ -47,7 +49,7 @@ again s shape f h =
     record { inside = h; accepted = inside_accepted s t h; decoded = inside_decoded s t h }
 
 -- what is refused with 2 first is inside where it is done
-inside_first : (t : Bool) (x : ℕ) → refuse (not t) outside_limits x ≡ done → t ≡ true
+inside_first : (t : Bool) (x : ℕ) → refuse_number (not t) outside_limits x ≡ done → t ≡ true
 inside_first true x h = refl
 inside_first false x h = absurd (omega (arith, h))
 
@@ -89,8 +91,8 @@ module _ (s : Station) (shape : Shaped s) (f : Fitting s) where
 
     hear_refusal : ℕ
     hear_refusal =
-        refuse (not (station_inside s)) outside_limits
-        (refuse (not (eqb (frame_refusal s.edition bytes s.n s.own) done)) (frame_refusal s.edition bytes s.n s.own) heard.refusal)
+        refuse_number (not (station_inside s)) outside_limits
+        (refuse_number (not (eqb (number_of (frame_refusal s.edition bytes s.n s.own)) done)) (number_of (frame_refusal s.edition bytes s.n s.own)) heard.refusal)
 
     hear_is : (hear_refusal ≡ done) × ((hear_call s bytes).station ≡ heard.station)
     unfolding hear_call hear_refusal heard
@@ -104,11 +106,11 @@ module _ (s : Station) (shape : Shaped s) (f : Fitting s) where
     unfolding hear_refusal
     hear_inside = inside_first (station_inside s) _ hear_is.0
 
-    frame_fine : frame_refusal s.edition bytes s.n s.own ≡ done
+    frame_fine : number_of (frame_refusal s.edition bytes s.n s.own) ≡ done
     unfolding hear_refusal
-    frame_fine = go (eqb (frame_refusal s.edition bytes s.n s.own) done) refl
+    frame_fine = go (eqb (number_of (frame_refusal s.edition bytes s.n s.own)) done) refl
       where
-        go : (t : Bool) → eqb (frame_refusal s.edition bytes s.n s.own) done ≡ t → frame_refusal s.edition bytes s.n s.own ≡ done
+        go : (t : Bool) → eqb (number_of (frame_refusal s.edition bytes s.n s.own)) done ≡ t → number_of (frame_refusal s.edition bytes s.n s.own) ≡ done
         go true e = eqb-true _ done e
         go false e = rw (hear_inside, e) at hear_is.0
 
@@ -116,7 +118,8 @@ module _ (s : Station) (shape : Shaped s) (f : Fitting s) where
     unfolding frame_refusal
     records_fine = go (shape_wrong bytes) (address_wrong s.edition bytes s.n s.own) (records_inside s.edition bytes s.n) frame_fine
       where
-        go : (a b c : Bool) → refuse a 5 (refuse b 6 (refuse (not c) 7 0)) ≡ 0 → c ≡ true
+        go : (a b c : Bool) →
+            number_of {A = ⊤} (refuse a BadShape (refuse b BadAddress (refuse (not c) BadRecord (Ok tt)))) ≡ done → c ≡ true
         go false false true z = refl
         go false false false z = absurd (omega (arith, z))
         go false true c z = absurd (omega (arith, z))

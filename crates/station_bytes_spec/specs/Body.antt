@@ -2,7 +2,7 @@
 -- bytes each with the lowest first, the argument in two's complement. A record in a table is as in
 -- a frame, but its labels are whole: station, count, kind, channel, event, argument, and then the
 -- labels.
-use Rattle.std.specs.Prelude.{ℕ, ◌+◌, Bool, ◌&&◌, List, [], ◌∷◌, ◌++◌, eqb}
+use Rattle.std.specs.Prelude.{ℕ, ◌+◌, Bool, ◌&&◌, List, [], ◌∷◌, ◌++◌, ◌==◌}
 use Rattle.bodies.specs.declared.Body.{Body}
 use Rattle.bodies.specs.Body.{kind_of, event_of, argument_of, channel_of, body_of}
 use Rattle.frame_spec.specs.Words.{word_at, word_bytes, signed, unsigned}
@@ -26,10 +26,10 @@ body_of_words kind channel event word = body_of kind event (signed word) channel
 unfoldable pub words_right : ℕ → ℕ → ℕ → ℕ → Bool
 words_right kind channel event word =
     let body = body_of_words kind channel event word in
-    eqb kind (kind_of body)
-    && eqb channel (channel_of body)
-    && eqb event (event_of body)
-    && eqb word (unsigned (argument_of body))
+    kind == kind_of body
+    && channel == channel_of body
+    && event == event_of body
+    && word == unsigned (argument_of body)
 
 unfoldable pub decode_body : List ℕ → ℕ → Body
 decode_body b at = body_of_words (byte_at b at) (byte_at b (at + 1)) (word_at b (at + 4)) (word_at b (at + 8))
@@ -37,8 +37,8 @@ decode_body b at = body_of_words (byte_at b at) (byte_at b (at + 1)) (word_at b 
 -- the bytes at a place are those of a body
 unfoldable pub is_body : List ℕ → ℕ → Bool
 is_body b at =
-    eqb (byte_at b (at + 2)) 0
-    && eqb (byte_at b (at + 3)) 0
+    byte_at b (at + 2) == 0
+    && byte_at b (at + 3) == 0
     && words_right (byte_at b at) (byte_at b (at + 1)) (word_at b (at + 4)) (word_at b (at + 8))
 
 abbrev pub record_width : ℕ

@@ -1,5 +1,5 @@
 -- Bytes one behind the other: what stands at a place of a list of bytes, and parts of one width.
-use Rattle.std.specs.Prelude.{ℕ, zero, suc, Bool, cond, List, [], ◌++◌, eqb, ltb, get_or, take, drop}
+use Rattle.std.specs.Prelude.{ℕ, zero, suc, Bool, if◌then◌else◌, List, [], ◌++◌, ◌==◌, nat_lt, slice_index, take, drop}
 
 -- the bytes of a word
 abbrev pub word_width : ℕ
@@ -7,19 +7,19 @@ word_width = 4
 
 -- the byte at a place
 abbrev pub byte_at : List ℕ → ℕ → ℕ
-byte_at b at = get_or b at 0
+byte_at b at = slice_index b at
 
 -- the flag at a place, and its byte
 abbrev pub flag_at : List ℕ → ℕ → Bool
-flag_at b at = eqb (byte_at b at) 1
+flag_at b at = byte_at b at == 1
 
 abbrev pub flag_byte : Bool → ℕ
-flag_byte flag = cond flag 1 0
+flag_byte flag = if flag then 1 else 0
 
 -- a number as a byte; 255 stands for all greater ones, of which no station inside its limits has
 -- one
 unfoldable pub as_byte : ℕ → ℕ
-as_byte number = cond (ltb number 256) number 255
+as_byte number = if nat_lt number 256 then number else 255
 
 -- so many bytes from a place on
 abbrev pub span : ℕ → ℕ → List ℕ → List ℕ

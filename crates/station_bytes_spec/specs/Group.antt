@@ -1,5 +1,5 @@
 -- A group as bytes: its sixteen stations, one behind the other.
-use Rattle.std.specs.Prelude.{ℕ, ◌*◌, Bool, ◌&&◌, List, eqb, length}
+use Rattle.std.specs.Prelude.{ℕ, ◌*◌, Bool, ◌&&◌, List, ◌==◌, length}
 use Rattle.lists.specs.Below.{all_below, tabulate}
 use Rattle.station_spec.specs.declared.Station.{Station}
 use Rattle.group_spec.specs.State.{station_at}
@@ -17,4 +17,4 @@ decode_group b = tabulate 16 (λ k. decode_station b (station_width * k))
 
 -- these bytes are a group
 unfoldable pub is_group : List ℕ → Bool
-is_group b = eqb (length b) group_width && all_below 16 (λ k. is_station_at b (station_width * k))
+is_group b = length b == group_width && all_below 16 (λ k. is_station_at b (station_width * k))

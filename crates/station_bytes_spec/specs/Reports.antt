@@ -1,6 +1,6 @@
 -- What a turn and a round report, as bytes, and the set of stations that a body was taken from.
 -- include/relay.h gives the place of each field.
-use Rattle.std.specs.Prelude.{ℕ, ◌+◌, ◌*◌, Bool, false, List, [], ◌∷◌, ◌++◌, get_or}
+use Rattle.std.specs.Prelude.{ℕ, ◌+◌, ◌*◌, Bool, false, List, [], ◌∷◌, ◌++◌, slice_index_or}
 use Rattle.bodies.specs.declared.Body.TheVariants.{Empty}
 use Rattle.lists.specs.Below.{tabulate}
 use Rattle.frame_spec.specs.Words.{word_bytes}
@@ -14,7 +14,7 @@ use Rattle.station_bytes_spec.specs.Body.{body_width, encode_body}
 
 -- sixteen flags, a byte each
 unfoldable pub encode_flags : List Bool → List ℕ
-encode_flags flags = tabulate 16 (λ k. flag_byte (get_or flags k false))
+encode_flags flags = tabulate 16 (λ k. flag_byte (slice_index_or flags k false))
 
 -- the report of a turn: whether a row was aired, whether the broadcast ended, the ended and the
 -- started body, the row
@@ -26,7 +26,7 @@ encode_turn t =
     (flag_byte t.aired ∷ flag_byte t.ended ∷ 0 ∷ 0 ∷ [])
     ++ encode_body t.ended_body
     ++ encode_body t.started_body
-    ++ joined_below 16 (λ k. encode_body (get_or t.row k no_slot).body)
+    ++ joined_below 16 (λ k. encode_body (slice_index_or t.row k no_slot).body)
 
 -- a body taken, behind the station that it is of
 abbrev pub taking_width : ℕ
@@ -43,7 +43,7 @@ report_width = 4 + taking_width * 30 + turn_width
 unfoldable pub encode_report : Report → List ℕ
 encode_report r =
     word_bytes (as_byte r.takings_len)
-    ++ joined_below 30 (λ i. encode_taking (get_or r.takings i no_taking))
+    ++ joined_below 30 (λ i. encode_taking (slice_index_or r.takings i no_taking))
     ++ encode_turn r.turn
 
 -- what is read past the end of a list of reports
@@ -60,4 +60,4 @@ abbrev pub reports_width : ℕ
 reports_width = report_width * 16
 
 unfoldable pub encode_reports : List Report → List ℕ
-encode_reports reports = joined_below 16 (λ k. encode_report (get_or reports k absent_report))
+encode_reports reports = joined_below 16 (λ k. encode_report (slice_index_or reports k absent_report))

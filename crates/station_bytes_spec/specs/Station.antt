@@ -1,7 +1,7 @@
 -- A station as bytes: a head (n, own number, count, edition, present body), sixteen cells, and the
 -- waiting edits. Every field is kept whole, past a length and from N up too, so that decoding is
 -- the inverse. include/relay.h gives the place of each field.
-use Rattle.std.specs.Prelude.{ℕ, ◌+◌, ◌*◌, Bool, ◌&&◌, List, [], ◌∷◌, ◌++◌, eqb, leb, length}
+use Rattle.std.specs.Prelude.{ℕ, ◌+◌, ◌*◌, Bool, ◌&&◌, List, [], ◌∷◌, ◌++◌, ◌==◌, nat_le, length}
 use Rattle.lists.specs.Below.{all_below, tabulate}
 use Rattle.queues.specs.declared.Lane.{Lane}
 use Rattle.station_spec.specs.declared.Station.{Station}
@@ -38,8 +38,8 @@ decode_cell b at =
 
 unfoldable pub is_cell : List ℕ → ℕ → Bool
 is_cell b at =
-    leb (byte_at b at) 1
-    && leb (byte_at b (at + 1)) 1
+    nat_le (byte_at b at) 1
+    && nat_le (byte_at b (at + 1)) 1
     && is_body b (at + 4)
     && is_body b (at + 16)
     && is_record b (at + 28)
@@ -89,4 +89,4 @@ is_station_at b at =
 
 -- these bytes are a station
 unfoldable pub is_station : List ℕ → Bool
-is_station b = eqb (length b) station_width && is_station_at b 0
+is_station b = length b == station_width && is_station_at b 0

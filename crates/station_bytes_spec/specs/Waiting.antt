@@ -1,7 +1,7 @@
 -- The waiting edits of a station as bytes: how many of desk 0 wait, the limit, how many of desk 1
 -- wait, whether desk 1 goes first where both wait; then the edits of desk 0, and behind them those
 -- of desk 1.
-use Rattle.std.specs.Prelude.{ℕ, ◌+◌, ◌*◌, Bool, ◌&&◌, List, [], ◌∷◌, ◌++◌, leb, get_or}
+use Rattle.std.specs.Prelude.{ℕ, ◌+◌, ◌*◌, Bool, ◌&&◌, List, [], ◌∷◌, ◌++◌, nat_le, slice_index_or}
 use Rattle.lists.specs.Below.{all_below, tabulate}
 use Rattle.queues.specs.declared.Slot.{Slot}
 use Rattle.queues.specs.declared.Waiting.{Waiting}
@@ -14,7 +14,7 @@ abbrev pub edits_width : ℕ
 edits_width = body_width * 32
 
 unfoldable pub encode_edits : List Slot → List ℕ
-encode_edits slots = joined_below 32 (λ i. encode_body (get_or slots i no_slot).body)
+encode_edits slots = joined_below 32 (λ i. encode_body (slice_index_or slots i no_slot).body)
 
 unfoldable pub decode_edits : List ℕ → ℕ → List Slot
 decode_edits b at = tabulate 32 (λ i. record { body = decode_body b (at + body_width * i) })
@@ -45,4 +45,4 @@ decode_waiting b at =
     }
 
 unfoldable pub is_waiting : List ℕ → ℕ → Bool
-is_waiting b at = leb (byte_at b (at + 3)) 1 && are_edits b (at + 4) && are_edits b (at + second_place)
+is_waiting b at = nat_le (byte_at b (at + 3)) 1 && are_edits b (at + 4) && are_edits b (at + second_place)

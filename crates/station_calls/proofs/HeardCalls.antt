@@ -70,11 +70,11 @@ module _ (b : List ℕ) (bytes : AllBytes b) (h : is_station b ≡ true) (s : St
         }
 
     pub heard_short :
-        length taken < 16 →
-        (short_buffer ≡ hear_returned b frame taken) × (b ≡ front_written short_buffer (encode_station (hear_answer b frame).station) b)
-        × (taken ≡ front_written short_buffer (encode_flags (hear_answer b frame).taken) taken)
+        length taken < 16 → (r : ℕ) → r ≡ short_buffer →
+        (r ≡ hear_returned b frame taken) × (b ≡ front_written r (encode_station (hear_answer b frame).station) b)
+        × (taken ≡ front_written r (encode_flags (hear_answer b frame).taken) taken)
     unfolding hear_returned
-    heard_short few = both_short refusal encoded answer _ (hear_is b s read frame answer a.answered) _ h b flags taken _ refl (no_room 16 taken few)
+    heard_short few r nine = both_short refusal encoded answer _ (hear_is b s read frame answer a.answered) _ h b flags taken _ refl (no_room 16 taken few) r nine
 
     pub heard_done :
         16 ≤ length taken → (l m : List ℕ) → (sources : List Bool) → ChangesOf s.n b l (λ t. acts_on t both (heard_notes places records e)) →

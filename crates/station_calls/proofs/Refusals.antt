@@ -3,13 +3,13 @@
 use mathlib.Core.Path.{◌≡◌, ap, ◌∙◌}
 use mathlib.Core.Bool.{Bool, true, false, not}
 use mathlib.Core.List.{List, ◌++◌}
-use Prim.Native.Nat.{ℕ, ◌+◌, ◌<◌, ◌≤◌}
+use Prim.Native.Nat.{ℕ, ◌<◌, ◌≤◌}
 use native.Mathlib.Nat.{zero-add}
 use native.Mathlib.Omega.{arith}
 use lib.ListN.{length, drop}
 use lib.Seq.{sets, sets-eq}
 use borrow.Author.Tests.{eq-eqb, ne_eqb, lt-ltb, le-ltb}
-use Rattle.bodies.specs.Refusals.{done, outside_limits, short_buffer, refuse}
+use Rattle.bodies.specs.Refusals.{done, outside_limits, short_buffer, refuse_number}
 use Rattle.planning_spec.specs.Merge.{front_written}
 use Rattle.station_calls.specs.Station.{or_else, room_refusal}
 
@@ -21,10 +21,10 @@ first_refused c x d = rw (ne_eqb c done d)
 pub first_done : (c x : ℕ) → c ≡ done → x ≡ or_else c x
 first_done c x e = rw (eq-eqb c done e)
 
-pub state_refused : (judged : Bool) (x : ℕ) → judged ≡ false → outside_limits ≡ or_else (refuse (not judged) outside_limits done) x
+pub state_refused : (judged : Bool) (x : ℕ) → judged ≡ false → outside_limits ≡ or_else (refuse_number (not judged) outside_limits done) x
 state_refused judged x h = rw h
 
-pub state_taken : (judged : Bool) (x : ℕ) → judged ≡ true → x ≡ or_else (refuse (not judged) outside_limits done) x
+pub state_taken : (judged : Bool) (x : ℕ) → judged ≡ true → x ≡ or_else (refuse_number (not judged) outside_limits done) x
 state_taken judged x h = rw h
 
 module _ (n : ℕ) (l : List ℕ) where

@@ -8,20 +8,20 @@ use Prim.Native.Nat.{ℕ, ◌<◌, ◌≤◌}
 use native.Mathlib.Omega.{arith}
 use lib.ListN.{length}
 use lib.Seq.{sets}
-use Rattle.bodies.specs.Refusals.{done, outside_limits, short_buffer, refuse}
+use Rattle.bodies.specs.Refusals.{done, outside_limits, short_buffer, refuse_number}
 use Rattle.planning_spec.specs.Merge.{front_written}
 use Rattle.station_calls.specs.Station.{or_else, room_refusal}
 use Rattle.station_calls.proofs.Refusals.{first_refused, first_done, state_refused, state_taken, no_room, room, kept_whole, front_made, refused_is_2, short_is_9}
 
 -- bytes that are not what the call is about
-module _ (judged : Bool) (h : judged ≡ false) (x : ℕ) (part b : List ℕ) where
-  pub not_judged : (outside_limits ≡ or_else (refuse (not judged) outside_limits done) x) × (b ≡ front_written outside_limits part b)
-  not_judged = (state_refused judged x h, kept_whole _ _ b refused_is_2)
+module _ (judged : Bool) (h : judged ≡ false) (r : ℕ) (is : r ≡ outside_limits) (x : ℕ) (part b : List ℕ) where
+  pub not_judged : (r ≡ or_else (refuse_number (not judged) outside_limits done) x) × (b ≡ front_written r part b)
+  not_judged = (is ∙ state_refused judged x h, kept_whole _ _ b (λ z. refused_is_2 (sym is ∙ z)))
 
   pub not_judged_both :
       (report lent : List ℕ) →
-      (outside_limits ≡ or_else (refuse (not judged) outside_limits done) x) × (b ≡ front_written outside_limits part b) × (lent ≡ front_written outside_limits report lent)
-  not_judged_both report lent = (state_refused judged x h, kept_whole _ _ b refused_is_2, kept_whole _ _ lent refused_is_2)
+      (r ≡ or_else (refuse_number (not judged) outside_limits done) x) × (b ≡ front_written r part b) × (lent ≡ front_written r report lent)
+  not_judged_both report lent = (not_judged.0, not_judged.1, kept_whole _ _ lent (λ z. refused_is_2 (sym is ∙ z)))
 
 module _ {A : Type 0} (refusal : A → ℕ) (part : A → List ℕ) (made answer : A) (is : made ≡ answer) where
   fine_too : refusal made ≡ done → refusal answer ≡ done
@@ -40,8 +40,9 @@ module _ {A : Type 0} (refusal : A → ℕ) (part : A → List ℕ) (made answer
     fresh_refused d = (first_same _ d, kept_whole _ _ l d)
 
     module _ (fine : refusal made ≡ done) where
-      pub fresh_short : length l < width → (short_buffer ≡ or_else (refusal answer) (room_refusal width l)) × (l ≡ front_written short_buffer (part answer) l)
-      fresh_short h = (no_room width l h ∙ first_done _ _ (fine_too fine), kept_whole _ _ l short_is_9)
+      pub fresh_short :
+          length l < width → (r : ℕ) → r ≡ short_buffer → (r ≡ or_else (refusal answer) (room_refusal width l)) × (l ≡ front_written r (part answer) l)
+      fresh_short h r is = (is ∙ no_room width l h ∙ first_done _ _ (fine_too fine), kept_whole _ _ l (λ z. short_is_9 (sym is ∙ z)))
 
       pub fresh_done :
           width ≤ length l → length (part answer) ≡ width → (m : List ℕ) → m ≡ sets l 0 (part made) →
@@ -52,19 +53,19 @@ module _ {A : Type 0} (refusal : A → ℕ) (part : A → List ℕ) (made answer
   module _ (judged : Bool) (h : judged ≡ true) (b : List ℕ) where
     pub over_refused :
         (refusal made ≡ done → ⊥) →
-        (refusal made ≡ or_else (refuse (not judged) outside_limits done) (refusal answer)) × (b ≡ front_written (refusal made) (part answer) b)
+        (refusal made ≡ or_else (refuse_number (not judged) outside_limits done) (refusal answer)) × (b ≡ front_written (refusal made) (part answer) b)
     over_refused d = (ap refusal is ∙ state_taken judged _ h, kept_whole _ _ b d)
 
     pub over_done :
         refusal made ≡ done → length (part answer) ≡ length b → (l : List ℕ) → l ≡ sets b 0 (part made) →
-        (done ≡ or_else (refuse (not judged) outside_limits done) (refusal answer)) × (l ≡ front_written done (part answer) b)
+        (done ≡ or_else (refuse_number (not judged) outside_limits done) (refusal answer)) × (l ≡ front_written done (part answer) b)
     over_done fine long l e = (sym (fine_too fine) ∙ state_taken judged _ h, put_same b l (omega (arith, long)) e)
 
     -- the same, with a report into another buffer; `rest` is what that buffer and the like are
     -- refused with
     module _ (report : A → List ℕ) (lent : List ℕ) (rest : ℕ) where
       abbrev returned : ℕ
-      returned = or_else (refuse (not judged) outside_limits done) (or_else (refusal answer) rest)
+      returned = or_else (refuse_number (not judged) outside_limits done) (or_else (refusal answer) rest)
 
       pub both_refused :
           (refusal made ≡ done → ⊥) →
@@ -73,8 +74,11 @@ module _ {A : Type 0} (refusal : A → ℕ) (part : A → List ℕ) (made answer
 
       module _ (fine : refusal made ≡ done) where
         pub both_short :
-            short_buffer ≡ rest → (short_buffer ≡ returned) × (b ≡ front_written short_buffer (part answer) b) × (lent ≡ front_written short_buffer (report answer) lent)
-        both_short e = (e ∙ first_done _ _ (fine_too fine) ∙ state_taken judged _ h, kept_whole _ _ b short_is_9, kept_whole _ _ lent short_is_9)
+            short_buffer ≡ rest → (r : ℕ) → r ≡ short_buffer →
+            (r ≡ returned) × (b ≡ front_written r (part answer) b) × (lent ≡ front_written r (report answer) lent)
+        both_short e r is =
+            let not_done : r ≡ done → ⊥ = λ z. short_is_9 (sym is ∙ z) in
+            (is ∙ e ∙ first_done _ _ (fine_too fine) ∙ state_taken judged _ h, kept_whole _ _ b not_done, kept_whole _ _ lent not_done)
 
         pub both_done :
             done ≡ rest → length (part answer) ≡ length b → length (report answer) ≤ length lent → (l m : List ℕ) →

@@ -9,7 +9,7 @@ use native.Mathlib.Omega.{arith}
 use lib.Dec.{eqb, ltb}
 use lib.ListN.{length, set, length-append}
 use borrow.Author.Tests.{eq-eqb, eqb-true}
-use Rattle.bodies.specs.Refusals.{done, outside_limits, short_buffer, count_too_high, refuse}
+use Rattle.bodies.specs.Refusals.{done, outside_limits, short_buffer, count_too_high, refuse_number}
 use Rattle.lists.specs.Below.{filter_map}
 use Rattle.frame_spec.specs.declared.Written.{Written}
 use Rattle.frame_spec.proofs.Bytes.{length_frame}
@@ -70,8 +70,8 @@ any_room s one other = go (not (station_inside s)) (not (own_count_inside s)) (l
   where
     go :
         (a b t u : Bool) →
-        or_else (refuse a outside_limits (refuse b count_too_high (refuse t short_buffer done))) short_buffer
-        ≡ or_else (refuse a outside_limits (refuse b count_too_high (refuse u short_buffer done))) short_buffer
+        or_else (refuse_number a outside_limits (refuse_number b count_too_high (refuse_number t short_buffer done))) short_buffer
+        ≡ or_else (refuse_number a outside_limits (refuse_number b count_too_high (refuse_number u short_buffer done))) short_buffer
     go true b t u = refl
     go false true t u = refl
     go false false true true = refl
@@ -88,9 +88,11 @@ Promise b frame lengths r f l =
     × (l ≡ front_written r (length (frame_of (station_of b)) ∷ []) lengths)
 
 module _ (b frame lengths : List ℕ) where
-  pub write_no_station : is_station b ≡ false → Promise b frame lengths outside_limits frame lengths
+  pub write_no_station : is_station b ≡ false → (r : ℕ) → r ≡ outside_limits → Promise b frame lengths r frame lengths
   unfolding write_returned
-  write_no_station h = (state_refused (is_station b) _ h, kept_whole _ _ frame refused_is_2, kept_whole _ _ lengths refused_is_2)
+  write_no_station h r is =
+      let not_done : r ≡ done → ⊥ = λ z. refused_is_2 (sym is ∙ z) in
+      (is ∙ state_refused (is_station b) _ h, kept_whole _ _ frame not_done, kept_whole _ _ lengths not_done)
 
   module _ (h : is_station b ≡ true) (s : Station) (read : s ≡ decode_station b 0) where
     -- no room for the number of bytes
@@ -110,10 +112,11 @@ module _ (b frame lengths : List ℕ) where
       write_none_refused d =
           (first_refused w.refusal short_buffer d ∙ same_refusal ∙ state_taken (is_station b) _ h, kept_whole _ _ frame d, kept_whole _ _ lengths d)
 
-      pub write_none : w.refusal ≡ done → Promise b frame lengths short_buffer frame lengths
+      pub write_none : w.refusal ≡ done → (r : ℕ) → r ≡ short_buffer → Promise b frame lengths r frame lengths
       unfolding write_returned
-      write_none fine =
-          (first_done w.refusal short_buffer fine ∙ same_refusal ∙ state_taken (is_station b) _ h, kept_whole _ _ frame short_is_9, kept_whole _ _ lengths short_is_9)
+      write_none fine r is =
+          let not_done : r ≡ done → ⊥ = λ z. short_is_9 (sym is ∙ z) in
+          (is ∙ first_done w.refusal short_buffer fine ∙ same_refusal ∙ state_taken (is_station b) _ h, kept_whole _ _ frame not_done, kept_whole _ _ lengths not_done)
 
     -- room for it
     module _ (w : Written) (call : w ≡ write_call s (length frame)) (f : List ℕ) (made : f ≡ buffer_after s frame) where

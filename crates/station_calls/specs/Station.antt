@@ -5,7 +5,7 @@ use Rattle.std.specs.Prelude.{ℕ, cond, not, List, eqb, ltb, ℤ, length}
 use Rattle.bodies.specs.declared.Body.{Body}
 use Rattle.bodies.specs.declared.Body.TheVariants.{Empty}
 use Rattle.bodies.specs.Body.{body_of}
-use Rattle.bodies.specs.Refusals.{done, outside_limits, short_buffer, refuse}
+use Rattle.bodies.specs.Refusals.{done, outside_limits, short_buffer, refuse_number}
 use Rattle.bodies.specs.Limits.{numbers_inside}
 use Rattle.station_spec.specs.declared.StationAnswer.{StationAnswer}
 use Rattle.station_spec.specs.declared.Heard.{Heard}
@@ -22,11 +22,11 @@ or_else first next = cond (eqb first done) next first
 
 -- 9: a lent buffer has not so many places
 abbrev pub room_refusal : ℕ → List ℕ → ℕ
-room_refusal room buffer = refuse (ltb (length buffer) room) short_buffer done
+room_refusal room buffer = refuse_number (ltb (length buffer) room) short_buffer done
 
 -- 2: the bytes are no station
 abbrev pub station_refusal : List ℕ → ℕ
-station_refusal b = refuse (not (is_station b)) outside_limits done
+station_refusal b = refuse_number (not (is_station b)) outside_limits done
 
 -- the station that bytes are
 abbrev pub station_of : List ℕ → Station

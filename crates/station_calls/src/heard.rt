@@ -1,6 +1,6 @@
 // What was heard, put into the bytes of a station: only those are written that hearing can change.
 
-ghost use Rattle.std.specs.Prelude.{◌≡◌, ℕ, ◌+◌, ◌≤◌, ◌<◌, length, get_or};
+ghost use Rattle.std.specs.Prelude.{◌≡◌, ℕ, ◌+◌, ◌≤◌, ◌<◌, length, slice_index};
 ghost use Rattle.hearing_spec.specs.Buffer.{size_in, record_at};
 ghost use Rattle.hearing_spec.specs.StandsFor.{acts_on};
 ghost use Rattle.listening.specs.Listened.{TakenRoom, Readable, heard_notes};
@@ -11,15 +11,18 @@ ghost use Rattle.station_calls.specs.Changes.{entries_below, with_numbers, with_
 use bodies::Body;
 use frame_spec::Record;
 use hearing_spec::Ear;
-use station_encoder::{flag_byte, put_body, put_record};
+use station_encoder::{put_body, put_record};
 
 const FIRST_CELL: usize = 16;
 
 const CELL_WIDTH: usize = 44;
 
+const RECORD_WIDTH: usize = 16;
+
 // No record of station k is held.
 fn clear_entry(state: &mut [u8], k: usize)
-    requires { (station_width ≤ length state.old) × (k < 16) }
+    requires room { station_width ≤ length state.old }
+    requires among { k < 16 }
     ensures { Changes state.old state.new (λ s. without_entry s k) }
 {
     state[FIRST_CELL + CELL_WIDTH * k + 1] = 0;
@@ -27,43 +30,37 @@ fn clear_entry(state: &mut [u8], k: usize)
 
 // The record at a place is held of station k; the labels from n up stay.
 fn put_entry(state: &mut [u8], k: usize, bytes: &[u8], at: usize, n: usize)
-    requires fact_1 { (station_width ≤ length state.old) × (k < 16) }
-    requires fact_2 { (at + 16 ≤ length bytes.now) × (n ≤ 16) }
+    requires room { station_width ≤ length state.old }
+    requires among { k < 16 }
+    requires whole { at + 16 ≤ length bytes.now }
+    requires few { n ≤ 16 }
     ensures { ChangesAt k state.old state.new
         (λ s. with_entry_at s n k bytes.now at) }
 {
     let cell = FIRST_CELL + CELL_WIDTH * k;
     let old = records::reader::word_at(state, cell + 40);
-    let seen = records::reader::read_record(&bytes[at..at + 16]);
-    let body = seen.body;
+    let seen = records::reader::read_record(&bytes[at..at + RECORD_WIDTH]);
     let labels = labels::words::over(n, seen.labels, old);
-    let entry = Record {
-        station: seen.station,
-        count: seen.count,
-        body: body,
-        labels: labels,
-    };
     state[cell + 1] = 1;
-    put_record(state, cell + 28, entry);
+    put_record(state, cell + 28, Record { labels, ..seen });
 }
 
 // The records of the stations below n at their places, 0 where none is held.
 fn put_entries(state: &mut [u8], bytes: &[u8], places: &[u16], n: usize)
-    requires fact_1 { (station_width ≤ length state.old) × (n ≤ 16) × (length places.now ≡ 16) }
-    requires fact_2 { ((k : ℕ) → k < n → get_or places.now k 0 + 16 ≤ length bytes.now) }
+    requires room { station_width ≤ length state.old }
+    requires few { n ≤ 16 }
+    requires long { length places.now ≡ 16 }
+    requires whole { (k : ℕ) → k < n → slice_index places.now k + 16 ≤ length bytes.now }
     ensures { ChangesOf n state.old state.new
         (λ s. entries_below s bytes.now places.now n) }
 {
-    let mut k: usize = 0;
-    while k < n {
+    for k in 0..n {
         let at = places[k] as usize;
         if at == 0 {
             clear_entry(state, k);
-            k += 1;
             continue;
         }
         put_entry(state, k, bytes, at, n);
-        k += 1;
     }
 }
 
@@ -73,17 +70,16 @@ fn put_numbers(state: &mut [u8], heard: Ear)
     ensures { Changes state.old state.new (λ s. with_numbers s heard) }
 {
     state[2] = heard.count;
-    let mut k: usize = 0;
-    while k < 16 {
-        state[FIRST_CELL + CELL_WIDTH * k] = flag_byte(heard.acked[k]);
+    for k in 0..16 {
+        state[FIRST_CELL + CELL_WIDTH * k] = u8::from(heard.acked[k]);
         state[FIRST_CELL + CELL_WIDTH * k + 2] = heard.labels[k];
-        k += 1;
     }
 }
 
 // A body, put last into the lane of station k.
 fn push(state: &mut [u8], k: usize, body: Body)
-    requires { (station_width ≤ length state.old) × (k < 16) }
+    requires room { station_width ≤ length state.old }
+    requires among { k < 16 }
     ensures { Changes state.old state.new (λ s. with_pushed s k body) }
 {
     let cell = FIRST_CELL + CELL_WIDTH * k;
@@ -92,33 +88,30 @@ fn push(state: &mut [u8], k: usize, body: Body)
         state[cell + 3] = 1;
         put_body(state, cell + 4, body);
         put_body(state, cell + 16, Body::Empty);
-        return;
-    }
-    state[cell + 3] = 2;
-    if len == 1 {
+    } else if len == 1 {
+        state[cell + 3] = 2;
         put_body(state, cell + 16, body);
-        return;
+    } else {
+        state[cell + 3] = 2;
     }
 }
 
 // The bodies of the records at the first places, each put last into the lane of its station.
 fn push_taken(state: &mut [u8], bytes: &[u8], taken: &[u16], len: usize)
-    requires fact_1 { (station_width ≤ length state.old) × (size_in bytes.now ≤ 16) }
-    requires fact_2 { TakenRoom bytes.now taken.now len }
+    requires room { station_width ≤ length state.old }
+    requires few { size_in bytes.now ≤ 16 }
+    requires takings { TakenRoom bytes.now taken.now len }
     ensures { Changes state.old state.new
         (λ s. with_taken s bytes.now taken.now len) }
 {
-    let mut i: usize = 0;
-    while i < len {
+    for i in 0..len {
         let at = taken[i] as usize;
-        let seen = records::reader::read_record(&bytes[at..at + 16]);
-        let body = seen.body;
-        push(state, seen.station as usize, body);
-        i += 1;
+        let seen = records::reader::read_record(&bytes[at..at + RECORD_WIDTH]);
+        push(state, seen.station as usize, seen.body);
     }
 }
 
-// All that was heard.
+/// All that was heard.
 pub fn put_heard(
     state: &mut [u8],
     heard: Ear,
@@ -127,8 +120,9 @@ pub fn put_heard(
     taken: &[u16],
     n: usize,
 )
-    requires fact_1 { (station_width ≤ length state.old) × (n ≡ size_in bytes.now) }
-    requires fact_2 { Readable bytes.now places.now taken.now heard.len }
+    requires room { station_width ≤ length state.old }
+    requires size { n ≡ size_in bytes.now }
+    requires readable { Readable bytes.now places.now taken.now heard.len }
     ensures { ChangesOf n state.old state.new
         (λ s. acts_on s bytes.now (heard_notes places.now taken.now heard)) }
 {

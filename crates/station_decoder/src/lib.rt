@@ -36,30 +36,27 @@ const STATION_WIDTH: usize = 1492;
 const GROUP_WIDTH: usize = 23872;
 
 // The body of four numbers, the argument as a word.
+#[tactic(auto, unfolding(frame_spec::specs::Words::signed))]
 fn body_of_words(kind: u32, channel: u8, event: u32, word: u32) -> Body
     ensures { result ≡ body_of_words kind channel event word }
 {
-    bodies::body_of(kind, event, records::reader::signed(word), channel)
+    Body::new(kind, event, word.cast_signed(), channel)
 }
 
 // Are they just the numbers of that body?
+#[tactic(auto, unfolding(station_bytes_spec::specs::Body::words_right, frame_spec::specs::Words::unsigned))]
 fn words_right(kind: u32, channel: u8, event: u32, word: u32) -> bool
     ensures { result ≡ words_right kind channel event word }
 {
     let body = body_of_words(kind, channel, event, word);
-    if kind != bodies::kind_of(body) {
-        return false;
-    }
-    if channel != bodies::channel_of(body) {
-        return false;
-    }
-    if event != bodies::event_of(body) {
-        return false;
-    }
-    word == records::writer::unsigned(bodies::argument_of(body))
+    kind == body.kind()
+        && channel == body.channel()
+        && event == body.event()
+        && word == body.argument().cast_unsigned()
 }
 
 // The body at a place.
+#[tactic(auto, unfolding(station_bytes_spec::specs::Body::decode_body))]
 fn read_body(bytes: &[u8], at: usize) -> Body
     requires { at + body_width ≤ length bytes.now }
     ensures { result ≡ decode_body bytes.now at }
@@ -70,41 +67,36 @@ fn read_body(bytes: &[u8], at: usize) -> Body
 }
 
 // Are the bytes at a place those of a body?
+#[tactic(auto, unfolding(station_bytes_spec::specs::Body::is_body))]
 fn body_right(bytes: &[u8], at: usize) -> bool
     requires { at + body_width ≤ length bytes.now }
     ensures { result ≡ is_body bytes.now at }
 {
-    if bytes[at + 2] != 0 {
-        return false;
-    }
-    if bytes[at + 3] != 0 {
-        return false;
-    }
     let event = word_at(bytes, at + 4);
     let word = word_at(bytes, at + 8);
-    words_right(bytes[at] as u32, bytes[at + 1], event, word)
+    bytes[at + 2] == 0
+        && bytes[at + 3] == 0
+        && words_right(bytes[at] as u32, bytes[at + 1], event, word)
 }
 
 // The record at a place.
+#[tactic(auto, unfolding(station_bytes_spec::specs::Body::decode_record))]
 fn read_record(bytes: &[u8], at: usize) -> Record
     requires { at + record_width ≤ length bytes.now }
     ensures { result ≡ decode_record bytes.now at }
 {
     let event = word_at(bytes, at + 4);
     let word = word_at(bytes, at + 8);
-    let body = body_of_words(bytes[at + 2] as u32, bytes[at + 3], event, word);
-    let labels = word_at(bytes, at + 12);
-    let station = bytes[at];
-    let count = bytes[at + 1];
     Record {
-        station: station,
-        count: count,
-        body: body,
-        labels: labels,
+        station: bytes[at],
+        count: bytes[at + 1],
+        body: body_of_words(bytes[at + 2] as u32, bytes[at + 3], event, word),
+        labels: word_at(bytes, at + 12),
     }
 }
 
 // Are the bytes at a place those of a record?
+#[tactic(auto, unfolding(station_bytes_spec::specs::Body::is_record))]
 fn record_right(bytes: &[u8], at: usize) -> bool
     requires { at + record_width ≤ length bytes.now }
     ensures { result ≡ is_record bytes.now at }
@@ -115,51 +107,41 @@ fn record_right(bytes: &[u8], at: usize) -> bool
 }
 
 // The lane of the cell at a place.
+#[tactic(auto, unfolding(station_bytes_spec::specs::Station::decode_lane))]
 fn read_lane(bytes: &[u8], at: usize) -> Lane
     requires { at + cell_width ≤ length bytes.now }
     ensures { result ≡ decode_lane bytes.now at }
 {
-    let first = read_body(bytes, at + 4);
-    let second = read_body(bytes, at + 16);
-    let len = bytes[at + 3];
     Lane {
-        len: len,
-        first: first,
-        second: second,
+        len: bytes[at + 3],
+        first: read_body(bytes, at + 4),
+        second: read_body(bytes, at + 16),
     }
 }
 
 // Are the bytes at a place those of a cell?
+#[tactic(auto, unfolding(station_bytes_spec::specs::Station::is_cell))]
 fn cell_right(bytes: &[u8], at: usize) -> bool
     requires { at + cell_width ≤ length bytes.now }
     ensures { result ≡ is_cell bytes.now at }
 {
-    if 1 < bytes[at] {
-        return false;
-    }
-    if 1 < bytes[at + 1] {
-        return false;
-    }
-    if !body_right(bytes, at + 4) {
-        return false;
-    }
-    if !body_right(bytes, at + 16) {
-        return false;
-    }
-    record_right(bytes, at + 28)
+    bytes[at] <= 1
+        && bytes[at + 1] <= 1
+        && body_right(bytes, at + 4)
+        && body_right(bytes, at + 16)
+        && record_right(bytes, at + 28)
 }
 
 // Are the bytes from a place on those of sixteen cells?
+#[tactic(auto, using(lists::proofs::Laws::all_below_more, lists::proofs::Laws::all_below_fails), unfolding(lists::specs::Below::all_below))]
 fn cells_right(bytes: &[u8], at: usize) -> bool
     requires { at + cells_width ≤ length bytes.now }
     ensures { result ≡ all_below 16 (λ k. is_cell bytes.now (at + cell_width * k)) }
 {
-    let mut k: usize = 0;
-    while k < 16 {
+    for k in 0..16 {
         if !cell_right(bytes, at + CELL_WIDTH * k) {
             return false;
         }
-        k += 1;
     }
     true
 }
@@ -169,11 +151,9 @@ fn all_zero(bytes: &[u8], at: usize, count: usize) -> bool
     requires { at + count ≤ length bytes.now }
     ensures { result ≡ true → (i : ℕ) → i < count → byte_at bytes.now (at + i) ≡ 0 }
 {
-    let mut joined: u8 = 0;
-    let mut i: usize = 0;
-    while i < count {
-        joined = joined | bytes[at + i];
-        i += 1;
+    let mut joined = 0;
+    for &byte in &bytes[at..at + count] {
+        joined |= byte;
     }
     joined == 0
 }
@@ -183,76 +163,66 @@ fn read_edits(bytes: &[u8], at: usize) -> [Slot; 32]
     requires { at + edits_width ≤ length bytes.now }
     ensures { result ≡ decode_edits bytes.now at }
 {
-    let none = Slot { body: Body::Empty };
-    let mut slots = [none; 32];
+    let mut slots = [Slot { body: Body::Empty }; 32];
     if all_zero(bytes, at, EDITS_WIDTH) {
         return slots;
     }
-    let mut i: usize = 0;
-    while i < 32 {
-        let body = read_body(bytes, at + BODY_WIDTH * i);
-        slots[i] = Slot { body: body };
-        i += 1;
+    for i in 0..32 {
+        slots[i].body = read_body(bytes, at + BODY_WIDTH * i);
     }
     slots
 }
 
-// Are the bytes at a place those of the edits of a desk?
-fn edits_right(bytes: &[u8], at: usize) -> bool
+// Are the bytes from a place on those of the bodies of a desk?
+#[tactic(auto, using(lists::proofs::Laws::all_below_more, lists::proofs::Laws::all_below_fails), unfolding(lists::specs::Below::all_below))]
+fn bodies_right(bytes: &[u8], at: usize) -> bool
     requires { at + edits_width ≤ length bytes.now }
-    ensures { result ≡ are_edits bytes.now at }
+    ensures { result ≡ all_below 32 (λ i. is_body bytes.now (at + body_width * i)) }
 {
-    if all_zero(bytes, at, EDITS_WIDTH) {
-        return true;
-    }
-    let mut i: usize = 0;
-    while i < 32 {
+    for i in 0..32 {
         if !body_right(bytes, at + BODY_WIDTH * i) {
             return false;
         }
-        i += 1;
     }
     true
 }
 
+// Are the bytes at a place those of the edits of a desk? Zeros are those of none.
+#[tactic(auto, using(crate::proofs::Zeros::zeros_are_edits), unfolding(station_bytes_spec::specs::Waiting::are_edits))]
+fn edits_right(bytes: &[u8], at: usize) -> bool
+    requires { at + edits_width ≤ length bytes.now }
+    ensures { result ≡ are_edits bytes.now at }
+{
+    all_zero(bytes, at, EDITS_WIDTH) || bodies_right(bytes, at)
+}
+
 // The waiting edits at a place.
+#[tactic(auto, unfolding(station_bytes_spec::specs::Waiting::decode_waiting))]
 fn read_waiting(bytes: &[u8], at: usize) -> Waiting
     requires { at + waiting_width ≤ length bytes.now }
     ensures { result ≡ decode_waiting bytes.now at }
 {
-    let slots0 = read_edits(bytes, at + 4);
-    let slots1 = read_edits(bytes, at + SECOND_PLACE);
-    let len0 = records::reader::wide(bytes[at]);
-    let limit = records::reader::wide(bytes[at + 1]);
-    let len1 = records::reader::wide(bytes[at + 2]);
-    let queue0 = Queue {
-        len: len0,
-        slots: slots0,
-    };
-    let queue1 = Queue {
-        len: len1,
-        slots: slots1,
-    };
     Waiting {
-        limit: limit,
-        queue0: queue0,
-        queue1: queue1,
+        limit: bytes[at + 1] as usize,
+        queue0: Queue {
+            len: bytes[at] as usize,
+            slots: read_edits(bytes, at + 4),
+        },
+        queue1: Queue {
+            len: bytes[at + 2] as usize,
+            slots: read_edits(bytes, at + SECOND_PLACE),
+        },
         one_first: bytes[at + 3] == 1,
     }
 }
 
 // Are the bytes at a place those of waiting edits?
+#[tactic(auto, unfolding(station_bytes_spec::specs::Waiting::is_waiting))]
 fn waiting_right(bytes: &[u8], at: usize) -> bool
     requires { at + waiting_width ≤ length bytes.now }
     ensures { result ≡ is_waiting bytes.now at }
 {
-    if 1 < bytes[at + 3] {
-        return false;
-    }
-    if !edits_right(bytes, at + 4) {
-        return false;
-    }
-    edits_right(bytes, at + SECOND_PLACE)
+    bytes[at + 3] <= 1 && edits_right(bytes, at + 4) && edits_right(bytes, at + SECOND_PLACE)
 }
 
 // The station at a place.
@@ -273,65 +243,54 @@ fn station_at(bytes: &[u8], at: usize) -> Station
     };
     let mut acked = [false; 16];
     let mut held = [false; 16];
-    let mut labels = [0u8; 16];
+    let mut labels = [0; 16];
     let mut table = [none; 16];
     let mut lanes = [empty; 16];
-    let mut k: usize = 0;
-    while k < 16 {
+    for k in 0..16 {
         let cell = at + 16 + CELL_WIDTH * k;
         acked[k] = bytes[cell] == 1;
         held[k] = bytes[cell + 1] == 1;
         labels[k] = bytes[cell + 2];
         table[k] = read_record(bytes, cell + 28);
         lanes[k] = read_lane(bytes, cell);
-        k += 1;
     }
     let body = read_body(bytes, at + 4);
     let waiting = read_waiting(bytes, at + WAITING_PLACE);
-    let n = records::reader::wide(bytes[at]);
-    let own = records::reader::wide(bytes[at + 1]);
-    let count = bytes[at + 2];
-    let edition = records::reader::wide(bytes[at + 3]);
     Station {
-        n: n,
-        own: own,
-        edition: edition,
-        waiting: waiting,
-        acked: acked,
-        body: body,
-        count: count,
-        labels: labels,
-        held: held,
-        table: table,
-        lanes: lanes,
+        n: bytes[at] as usize,
+        own: bytes[at + 1] as usize,
+        edition: bytes[at + 3] as usize,
+        waiting,
+        acked,
+        body,
+        count: bytes[at + 2],
+        labels,
+        held,
+        table,
+        lanes,
     }
 }
 
 // Are the bytes at a place those of a station?
+#[tactic(auto, unfolding(station_bytes_spec::specs::Station::is_station_at))]
 fn station_right(bytes: &[u8], at: usize) -> bool
     requires { at + station_width ≤ length bytes.now }
     ensures { result ≡ is_station_at bytes.now at }
 {
-    if !body_right(bytes, at + 4) {
-        return false;
-    }
-    if !cells_right(bytes, at + 16) {
-        return false;
-    }
-    waiting_right(bytes, at + WAITING_PLACE)
+    body_right(bytes, at + 4)
+        && cells_right(bytes, at + 16)
+        && waiting_right(bytes, at + WAITING_PLACE)
 }
 
-// Are these bytes a station?
+/// Are these bytes a station?
+#[tactic(auto, unfolding(station_bytes_spec::specs::Station::is_station))]
 pub fn is_station(bytes: &[u8]) -> bool
     ensures { result ≡ is_station bytes.now }
 {
-    if bytes.len() != STATION_WIDTH {
-        return false;
-    }
-    station_right(bytes, 0)
+    bytes.len() == STATION_WIDTH && station_right(bytes, 0)
 }
 
-// The station that bytes are.
+/// The station that bytes are; what stands behind its 1,492 bytes is not looked at.
 pub fn read_station(bytes: &[u8]) -> Station
     requires { station_width ≤ length bytes.now }
     ensures { result ≡ decode_station bytes.now 0 }
@@ -339,34 +298,36 @@ pub fn read_station(bytes: &[u8]) -> Station
     station_at(bytes, 0)
 }
 
-// Are these bytes a group?
-pub fn is_group(bytes: &[u8]) -> bool
-    ensures { result ≡ is_group bytes.now }
+// Are the bytes from the front on those of sixteen stations?
+#[tactic(auto, using(lists::proofs::Laws::all_below_more, lists::proofs::Laws::all_below_fails), unfolding(lists::specs::Below::all_below))]
+fn stations_right(bytes: &[u8]) -> bool
+    requires { group_width ≤ length bytes.now }
+    ensures { result ≡ all_below 16 (λ k. is_station_at bytes.now (station_width * k)) }
 {
-    if bytes.len() != GROUP_WIDTH {
-        return false;
-    }
-    let mut k: usize = 0;
-    while k < 16 {
+    for k in 0..16 {
         if !station_right(bytes, STATION_WIDTH * k) {
             return false;
         }
-        k += 1;
     }
     true
 }
 
-// The group that bytes are.
+/// Are these bytes a group?
+#[tactic(auto, unfolding(station_bytes_spec::specs::Group::is_group))]
+pub fn is_group(bytes: &[u8]) -> bool
+    ensures { result ≡ is_group bytes.now }
+{
+    bytes.len() == GROUP_WIDTH && stations_right(bytes)
+}
+
+/// The group that bytes are; what stands behind its 23,872 bytes is not looked at.
 pub fn read_group(bytes: &[u8]) -> [Station; 16]
     requires { group_width ≤ length bytes.now }
     ensures { result ≡ decode_group bytes.now }
 {
-    let first = station_at(bytes, 0);
-    let mut group = [first; 16];
-    let mut k: usize = 0;
-    while k < 16 {
+    let mut group = [station_at(bytes, 0); 16];
+    for k in 1..16 {
         group[k] = station_at(bytes, STATION_WIDTH * k);
-        k += 1;
     }
     group
 }

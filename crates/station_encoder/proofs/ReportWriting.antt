@@ -54,9 +54,11 @@ module _ (l : List ℕ) (at : ℕ) where
       ∙ (λ i. sets l at ((aired i ∷ ended i ∷ 0 ∷ 0 ∷ []) ++ encode_body t.ended_body ++ encode_body t.started_body ++ joined_below 16 (row_of t)))
 
   pub taking_written :
-      (t : Taking) (l₁ l₂ : List ℕ) → l₁ ≡ sets l at (word_bytes t.source) → l₂ ≡ sets l₁ (at + 4) (encode_body t.body) → l₂ ≡ sets l at (encode_taking t)
+      (t : Taking) (w : ℕ) (l₁ l₂ : List ℕ) → w ≡ t.source → l₁ ≡ sets l at (word_bytes w) → l₂ ≡ sets l₁ (at + 4) (encode_body t.body) → l₂ ≡ sets l at (encode_taking t)
   unfolding encode_taking
-  taking_written t l₁ l₂ s₁ s₂ = written_more l l₁ l₂ at (word_bytes t.source) (encode_body t.body) 4 s₁ (length_word t.source) s₂
+  taking_written t w l₁ l₂ source s₁ s₂ =
+      written_more l l₁ l₂ at (word_bytes w) (encode_body t.body) 4 s₁ (length_word w) s₂
+      ∙ ap (λ (x : ℕ). sets l at (word_bytes x ++ encode_body t.body)) source
 
   pub report_written :
       (r : Report) (c : ℕ) (l₁ l₂ l₃ : List ℕ) (i : ℕ) → c ≡ as_byte r.takings_len → i ≡ 30 → l₁ ≡ sets l at (word_bytes c) →

@@ -1,16 +1,19 @@
 -- Writing from a place on: a write where the one before ended makes one longer write, so that every
 -- writer leaves the encoding of what it was given.
 use mathlib.Core.Path.{◌≡◌, refl, sym, ap, ◌∙◌}
+use mathlib.Core.Bool.{Bool, true, false}
 use mathlib.Core.List.{List, [], ◌∷◌, ◌++◌}
-use Prim.Native.Nat.{ℕ, ◌+◌, ◌*◌, ◌≤◌, ◌<◌}
+use Prim.Native.Nat.{ℕ, ◌+◌, ◌-◌, ◌*◌, ◌≤◌, ◌<◌}
 use native.Mathlib.Numerals.{add-one}
 use native.Mathlib.Nat.{zero-add}
 use native.Mathlib.Omega.{arith}
-use lib.IntN.{ℤ}
-use lib.ListN.{get_or, set, length, length-append}
-use lib.Seq.{sets}
+use lib.IntN.{ℤ, pos, negsuc}
+use lib.ListN.{get_or, set, length, length-append, take, drop}
+use lib.Seq.{sets, sets-eq, drop-drop}
+use borrow.Rule.Slice.PartMut.{put_mid}
+use Rattle.std.proofs.Common.{append_assoc}
 use mir.Syntax.{w32}
-use mir.Val.{SFits, to_z, of_z}
+use mir.Val.{SFits, to_z, of_z, bool_byte}
 use mir.ValLaws.{to_z-of_z}
 use Rattle.bodies.specs.declared.Body.{Body}
 use Rattle.bodies.specs.Body.{kind_of, event_of, argument_of, channel_of}
@@ -31,6 +34,27 @@ use Rattle.station_bytes_spec.proofs.Bytes.{writes_meet, length_word, joined_lon
 use Rattle.station_bytes_spec.proofs.Body.{length-body}
 use Rattle.station_bytes_spec.proofs.Waiting.{length_edits}
 use Rattle.station_bytes_spec.proofs.Station.{length_cell}
+
+-- ---- one write, as a slice leaves it
+
+pub part_put : (at k : ℕ) (l ys part : List ℕ) → ys ≡ part → length part ≡ k → at + k ≤ length l → put_mid at k l ys ≡ sets l at part
+part_put at k l ys part same long room =
+    let whole : at + length part ≤ length l = omega arith in
+    let rest : drop k (drop at l) ≡ drop (at + length part) l = drop-drop k at l ∙ ap (λ (j : ℕ). drop (at + j) l) (sym long) in
+    (λ i. take at l ++ (same i ++ rest i)) ∙ sym (append_assoc (take at l) part (drop (at + length part) l)) ∙ sym (sets-eq part l at whole)
+
+-- a signed number, cast to a word
+pub word_cast : (z : ℤ) (u : ℕ) → SFits w32 z → u ≡ of_z w32 (to_z w32 (of_z w32 z)) → u ≡ unsigned z
+unfolding unsigned
+word_cast (pos n) u f h = h ∙ ap (of_z w32) (to_z-of_z w32 (pos n) f)
+word_cast (negsuc n) u f h =
+    let lacks : 4_294_967_296 - (n + 1) ≡ 4_294_967_295 - n = omega arith in
+    h ∙ ap (of_z w32) (to_z-of_z w32 (negsuc n) f) ∙ (ap (λ (x : ℕ). 4_294_967_296 - x) (sym (add-one n)) ∙ lacks)
+
+-- a flag, cast to a byte
+pub flag_cast : (flag : Bool) → bool_byte flag ≡ flag_byte flag
+flag_cast true = refl
+flag_cast false = refl
 
 -- ---- one write after another
 
@@ -91,17 +115,15 @@ module _ {n : ℕ} {part : ℕ → List ℕ} {l : List ℕ} where
 
 module _ (l : List ℕ) (at : ℕ) where
   pub body_written :
-      (b : Body) (k c e : ℕ) (z : ℤ) (u : ℕ) (l₁ l₂ l₃ : List ℕ) → k ≡ kind_of b → c ≡ channel_of b → e ≡ event_of b → SFits w32 z → z ≡ argument_of b →
-      u ≡ unsigned (to_z w32 (of_z w32 z)) → l₁ ≡ sets l at (k ∷ c ∷ 0 ∷ 0 ∷ []) → l₂ ≡ sets l₁ (at + 4) (word_bytes e) → l₃ ≡ sets l₂ (at + 8) (word_bytes u) →
-      l₃ ≡ sets l at (encode_body b)
+      (b : Body) (k c e u : ℕ) (l₁ l₂ l₃ : List ℕ) → k ≡ kind_of b → c ≡ channel_of b → e ≡ event_of b → u ≡ unsigned (argument_of b) →
+      l₁ ≡ sets l at (k ∷ c ∷ 0 ∷ 0 ∷ []) → l₂ ≡ sets l₁ (at + 4) (word_bytes e) → l₃ ≡ sets l₂ (at + 8) (word_bytes u) → l₃ ≡ sets l at (encode_body b)
   unfolding encode_body
-  body_written b k c e z u l₁ l₂ l₃ kind channel event f argument number s₁ s₂ s₃ =
+  body_written b k c e u l₁ l₂ l₃ kind channel event argument s₁ s₂ s₃ =
       let head = k ∷ c ∷ 0 ∷ 0 ∷ [] in
-      let u_is : u ≡ unsigned (argument_of b) = number ∙ ap unsigned (to_z-of_z w32 z f ∙ argument) in
       let two = written_more l l₁ l₂ at head (word_bytes e) 4 s₁ refl s₂ in
       let long : length (head ++ word_bytes e) ≡ 8 = omega (arith, length-append head (word_bytes e), length_word e) in
       written_more l l₂ l₃ at (head ++ word_bytes e) (word_bytes u) 8 two long s₃
-      ∙ (λ i. sets l at ((kind i ∷ channel i ∷ 0 ∷ 0 ∷ []) ++ word_bytes (event i) ++ word_bytes (u_is i)))
+      ∙ (λ i. sets l at ((kind i ∷ channel i ∷ 0 ∷ 0 ∷ []) ++ word_bytes (event i) ++ word_bytes (argument i)))
 
   -- one entry more
   pub entry_next :
@@ -119,15 +141,14 @@ module _ (l : List ℕ) (at : ℕ) where
   entries_written f l₁ n i e h = h ∙ ap (λ (j : ℕ). sets l at (tabulate j f)) e
 
   pub record_written :
-      (r : Record) (k c e : ℕ) (z : ℤ) (u : ℕ) (l₁ l₂ l₃ l₄ : List ℕ) → k ≡ kind_of r.body → c ≡ channel_of r.body → e ≡ event_of r.body → SFits w32 z → z ≡ argument_of r.body →
-      u ≡ unsigned (to_z w32 (of_z w32 z)) → l₁ ≡ sets l at (r.station ∷ r.count ∷ k ∷ c ∷ []) → l₂ ≡ sets l₁ (at + 4) (word_bytes e) →
-      l₃ ≡ sets l₂ (at + 8) (word_bytes u) → l₄ ≡ sets l₃ (at + 12) (word_bytes r.labels) → l₄ ≡ sets l at (encode_record r)
+      (r : Record) (k c e u : ℕ) (l₁ l₂ l₃ l₄ : List ℕ) → k ≡ kind_of r.body → c ≡ channel_of r.body → e ≡ event_of r.body → u ≡ unsigned (argument_of r.body) →
+      l₁ ≡ sets l at (r.station ∷ r.count ∷ k ∷ c ∷ []) → l₂ ≡ sets l₁ (at + 4) (word_bytes e) → l₃ ≡ sets l₂ (at + 8) (word_bytes u) →
+      l₄ ≡ sets l₃ (at + 12) (word_bytes r.labels) → l₄ ≡ sets l at (encode_record r)
   unfolding encode_record
-  record_written r k c e z u l₁ l₂ l₃ l₄ kind channel event f argument number s₁ s₂ s₃ s₄ =
-      let u_is : u ≡ unsigned (argument_of r.body) = number ∙ ap unsigned (to_z-of_z w32 z f ∙ argument) in
+  record_written r k c e u l₁ l₂ l₃ l₄ kind channel event argument s₁ s₂ s₃ s₄ =
       four_written l l₁ l₂ l₃ l₄ at (r.station ∷ r.count ∷ k ∷ c ∷ []) (word_bytes e) (word_bytes u) (word_bytes r.labels) 4 8 12 4 4 refl (length_word e) (length_word u)
       refl refl s₁ s₂ s₃ s₄
-      ∙ (λ i. sets l at ((r.station ∷ r.count ∷ kind i ∷ channel i ∷ []) ++ word_bytes (event i) ++ word_bytes (u_is i) ++ word_bytes r.labels))
+      ∙ (λ i. sets l at ((r.station ∷ r.count ∷ kind i ∷ channel i ∷ []) ++ word_bytes (event i) ++ word_bytes (argument i) ++ word_bytes r.labels))
 
   pub cell_written :
       (c : Cell) (a h : ℕ) (l₁ l₂ l₃ l₄ : List ℕ) → a ≡ flag_byte c.acked → h ≡ flag_byte c.held → l₁ ≡ sets l at (a ∷ h ∷ c.label ∷ c.lane.len ∷ []) →

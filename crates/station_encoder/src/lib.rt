@@ -4,10 +4,10 @@
 
 pub mod reports;
 
-ghost use Rattle.std.specs.Prelude.{◌≡◌, [], ◌∷◌, ◌+◌, ◌≤◌, length};
+ghost use Rattle.std.specs.Prelude.{◌≡◌, ◌+◌, ◌≤◌, ◌<◌, length};
 ghost use Rattle.std.proofs.lemmas.List.Edits.{sets};
 ghost use Rattle.station_spec.specs.State.{cell_of};
-ghost use Rattle.station_bytes_spec.specs.Bytes.{flag_byte, as_byte, joined_below, word_width};
+ghost use Rattle.station_bytes_spec.specs.Bytes.{as_byte, joined_below, word_width};
 ghost use Rattle.station_bytes_spec.specs.Body.{encode_body, record_width, encode_record, body_width};
 ghost use Rattle.station_bytes_spec.specs.Waiting.{edits_width, encode_edits, waiting_width, encode_waiting};
 ghost use Rattle.station_bytes_spec.specs.Station.{cell_width, encode_cell, cells_width, station_width, encode_station};
@@ -15,7 +15,7 @@ ghost use Rattle.station_bytes_spec.specs.Group.{group_width, encode_group};
 
 use bodies::Body;
 use frame_spec::Record;
-use queues::{Lane, Slot, Waiting};
+use queues::{Slot, Waiting};
 use records::writer::put_word;
 use station_spec::Station;
 
@@ -29,53 +29,34 @@ const SECOND_PLACE: usize = 388;
 
 const STATION_WIDTH: usize = 1492;
 
-// A flag as a byte.
-pub fn flag_byte(flag: bool) -> u8
-    ensures { result ≡ flag_byte flag }
-{
-    if flag { 1 } else { 0 }
-}
-
-// A number as a byte, 255 for all greater ones.
+/// A number as a byte, 255 for all greater ones.
+#[tactic(auto, unfolding(station_bytes_spec::specs::Bytes::as_byte))]
 pub fn as_byte(number: usize) -> u8
     ensures { result ≡ as_byte number }
 {
-    if number < 256 { number as u8 } else { 255 }
+    u8::try_from(number).unwrap_or(u8::MAX)
 }
 
-// Four bytes, put at a place.
-pub fn put_four(bytes: &mut [u8], at: usize, a: u8, b: u8, c: u8, d: u8)
+/// Four bytes, put at a place.
+#[tactic(auto, using(crate::proofs::Writing::part_put))]
+pub fn put_four(bytes: &mut [u8], at: usize, four: [u8; 4])
     requires { at + word_width ≤ length bytes.old }
-    ensures { bytes.new ≡ sets bytes.old at (a ∷ b ∷ c ∷ d ∷ []) }
+    ensures { bytes.new ≡ sets bytes.old at four }
 {
-    bytes[at] = a;
-    bytes[at + 1] = b;
-    bytes[at + 2] = c;
-    bytes[at + 3] = d;
+    bytes[at..at + 4].copy_from_slice(&four);
 }
 
-// A body, put at a place.
+/// A body, put at a place.
 pub fn put_body(bytes: &mut [u8], at: usize, body: Body)
     requires { at + body_width ≤ length bytes.old }
     ensures { bytes.new ≡ sets bytes.old at (encode_body body) }
 {
-    put_four(
-        bytes,
-        at,
-        bodies::kind_of(body) as u8,
-        bodies::channel_of(body),
-        0,
-        0,
-    );
-    put_word(bytes, at + 4, bodies::event_of(body));
-    put_word(
-        bytes,
-        at + 8,
-        records::writer::unsigned(bodies::argument_of(body)),
-    );
+    put_four(bytes, at, [body.kind() as u8, body.channel(), 0, 0]);
+    put_word(bytes, at + 4, body.event());
+    put_word(bytes, at + 8, body.argument().cast_unsigned());
 }
 
-// A record, put at a place.
+/// A record, put at a place.
 pub fn put_record(bytes: &mut [u8], at: usize, r: Record)
     requires { at + record_width ≤ length bytes.old }
     ensures { bytes.new ≡ sets bytes.old at (encode_record r) }
@@ -84,133 +65,96 @@ pub fn put_record(bytes: &mut [u8], at: usize, r: Record)
     put_four(
         bytes,
         at,
-        r.station,
-        r.count,
-        bodies::kind_of(body) as u8,
-        bodies::channel_of(body),
+        [r.station, r.count, body.kind() as u8, body.channel()],
     );
-    put_word(bytes, at + 4, bodies::event_of(body));
-    put_word(
-        bytes,
-        at + 8,
-        records::writer::unsigned(bodies::argument_of(body)),
-    );
+    put_word(bytes, at + 4, body.event());
+    put_word(bytes, at + 8, body.argument().cast_unsigned());
     put_word(bytes, at + 12, r.labels);
 }
 
-// What a station has of one station, put at a place.
-fn put_cell(
-    bytes: &mut [u8],
-    at: usize,
-    acked: bool,
-    held: bool,
-    label: u8,
-    lane: Lane,
-    entry: Record,
-)
-    requires { at + cell_width ≤ length bytes.old }
-    ensures { bytes.new ≡ sets bytes.old at
-        (encode_cell (record { label = label; acked = acked; held = held; entry = entry; lane = lane })) }
+// What a station has of station k, put at a place.
+fn put_cell(bytes: &mut [u8], at: usize, s: &Station, k: usize)
+    requires room { at + cell_width ≤ length bytes.old }
+    requires among { k < 16 }
+    ensures { bytes.new ≡ sets bytes.old at (encode_cell (cell_of s.now k)) }
 {
-    let first = lane.first;
-    let second = lane.second;
+    let lane = s.lanes[k];
     put_four(
         bytes,
         at,
-        flag_byte(acked),
-        flag_byte(held),
-        label,
-        lane.len,
+        [
+            u8::from(s.acked[k]),
+            u8::from(s.held[k]),
+            s.labels[k],
+            lane.len,
+        ],
     );
-    put_body(bytes, at + 4, first);
-    put_body(bytes, at + 16, second);
-    put_record(bytes, at + 28, entry);
+    put_body(bytes, at + 4, lane.first);
+    put_body(bytes, at + 16, lane.second);
+    put_record(bytes, at + 28, s.table[k]);
 }
 
 // The sixteen cells of a station, put from a place on.
-fn put_cells(bytes: &mut [u8], at: usize, s: Station)
+fn put_cells(bytes: &mut [u8], at: usize, s: &Station)
     requires { at + cells_width ≤ length bytes.old }
     ensures { bytes.new
-        ≡ sets bytes.old at (joined_below 16 (λ k. encode_cell (cell_of s k))) }
+        ≡ sets bytes.old at (joined_below 16 (λ k. encode_cell (cell_of s.now k))) }
 {
-    let mut k: usize = 0;
-    while k < 16 {
-        put_cell(
-            bytes,
-            at + CELL_WIDTH * k,
-            s.acked[k],
-            s.held[k],
-            s.labels[k],
-            s.lanes[k],
-            s.table[k],
-        );
-        k += 1;
+    for k in 0..16 {
+        put_cell(bytes, at + CELL_WIDTH * k, s, k);
     }
 }
 
 // The edits of a desk, put at a place.
-fn put_edits(bytes: &mut [u8], at: usize, slots: [Slot; 32])
+fn put_edits(bytes: &mut [u8], at: usize, slots: &[Slot; 32])
     requires { at + edits_width ≤ length bytes.old }
-    ensures { bytes.new ≡ sets bytes.old at (encode_edits slots) }
+    ensures { bytes.new ≡ sets bytes.old at (encode_edits slots.now) }
 {
-    let mut i: usize = 0;
-    while i < 32 {
-        let slot = slots[i];
-        let body = slot.body;
-        put_body(bytes, at + BODY_WIDTH * i, body);
-        i += 1;
+    for i in 0..32 {
+        put_body(bytes, at + BODY_WIDTH * i, slots[i].body);
     }
 }
 
 // The waiting edits, put at a place.
-fn put_waiting(bytes: &mut [u8], at: usize, waiting: Waiting)
+fn put_waiting(bytes: &mut [u8], at: usize, waiting: &Waiting)
     requires { at + waiting_width ≤ length bytes.old }
-    ensures { bytes.new ≡ sets bytes.old at (encode_waiting waiting) }
+    ensures { bytes.new ≡ sets bytes.old at (encode_waiting waiting.now) }
 {
-    let queue0 = waiting.queue0;
-    let queue1 = waiting.queue1;
     put_four(
         bytes,
         at,
-        as_byte(queue0.len),
-        as_byte(waiting.limit),
-        as_byte(queue1.len),
-        flag_byte(waiting.one_first),
+        [
+            as_byte(waiting.queue0.len),
+            as_byte(waiting.limit),
+            as_byte(waiting.queue1.len),
+            u8::from(waiting.one_first),
+        ],
     );
-    let slots0 = queue0.slots;
-    let slots1 = queue1.slots;
-    put_edits(bytes, at + 4, slots0);
-    put_edits(bytes, at + SECOND_PLACE, slots1);
+    put_edits(bytes, at + 4, &waiting.queue0.slots);
+    put_edits(bytes, at + SECOND_PLACE, &waiting.queue1.slots);
 }
 
-// A station, put at a place.
-pub fn put_station(bytes: &mut [u8], at: usize, s: Station)
+/// A station, put at a place.
+pub fn put_station(bytes: &mut [u8], at: usize, s: &Station)
     requires { at + station_width ≤ length bytes.old }
-    ensures { bytes.new ≡ sets bytes.old at (encode_station s) }
+    ensures { bytes.new ≡ sets bytes.old at (encode_station s.now) }
 {
-    let body = s.body;
-    let waiting = s.waiting;
     put_four(
         bytes,
         at,
-        as_byte(s.n),
-        as_byte(s.own),
-        s.count,
-        as_byte(s.edition),
+        [as_byte(s.n), as_byte(s.own), s.count, as_byte(s.edition)],
     );
-    put_body(bytes, at + 4, body);
+    put_body(bytes, at + 4, s.body);
     put_cells(bytes, at + 16, s);
-    put_waiting(bytes, at + WAITING_PLACE, waiting);
+    put_waiting(bytes, at + WAITING_PLACE, &s.waiting);
 }
 
-// A group, put at the front.
-pub fn put_group(bytes: &mut [u8], group: [Station; 16])
+/// A group, put at the front.
+pub fn put_group(bytes: &mut [u8], group: &[Station; 16])
     requires { group_width ≤ length bytes.old }
-    ensures { bytes.new ≡ sets bytes.old 0 (encode_group group) }
+    ensures { bytes.new ≡ sets bytes.old 0 (encode_group group.now) }
 {
-    let mut k: usize = 0;
-    while k < 16 {
-        put_station(bytes, STATION_WIDTH * k, group[k]);
-        k += 1;
+    for k in 0..16 {
+        put_station(bytes, STATION_WIDTH * k, &group[k]);
     }
 }

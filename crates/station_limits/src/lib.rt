@@ -3,9 +3,10 @@
 
 #![tactic(auto)]
 
-ghost use Rattle.std.specs.Prelude.{◌≡◌, cond, not, ◌||◌, ◌≤◌, ◌<◌, eqb};
+ghost use Rattle.std.specs.Prelude.{◌≡◌, ◌==◌, if◌then◌else◌, ◌||◌, ◌≤◌, ◌<◌};
 ghost use Rattle.bodies.specs.Limits.{body_inside};
 ghost use Rattle.frame_spec.specs.Record.{count_inside};
+ghost use Rattle.lists.specs.Below.{all_below};
 ghost use Rattle.station_spec.specs.Limits as spec;
 
 use bodies::Body;
@@ -17,149 +18,85 @@ use station_spec::Station;
 fn takeable(edition: usize, body: Body) -> bool
     ensures { result ≡ spec.takeable (body_inside edition) body }
 {
-    if bodies::is_empty(body) {
-        return false;
-    }
-    bodies::limits::body_inside(edition, body)
+    !body.is_empty() && body.is_inside(edition)
 }
 
 // How many bodies the lane of station k may hold.
 fn lane_room(k: usize, own: usize) -> u8
-    ensures { result ≡ cond (eqb k own) 1 2 }
+    ensures { result ≡ (if k == own then 1 else 2) }
 {
-    if k == own {
-        return 1;
-    }
-    2
+    if k == own { 1 } else { 2 }
 }
 
-fn lane_inside(edition: usize, most: u8, lane: Lane) -> bool
-    ensures { result ≡ spec.lane_inside (body_inside edition) most lane }
+// Does the lane have no more bodies than may be, and may it hold each?
+#[tactic(auto, unfolding(station_spec::specs::Limits::lane_inside))]
+fn lane_inside(edition: usize, most: u8, lane: &Lane) -> bool
+    ensures { result ≡ spec.lane_inside (body_inside edition) most lane.now }
 {
-    let len = lane.len;
-    if most < len {
-        return false;
-    }
-    if len == 0 {
-        return true;
-    }
-    let first = lane.first;
-    if !takeable(edition, first) {
-        return false;
-    }
-    if len <= 1 {
-        return true;
-    }
-    let second = lane.second;
-    takeable(edition, second)
+    lane.len <= most
+        && (lane.len == 0 || takeable(edition, lane.first))
+        && (lane.len <= 1 || takeable(edition, lane.second))
 }
 
 // May the record of station k have this count? The own record's may reach 255.
 fn count_inside(n: usize, own: usize, k: usize, count: u8) -> bool
-    requires { (1 ≤ n) × (n ≤ 16) }
-    ensures { result ≡ (eqb k own || count_inside n count) }
+    requires some { 1 ≤ n }
+    requires few { n ≤ 16 }
+    ensures { result ≡ (k == own || count_inside n count) }
 {
-    if k == own {
-        return true;
-    }
-    records::numbers::count_fits(n, count)
+    k == own || records::numbers::count_fits(n, count)
 }
 
 // Is this a record of station k, inside its limits, in the table of station own among n?
-fn record_inside(edition: usize, n: usize, own: usize, k: usize, record: Record) -> bool
-    requires { (n ≤ 16) × (k < n) }
-    ensures { result ≡ spec.record_inside (body_inside edition) n own k «record» }
+#[tactic(auto, unfolding(station_spec::specs::Limits::record_inside))]
+fn record_inside(edition: usize, n: usize, own: usize, k: usize, record: &Record) -> bool
+    requires few { n ≤ 16 }
+    requires place { k < n }
+    ensures { result ≡ spec.record_inside (body_inside edition) n own k «record».now }
 {
-    if record.station as usize != k {
-        return false;
-    }
-    if !count_inside(n, own, k, record.count) {
-        return false;
-    }
-    let body = record.body;
-    if !bodies::limits::body_inside(edition, body) {
-        return false;
-    }
-    labels::words::labels_inside(record.labels, n)
+    record.station as usize == k
+        && count_inside(n, own, k, record.count)
+        && record.body.is_inside(edition)
+        && labels::words::labels_inside(record.labels, n)
 }
 
-// Is the record of station k inside its limits, if one is held?
-fn held_inside(edition: usize, n: usize, own: usize, k: usize, held: bool, record: Record) -> bool
-    requires { (n ≤ 16) × (k < n) }
-    ensures { result ≡ (not held || spec.record_inside (body_inside edition) n own k «record») }
+// Is what a station has of station k inside its limits: its label, its record where one is held,
+// its lane?
+#[tactic(auto, unfolding(station_spec::specs::Limits::place_inside, station_spec::specs::Limits::allowed, station_spec::specs::State::cell_of))]
+fn place_inside(s: &Station, k: usize) -> bool
+    requires few { s.now.n ≤ 16 }
+    requires place { k < s.now.n }
+    ensures { result ≡ spec.place_inside s.now k }
 {
-    if !held {
-        return true;
-    }
-    record_inside(edition, n, own, k, record)
+    s.labels[k] <= 2
+        && (!s.held[k] || record_inside(s.edition, s.n, s.own, k, &s.table[k]))
+        && lane_inside(s.edition, lane_room(k, s.own), &s.lanes[k])
 }
 
-// Is what a station of number own among n has of station k inside its limits in an edition: its
-// label, its record where one is held, its lane?
-fn place_inside(
-    edition: usize,
-    n: usize,
-    own: usize,
-    k: usize,
-    label: u8,
-    held: bool,
-    record: Record,
-    lane: Lane,
-) -> bool
-    requires { (n ≤ 16) × (k < n) }
-    ensures { result ≡ spec.entry_inside (body_inside edition) n own k label held «record» lane }
+// Is what a station has of each station inside its limits?
+#[tactic(auto, using(lists::proofs::Laws::all_below_more, lists::proofs::Laws::all_below_at), unfolding(lists::specs::Below::all_below))]
+fn places_inside(s: &Station) -> bool
+    requires few { s.now.n ≤ 16 }
+    ensures { result ≡ all_below s.now.n (spec.place_inside s.now) }
 {
-    if 2 < label {
-        return false;
-    }
-    if !held_inside(edition, n, own, k, held, record) {
-        return false;
-    }
-    lane_inside(edition, lane_room(k, own), lane)
-}
-
-// Is the station inside its limits?
-pub fn station_inside(s: Station) -> bool
-    ensures { result ≡ spec.station_inside s }
-{
-    let n = s.n;
-    let own = s.own;
-    if !records::numbers::valid_number(n, own) {
-        return false;
-    }
-    let edition = s.edition;
-    if !records::numbers::is_edition(edition) {
-        return false;
-    }
-    if !s.acked[own] {
-        return false;
-    }
-    if !s.held[own] {
-        return false;
-    }
-    let body = s.body;
-    if !bodies::limits::body_inside(edition, body) {
-        return false;
-    }
-    let waiting = s.waiting;
-    if !queues::waiting_inside(edition, waiting) {
-        return false;
-    }
-    let mut k: usize = 0;
-    while k < n {
-        if !place_inside(
-            edition,
-            n,
-            own,
-            k,
-            s.labels[k],
-            s.held[k],
-            s.table[k],
-            s.lanes[k],
-        ) {
+    for k in 0..s.n {
+        if !place_inside(s, k) {
             return false;
         }
-        k += 1;
     }
     true
+}
+
+/// Is the station inside its limits?
+#[tactic(auto, using(station_spec::proofs::CallSteps::valid_parts), unfolding(station_spec::specs::Limits::station_inside, station_spec::specs::Limits::allowed, station_spec::specs::State::cell_of))]
+pub fn station_inside(s: &Station) -> bool
+    ensures { result ≡ spec.station_inside s.now }
+{
+    records::numbers::valid_number(s.n, s.own)
+        && records::numbers::is_edition(s.edition)
+        && s.acked[s.own]
+        && s.held[s.own]
+        && s.body.is_inside(s.edition)
+        && s.waiting.is_inside(s.edition)
+        && places_inside(s)
 }

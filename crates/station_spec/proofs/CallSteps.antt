@@ -1,5 +1,5 @@
 -- The answers of the open calls, each with the tests on its way decided.
-use Prim.Native.Nat.{ℕ, ◌-◌, ◌≤◌, ◌<◌}
+use Prim.Native.Nat.{ℕ, ◌≤◌, ◌<◌}
 use mathlib.Core.Path.{◌≡◌, ◌∙◌}
 use mathlib.Core.Bool.{Bool, true, false, ◌&&◌}
 use mathlib.Core.List.{List}
@@ -8,7 +8,7 @@ use lib.Dec.{leb, ltb, eqb}
 use borrow.Author.Tests.{leb-true, ltb-true, ne_eqb}
 use Rattle.bodies.specs.declared.Body.{Body}
 use Rattle.bodies.specs.Limits.{is_edition, postable, on_channel}
-use Rattle.bodies.specs.Refusals.{done}
+use Rattle.bodies.specs.Refusals.{done, number_of}
 use Rattle.frame_spec.specs.Frame.{valid_number, frame_refusal, records_of}
 use Rattle.lists.proofs.Laws.{and_left, and_right}
 use Rattle.queues.specs.Waiting.{is_desk, limit_inside, has_room}
@@ -90,14 +90,14 @@ module _ (s : Station) (bytes : List ℕ) where
   hear_outside i = rw i
 
   pub hear_refused :
-      (q : ℕ) → station_inside s ≡ true → q ≡ frame_refusal s.edition bytes s.n s.own → (q ≡ 0 → ⊥) →
+      (q : ℕ) → station_inside s ≡ true → q ≡ number_of (frame_refusal s.edition bytes s.n s.own) → (q ≡ 0 → ⊥) →
       record { refusal = q; station = s; taken = replicate 16 false } ≡ hear_call s bytes
   unfolding hear_call
   hear_refused q i e ne =
-      let f : eqb (frame_refusal s.edition bytes s.n s.own) 0 ≡ false = ne_eqb _ 0 (λ z. ne (e ∙ z)) in
+      let f : eqb (number_of (frame_refusal s.edition bytes s.n s.own)) 0 ≡ false = ne_eqb _ 0 (λ z. ne (e ∙ z)) in
       rw (i, f, f, e)
 
-  module _ (i : station_inside s ≡ true) (e : frame_refusal s.edition bytes s.n s.own ≡ 0) where
+  module _ (i : station_inside s ≡ true) (e : number_of (frame_refusal s.edition bytes s.n s.own) ≡ 0) where
     pub hear_stopped :
         (q : ℕ) → q ≡ heard_frame.refusal → (q ≡ done → ⊥) → record { refusal = q; station = s; taken = replicate 16 false } ≡ hear_call s bytes
     unfolding hear_call

@@ -9,7 +9,7 @@ use native.Mathlib.Decide.{ℕ_discrete}
 use native.Mathlib.Omega.{arith}
 use lib.Dec.{eqb}
 use borrow.Author.Tests.{eqb-true, eq-eqb, ne_eqb}
-use Rattle.bodies.specs.Refusals.{done, lane_full, conflict, refuse}
+use Rattle.bodies.specs.Refusals.{done, lane_full, conflict, refuse_number}
 use Rattle.labels.specs.Newer.{is_newer}
 use Rattle.frame_spec.specs.declared.Record.{Record}
 use Rattle.frame_spec.specs.Record.{record_label}
@@ -25,7 +25,7 @@ unfolding heard_one
 record_most h r p =
     hear_record_cases (λ x. x.refusal ≤ conflict) h r (λ e. newer (overfills h.station r)) (λ e. omega arith) (λ e f. p)
   where
-    newer : (full : Bool) → max h.refusal (refuse full lane_full done) ≤ conflict
+    newer : (full : Bool) → max h.refusal (refuse_number full lane_full done) ≤ conflict
     newer true = omega arith
     newer false = omega arith
 
@@ -40,18 +40,18 @@ record_stops h r p =
     (λ e. rw e (sym (or-true (eqb h.refusal conflict))))
     (λ e f. rw f (sym (or-false (eqb h.refusal conflict))))
   where
-    newer : (full : Bool) → eqb (max h.refusal (refuse full lane_full done)) conflict ≡ eqb h.refusal conflict
+    newer : (full : Bool) → eqb (max h.refusal (refuse_number full lane_full done)) conflict ≡ eqb h.refusal conflict
     newer full =
         elim (ℕ_discrete h.refusal conflict) [
-          | yes e ↦ eq-eqb (max h.refusal (refuse full lane_full done)) conflict (most full e) ∙ sym (eq-eqb h.refusal conflict e)
-          | no d ↦ ne_eqb (max h.refusal (refuse full lane_full done)) conflict (below full d) ∙ sym (ne_eqb h.refusal conflict d)
+          | yes e ↦ eq-eqb (max h.refusal (refuse_number full lane_full done)) conflict (most full e) ∙ sym (eq-eqb h.refusal conflict e)
+          | no d ↦ ne_eqb (max h.refusal (refuse_number full lane_full done)) conflict (below full d) ∙ sym (ne_eqb h.refusal conflict d)
         ]
       where
-        most : (f : Bool) → h.refusal ≡ conflict → max h.refusal (refuse f lane_full done) ≡ conflict
+        most : (f : Bool) → h.refusal ≡ conflict → max h.refusal (refuse_number f lane_full done) ≡ conflict
         most true e = omega arith
         most false e = omega arith
 
-        below : (f : Bool) → (h.refusal ≡ conflict → ⊥) → max h.refusal (refuse f lane_full done) ≡ conflict → ⊥
+        below : (f : Bool) → (h.refusal ≡ conflict → ⊥) → max h.refusal (refuse_number f lane_full done) ≡ conflict → ⊥
         below true d e = d (omega arith)
         below false d e = d (omega arith)
 

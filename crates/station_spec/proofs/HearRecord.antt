@@ -7,7 +7,7 @@ use mathlib.Core.Path.{◌≡◌, refl, sym, ap, ◌∙◌}
 use native.Mathlib.Omega.{arith}
 use lib.Dec.{eqb}
 use borrow.Author.Tests.{eq-eqb, ne_eqb}
-use Rattle.bodies.specs.Refusals.{done, lane_full, conflict, refuse}
+use Rattle.bodies.specs.Refusals.{done, lane_full, conflict, refuse_number}
 use Rattle.labels.specs.declared.Age.{Age}
 use Rattle.labels.specs.declared.Age.TheVariants.{Newer, Same, Conflicting, Older}
 use Rattle.labels.specs.Newer.{is_newer, age_of}
@@ -46,7 +46,7 @@ heard_one h r =
     record {
       station = heard_newer h.station r;
       takings = h.takings ++ cond (takes h.station r) (record { source = r.station; body = r.body } ∷ []) [];
-      refusal = max h.refusal (refuse (overfills h.station r) lane_full done);
+      refusal = max h.refusal (refuse_number (overfills h.station r) lane_full done);
     }
 
 -- a conflicting one
@@ -88,7 +88,7 @@ hear_record-conflicts h r e f = rw (hear_record-cond h r, e, f)
 
 -- a hearing that is not refused after a newer record was not refused before it, and no lane was too
 -- full for it
-pub not_refused : (full : Bool) (refusal : ℕ) → max refusal (refuse full lane_full done) ≡ done → (full ≡ false) × (refusal ≡ done)
+pub not_refused : (full : Bool) (refusal : ℕ) → max refusal (refuse_number full lane_full done) ≡ done → (full ≡ false) × (refusal ≡ done)
 not_refused true refusal e = absurd (omega (arith, e))
 not_refused false refusal e = (refl, omega (arith, e))
 

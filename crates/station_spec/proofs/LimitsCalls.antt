@@ -11,7 +11,9 @@ use lib.ListN.{get_or}
 use Rattle.bodies.specs.declared.Body.{Body}
 use Rattle.bodies.specs.Limits.{is_edition, postable, on_channel, body_inside}
 use borrow.Author.Tests.{eqb-true}
-use Rattle.bodies.specs.Refusals.{done}
+use Rattle.std.specs.Prelude.{Ok, ⊤}
+use Rattle.bodies.specs.Refusals.{done, refuse, number_of}
+use Rattle.bodies.specs.declared.refusals.Refusal.TheVariants.{BadShape, BadAddress, BadRecord}
 use Rattle.frame_spec.specs.Record as frames
 use Rattle.frame_spec.proofs.Limits.{fits_open}
 use Rattle.frame_spec.proofs.RecordTrip.{held_fits}
@@ -96,11 +98,11 @@ module _ (s : Station) (shape : Shaped s) (inside : station_inside s ≡ true) w
   unfolding turn_call
   turn_call_inside = rw inside (turn_inside s shape inside)
 
-  frame_fine : (bytes : List ℕ) → eqb (frame_refusal s.edition bytes s.n s.own) done ≡ true → records_inside s.edition bytes s.n ≡ true
+  frame_fine : (bytes : List ℕ) → eqb (number_of (frame_refusal s.edition bytes s.n s.own)) done ≡ true → records_inside s.edition bytes s.n ≡ true
   unfolding frame_refusal
   frame_fine bytes h = go (shape_wrong bytes) (address_wrong s.edition bytes s.n s.own) (records_inside s.edition bytes s.n) h
     where
-      go : (a b c : Bool) → eqb (cond a 5 (cond b 6 (cond (not c) 7 0))) 0 ≡ true → c ≡ true
+      go : (a b c : Bool) → eqb (number_of {A = ⊤} (refuse a BadShape (refuse b BadAddress (refuse (not c) BadRecord (Ok tt))))) 0 ≡ true → c ≡ true
       go false false true z = refl
       go false false false z = z
       go false true c z = absurd (false≢true z)
@@ -109,7 +111,7 @@ module _ (s : Station) (shape : Shaped s) (inside : station_inside s ≡ true) w
   -- what hearing answers, where the station is inside its limits
   hear_answer : (bytes : List ℕ) → ℕ
   hear_answer bytes =
-      cond (not (eqb (frame_refusal s.edition bytes s.n s.own) done)) (frame_refusal s.edition bytes s.n s.own)
+      cond (not (eqb (number_of (frame_refusal s.edition bytes s.n s.own)) done)) (number_of (frame_refusal s.edition bytes s.n s.own))
       (hear_frame (initial_hearing s) (records_of bytes)).refusal
 
   hear_station :
@@ -128,14 +130,14 @@ module _ (s : Station) (shape : Shaped s) (inside : station_inside s ≡ true) w
   pub hear_call_inside : (bytes : List ℕ) → station_inside (hear_call s bytes).station ≡ true
   unfolding hear_answer
   hear_call_inside bytes =
-      rw (hear_station bytes) (go (eqb (frame_refusal s.edition bytes s.n s.own) done) (eqb heard.refusal done) refl refl)
+      rw (hear_station bytes) (go (eqb (number_of (frame_refusal s.edition bytes s.n s.own)) done) (eqb heard.refusal done) refl refl)
     where
       heard : Hearing
       heard = hear_frame (initial_hearing s) (records_of bytes)
 
       go :
-          (a b : Bool) → eqb (frame_refusal s.edition bytes s.n s.own) done ≡ a → eqb heard.refusal done ≡ b →
-          station_inside (cond (eqb (cond (not a) (frame_refusal s.edition bytes s.n s.own) heard.refusal) done) heard.station s) ≡ true
+          (a b : Bool) → eqb (number_of (frame_refusal s.edition bytes s.n s.own)) done ≡ a → eqb heard.refusal done ≡ b →
+          station_inside (cond (eqb (cond (not a) (number_of (frame_refusal s.edition bytes s.n s.own)) heard.refusal) done) heard.station s) ≡ true
       go true true p q =
           rw q
           (hear_frame_inside (initial_hearing s) (records_of bytes) shape inside (frame_carried s bytes (frame_fine bytes p)) (eqb-true _ done q))

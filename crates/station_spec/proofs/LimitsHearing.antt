@@ -11,7 +11,7 @@ use lib.Dec.{eqb}
 use lib.ListN.{length, length-append}
 use borrow.Author.Tests.{leb-false, eq-eqb, ne_eqb}
 use Rattle.bodies.specs.declared.Body.{Body}
-use Rattle.bodies.specs.Refusals.{done, lane_full, refuse}
+use Rattle.bodies.specs.Refusals.{done, lane_full, refuse_number}
 use Rattle.frame_spec.specs.declared.Record.{Record}
 use Rattle.lists.specs.Inner.Total.{total}
 use Rattle.lists.proofs.Keeps.{cond_keeps}
@@ -129,7 +129,7 @@ module _ (a : Hearing) (c : Inside a.station) where
     below = omega (arith, c.high, carry.station)
 
     takings_most :
-        accepts h.station r ≡ true → max h.refusal (refuse (overfills h.station r) lane_full done) ≡ done →
+        accepts h.station r ≡ true → max h.refusal (refuse_number (overfills h.station r) lane_full done) ≡ done →
         length (h.takings ++ cond (takes h.station r) (record { source = r.station; body = r.body } ∷ []) [])
         ≤ length a.takings + other_lens (heard_newer h.station r)
     takings_most e f = go (takes h.station r) refl

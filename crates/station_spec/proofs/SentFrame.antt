@@ -1,11 +1,11 @@
 -- Hearing a written frame is hearing the writer's table: a station's frame reads back as the
 -- records that it sent, and every other station among as many accepts it. So a round may hand over
 -- records in the place of bytes.
+use Rattle.std.specs.Prelude.{Ok}
 use Prim.Native.Nat.{ℕ, ◌<◌}
 use mathlib.Core.Bool.{true}
 use mathlib.Core.Path.{◌≡◌, ap}
 use Rattle.bodies.specs.Limits.{body_inside}
-use Rattle.bodies.specs.Refusals.{done}
 use Rattle.frame_spec.specs.Record.{record_fits}
 use Rattle.frame_spec.specs.Frame.{records_of, frame_refusal}
 use Rattle.frame_spec.specs.Calls.{table_records}
@@ -34,7 +34,7 @@ module _ (s : Station) (c : Inside s) (fits : own_count_inside s ≡ true) where
   unfolding cell_of sent_records table_records frame_of
   sent_read = table_read s.edition s.n s.own s.held s.table c.high place record_fits_lem c.held c.own
 
-  pub sent_accepted : (own : ℕ) → (s.own ≡ own → ⊥) → frame_refusal s.edition (frame_of s) s.n own ≡ done
+  pub sent_accepted : (own : ℕ) → (s.own ≡ own → ⊥) → frame_refusal s.edition (frame_of s) s.n own ≡ Ok tt
   unfolding cell_of sent_records table_records frame_of
   sent_accepted =
       table_accepted s.edition s.n s.own s.held s.table c.high place record_fits_lem c.held c.own c.known

@@ -4,6 +4,9 @@ use Prim.Native.Nat.{ℕ}
 use mathlib.Core.Bool.{Bool, true, false, cond, ◌&&◌}
 use mathlib.Core.Path.{◌≡◌, refl}
 use lib.Dec.{eqb, ltb}
+use lib.ListN.{length}
+use Rattle.queues.specs.declared.Queue.{Queue}
+use Rattle.queues.specs.Queue.{queue_capacity}
 use borrow.Author.Tests.{ltb-true}
 use Rattle.bodies.specs.declared.Body.{Body}
 use Rattle.bodies.specs.Body.{is_empty}
@@ -80,3 +83,17 @@ after_end-shaped s c =
 pub with_own_record-shaped : (s : Station) → Shaped s → Shaped (with_own_record s)
 unfolding with_own_record
 with_own_record-shaped s c = cell_shaped s s.own _ c
+
+-- the lengths that the arrays of a station have by their types
+pub shaped :
+    (s : Station) → length s.acked ≡ 16 → length s.labels ≡ 16 → length s.held ≡ 16 → length s.table ≡ 16 → length s.lanes ≡ 16 →
+    length s.waiting.queue0.slots ≡ queue_capacity → length s.waiting.queue1.slots ≡ queue_capacity → Shaped s
+shaped s a l h t n z o =
+    record {
+      acked = a;
+      labels = l;
+      held = h;
+      table = t;
+      lanes = n;
+      waiting = record { slots = laws.each_queue (λ (q : Queue). length q.slots ≡ queue_capacity) s.waiting z o };
+    }

@@ -1,6 +1,7 @@
 -- The limits of a station as facts: what the test says of the station and of each place, and the
 -- other way round. Laws about the limits are proved on the facts.
 use Prim.Native.Nat.{ℕ, ◌≤◌, ◌<◌}
+use native.Mathlib.Omega.{arith}
 use mathlib.Core.Bool.{Bool, true, false, cond, not, ◌&&◌, ◌||◌, false≢true}
 use mathlib.Core.Path.{◌≡◌, refl, sym, subst}
 use lib.Dec.{leb, ltb, eqb}
@@ -16,7 +17,9 @@ use Rattle.lists.specs.Below.{all_below}
 use Rattle.lists.proofs.Laws.{and_both, and_left, and_right, all_below_at, all_below_make}
 use Rattle.station_spec.specs.declared.Station.{Station}
 use Rattle.station_spec.specs.State.{Cell, cell_of, label_of, acked_of, held_of, record_of, lane_at}
-use Rattle.queues.specs.Waiting.{waiting_inside}
+use Rattle.queues.specs.Queue.{queue_capacity}
+use Rattle.queues.specs.Waiting.{waiting_inside, has_room, desk_count, next_desk}
+use Rattle.queues.proofs.WaitingLaws.{inside_most, room_most}
 use Rattle.station_spec.specs.Limits.{lane_inside, record_inside, allowed, place_inside, station_inside}
 
 -- a record of station k inside the limits of the table of station own
@@ -154,3 +157,16 @@ inside_make s c =
     c.body)
     c.waiting)
     (all_below_make s.n (place_inside s) (λ k l. place_make s k l (c.places k l)))
+
+-- what a proof asks most often of a station inside its limits
+pub inside_high : (s : Station) → station_inside s ≡ true → s.n ≤ 16
+inside_high s h = (inside_open s h).high
+
+pub inside_own : (s : Station) → station_inside s ≡ true → s.own < 16
+inside_own s h = let i = inside_open s h in omega (arith, i.high, i.own)
+
+pub inside_room : (s : Station) → station_inside s ≡ true → desk_count s.waiting (next_desk s.waiting) ≤ queue_capacity
+inside_room s h = inside_most (allowed s) s.waiting (inside_open s h).waiting (next_desk s.waiting)
+
+pub inside_more : (s : Station) (d : ℕ) → station_inside s ≡ true → has_room s.waiting d ≡ true → desk_count s.waiting d < queue_capacity
+inside_more s d h r = room_most (allowed s) s.waiting d (inside_open s h).waiting r

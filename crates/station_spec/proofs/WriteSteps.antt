@@ -1,5 +1,6 @@
 -- Writing the frame of a station: its numbers can be written, and the answers of the definition
 -- with the tests on their way decided.
+use Rattle.std.specs.Prelude.{Result, Ok, Err}
 use Prim.Native.Nat.{ℕ, ◌≤◌, ◌<◌}
 use native.Mathlib.Omega.{arith}
 use mathlib.Core.Path.{◌≡◌, refl}
@@ -7,6 +8,9 @@ use mathlib.Core.Bool.{Bool, true, false}
 use mathlib.Core.List.{List}
 use lib.ListN.{length}
 use lib.Dec.{ltb}
+use Rattle.bodies.specs.Refusals.{done, number}
+use Rattle.bodies.specs.declared.refusals.Refusal.{Refusal}
+use Rattle.frame_spec.specs.declared.Written.{Written}
 use Rattle.frame_spec.specs.Frame.{frame_bytes}
 use Rattle.frame_spec.specs.Calls.{table_records, written, buffer_with}
 use Rattle.station_spec.specs.declared.Station.{Station}
@@ -23,6 +27,11 @@ writable s c = (c.high, omega (arith, c.own, c.high), omega (arith, c.known))
 pub frame_is : (s : Station) → frame_bytes s.edition s.n s.own (table_records s.n s.held s.table) ≡ frame_of s
 unfolding cell_of table_records sent_records frame_of
 frame_is s = refl
+
+-- what the writer of tables answers, with the refusal by its number
+abbrev pub as_written : Result ℕ Refusal → Written
+as_written (Ok len) = record { refusal = done; len = len }
+as_written (Err refusal) = record { refusal = number refusal; len = 0 }
 
 module _ (s : Station) (b : List ℕ) where
   pub write_outside : station_inside s ≡ false → record { refusal = 2; len = 0 } ≡ write_call s (length b)
@@ -43,13 +52,13 @@ module _ (s : Station) (b : List ℕ) where
     kept_count c = rw (i, c)
 
     module _ (c : own_count_inside s ≡ true) where
-      pub write_frame : record { refusal = (written (frame_of s) (length b)).refusal; len = (written (frame_of s) (length b)).len } ≡ write_call s (length b)
+      pub write_frame : as_written (written (frame_of s) (length b)) ≡ write_call s (length b)
       unfolding write_call write_refusal written
       write_frame = go (ltb (length b) (length (frame_of s))) refl
         where
           go :
               (t : Bool) → ltb (length b) (length (frame_of s)) ≡ t →
-              record { refusal = (written (frame_of s) (length b)).refusal; len = (written (frame_of s) (length b)).len } ≡ write_call s (length b)
+              as_written (written (frame_of s) (length b)) ≡ write_call s (length b)
           go true e = rw (i, c, e)
           go false e = rw (i, c, e)
 

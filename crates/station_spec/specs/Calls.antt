@@ -1,12 +1,12 @@
 -- Document 01, "A station and its calls" and "Turned down": the open calls, each with its refusals
 -- in their order.
-use Rattle.std.specs.Prelude.{ℕ, ◌+◌, Bool, true, false, cond, not, List, [], ◌∷◌, ◌++◌, set, replicate, length, drop}
+use Rattle.std.specs.Prelude.{ℕ, Bool, true, false, cond, not, List, [], ◌∷◌, ◌++◌, set, replicate, length, drop}
 use Rattle.std.specs.Prelude.{ltb, eqb}
 use Rattle.bodies.specs.declared.Body.{Body}
 use Rattle.bodies.specs.declared.Body.TheVariants.{Empty}
 use Rattle.bodies.specs.Limits.{is_edition, postable, on_channel}
 use Rattle.bodies.specs.Refusals.{done, bad_number, bad_limit, outside_limits, queue_full, not_an_edit}
-use Rattle.bodies.specs.Refusals.{bad_desk, bad_edition, short_buffer, count_too_high, refuse}
+use Rattle.bodies.specs.Refusals.{bad_desk, bad_edition, short_buffer, count_too_high, refuse_number, number_of}
 use Rattle.frame_spec.specs.Record.{count_inside}
 use Rattle.frame_spec.specs.Frame.{valid_number, frame_refusal, records_of, frame_bytes}
 use Rattle.station_spec.specs.declared.Setup.{Setup}
@@ -27,9 +27,9 @@ use Rattle.station_spec.specs.Turn.{after_turn, turn_report}
 -- "Fresh": 1, 13, 17
 abbrev pub fresh_refusal : Setup → ℕ → ℕ
 fresh_refusal setup own =
-    refuse (not (valid_number setup.n own)) bad_number
-    (refuse (not (limit_inside setup.limit)) bad_limit
-    (refuse (not (is_edition setup.edition)) bad_edition done))
+    refuse_number (not (valid_number setup.n own)) bad_number
+    (refuse_number (not (limit_inside setup.limit)) bad_limit
+    (refuse_number (not (is_edition setup.edition)) bad_edition done))
 
 -- a refused call returns the fresh station of N = 1
 unfoldable pub fresh_call : Setup → ℕ → StationAnswer
@@ -47,15 +47,15 @@ posted s desk b = with_waiting s (with_posted s.waiting desk b)
 -- waiting edits
 abbrev pub post_refusal : Station → ℕ → Body → ℕ
 post_refusal s desk b =
-    refuse (not (is_desk desk)) bad_desk
-    (refuse (not (postable b)) not_an_edit
-    (refuse (not (on_channel s.edition b)) bad_edition
-    (refuse (not (has_room s.waiting desk)) queue_full done)))
+    refuse_number (not (is_desk desk)) bad_desk
+    (refuse_number (not (postable b)) not_an_edit
+    (refuse_number (not (on_channel s.edition b)) bad_edition
+    (refuse_number (not (has_room s.waiting desk)) queue_full done)))
 
 -- "Post": 2, 15, 4, 17, 3
 unfoldable pub post_call : Station → ℕ → Body → StationAnswer
 post_call s desk b =
-    let refusal = refuse (not (station_inside s)) outside_limits (post_refusal s desk b) in
+    let refusal = refuse_number (not (station_inside s)) outside_limits (post_refusal s desk b) in
     record { refusal = refusal; station = cond (eqb refusal done) (posted s desk b) s }
 
 -- the own record's count fits a frame
@@ -69,9 +69,9 @@ frame_of s = frame_bytes s.edition s.n s.own (sent_records s)
 -- "Write frame": 2, 10, 9
 unfoldable pub write_refusal : Station → ℕ → ℕ
 write_refusal s room =
-    refuse (not (station_inside s)) outside_limits
-    (refuse (not (own_count_inside s)) count_too_high
-    (refuse (ltb room (length (frame_of s))) short_buffer done))
+    refuse_number (not (station_inside s)) outside_limits
+    (refuse_number (not (own_count_inside s)) count_too_high
+    (refuse_number (ltb room (length (frame_of s))) short_buffer done))
 
 unfoldable pub write_call : Station → ℕ → Written
 write_call s room =
@@ -93,10 +93,10 @@ sources_of (t ∷ ts) = set (sources_of ts) t.source true
 unfoldable pub hear_call : Station → List ℕ → Heard
 hear_call s bytes =
     let h = hear_frame (initial_hearing s) (records_of bytes) in
-    let judged = frame_refusal s.edition bytes s.n s.own in
+    let judged = number_of (frame_refusal s.edition bytes s.n s.own) in
     let refusal =
-    refuse (not (station_inside s)) outside_limits
-    (refuse (not (eqb judged done)) judged h.refusal) in
+    refuse_number (not (station_inside s)) outside_limits
+    (refuse_number (not (eqb judged done)) judged h.refusal) in
     cond (eqb refusal done)
     (record { refusal = done; station = h.station; taken = sources_of h.takings })
     (record { refusal = refusal; station = s; taken = replicate 16 false })

@@ -3,7 +3,7 @@
 use Rattle.std.specs.Prelude.{ℕ, max, ◌+◌, Bool, true, cond, not, ◌&&◌, ◌||◌, List, [], ◌∷◌, ◌++◌, leb, ltb, eqb}
 use Rattle.bodies.specs.declared.Body.TheVariants.{Empty}
 use Rattle.bodies.specs.Body.{is_empty, same_body}
-use Rattle.bodies.specs.Refusals.{done, lane_full, conflict, refuse}
+use Rattle.bodies.specs.Refusals.{done, lane_full, conflict, refuse_number}
 use Rattle.labels.specs.Label.{successor}
 use Rattle.labels.specs.declared.Age.{Age}
 use Rattle.labels.specs.declared.Age.TheVariants.{Newer, Same, Conflicting, Older}
@@ -93,7 +93,7 @@ heard_as h r Newer =
     record {
       station = heard_newer s r;
       takings = h.takings ++ cond (takes s r) (record { source = r.station; body = r.body } ∷ []) [];
-      refusal = max h.refusal (refuse (overfills s r) lane_full done);
+      refusal = max h.refusal (refuse_number (overfills s r) lane_full done);
     }
 heard_as h r Same = h
 heard_as h r Conflicting = record { station = h.station; takings = h.takings; refusal = conflict }

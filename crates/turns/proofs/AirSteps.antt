@@ -1,17 +1,15 @@
--- The airing step lane by lane, and what it comes to.
+-- The airing step lane by lane.
 use Prim.Native.Nat.{ℕ, ◌+◌}
 use native.Mathlib.Omega.{arith}
 use mathlib.Core.Path.{◌≡◌, ap, ◌∙◌}
-use mathlib.Core.Bool.{Bool, true, false, cond}
 use mathlib.Core.List.{List}
-use lib.ListN.{get_or, set, replicate}
+use lib.ListN.{get_or, set}
 use Rattle.lists.specs.Below.{set_below}
 use Rattle.lists.proofs.Laws.{set_below_more, set_below_above}
 use Rattle.queues.specs.declared.Lane.{Lane}
 use Rattle.queues.specs.declared.Slot.{Slot}
 use Rattle.queues.specs.Lane.{no_lane, popped}
-use Rattle.queues.specs.Queue.{no_slot}
-use Rattle.turns.specs.Lanes.{each_has_body, oldest_of_each}
+use Rattle.turns.specs.Lanes.{oldest_of_each}
 
 -- the bodies of the first n lanes, and the lanes without them
 abbrev pub row_from : ℕ → List Lane → List Slot
@@ -30,15 +28,3 @@ module _ (l left : List Lane) (k : ℕ) (e : left ≡ left_of k l) where
 
   pub left_more : (x : Lane) → x ≡ popped (get_or left k no_lane) → set left k x ≡ left_of (k + 1) l
   left_more x p = rw (p ∙ ap popped next_lane, e) (set_below_more k (λ j. popped (get_or l j no_lane)) l)
-
--- what the step answers
-abbrev pub Airs : ℕ → List Lane → Bool → List Slot → List Lane → Type 0
-Airs n l aired row left =
-    (aired ≡ each_has_body n (λ k. get_or l k no_lane)) × (row ≡ cond aired (row_from n l) (replicate 16 no_slot)) × (left ≡ cond aired (left_of n l) l)
-
-module _ (n : ℕ) (l : List Lane) (aired : Bool) (e : aired ≡ each_has_body n (λ k. get_or l k no_lane)) where
-  pub nothing_aired : aired ≡ false → Airs n l aired (replicate 16 no_slot) l
-  nothing_aired h = (e, rw h, rw h)
-
-  pub row_aired : aired ≡ true → (row : List Slot) (left : List Lane) → row ≡ row_from n l → left ≡ left_of n l → Airs n l aired row left
-  row_aired h row left r t = (e, rw h r, rw h t)

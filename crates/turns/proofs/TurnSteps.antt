@@ -4,6 +4,7 @@ use native.Mathlib.Omega.{arith}
 use mathlib.Core.Path.{◌≡◌, refl, sym, ap, ◌∙◌}
 use mathlib.Core.Bool.{Bool, true, false, cond, ◌&&◌}
 use mathlib.Core.List.{List}
+use Rattle.std.specs.Prelude.{Option, Some, None, is_some, unwrap_or}
 use lib.ListN.{get_or, set, length, replicate}
 use lib.Seq.{set-get_or}
 use lib.Dec.{ltb, eqb}
@@ -19,51 +20,49 @@ use Rattle.lists.proofs.Keeps.{set_keeps}
 use Rattle.queues.specs.declared.Lane.{Lane}
 use Rattle.queues.specs.declared.Waiting.{Waiting}
 use Rattle.queues.specs.declared.Slot.{Slot}
-use Rattle.turns.specs.declared.airing.Aired.{Aired}
 use Rattle.station_spec.specs.declared.Station.{Station}
-use Rattle.station_spec.specs.declared.Turned.{Turned}
+use Rattle.station_spec.specs.declared.TurnReport.{TurnReport}
 use Rattle.queues.specs.Lane.{no_lane, pushed, popped}
 use Rattle.queues.specs.Queue.{no_slot}
 use Rattle.queues.specs.Waiting.{waiting_count, next_edit, without_next}
 use Rattle.station_spec.specs.State.{cell_of, label_of, record_of, lane_at, with_entry, with_lane, with_waiting, with_broadcast, with_arrays, with_cell, with_acked, with_lanes}
 use Rattle.turns.specs.Lanes.{each_has_body, oldest_of_each}
 use Rattle.station_spec.specs.Turn.{airs, row_of, after_airing, broadcast_ends, may_start, starts_edit, started_body, begins, takes_own, after_end, own_record, with_own_record, after_turn, turn_report}
-use Rattle.station_spec.specs.Calls.{turn_done}
 use Rattle.station_spec.proofs.StationLimits.{Inside}
 use Rattle.station_spec.proofs.Setters.{cell_label, cell_entry, cell_lane}
 use Rattle.station_spec.proofs.TurnCells.{started_stays}
 
--- a number or none
-pub most_if : (t : Bool) (n m : ℕ) → n ≤ m → cond t n 0 ≤ m
-most_if true n m h = h
-most_if false n m h = omega arith
-
-module _ {A : Type 0} where
-  -- so many places changed, or none
-  pub set_below_if : (t : Bool) (n : ℕ) (f : ℕ → A) (l : List A) → set_below (cond t n 0) f l ≡ cond t (set_below n f l) l
-  unfolding set_below
-  set_below_if true n f l = refl
-  set_below_if false n f l = refl
-
 -- what the airing step makes of the station's lanes is what the definition says of the station
-module _ (s : Station) (step : Aired)
-    (e : (step.aired ≡ each_has_body s.n (λ k. get_or s.lanes k no_lane))
-    × (step.row ≡ cond step.aired (oldest_of_each s.n (λ k. get_or s.lanes k no_lane)) (replicate 16 no_slot))
-    × (step.left ≡ cond step.aired (set_below s.n (λ k. popped (get_or s.lanes k no_lane)) s.lanes) s.lanes)) where
-  pub step_aired : step.aired ≡ airs s
+module _ (s : Station) where
+  abbrev full : Bool
+  full = each_has_body s.n (λ k. get_or s.lanes k no_lane)
+
+  abbrev oldest : List Slot
+  oldest = oldest_of_each s.n (λ k. get_or s.lanes k no_lane)
+
+  pub step_aired : {row : Option (List Slot)} → row ≡ cond full (Some oldest) None → is_some row ≡ airs s
   unfolding cell_of airs
-  step_aired = e.0
+  step_aired e = ap is_some e ∙ go full
+    where
+      go : (t : Bool) → is_some (cond t (Some oldest) None) ≡ t
+      go true = refl
+      go false = refl
 
-  pub step_row : step.row ≡ cond (airs s) (row_of s) (replicate 16 no_slot)
-  unfolding cell_of row_of
-  step_row = e.1 ∙ ap (λ (t : Bool). cond t (row_of s) (replicate 16 no_slot)) step_aired
+  pub step_row :
+      {row : Option (List Slot)} → row ≡ cond full (Some oldest) None →
+      unwrap_or row (replicate 16 no_slot) ≡ cond (airs s) (row_of s) (replicate 16 no_slot)
+  unfolding cell_of airs row_of
+  step_row e = ap (λ (r : Option (List Slot)). unwrap_or r (replicate 16 no_slot)) e ∙ go full
+    where
+      go : (t : Bool) → unwrap_or (cond t (Some oldest) None) (replicate 16 no_slot) ≡ cond t oldest (replicate 16 no_slot)
+      go true = refl
+      go false = refl
 
-  pub step_left : with_arrays s s.acked s.labels s.held s.table step.left ≡ after_airing s
-  unfolding cell_of after_airing with_lanes
-  step_left =
-      ap (with_arrays s s.acked s.labels s.held s.table) e.2
-      ∙ go step.aired
-      ∙ ap (λ (t : Bool). cond t (with_lanes s (λ k. popped (lane_at s k))) s) step_aired
+  pub step_left :
+      {left : List Lane} → left ≡ cond full (set_below s.n (λ k. popped (get_or s.lanes k no_lane)) s.lanes) s.lanes →
+      with_arrays s s.acked s.labels s.held s.table left ≡ after_airing s
+  unfolding cell_of airs after_airing with_lanes
+  step_left e = ap (with_arrays s s.acked s.labels s.held s.table) e ∙ go full
     where
       go :
           (t : Bool) →
@@ -166,15 +165,13 @@ module _
   before =
       with_arrays (with_broadcast (with_waiting s waiting) body count) acked (set s.labels s.own next) s.held s.table (set left s.own lane)
 
-  abbrev answer : Turned
-  answer =
-      record {
-        refusal = 0;
-        station =
-            with_arrays before acked (set s.labels s.own next) s.held
-            (set s.table s.own (record { station = s.own; count = count; body = body; labels = over })) (set left s.own lane);
-        report = record { aired = aired; row = row; ended = ended; ended_body = gone; started_body = started };
-      }
+  abbrev station : Station
+  station =
+      with_arrays before acked (set s.labels s.own next) s.held
+      (set s.table s.own (record { station = s.own; count = count; body = body; labels = over })) (set left s.own lane)
+
+  abbrev report : TurnReport
+  report = record { aired = aired; row = row; ended = ended; ended_body = gone; started_body = started }
 
   abbrev may : Bool
   may = eqb (get_or left s.own no_lane).len 0
@@ -194,13 +191,12 @@ module _
       next ≡ cond ended (successor (label_of s s.own)) (label_of s s.own) →
       over ≡ labels_over s.n (λ k. get_or (set s.labels s.own next) k 0) (record_of s s.own).labels →
       lane ≡ cond (is_empty started) (get_or left s.own no_lane) (pushed (get_or left s.own no_lane) started) →
-      answer ≡ turn_done s
+      (station ≡ after_turn s) × (report ≡ turn_report s)
   unfolding cell_of after_turn with_own_record own_record turn_report
   turn_made a e r l o z b t w k y g m x v p =
       let room : may ≡ may_start s = ap (λ (z : Station). eqb (lane_at z s.own).len 0) l in
       let f : started ≡ started_body s = b ∙ rw (e, room, o, z) (sym (starts_of s)) in
-      let u : before ≡ after_end s = rw (p, w, t, k, y, m, x, f, e, room, z) (sym (after_end_arrays s left l)) in
-      let h : answer.station ≡ after_turn s =
-      rw v (sym (cell_entry before s.own (with_entry (cell_of before s.own) (own_record before)) (own_record before) refl)) ∙ ap with_own_record u in
-      let j : answer.report ≡ turn_report s = rw (a, r, g, f, e) in
-      λ i. record { refusal = 0; station = h i; report = j i }
+      let u : before ≡ after_end s = rw (p, w, t, k, y, m, x, f, e, room, z) (sym (after_end_arrays s left l)) in (
+        rw v (sym (cell_entry before s.own (with_entry (cell_of before s.own) (own_record before)) (own_record before) refl)) ∙ ap with_own_record u,
+        rw (a, r, g, f, e),
+      )

@@ -8,73 +8,46 @@ pub mod parts;
 
 ghost use Rattle.std.specs.Prelude.{◌≡◌, true};
 ghost use Rattle.station_spec.specs.Limits.{station_inside};
-ghost use Rattle.station_spec.specs.Calls.{turn_done};
+ghost use Rattle.station_spec.specs.Turn.{after_turn, turn_report};
 
 use bodies::Body;
 use frame_spec::Record;
-use station_spec::{Station, TurnReport, Turned};
+use queues::Slot;
+use station_spec::{Station, TurnReport};
 
-// The turn of a station that is known to be inside its limits.
-pub fn take_turn(s: Station) -> Turned
-    requires { station_inside s ≡ true }
-    ensures { result ≡ turn_done s }
+/// Takes the turn of a station that is known to be inside its limits.
+#[tactic(auto, using(station_spec::proofs::StationLimits::inside_high, station_spec::proofs::StationLimits::inside_own, station_spec::proofs::StationLimits::inside_room))]
+pub fn take_turn(s: &mut Station) -> TurnReport
+    requires { station_inside s.old ≡ true }
+    ensures station { s.new ≡ after_turn s.old }
+    ensures report { result ≡ turn_report s.old }
 {
-    let n = s.n;
     let own = s.own;
-    let waiting = s.waiting;
-    let had = s.acked;
     let sent = s.body;
-    let held = s.held;
-    let lanes = s.lanes;
-    let step = airing::air(n, lanes);
-    let row = step.row;
-    let mut left = step.left;
-    let ended = parts::all_acked(n, had);
-    let own_lane = left[own];
-    let own_len = own_lane.len;
-    let next_edit = queues::next_edit(waiting);
-    let waits = queues::any_waits(waiting);
+    let row = airing::air(s.n, &mut s.lanes);
+    let ended = parts::all_acked(s.n, &s.acked);
+    let own_len = s.lanes[own].len;
+    let waits = s.waiting.any_waits();
+    let next_edit = s.waiting.next_edit();
     let started = parts::started_body(ended, own_len, waits, next_edit);
     let starts = parts::starts_edit(ended, own_len, waits);
-    let still_waiting = parts::waiting_after(starts, waiting);
-    let acked = parts::only_own(parts::count_if(ended, n), own, had);
-    let body = parts::body_of(ended, started, sent);
-    let ended_body = parts::body_of(ended, sent, Body::Empty);
-    let count = parts::count_after(ended, s.count);
-    let mut labels = s.labels;
-    labels[own] = parts::label_after(ended, labels[own]);
-    let mut table = s.table;
-    let last = table[own];
-    table[own] = Record {
+    parts::start_next(starts, &mut s.waiting);
+    parts::keep_own(ended, s.n, own, &mut s.acked);
+    s.body = parts::body_of(ended, started, sent);
+    s.count = parts::count_after(ended, s.count);
+    s.labels[own] = parts::label_after(ended, s.labels[own]);
+    s.table[own] = Record {
         station: own as u8,
-        count: count,
-        body: body,
-        labels: labels::words::pack_over(n, labels, last.labels),
+        count: s.count,
+        body: s.body,
+        labels: labels::words::pack_over(s.n, s.labels, s.table[own].labels),
     };
-    left[own] = parts::lane_with(own_lane, started);
-    let station = Station {
-        n: n,
-        own: own,
-        edition: s.edition,
-        waiting: still_waiting,
-        acked: acked,
-        body: body,
-        count: count,
-        labels: labels,
-        held: held,
-        table: table,
-        lanes: left,
-    };
-    let report = TurnReport {
-        aired: step.aired,
-        row: row,
-        ended: ended,
-        ended_body: ended_body,
+    parts::put(started, &mut s.lanes[own]);
+    TurnReport {
+        aired: row.is_some(),
+        row: row.unwrap_or([Slot::EMPTY; 16]),
+        ended,
+        ended_body: parts::body_of(ended, sent, Body::Empty),
         started_body: started,
-    };
-    Turned {
-        refusal: bodies::refusals::DONE,
-        station: station,
-        report: report,
     }
 }

@@ -1,6 +1,6 @@
 // The parts of a turn, each on what it needs of a station.
 
-ghost use Rattle.std.specs.Prelude.{◌≡◌, true, false, cond, ◌&&◌, ◌≤◌, ◌<◌, get_or, eqb};
+ghost use Rattle.std.specs.Prelude.{◌≡◌, true, false, if◌then◌else◌, ◌&&◌, ◌≤◌, ◌<◌, ◌==◌, slice_index_or};
 ghost use Rattle.bodies.specs.Body.{is_empty};
 ghost use Rattle.bodies.specs.declared.Body.TheVariants.{Empty, Neutral};
 ghost use Rattle.labels.specs.Label.{successor};
@@ -12,122 +12,87 @@ ghost use Rattle.queues.specs.Waiting.{waiting_count, desk_count, next_desk, wit
 use bodies::Body;
 use queues::{Lane, Waiting};
 
-// Are all n acknowledged?
-pub fn all_acked(n: usize, acked: [bool; 16]) -> bool
-    requires { n ≤ 16 }
-    ensures { result ≡ all_below n (λ k. get_or acked k false) }
+/// Are all n acknowledged?
+pub fn all_acked(n: usize, acked: &[bool; 16]) -> bool
+    requires few { n ≤ 16 }
+    ensures { result ≡ all_below n (λ k. slice_index_or acked.now k false) }
 {
-    let mut k: usize = 0;
-    while k < n {
-        if !acked[k] {
-            return false;
-        }
-        k += 1;
-    }
-    true
+    acked[..n].iter().all(|&is_acked| is_acked)
 }
 
-// Of the first n only own.
-pub fn only_own(n: usize, own: usize, acked: [bool; 16]) -> [bool; 16]
-    requires { n ≤ 16 }
-    ensures { result ≡ set_below n (λ k. eqb k own) acked }
+/// At the end of a broadcast, of the first n only own is left.
+#[tactic(auto, using(lists::proofs::Laws::set_below_more), unfolding(lists::specs::Below::set_below))]
+pub fn keep_own(ended: bool, n: usize, own: usize, acked: &mut [bool; 16])
+    requires few { n ≤ 16 }
+    ensures { acked.new ≡ (if ended then set_below n (λ k. k == own) acked.old else acked.old) }
 {
-    let mut left = acked;
-    let mut k: usize = 0;
-    while k < n {
-        left[k] = k == own;
-        k += 1;
+    if !ended {
+        return;
     }
-    left
+    for k in 0..n {
+        acked[k] = k == own;
+    }
 }
 
-// The lane with a body put last, unless the body is Empty.
-pub fn lane_with(lane: Lane, body: Body) -> Lane
-    ensures { result ≡ cond (is_empty body) lane (pushed lane body) }
+/// Puts a body last in a lane, unless the body is Empty.
+pub fn put(body: Body, lane: &mut Lane)
+    ensures { lane.new ≡ (if is_empty body then lane.old else pushed lane.old body) }
 {
-    if bodies::is_empty(body) {
-        return lane;
+    if !body.is_empty() {
+        lane.push(body);
     }
-    queues::pushed(lane, body)
 }
 
-// How many of n places are changed.
-pub fn count_if(changes: bool, n: usize) -> usize
-    ensures { result ≡ cond changes n 0 }
-{
-    if changes {
-        return n;
-    }
-    0
-}
-
-// What starts, by the bodies in the own lane, whether an edit waits, and the edit that is next.
+/// What starts, by the bodies in the own lane, whether an edit waits, and the edit that is next.
 pub fn started_body(ended: bool, own_len: u8, waits: bool, next_edit: Body) -> Body
-    ensures { result ≡ cond ended (cond (eqb own_len 0) (cond waits next_edit Neutral) Empty) Empty }
+    ensures { result ≡ (if ended then if own_len == 0 then if waits then next_edit else Neutral else Empty else Empty) }
 {
-    if !ended {
-        return Body::Empty;
+    if ended && own_len == 0 {
+        if waits { next_edit } else { Body::Neutral }
+    } else {
+        Body::Empty
     }
-    if own_len != 0 {
-        return Body::Empty;
-    }
-    if !waits {
-        return Body::Neutral;
-    }
-    next_edit
 }
 
-// Does a waiting edit start?
+/// Does a waiting edit start?
 pub fn starts_edit(ended: bool, own_len: u8, waits: bool) -> bool
-    ensures { result ≡ (ended && (eqb own_len 0 && waits)) }
+    ensures { result ≡ (ended && (own_len == 0 && waits)) }
 {
-    if !ended {
-        return false;
-    }
-    if own_len != 0 {
-        return false;
-    }
-    waits
+    ended && own_len == 0 && waits
 }
 
-// The edits that wait after the start.
-pub fn waiting_after(starts: bool, waiting: Waiting) -> Waiting
-    requires { (starts ≡ true → 0 < waiting_count waiting)
-        × (desk_count waiting (next_desk waiting) ≤ queue_capacity) }
-    ensures { result ≡ cond starts (without_next waiting) waiting }
+/// Starts the next edit, if it is one that starts.
+pub fn start_next(starts: bool, waiting: &mut Waiting)
+    requires waits { starts ≡ true → 0 < waiting_count waiting.old }
+    requires room { desk_count waiting.old (next_desk waiting.old) ≤ queue_capacity }
+    ensures { waiting.new ≡ (if starts then without_next waiting.old else waiting.old) }
 {
-    if !starts {
-        return waiting;
+    if starts {
+        waiting.start_next();
     }
-    queues::without_next(waiting)
 }
 
-// The first body where the test holds, else the second.
+/// The first body where the test holds, else the second.
 pub fn body_of(test: bool, one: Body, other: Body) -> Body
-    ensures { result ≡ cond test one other }
+    ensures { result ≡ (if test then one else other) }
 {
-    if test {
-        return one;
-    }
-    other
+    if test { one } else { other }
 }
 
-// The count after the end of a broadcast, or where it goes on.
+/// The count after the end of a broadcast, or where it goes on.
 pub fn count_after(ended: bool, count: u8) -> u8
-    ensures { result ≡ cond ended 0 count }
+    ensures { result ≡ (if ended then 0 else count) }
 {
-    if ended {
-        return 0;
-    }
-    count
+    if ended { 0 } else { count }
 }
 
-// The own label after the end of a broadcast, or where it goes on.
+/// The own label after the end of a broadcast, or where it goes on.
 pub fn label_after(ended: bool, label: u8) -> u8
-    ensures { result ≡ cond ended (successor label) label }
+    ensures { result ≡ (if ended then successor label else label) }
 {
     if ended {
-        return labels::successor(label);
+        labels::successor(label)
+    } else {
+        label
     }
-    label
 }

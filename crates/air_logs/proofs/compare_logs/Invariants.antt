@@ -1,17 +1,18 @@
-use Prim.Native.Nat.{◌+◌, ◌*◌, ◌-◌, ◌≤◌}
-use mathlib.Core.Path.{◌≡◌}
-use lib.ListN.{length, drop}
+-- What is left to compare, at the present position, gives the answer of the whole; the position is
+-- no larger than the lines passed allow.
+use Rattle.std.proofs.Common.{◌≡◌, ◌+◌, ◌*◌, ◌≤◌, length}
 use Rattle.air_logs_spec.specs.Logs.{log_of}
 use Rattle.air_logs_spec.specs.Compare.{compared_from}
-use Rattle.air_logs.specs.Inner.{KeptAt}
 use Rattle.air_logs.proofs.compare_logs.Given as goal
 
-abbrev pub invariant-loop-a : goal.invariant-loop-a
-invariant-loop-a l =
-    KeptAt l.p l.first l.a
-    × KeptAt l.q l.second l.b
-    × (l.position * 35 ≤ l.a + 35)
-    × (compared_from l.position (log_of l.p (drop l.a l.first)) (log_of l.q (drop l.b l.second)) ≡ compared_from 1 (log_of l.p l.first) (log_of l.q l.second))
+abbrev pub invariant-loop-one : goal.invariant-loop-one
+invariant-loop-one l =
+    record {
+      counted : l.position * 35 + length l.first.listing.now ≤ length l.initial.first.listing.now + 35;
+      same :
+          compared_from l.position (log_of l.first.station l.first.listing.now) (log_of l.second.station l.second.listing.now)
+          ≡ compared_from 1 (log_of l.initial.first.station l.initial.first.listing.now) (log_of l.initial.second.station l.initial.second.listing.now);
+    }
 
-abbrev pub decreases-loop-a : goal.decreases-loop-a
-decreases-loop-a l = length l.first - l.a
+abbrev pub decreases-loop-one : goal.decreases-loop-one
+decreases-loop-one l = length l.first.listing.now

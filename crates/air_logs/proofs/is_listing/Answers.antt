@@ -1,52 +1,46 @@
--- `air_logs::is_listing` goes from line to line. The invariant: what is left is a listing exactly
--- if all of it is.
-use Prim.Native.Nat.{ℕ, ◌-◌}
-use mathlib.Core.List.{List}
-use mathlib.Core.Path.{refl, sym, ap, ◌∙◌}
-use native.Mathlib.Omega.{arith}
-use borrow.Author.Rules.{rules}
-use lib.ListN.{length, drop, length-drop}
-use lib.Seq.{take_all}
+use Rattle.std.proofs.Common.{ℕ, List, ◌-◌, ◌%◌, ◌<◌, length, drop, sym, ap, ◌∙◌}
+use Rattle.std.specs.Slice.Iter.{chunks_exact_rest}
 use Rattle.listing_lines.specs.Lines.{end_line}
-use Rattle.air_logs_spec.specs.Form.{is_line, same_bytes}
-use Rattle.air_logs.proofs.Lines.{part_is, answered_no, answered_yes, judged_line, judged_end, judged_next, judged_last}
+use Rattle.air_logs_spec.specs.Form.{is_listing, same_bytes}
+use Rattle.air_logs.proofs.Lines.{judged_no, judged_yes, judged_last, last_onward}
 use Rattle.air_logs.proofs.is_listing.Goals as goal
 
-pub loop-at-init : goal.loop-at-init
-loop-at-init c = (search rules, refl)
+pub loop-line-init : goal.loop-line-init
+loop-line-init c =
+    let lines = c.chunks_exact-lines.ensures in
+    rw c.into_iter-line-iterator.ensures.into_iter_gives
+    (record {
+      size = lines.size;
+      same = ap is_listing lines.rest;
+      last = rw (lines.rest) (c.remainder-last.ensures ∙ lines.remainder);
+    })
 
-pub returns-then-not-is_line : goal.returns-then-not-is_line
-returns-then-not-is_line c =
-    let bytes : List ℕ = c.args.bytes.now in
+pub returns-then-not-is_ended_line : goal.returns-then-not-is_ended_line
+returns-then-not-is_ended_line c =
+    let it = c.loop-line.invariant in
+    let step = c.in-Some.ensures.steps in
+    let long = step.1.1 ∙ it.size in
     sym
-    (sym c.loop-at.invariant.1
-    ∙ judged_line bytes c.loop-at.at c.loop-at-test.true
-    (answered_no _ _ (c.is_line.ensures ∙ ap is_line (part_is bytes c.loop-at.at)) c.if-not-is_line.true-raw))
+    (sym it.same
+    ∙ ap is_listing step.1.0
+    ∙ judged_no c.in-Some.line.now _ long (sym c.is_ended_line.ensures ∙ c.if-not-is_ended_line.true))
 
-pub returns-then-bytes-end-ne-LINE_END : goal.returns-then-bytes-end-ne-LINE_END
-returns-then-bytes-end-ne-LINE_END c =
-    let bytes : List ℕ = c.args.bytes.now in
-    sym
-    (sym c.loop-at.invariant.1
-    ∙ judged_end bytes c.loop-at.at c.loop-at-test.true
-    (answered_yes _ _ (c.is_line.ensures ∙ ap is_line (part_is bytes c.loop-at.at)) c.if-not-is_line.false-raw) c.if-bytes-end-ne-LINE_END.true)
-
-pub loop-at-preserved : goal.loop-at-preserved
-loop-at-preserved c =
-    let bytes : List ℕ = c.args.bytes.now in
-    let room = c.loop-at-test.true in (
-      omega arith,
-      sym
-          (judged_next bytes c.loop-at.at room
-          (answered_yes _ _ (c.is_line.ensures ∙ ap is_line (part_is bytes c.loop-at.at)) c.if-not-is_line.false-raw) c.if-bytes-end-ne-LINE_END.false)
-          ∙ c.loop-at.invariant.1,
-    )
+pub loop-line-preserved : goal.loop-line-preserved
+loop-line-preserved c =
+    let it = c.loop-line.invariant in
+    let line = c.in-Some.line.now in
+    let step = c.in-Some.ensures.steps in
+    let long = step.1.1 ∙ it.size in
+    let ended = sym c.is_ended_line.ensures ∙ c.if-not-is_ended_line.false in
+    record {
+      size = step.0 ∙ it.size;
+      same = judged_yes line _ long ended ∙ ap is_listing (sym step.1.0) ∙ it.same;
+      last = it.last ∙ ap (λ (s : List ℕ). drop (length s - length s % 35) s) step.1.0 ∙ last_onward line _ long;
+    }
 
 pub returns : goal.returns
 returns c =
-    let bytes : List ℕ = c.args.bytes.now in
-    let at : ℕ = c.loop-at.at in
-    c.is_last_line.ensures
-    ∙ ap (λ (s : List ℕ). same_bytes s end_line) (take_all (length bytes - at) (drop at bytes) (rw length-drop (omega arith)))
-    ∙ sym (judged_last bytes at c.loop-at-test.false)
-    ∙ c.loop-at.invariant.1
+    let it = c.loop-line.invariant in
+    let left = chunks_exact_rest c.loop-line.line-iterator in
+    let short : length left < 35 = rw it.size at c.in-None.ensures.steps.1.0 in
+    c.is_last_line.ensures ∙ ap (λ (s : List ℕ). same_bytes s end_line) it.last ∙ sym (judged_last left short) ∙ it.same

@@ -1,12 +1,7 @@
-use Prim.Native.Nat.{◌+◌, ◌*◌, ◌-◌}
-use Rattle.station_bytes_spec.specs.Bytes.{word_width}
-use Rattle.station_bytes_spec.proofs.Bytes.{NumbersRead}
+use Rattle.std.proofs.Common.{◌+◌, ◌*◌}
 use Rattle.frame_spec.specs.Words.{word_at}
-use Rattle.bulletins_spec.specs.State.{all_places}
+use Rattle.station_bytes_spec.proofs.Bytes.{NumbersRead}
 use Rattle.bulletin_bytes.proofs.read_words.Given as goal
 
 abbrev pub invariant-loop-s : goal.invariant-loop-s
-invariant-loop-s l = NumbersRead all_places (λ j. word_at l.bytes (l.at + word_width * j)) l.s l.words
-
-abbrev pub decreases-loop-s : goal.decreases-loop-s
-decreases-loop-s l = all_places - l.s
+invariant-loop-s l = NumbersRead 64 (λ j. word_at l.bytes (l.at + 4 * j)) l.s l.words

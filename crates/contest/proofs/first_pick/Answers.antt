@@ -1,49 +1,37 @@
 -- The loop keeps: from no pick below i can the keeper force the end. The pick it leaves with is
 -- then the lowest of the definition.
-use Prim.Native.Nat.{ℕ}
-use mathlib.Core.List.{[], ◌∷◌}
-use mathlib.Core.Path.{ap, ◌∙◌}
-use native.Mathlib.Omega.{arith}
-use borrow.Author.Rules.{rules}
+use Rattle.std.proofs.Common.{rules, ◌≡◌, false, ℕ, [], ◌∷◌, set, refl, ap, ◌∙◌, arith}
 use borrow.Author.Count.{below_more}
-use lib.ListN.{set}
-use Rattle.planning_spec.proofs.LinkLog.{round_inside}
+use Rattle.contest.specs.declared.Player.TheVariants.{Keeper}
+use Rattle.contest.specs.Inner.KnownSets.{begun, is_keeper, opening}
 use Rattle.contest.proofs.Lowest.{lowest_found, lowest_missing}
-use Rattle.contest.specs.Inner.KnownSets.{begun, opening}
-use Rattle.contest.proofs.Deciding.{opening_is}
+use Rattle.contest.proofs.Deciding.{breaker_is, opening_is}
 use Rattle.contest.proofs.first_pick.Goals as goal
 
-pub loop-i-init : goal.loop-i-init
+pub returns-then-eq-clause-lowest : goal.returns-then-eq-clause-lowest
 unfolding begun
-loop-i-init c = (omega arith, ap (λ (x : ℕ). set (0 ∷ 0 ∷ 0 ∷ 0 ∷ []) c.args.s x) c.first_set.ensures, λ k l. absurd (omega arith))
-
-pub overflow_mul-i : goal.overflow_mul-i
-overflow_mul-i c =
+returns-then-eq-clause-lowest c =
     let a = c.args in
-    let r = round_inside c.loop-i.i a.count a.n c.loop-i-test.true in search rules
-
-pub learn-next-requires : goal.learn-next-requires
-learn-next-requires c =
-    let a = c.args in
-    let r = round_inside c.loop-i.i a.count a.n c.loop-i-test.true in search rules
-
-pub returns-then-wins : goal.returns-then-wins
-returns-then-wins c =
-    let a = c.args in
-    let l = c.loop-i in
-    lowest_found a.count (opening a.n a.s a.count a.masks.now a.left) l.i c.loop-i-test.true (opening_is a.n a.s a.count a.masks.now a.left l.i _ c.learn-next.result c.wins.result l.invariant.1 c.learn-next.ensures c.wins.ensures ∙ c.if-wins.true) l.invariant.2
+    let i = c.loop-i.i in
+    let won : c.winner.result ≡ Keeper = search rules in
+    let first = ap (λ (x : ℕ). set (0 ∷ 0 ∷ 0 ∷ 0 ∷ []) a.s x) c.first_set.ensures in
+    lowest_found a.count (opening a.n a.s a.count a.masks.now a.left) i c.loop-i-test.true
+    (opening_is a.n a.s a.count a.masks.now a.left i _ c.learn-next.result (is_keeper c.winner.result) first c.learn-next.ensures c.winner.ensures
+    ∙ ap is_keeper won)
+    c.loop-i.invariant
 
 pub loop-i-preserved : goal.loop-i-preserved
+unfolding begun
 loop-i-preserved c =
     let a = c.args in
-    let l = c.loop-i in (
-      omega arith,
-      l.invariant.1,
-      below_more _ _ l.invariant.2 (opening_is a.n a.s a.count a.masks.now a.left l.i _ c.learn-next.result c.wins.result l.invariant.1 c.learn-next.ensures c.wins.ensures ∙ c.if-wins.false),
-    )
+    let i = c.loop-i.i in
+    let first = ap (λ (x : ℕ). set (0 ∷ 0 ∷ 0 ∷ 0 ∷ []) a.s x) c.first_set.ensures in
+    let lost : is_keeper c.winner.result ≡ false = breaker_is _ (search rules) in
+    below_more _ _ c.loop-i.invariant
+    (opening_is a.n a.s a.count a.masks.now a.left i _ c.learn-next.result (is_keeper c.winner.result) first c.learn-next.ensures c.winner.ensures
+    ∙ lost)
 
-pub returns : goal.returns
-returns c =
+pub returns-clause-lowest : goal.returns-clause-lowest
+returns-clause-lowest c =
     let a = c.args in
-    let l = c.loop-i in
-    lowest_missing a.count (opening a.n a.s a.count a.masks.now a.left) l.i (omega arith) l.invariant.2
+    lowest_missing a.count (opening a.n a.s a.count a.masks.now a.left) a.count refl (λ j l. c.loop-i.invariant j (omega arith))

@@ -1,12 +1,7 @@
-use Prim.Native.Nat.{◌-◌, ◌≤◌}
-use mathlib.Core.Path.{◌≡◌}
-use lib.ListN.{get_or}
+use Rattle.std.proofs.Common.{◌≡◌, get_or}
 use Rattle.planning.specs.Sets.{united}
 use Rattle.planning_spec.specs.LinkLog.{mask_hears}
 use Rattle.contest.proofs.learn_one.Given as goal
 
 abbrev pub invariant-loop-j : goal.invariant-loop-j
-invariant-loop-j l = (l.j ≤ l.n) × (l.set ≡ united l.j (mask_hears l.mask l.p) (λ i. get_or l.know i 0) (get_or l.know l.p 0))
-
-abbrev pub decreases-loop-j : goal.decreases-loop-j
-decreases-loop-j l = l.n - l.j
+invariant-loop-j l = l.set ≡ united l.j (mask_hears l.mask l.p) (λ i. get_or l.know i 0) (get_or l.know l.p 0)

@@ -1,13 +1,7 @@
-use Prim.Native.Nat.{◌-◌}
-use mathlib.Core.Path.{◌≡◌}
-use Rattle.hearing_spec.specs.Buffer.{size_in}
 use Rattle.hearing_spec.specs.StandsFor.{notes}
 use Rattle.hearing_spec.proofs.MaskLoop.{MaskInv}
 use Rattle.hearing.proofs.hear_mask.Given as goal
 
 abbrev pub invariant-loop-j : goal.invariant-loop-j
 invariant-loop-j l =
-    (l.n ≡ size_in l.bytes) × MaskInv l.own l.bytes l.mask l.initial.last (notes l.initial.places l.initial.lens l.initial.taken l.initial.ear) l.last (notes l.places l.lens l.taken l.ear) l.j
-
-abbrev pub decreases-loop-j : goal.decreases-loop-j
-decreases-loop-j l = l.n - l.j
+    MaskInv l.own l.bytes l.mask l.initial.last (notes l.initial.places l.initial.lens l.initial.taken l.initial.ear) l.last (notes l.places l.lens l.taken l.ear) l.j

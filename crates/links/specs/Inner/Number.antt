@@ -1,6 +1,6 @@
 -- Broadcast numbers, as the clocks decide them. A means of proof; no statement about the group
 -- names them.
-use Rattle.std.specs.Prelude.{Bool, false, cond, ◌||◌, ℕ, zero, suc, ◌-◌, eqb, leb}
+use Rattle.std.specs.Prelude.{Bool, false, if◌then◌else◌, ◌||◌, ℕ, zero, suc, ◌-◌, ◌==◌, nat_le}
 use Rattle.lists.specs.Below.{all_below}
 use Rattle.lists.specs.Inner.Total.{total}
 use Rattle.links.specs.Relay.{Links}
@@ -10,16 +10,16 @@ use Rattle.links.specs.Inner.Clock.{news}
 -- s from after round t?
 unfoldable pub answers : Links → ℕ → ℕ → ℕ → ℕ → Bool
 answers L s t r zero = false
-answers L s t r (suc w) = leb (suc t) (news L w r s)
+answers L s t r (suc w) = nat_le (suc t) (news L w r s)
 
 -- After round u s has an answer of each other station to what it started in round t.
 unfoldable pub full : Links → ℕ → ℕ → ℕ → Bool
-full L u s t = all_below L.size (λ r. eqb r s || answers L s t r (news L u s r))
+full L u s t = all_below L.size (λ r. r == s || answers L s t r (news L u s r))
 
 -- The round in which the broadcast that s has after round u started.
 unfoldable pub start : Links → ℕ → ℕ → ℕ
 start L zero s = 0
-start L (suc u) s = cond (full L (suc u) s (start L u s)) (suc u) (start L u s)
+start L (suc u) s = if full L (suc u) s (start L u s) then suc u else start L u s
 
 -- In round u s ends a broadcast and starts the next.
 unfoldable pub ends : Links → ℕ → ℕ → Bool
@@ -29,7 +29,7 @@ ends L (suc u) s = full L (suc u) s (start L u s)
 -- The number of the broadcast that s has after round u; its first is number 1.
 unfoldable pub num : Links → ℕ → ℕ → ℕ
 num L zero s = 1
-num L (suc u) s = cond (ends L (suc u) s) (suc (num L u s)) (num L u s)
+num L (suc u) s = if ends L (suc u) s then suc (num L u s) else num L u s
 
 -- The number that version v of s shows: 0 for none.
 unfoldable pub num_of : Links → ℕ → ℕ → ℕ
@@ -47,7 +47,7 @@ got_of L q s (suc w) = got L w q s
 
 -- What r added since: nothing where it is p.
 unfoldable pub added : ℕ → (ℕ → ℕ) → (ℕ → ℕ) → ℕ → ℕ
-added p now before r = cond (eqb r p) 0 (now r - before r)
+added p now before r = if r == p then 0 else now r - before r
 
 -- How much has been added since, at the first n stations but p.
 unfoldable pub tally : ℕ → ℕ → (ℕ → ℕ) → (ℕ → ℕ) → ℕ

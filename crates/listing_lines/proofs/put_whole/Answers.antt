@@ -12,7 +12,7 @@ use Rattle.listing_lines.proofs.put_whole.Goals as goal
 pub returns : goal.returns
 returns c =
     let a = c.args in
-    let size = part_length a.out.now a.at a.end c.requires.1 in
+    let size = part_length a.out.now a.at a.end c.requires.room in
     placed_part a.out.now a.at (a.end - a.at) c.write_whole.new.part _ (c.write_whole.auto.part ∙ size)
     (c.write_whole.ensures
     ∙ ap (λ (z : ℤ). int_columns (length (take (a.end - a.at) (drop a.at a.out.now))) z) (to_z-of_z w32 a.value c.ranges.value)

@@ -1,4 +1,3 @@
--- `load::put_post` puts a post's line, or nothing.
 use Rattle.std.proofs.Common.{sym, ◌∙◌, arith}
 use Rattle.listing_lines.proofs.Placed.{put_none}
 use Rattle.load_spec.specs.Script.{text_of}
@@ -11,11 +10,6 @@ put_post_line-requires c =
     let posting = sym c.posts.ensures ∙ c.if-posts.true in
     omega (arith, rw posting at c.requires, length_post a.station a.draw)
 
-pub returns-then-posts : goal.returns-then-posts
-returns-then-posts c =
-    let posting = sym c.posts.ensures ∙ c.if-posts.true in
-    rw posting c.put_post_line.ensures
-
-pub returns : goal.returns
+pub returns-else-posts : goal.returns-else-posts
 unfolding text_of
-returns c = let silent = sym c.posts.ensures ∙ c.if-posts.false in rw silent (put_none _ _)
+returns-else-posts c = let silent = sym c.posts.ensures ∙ c.if-posts.false in rw silent (put_none _ _)

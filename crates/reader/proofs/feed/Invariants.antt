@@ -1,12 +1,10 @@
-use Prim.Native.Nat.{◌≤◌, ◌<◌, ◌-◌}
-use mathlib.Core.Path.{◌≡◌}
-use lib.ListN.{length, take}
-use Rattle.listing_spec.specs.Remaining.{Listed}
+use Rattle.std.proofs.Common.{◌≡◌, ◌≤◌, ◌<◌, ◌-◌, length, take}
+use Rattle.listing_spec.specs.Remaining.{Listed, kept_bytes}
 use Rattle.reader.proofs.feed.Given as goal
 
 abbrev pub invariant-loop-out : goal.invariant-loop-out
 invariant-loop-out l =
-    (l.held ≤ 146) × (146 ≡ length l.line) × (l.at ≤ length l.out) × (length l.out ≡ length l.initial.out) × (0 < l.at → 0 < l.read)
+    (l.held ≤ kept_bytes) × (kept_bytes ≡ length l.line) × (l.at ≤ length l.out) × (0 < l.at → 0 < l.read)
     × Listed l.initial.session (take l.initial.held l.initial.line) l.part l.initial.out l.session (take l.held l.line) l.read l.at l.out
 
 abbrev pub decreases-loop-out : goal.decreases-loop-out

@@ -20,13 +20,12 @@ loop-from-smaller g c =
     omega arith
 
 pub loop-from-preserved : goal.loop-from-preserved
-loop-from-preserved g c =
-    let written = c.write_front.ensures c.if-not-write_front.false in (
-      search rules,
-      search rules,
-      search rules,
-      passes_more _ _ _ _ _ _ _ _ _ _ c.loop-from.invariant.3 c.feed-fed.ensures written,
-    )
+loop-from-preserved g c = (
+  search rules,
+  search rules,
+  search rules,
+  passes_more _ _ _ _ _ _ _ _ _ _ c.loop-from.invariant.3 c.feed-fed.ensures c.in_ok-write_front.ensures,
+)
 
 pub returns-clause-passes : goal.returns-clause-passes
 returns-clause-passes g c = passes_all _ _ c.args.part.now c.loop-from.from _ _ (omega arith) c.loop-from.invariant.3

@@ -1,4 +1,4 @@
-use Rattle.std.proofs.Common.{length, take, ◌-◌, ◌≤◌, ◌≡◌, ℕ}
+use Rattle.std.proofs.Common.{length, take, ◌-◌, ◌≤◌, ◌≡◌}
 use Rattle.listing_spec.specs.Remaining.{kept_bytes}
 use Rattle.relay_listing.specs.Passing.{Passes}
 use Rattle.relay_listing.proofs.pass.Given as goal

@@ -1,4 +1,4 @@
-use Rattle.std.proofs.Common.{◌≤◌, length, ◌≡◌, ℕ}
+use Rattle.std.proofs.Common.{◌≤◌, length}
 use Rattle.listing_lines.specs.Reports.{round_room}
 use Rattle.listing_spec.specs.Remaining.{kept_bytes}
 use Rattle.relay_listing.specs.Passing.{Reads}

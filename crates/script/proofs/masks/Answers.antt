@@ -1,6 +1,5 @@
 -- `script::masks` fills sixteen places. The invariant: the places below k hold their masks.
-use mathlib.Core.Path.{◌≡◌, refl, sym, ◌∙◌}
-use native.Mathlib.Omega.{arith}
+use Rattle.std.proofs.Common.{◌≡◌, refl, sym, ◌∙◌, arith}
 use lib.ListN.{length-set}
 use lib.Seq.{take_all}
 use Rattle.lists.specs.Below.{tabulate}
@@ -10,16 +9,16 @@ use Rattle.script.proofs.masks.Goals as goal
 
 pub loop-k-init : goal.loop-k-init
 unfolding tabulate
-loop-k-init c = (omega arith, refl, refl)
+loop-k-init c = (refl, refl)
 
 pub loop-k-preserved : goal.loop-k-preserved
 loop-k-preserved c = (
-  omega arith,
-  simp length-set c.loop-k.invariant.1,
-  rw c.mask_at.ensures (mask_more _ _ c.loop-k.k c.loop-k.made (omega arith) c.loop-k.invariant.2),
+  simp length-set c.loop-k.invariant.0,
+  rw c.mask_at.ensures (mask_more _ _ c.loop-k.k c.loop-k.made (omega arith) c.loop-k.invariant.1),
 )
 
 pub returns : goal.returns
 unfolding masks_of
-returns c = let e : c.loop-k.k ≡ 16 = omega arith in
-    sym (take_all 16 c.loop-k.made (omega arith)) ∙ rw e at c.loop-k.invariant.2
+returns c =
+    let e : c.loop-k.k ≡ 16 = omega arith in
+    sym (take_all 16 c.loop-k.made (omega arith)) ∙ rw e at c.loop-k.invariant.1

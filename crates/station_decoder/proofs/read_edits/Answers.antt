@@ -1,7 +1,6 @@
 -- `station_decoder::read_edits` meets its contract: all bytes are 0, or the edits before i are
 -- read.
-use native.Mathlib.Omega.{arith}
-use lib.ListN.{replicate}
+use Rattle.std.proofs.Common.{arith, replicate}
 use Rattle.queues.specs.Queue.{no_slot}
 use Rattle.station_decoder.proofs.Reading.{set_below_none, set_below_next, edit_in, edits_read}
 use Rattle.station_decoder.proofs.Zeros.{zeros_read}
@@ -11,13 +10,12 @@ pub returns-then-all_zero : goal.returns-then-all_zero
 returns-then-all_zero c = zeros_read _ _ (c.all_zero.ensures c.if-all_zero.true)
 
 pub loop-i-init : goal.loop-i-init
-loop-i-init c = (omega arith, set_below_none _ _)
+loop-i-init c = set_below_none _ _
 
 pub loop-i-preserved : goal.loop-i-preserved
 loop-i-preserved c =
-    let l = c.loop-i in
-    let s = c.args in
-    (omega arith, set_below_next l.i (edit_in s.bytes.now s.at) (replicate 32 no_slot) l.slots _ l.invariant.1 (λ j. record { body = c.read_body-body.ensures j }))
+    set_below_next c.loop-i.i (edit_in c.args.bytes.now c.args.at) (replicate 32 no_slot) _ _ c.loop-i.invariant
+    (λ j. record { body = c.read_body.ensures j })
 
 pub returns : goal.returns
-returns c = edits_read _ _ _ _ (omega arith) c.loop-i.invariant.1
+returns c = edits_read _ _ _ _ (omega arith) c.loop-i.invariant

@@ -1,4 +1,3 @@
-use Prim.Native.Nat.{◌-◌}
 use Rattle.station_spec.specs.State.{cell_of}
 use Rattle.station_bytes_spec.specs.Station.{encode_cell}
 use Rattle.station_encoder.proofs.Writing.{PartsPut}
@@ -6,6 +5,3 @@ use Rattle.station_encoder.proofs.put_cells.Given as goal
 
 abbrev pub invariant-loop-k : goal.invariant-loop-k
 invariant-loop-k l = PartsPut 16 (λ j. encode_cell (cell_of l.s j)) l.initial.bytes l.at l.k l.bytes
-
-abbrev pub decreases-loop-k : goal.decreases-loop-k
-decreases-loop-k l = 16 - l.k

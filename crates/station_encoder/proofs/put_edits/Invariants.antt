@@ -1,4 +1,4 @@
-use Prim.Native.Nat.{ℕ, ◌-◌}
+use Prim.Native.Nat.{ℕ}
 use mathlib.Core.List.{List}
 use lib.ListN.{get_or}
 use Rattle.queues.specs.declared.Slot.{Slot}
@@ -12,6 +12,3 @@ edits slots i = encode_body (get_or slots i no_slot).body
 
 abbrev pub invariant-loop-i : goal.invariant-loop-i
 invariant-loop-i l = PartsPut 32 (edits l.slots) l.initial.bytes l.at l.i l.bytes
-
-abbrev pub decreases-loop-i : goal.decreases-loop-i
-decreases-loop-i l = 32 - l.i

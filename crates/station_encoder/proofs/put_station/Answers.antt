@@ -4,6 +4,5 @@ use Rattle.station_encoder.proofs.put_station.Goals as goal
 
 pub returns : goal.returns
 returns c =
-    let s = c.args in
-    station_written s.bytes.now s.at s.s c.as_byte.result c.as_byte-2.result c.as_byte-3.result
-    _ _ _ _ c.as_byte.ensures c.as_byte-2.ensures c.as_byte-3.ensures c.put_four.ensures c.put_body.ensures c.put_cells.ensures c.put_waiting.ensures
+    station_written _ _ c.args.s.now _ _ _ _ _ _ _ c.as_byte.ensures c.as_byte-2.ensures c.as_byte-3.ensures c.put_four.ensures
+    c.put_body.ensures c.put_cells.ensures c.put_waiting.ensures

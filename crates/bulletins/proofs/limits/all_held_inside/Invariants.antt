@@ -1,12 +1,7 @@
-use Prim.Native.Nat.{◌-◌, ◌≤◌}
-use mathlib.Core.Bool.{true}
-use mathlib.Core.Path.{◌≡◌}
+use Rattle.std.proofs.Common.{◌≡◌, true}
 use Rattle.lists.specs.Below.{all_below}
-use Rattle.bulletins.specs.LentLimits.{held_in}
+use Rattle.bulletins_spec.specs.State.{held_inside}
 use Rattle.bulletins.proofs.limits.all_held_inside.Given as goal
 
 abbrev pub invariant-loop-p : goal.invariant-loop-p
-invariant-loop-p l = (l.p ≤ l.n) × (all_below l.p (λ q. all_below 64 (λ s. held_in l.held l.n q s)) ≡ true)
-
-abbrev pub decreases-loop-p : goal.decreases-loop-p
-decreases-loop-p l = l.n - l.p
+invariant-loop-p l = all_below l.p (λ q. all_below 64 (held_inside l.b q)) ≡ true

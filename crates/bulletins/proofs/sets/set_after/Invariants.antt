@@ -1,13 +1,8 @@
-use Prim.Native.Nat.{◌-◌, ◌≤◌}
-use mathlib.Core.Path.{◌≡◌}
-use lib.ListN.{get_or}
+use Rattle.std.proofs.Common.{◌≡◌}
 use Rattle.links.specs.Log.{hears_in}
 use Rattle.planning.specs.Sets.{united}
+use Rattle.bulletins_spec.specs.State.{set_of}
 use Rattle.bulletins.proofs.sets.set_after.Given as goal
 
 abbrev pub invariant-loop-j : goal.invariant-loop-j
-invariant-loop-j l =
-    (l.j ≤ l.n) × (l.set ≡ united l.j (λ i. hears_in l.n l.masks l.p i) (λ i. get_or l.held i 0) (get_or l.held l.p 0))
-
-abbrev pub decreases-loop-j : goal.decreases-loop-j
-decreases-loop-j l = l.n - l.j
+invariant-loop-j l = l.set ≡ united l.j (hears_in l.b.n l.masks l.p) (set_of l.b) (set_of l.b l.p)

@@ -1,67 +1,27 @@
--- The loop keeps: what the stations passed show is told, and nothing of the others.
-use Prim.Native.Nat.{ℕ, ◌+◌, ◌*◌, ◌<◌}
-use mathlib.Core.List.{List, []}
-use mathlib.Core.Path.{◌≡◌, sym, ap, ap₂, ◌∙◌}
-use native.Mathlib.Omega.{arith}
-use lib.ListN.{get_or, set, take, get_or-replicate}
-use lib.Seq.{set-get_or}
-use Rattle.lists.specs.Below.{set_below}
-use Rattle.lists.proofs.Laws.{set_below_more, set_below_above}
+use Rattle.std.proofs.Common.{ℕ, ◌*◌, List, set, slice_index, take, sym, ap, ap₂, ◌∙◌, arith}
+use Rattle.lists.proofs.Laws.{set_below_more}
 use Rattle.bulletins_spec.specs.declared.Shown.{Shown}
+use Rattle.bulletins_spec.specs.State.{set_of, notice_at}
 use Rattle.bulletins_spec.specs.Order.{picked}
 use Rattle.bulletins_spec.specs.Calls.{shown_of, none_shown}
-use Rattle.bulletins.specs.LentSets.{new_in, notice_in}
-use Rattle.bulletins.proofs.Pushing.{picked_none, none_new}
+use Rattle.bulletins.specs.Sets.{new_in}
+use Rattle.bulletins.proofs.Pushing.{picked_none, none_new, same_set}
+use Rattle.bulletins.proofs.showing.all_shown.Goals.{then-b-p, else-b-p}
 use Rattle.bulletins.proofs.showing.all_shown.Goals as goal
-
-pub loop-p-init : goal.loop-p-init
-unfolding set_below
-loop-p-init c = (omega arith, c.none_shown-shown.ensures)
-
-pub shown_by-requires : goal.shown_by-requires
-shown_by-requires c = c.requires
-
--- where a set is as before, what was there before the loop stays: nothing
-same_set :
-    (f : ℕ → Shown) (p : ℕ) → p < 16 → f p ≡ shown_of [] →
-    set_below p f none_shown ≡ set_below (p + 1) f none_shown
-unfolding none_shown
-same_set f p l e =
-    sym (set-get_or (set_below p f none_shown) p (shown_of []))
-    ∙ ap (set (set_below p f none_shown) p)
-    (set_below_above p f none_shown p (shown_of []) (omega arith) ∙ get_or-replicate 16 p (shown_of []) (shown_of []) l ∙ sym e)
-    ∙ set_below_more p f none_shown
-
-pub loop-p-preserved-then-before-p : goal.loop-p-preserved-then-before-p
-loop-p-preserved-then-before-p c =
-    let a = c.args in
-    let l = c.loop-p in
-    let show = notice_in a.tags.now a.events.now in
-    let old = get_or a.before.now l.p 0 in
-    let new = get_or a.after.now l.p 0 in
-    let none : picked (new_in old new) show (take (4 * a.n) a.places.now) ≡ [] =
-    sym (picked_none (new_in old new) show (take (4 * a.n) a.places.now)
-    (λ s. ap (λ (x : ℕ). new_in old x s) (sym c.if-before-p.true) ∙ none_new old s)) in (
-      omega arith,
-      l.invariant.1
-          ∙ same_set (λ q. shown_of (picked (new_in (get_or a.before.now q 0) (get_or a.after.now q 0)) show (take (4 * a.n) a.places.now)))
-          l.p (omega (arith, c.requires.0, c.loop-p-test.true)) (ap shown_of none),
-    )
 
 pub loop-p-preserved : goal.loop-p-preserved
 loop-p-preserved c =
-    let a = c.args in
-    let l = c.loop-p in (
-      omega arith,
-      ap₂ (λ (x : List Shown) (y : Shown). set x l.p y) l.invariant.1 c.shown_by.ensures
-          ∙ set_below_more l.p
-          (λ q. shown_of (picked (new_in (get_or a.before.now q 0) (get_or a.after.now q 0)) (notice_in a.tags.now a.events.now) (take (4 * a.n) a.places.now)))
-          none_shown,
-    )
-
-pub returns : goal.returns
-returns c =
-    let a = c.args in
-    let l = c.loop-p in
-    let e : l.p ≡ a.n = omega arith in
-    rw e at l.invariant.1
+    let b = c.args.b.now in
+    let p = c.loop-p.p in
+    let places = take (4 * b.n) c.args.places.now in
+    let news = λ (q : ℕ). new_in (set_of b q) (slice_index c.args.after.now q) in
+    let f = λ (q : ℕ). shown_of (picked (news q) (notice_at b) places) in
+    elim c.if-b-p.branch [
+      | then-b-p w ↦
+          w.shown-is ∙ ap₂ (λ (x : List Shown) (y : Shown). set x p y) c.loop-p.invariant w.shown_by.ensures ∙ set_below_more p f none_shown
+      | else-b-p w ↦
+          w.shown-is
+          ∙ c.loop-p.invariant
+          ∙ same_set f p (omega arith)
+          (ap shown_of (sym (picked_none (news p) (notice_at b) places (λ s. ap (λ (x : ℕ). new_in (set_of b p) x s) (sym w.if-b-p.false) ∙ none_new (set_of b p) s))))
+    ]

@@ -1,7 +1,6 @@
 -- Each return is a case of the definition: the call's refusal, no room, or the bulletins written to
 -- the front.
-use mathlib.Core.List.{List}
-use Prim.Native.Nat.{ℕ}
+use Rattle.std.proofs.Common.{ℕ, List}
 use Rattle.bulletins_spec.specs.declared.BulletinsAnswer.{BulletinsAnswer}
 use Rattle.bulletin_bytes.specs.Bulletins.{bulletins_width, encode_bulletins}
 use Rattle.bulletin_bytes.proofs.Bulletins.{length_bulletins}
@@ -17,14 +16,21 @@ encoded x = encode_bulletins x.bulletins
 
 pub returns-then-made-ne-DONE : goal.returns-then-made-ne-DONE
 unfolding bulletins_fresh_returned
-returns-then-made-ne-DONE c = fresh_refused refusal encoded _ _ c.fresh-made.ensures bulletins_width _ c.if-made-ne-DONE.true
+returns-then-made-ne-DONE c =
+    let h = fresh_refused refusal encoded _ _ c.fresh-made.ensures bulletins_width _ c.if-made-ne-DONE.true in
+    record { returned = h.0; written = h.1 }
 
 pub returns-then-state-lt-BULLETINS_WIDTH : goal.returns-then-state-lt-BULLETINS_WIDTH
 unfolding bulletins_fresh_returned
-returns-then-state-lt-BULLETINS_WIDTH c = fresh_short refusal encoded _ _ c.fresh-made.ensures bulletins_width _ c.if-made-ne-DONE.false c.if-state-lt-BULLETINS_WIDTH.true
+returns-then-state-lt-BULLETINS_WIDTH c =
+    let h =
+    fresh_short refusal encoded _ _ c.fresh-made.ensures bulletins_width _ c.if-made-ne-DONE.false c.if-state-lt-BULLETINS_WIDTH.true _ c.number.ensures in
+    record { returned = h.0; written = h.1 }
 
 pub returns : goal.returns
 unfolding bulletins_fresh_returned
 returns c =
-    fresh_done refusal encoded _ _ c.fresh-made.ensures bulletins_width _ c.if-made-ne-DONE.false c.if-state-lt-BULLETINS_WIDTH.false (length_bulletins _) _
-    c.put_bulletins.ensures
+    let h =
+    fresh_done refusal encoded _ _ c.fresh-made.ensures bulletins_width _ c.if-made-ne-DONE.false c.if-state-lt-BULLETINS_WIDTH.false
+    (length_bulletins _) _ c.put_bulletins.ensures in
+    record { returned = h.0; written = h.1 }

@@ -1,4 +1,4 @@
-use Prim.Native.Nat.{ℕ, ◌+◌, ◌-◌, ◌≤◌}
+use Prim.Native.Nat.{ℕ, ◌+◌}
 use mathlib.Core.List.{List}
 use mathlib.Core.Path.{◌≡◌}
 use lib.Bits.{bit_and, bit_or}
@@ -11,7 +11,4 @@ abbrev pub united : List ℕ → List ℕ → List ℕ → ℕ → ℕ → ℕ
 united first second others at p = bit_and (bit_or (get_or first (at + p) 0) (get_or second (at + p) 0)) (get_or others p 0)
 
 abbrev pub invariant-loop-p : goal.invariant-loop-p
-invariant-loop-p l = (l.p ≤ l.n) × (l.merged ≡ fill_from l.at l.p (united l.first l.second l.others l.at) l.initial.merged)
-
-abbrev pub decreases-loop-p : goal.decreases-loop-p
-decreases-loop-p l = l.n - l.p
+invariant-loop-p l = l.merged ≡ fill_from l.at l.p (united l.first l.second l.others l.at) l.initial.merged

@@ -1,4 +1,4 @@
--- Where a log has ended, or neither, each return cites its law of `Written`.
+-- Where a log has ended, or neither, each return cites its law of `MergedWritten`.
 use mathlib.Core.Path.{◌∙◌}
 use Prim.Native.Nat.{◌<◌}
 use native.Mathlib.Omega.{arith}
@@ -9,45 +9,37 @@ use Rattle.planning.proofs.merge.write_round.Goals as goal
 pub unite_round-requires : goal.unite_round-requires
 unite_round-requires c =
     let a = c.args in
-    let t = logs a.n a.first.now a.second.now a.others.now a.at c.requires.0 c.requires.1 c.requires.4 in
-    let h : a.at < length a.second.now = omega (arith, c.requires.2, c.if-at-first.true) in
-    let f = fits_second a.n a.first.now a.second.now a.others.now a.at c.requires.0 c.requires.1 c.requires.4 h in
-    (t.one.few, f, f, omega (arith, f, c.requires.3))
+    let t = logs a.n a.first.now a.second.now a.others.now a.at c.requires.accepted c.requires.begins c.requires.table in
+    let h : a.at < length a.second.now = omega (arith, c.requires.inside, c.if-first-at.true) in
+    let f = fits_second a.n a.first.now a.second.now a.others.now a.at c.requires.accepted c.requires.begins c.requires.table h in
+    record { few = t.one.few; in_first = f; in_second = f; in_merged = omega (arith, f, c.requires.room) }
 
-pub returns-then-at-first : goal.returns-then-at-first
-returns-then-at-first c =
+pub returns-then-first-at : goal.returns-then-first-at
+returns-then-first-at c =
     let a = c.args in
-    c.unite_round.ensures
-    ∙ second_written a.n a.first.now a.second.now a.others.now a.at c.requires.0 c.requires.1 c.requires.4 a.merged.now
-    c.if-at-first.true
+    c.unite_round.ensures ∙ second_written a.n a.first.now a.second.now a.others.now a.at c.requires.accepted c.requires.begins c.requires.table a.merged.now c.if-first-at.true
 
-pub unite_round-requires-then-at-second : goal.unite_round-requires-then-at-second
-unite_round-requires-then-at-second c =
+pub unite_round-requires-then-second-at : goal.unite_round-requires-then-second-at
+unite_round-requires-then-second-at c =
     let a = c.args in
-    let t = logs a.n a.first.now a.second.now a.others.now a.at c.requires.0 c.requires.1 c.requires.4 in
-    let h : a.at < length a.first.now = omega (arith, c.if-at-first.false) in
-    let f = fits_first a.n a.first.now a.second.now a.others.now a.at c.requires.0 c.requires.1 c.requires.4 h in
-    (t.one.few, f, f, omega (arith, f, c.requires.3))
+    let t = logs a.n a.first.now a.second.now a.others.now a.at c.requires.accepted c.requires.begins c.requires.table in
+    let f = fits_first a.n a.first.now a.second.now a.others.now a.at c.requires.accepted c.requires.begins c.requires.table c.if-first-at.false in
+    record { few = t.one.few; in_first = f; in_second = f; in_merged = omega (arith, f, c.requires.room) }
 
-pub returns-then-at-second : goal.returns-then-at-second
-returns-then-at-second c =
+pub returns-then-second-at : goal.returns-then-second-at
+returns-then-second-at c =
     let a = c.args in
-    c.unite_round-then-at-second.ensures
-    ∙ first_written a.n a.first.now a.second.now a.others.now a.at c.requires.0 c.requires.1 c.requires.4 a.merged.now
-    c.if-at-second.true
+    c.unite_round-then-second-at.ensures ∙ first_written a.n a.first.now a.second.now a.others.now a.at c.requires.accepted c.requires.begins c.requires.table a.merged.now c.if-second-at.true
 
-pub unite_round-requires-2 : goal.unite_round-requires-2
-unite_round-requires-2 c =
+pub unite_round-requires-else-second-at : goal.unite_round-requires-else-second-at
+unite_round-requires-else-second-at c =
     let a = c.args in
-    let t = logs a.n a.first.now a.second.now a.others.now a.at c.requires.0 c.requires.1 c.requires.4 in
-    let h : a.at < length a.first.now = omega (arith, c.if-at-first.false) in
-    let k : a.at < length a.second.now = omega (arith, c.if-at-second.false) in
-    let f = fits_first a.n a.first.now a.second.now a.others.now a.at c.requires.0 c.requires.1 c.requires.4 h in
-    let g = fits_second a.n a.first.now a.second.now a.others.now a.at c.requires.0 c.requires.1 c.requires.4 k in
-    (t.one.few, f, g, omega (arith, f, c.requires.3))
+    let t = logs a.n a.first.now a.second.now a.others.now a.at c.requires.accepted c.requires.begins c.requires.table in
+    let f = fits_first a.n a.first.now a.second.now a.others.now a.at c.requires.accepted c.requires.begins c.requires.table c.if-first-at.false in
+    let g = fits_second a.n a.first.now a.second.now a.others.now a.at c.requires.accepted c.requires.begins c.requires.table c.if-second-at.false in
+    record { few = t.one.few; in_first = f; in_second = g; in_merged = omega (arith, f, c.requires.room) }
 
-pub returns : goal.returns
-returns c =
+pub returns-else-second-at : goal.returns-else-second-at
+returns-else-second-at c =
     let a = c.args in
-    c.unite_round-2.ensures
-    ∙ both_written a.n a.first.now a.second.now a.others.now a.at c.requires.0 c.requires.1 c.requires.4 a.merged.now
+    c.unite_round-else-second-at.ensures ∙ both_written a.n a.first.now a.second.now a.others.now a.at c.requires.accepted c.requires.begins c.requires.table a.merged.now

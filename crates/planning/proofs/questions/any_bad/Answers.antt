@@ -1,20 +1,27 @@
--- The loop keeps that `found` says whether one of the questions before its counter is bad.
-use mathlib.Core.Bool.{◌||◌}
-use mathlib.Core.Path.{◌≡◌, sym, ap₂, ◌∙◌}
-use native.Mathlib.Omega.{arith}
+-- The loop keeps that no question before its counter is bad.
+use Rattle.std.proofs.Common.{Bool, ℕ, ◌≡◌, ◌||◌, sym, ap, ap₂, ◌∙◌, arith}
+use Rattle.lists.specs.Below.{any_below}
+use Rattle.lists.proofs.Laws.{any_below_hit}
+use Rattle.planning_spec.specs.Questions.{question_at, is_bad}
 use Rattle.planning.proofs.QuestionPage.{bad_start, bad_more}
 use Rattle.planning.proofs.questions.any_bad.Goals as goal
 
 pub loop-i-init : goal.loop-i-init
-loop-i-init c = (omega arith, sym (bad_start c.args.n c.args.page.now))
+loop-i-init c = bad_start _ _
 
 pub loop-i-preserved : goal.loop-i-preserved
 loop-i-preserved c =
-    let l = c.loop-i in
-    let a = c.args in (
-      omega arith,
-      ap₂ ◌||◌ l.invariant.1 c.is_bad-found.ensures ∙ sym (bad_more a.n a.page.now l.i),
-    )
+    bad_more _ _ _
+    ∙ ap₂ (λ (x y : Bool). x || y) c.loop-i.invariant (sym c.is_bad.ensures ∙ c.if-is_bad.false)
+
+pub returns-then-is_bad : goal.returns-then-is_bad
+unfolding question_at
+returns-then-is_bad c =
+    let a = c.args in
+    sym (any_below_hit a.count (λ k. is_bad a.n (question_at a.page.now k)) c.loop-i.i c.loop-i-test.true
+    (sym c.is_bad.ensures ∙ c.if-is_bad.true))
 
 pub returns : goal.returns
-returns c = let e : c.loop-i.i ≡ c.args.count = omega arith in rw e at c.loop-i.invariant.1
+returns c =
+    let e : c.loop-i.i ≡ c.args.count = omega arith in
+    sym (ap (λ (k : ℕ). any_below k (λ i. is_bad c.args.n (question_at c.args.page.now i))) (sym e) ∙ c.loop-i.invariant)

@@ -1,9 +1,5 @@
-use Prim.Native.Nat.{◌-◌, ◌≤◌}
 use Rattle.planning.specs.Replies.{Settled}
 use Rattle.planning.proofs.questions.settle_all.Given as goal
 
 abbrev pub invariant-loop-i : goal.invariant-loop-i
-invariant-loop-i l = (l.i ≤ l.count) × Settled l.i l.page l.sets l.ends l.round l.initial.replies l.replies
-
-abbrev pub decreases-loop-i : goal.decreases-loop-i
-decreases-loop-i l = l.count - l.i
+invariant-loop-i l = Settled l.i l.page l.sets l.ends l.round l.initial.replies l.replies

@@ -1,10 +1,6 @@
-use Prim.Native.Nat.{◌-◌, ◌≤◌}
 use lib.ListN.{get_or}
 use Rattle.planning.specs.Sets.{FirstAre, with_receiver}
 use Rattle.planning.proofs.sets.add_receiver.Given as goal
 
 abbrev pub invariant-loop-s : goal.invariant-loop-s
-invariant-loop-s l = (l.s ≤ 16) × FirstAre l.s l.initial.row l.row (λ k. with_receiver l.p k (get_or l.initial.row k 0))
-
-abbrev pub decreases-loop-s : goal.decreases-loop-s
-decreases-loop-s l = 16 - l.s
+invariant-loop-s l = FirstAre l.s l.initial.row l.row (λ k. with_receiver l.p k (get_or l.initial.row k 0))

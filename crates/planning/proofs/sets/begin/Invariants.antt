@@ -1,9 +1,5 @@
-use Prim.Native.Nat.{◌-◌, ◌≤◌}
 use Rattle.planning.specs.Sets.{ColumnIs, first_set}
 use Rattle.planning.proofs.sets.begin.Given as goal
 
 abbrev pub invariant-loop-p : goal.invariant-loop-p
-invariant-loop-p l = (l.p ≤ 16) × ColumnIs l.p l.initial.sets l.sets l.s (λ k. first_set k l.s)
-
-abbrev pub decreases-loop-p : goal.decreases-loop-p
-decreases-loop-p l = 16 - l.p
+invariant-loop-p l = ColumnIs l.p l.initial.sets l.sets l.s (λ k. first_set k l.s)

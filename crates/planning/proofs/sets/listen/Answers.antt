@@ -2,7 +2,6 @@
 -- mask without its lowest bit is less.
 use Prim.Native.Nat.{◌-◌}
 use native.Mathlib.Omega.{arith}
-use mathlib.Core.Path.{◌∙◌}
 use lib.Bits.{and_le_r}
 use lib.Count.{trailing_le}
 use Rattle.planning.proofs.Listening.{heard_none, next_below, heard_next, heard_all}
@@ -16,10 +15,7 @@ overflow_cast-rest c = record { fits = omega (arith, trailing_le 16 c.loop-rest.
 
 pub unite-requires : goal.unite-requires
 unite-requires c =
-    let l = c.loop-rest in (
-      omega (arith, next_below _ _ _ _ _ _ l.invariant (omega (arith, c.loop-rest-test.true)), c.requires.0),
-      l.invariant.united_so_far.size ∙ c.requires.1,
-    )
+    omega (arith, next_below _ _ _ _ _ _ c.loop-rest.invariant (omega (arith, c.loop-rest-test.true)), c.requires)
 
 pub overflow_sub-rest : goal.overflow_sub-rest
 overflow_sub-rest c = omega (arith, c.loop-rest-test.true)

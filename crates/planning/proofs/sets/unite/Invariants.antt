@@ -1,11 +1,7 @@
-use Prim.Native.Nat.{◌-◌, ◌≤◌}
 use lib.Bits.{bit_or}
 use lib.ListN.{get_or}
 use Rattle.planning.specs.Sets.{cell, FirstAre}
 use Rattle.planning.proofs.sets.unite.Given as goal
 
 abbrev pub invariant-loop-s : goal.invariant-loop-s
-invariant-loop-s l = (l.s ≤ 16) × FirstAre l.s l.initial.row l.row (λ k. bit_or (get_or l.initial.row k 0) (cell l.before l.j k))
-
-abbrev pub decreases-loop-s : goal.decreases-loop-s
-decreases-loop-s l = 16 - l.s
+invariant-loop-s l = FirstAre l.s l.initial.row l.row (λ k. bit_or (get_or l.initial.row k 0) (cell l.before l.j k))

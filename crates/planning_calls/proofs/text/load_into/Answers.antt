@@ -12,14 +12,14 @@ returns-then-not-numbers_fit c =
     let a = c.args in
     let out = sym c.numbers_fit.ensures ∙ c.if-not-numbers_fit.true in
     let left = host_outside a.state a.n a.due (not (eqb a.head 0)) a.buffer.now a.next.now out in
-    (left.refusal, left.buffered, left.placed)
+    record { returned = c.number.ensures ∙ left.refusal; buffer = left.buffered; next = left.placed }
 
 pub returns-then-next-lt2 : goal.returns-then-next-lt2
 returns-then-next-lt2 c =
     let a = c.args in
     let fit = sym c.numbers_fit.ensures ∙ c.if-not-numbers_fit.false in
     let left = host_short a.state a.n a.due (not (eqb a.head 0)) a.buffer.now a.next.now fit (omega (arith, c.if-next-lt2.true)) in
-    (left.refusal, left.buffered, left.placed)
+    record { returned = c.number-then-next-lt2.ensures ∙ left.refusal; buffer = left.buffered; next = left.placed }
 
 pub returns-then-made-ne-DONE : goal.returns-then-made-ne-DONE
 returns-then-made-ne-DONE c =
@@ -30,7 +30,7 @@ returns-then-made-ne-DONE c =
     let made = c.generate-made in
     let left = host_refused a.state a.n a.due (not (eqb a.head 0)) a.buffer.now a.next.now fit (omega (arith, c.if-next-lt2.false)) made.result _
     made.ensures.0 made.ensures.1 c.if-made-ne-DONE.true in
-    (left.refusal, left.buffered, left.placed)
+    record { returned = left.refusal; buffer = left.buffered; next = left.placed }
 
 pub overflow_cast-next : goal.overflow_cast-next
 overflow_cast-next c =
@@ -51,4 +51,4 @@ returns c =
     let made = c.generate-made in
     let left = host_done a.state a.n a.due (not (eqb a.head 0)) a.buffer.now a.next.now fit (omega (arith, second_if.false)) made.result _
     made.ensures.0 made.ensures.1 c.if-made-ne-DONE.false in
-    (left.refusal, left.buffered, left.placed)
+    record { returned = left.refusal; buffer = left.buffered; next = left.placed }

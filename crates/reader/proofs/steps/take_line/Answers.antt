@@ -1,36 +1,19 @@
--- `reader::steps::take_line` takes byte after byte: with what is left of the part, the same is
--- still to be listed.
-use Prim.Native.Nat.{◌-◌}
-use mathlib.Core.Path.{◌≡◌}
-use native.Mathlib.Omega.{arith}
-use lib.ListN.{take, drop}
-use Rattle.listing_spec.specs.Remaining.{Same}
-use Rattle.listing_spec.proofs.Held.{same_none, same_more}
-use borrow.Author.Rules.{rules}
+-- `reader::steps::take_line` copies the bytes of the line, as far as they are kept: with what is
+-- left of the part, the same is still to be listed.
+use Rattle.std.proofs.Common.{◌≡◌, ◌+◌, ◌-◌, arith, take, drop, length, length-drop}
+use lib.Seq.{take_all}
+use Rattle.listing_spec.proofs.Held.{takes}
 use Rattle.reader.proofs.steps.take_line.Goals as goal
 
-pub loop-next-init : goal.loop-next-init
-loop-next-init c =
+pub returns-clause-same : goal.returns-clause-same
+returns-clause-same c =
     let a = c.args in
-    let nought : a.from - a.from ≡ 0 = omega arith in
-    let none : Same (take a.held a.line.now) (take (a.from - a.from) (drop a.from a.part.now)) (take a.held a.line.now) = rw nought (same_none (take a.held a.line.now)) in
-    (search rules, search rules, search rules, search rules, none)
-
-pub returns-then-b-eq10 : goal.returns-then-b-eq10
-returns-then-b-eq10 c = (c.loop-next.invariant.4, search rules, search rules, (search rules, λ h. c.if-b-eq10.true))
-
-pub keep-len-requires : goal.keep-len-requires
-keep-len-requires c = (search rules, search rules, c.if-b-eq10.false)
-
-pub loop-next-preserved : goal.loop-next-preserved
-loop-next-preserved c =
-    let before = c.loop-next in (
-      search rules,
-      search rules,
-      search rules,
-      search rules,
-      same_more c.args.part.now _ _ _ c.args.from before.next (search rules) (search rules) before.invariant.4 c.keep-len.ensures.0,
-    )
-
-pub returns : goal.returns
-returns c = (c.loop-next.invariant.4, search rules, search rules, (search rules, λ h. absurd (omega arith)))
+    let part = a.part.now in
+    let read = c.line_len-read.result in
+    let kept = c.min-kept.result in
+    let rest = take (length part - a.from) (drop a.from part) in
+    let all : rest ≡ drop a.from part = take_all (length part - a.from) (drop a.from part) (omega (arith, length-drop a.from part)) in
+    let taken : a.from + read - a.from ≡ read = omega arith in
+    let size : a.held + kept - a.held ≡ kept = omega arith in
+    rw (taken, size, ← all) (takes a.line.now rest c.copy_from_slice.new.self a.held read kept c.requires.held c.requires.whole
+    (omega arith) (omega arith) (omega arith) (λ few. omega arith) c.line_len-read.ensures.inner c.copy_from_slice.ensures.after)

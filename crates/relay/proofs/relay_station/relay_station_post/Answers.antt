@@ -1,7 +1,6 @@
 -- `relay_station_post` meets its contract: it is the call on bytes, the argument passed on as it
 -- is.
-use mathlib.Core.Path.{◌≡◌, subst}
-use lib.IntN.{ℤ}
+use Rattle.std.proofs.Common.{ℤ, ap, ◌∙◌}
 use mir.Syntax.{w32}
 use mir.ValLaws.{to_z-of_z}
 use Rattle.planning_spec.specs.Merge.{front_written}
@@ -12,12 +11,11 @@ use Rattle.relay.proofs.relay_station.relay_station_post.Goals as goal
 pub returns : goal.returns
 returns c =
     let a = c.args in
-    let r = c.post.result in
-    subst
-    (λ (y : ℤ).
-    (r ≡ post_returned a.state.now a.desk (named_body a.kind a.event y a.channel))
-    × (c.post.new.state
-    ≡ front_written r
-    (encode_station (post_answer a.state.now a.desk (named_body a.kind a.event y a.channel)).station)
-    a.state.now))
-    (to_z-of_z w32 a.argument c.ranges.argument) c.post.ensures
+    let same = to_z-of_z w32 a.argument c.ranges.argument in
+    record {
+      returned = c.post.ensures.returned ∙ ap (λ (y : ℤ). post_returned a.state.now a.desk (named_body a.kind a.event y a.channel)) same;
+      state =
+          c.post.ensures.written
+          ∙ ap (λ (y : ℤ). front_written c.post.result (encode_station (post_answer a.state.now a.desk (named_body a.kind a.event y a.channel)).station) a.state.now)
+          same;
+    }

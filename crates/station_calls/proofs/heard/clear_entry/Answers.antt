@@ -1,7 +1,6 @@
 -- `station_calls::heard::clear_entry` meets its contract.
-use native.Mathlib.Omega.{arith}
 use Rattle.station_calls.proofs.HeardSteps.{entry_cleared}
 use Rattle.station_calls.proofs.heard.clear_entry.Goals as goal
 
 pub returns : goal.returns
-returns c = entry_cleared _ c.args.k (omega arith)
+returns c = entry_cleared _ c.args.k c.requires.among

@@ -1,6 +1,6 @@
 -- `station_calls::heard::put_heard` meets its contract: the records, the numbers and the takings
 -- one after the other make what is acted on.
-use native.Mathlib.Omega.{arith}
+use Rattle.std.proofs.Common.{arith}
 use Rattle.station_calls.proofs.HeardLengths.{acked_long, labels_long}
 use Rattle.station_calls.proofs.HeardSteps.{heard_put}
 use Rattle.station_calls.proofs.heard.put_heard.Goals as goal
@@ -9,12 +9,13 @@ pub put_entries-requires : goal.put_entries-requires
 put_entries-requires c =
     let p = c.requires in
     record {
-      fact_1 = (p.fact_1.0, omega (arith, p.fact_1.1, p.fact_2.high), p.fact_2.places_long);
-      fact_2 = λ k l. p.fact_2.places_in k (omega (arith, p.fact_1.1));
+      room = p.room;
+      few = omega (arith, p.size, p.readable.high);
+      long = p.readable.places_long;
+      whole = λ k l. p.readable.places_in k (omega (arith, p.size));
     }
 
 pub returns : goal.returns
 returns c =
-    let a = c.args in
-    heard_put a.n _ _ _ _ a.bytes.now a.places.now a.taken.now a.heard (acked_long a.heard c.well_formed.1.0) (labels_long a.heard c.well_formed.1.0)
-    c.put_entries.ensures c.put_numbers.ensures c.push_taken.ensures
+    heard_put c.args.n _ _ _ _ c.args.bytes.now c.args.places.now c.args.taken.now c.args.heard (acked_long c.args.heard c.well_formed.1.0)
+    (labels_long c.args.heard c.well_formed.1.0) c.put_entries.ensures c.put_numbers.ensures c.push_taken.ensures

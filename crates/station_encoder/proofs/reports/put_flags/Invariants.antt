@@ -1,13 +1,8 @@
-use mathlib.Core.Path.{◌≡◌}
-use Prim.Native.Nat.{◌≤◌, ◌-◌}
-use lib.ListN.{length}
+use Rattle.std.proofs.Common.{◌≡◌}
 use lib.Seq.{sets}
 use Rattle.lists.specs.Below.{tabulate}
 use Rattle.station_encoder.proofs.ReportWriting.{flag_of}
 use Rattle.station_encoder.proofs.reports.put_flags.Given as goal
 
 abbrev pub invariant-loop-k : goal.invariant-loop-k
-invariant-loop-k l = (l.k ≤ 16) × (length l.bytes ≡ length l.initial.bytes) × (l.bytes ≡ sets l.initial.bytes 0 (tabulate l.k (flag_of l.flags)))
-
-abbrev pub decreases-loop-k : goal.decreases-loop-k
-decreases-loop-k l = 16 - l.k
+invariant-loop-k l = l.bytes ≡ sets l.initial.bytes 0 (tabulate l.k (flag_of l.flags))

@@ -1,9 +1,12 @@
 -- `station_encoder::reports::put_reports` meets its contract: the reports before k are written.
-use native.Mathlib.Omega.{arith}
+use Rattle.std.proofs.Common.{arith}
 use Rattle.station_bytes_spec.specs.Reports.{report_width, encode_reports}
 use Rattle.station_bytes_spec.proofs.Reports.{length-report}
 use Rattle.station_encoder.proofs.Writing.{parts_none, parts_more_front, parts_all}
 use Rattle.station_encoder.proofs.reports.put_reports.Goals as goal
+
+pub loop-k-init : goal.loop-k-init
+loop-k-init c = parts_none
 
 pub loop-k-preserved : goal.loop-k-preserved
 loop-k-preserved c =
@@ -12,9 +15,3 @@ loop-k-preserved c =
 pub returns : goal.returns
 unfolding encode_reports
 returns c = parts_all c.loop-k.invariant (omega arith)
-
-pub loop-k-init : goal.loop-k-init
-loop-k-init c = parts_none
-
-pub shape_of-bytes : goal.shape_of-bytes
-shape_of-bytes c = c.loop-k.invariant.long

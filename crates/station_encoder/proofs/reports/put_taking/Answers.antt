@@ -3,6 +3,4 @@ use Rattle.station_encoder.proofs.ReportWriting.{taking_written}
 use Rattle.station_encoder.proofs.reports.put_taking.Goals as goal
 
 pub returns : goal.returns
-returns c =
-    let s = c.args in
-    taking_written s.bytes.now s.at s.taking _ _ c.put_word.ensures c.put_body.ensures
+returns c = taking_written _ _ c.args.taking _ _ _ c.from.ensures c.put_word.ensures c.put_body.ensures

@@ -1,22 +1,14 @@
--- `turns::parts::all_acked` meets its contract: what was passed is acknowledged.
-use native.Mathlib.Omega.{arith}
-use mathlib.Core.Path.{◌≡◌, sym}
-use borrow.Author.Rules.{rules}
-use Rattle.lists.specs.Below.{all_below}
-use Rattle.lists.proofs.Laws.{all_below_more, all_below_fails}
+-- `turns::parts::all_acked` meets its contract: what holds of each of the first holds at every
+-- place.
+use Rattle.std.proofs.Common.{rules, Bool, false, sym, ◌∙◌, take, arith, tests}
+use Rattle.std.proofs.lemmas.Iterator.Search.{all_from_yields_List}
+use Rattle.std.proofs.lemmas.Iterator.{YieldsList-from_slice}
+use Rattle.queues.proofs.AllBelow.{all_below_take}
 use Rattle.turns.proofs.parts.all_acked.Goals as goal
-
-pub loop-k-init : goal.loop-k-init
-unfolding all_below
-loop-k-init c = search rules
-
-pub returns-then-not-acked-k : goal.returns-then-not-acked-k
-returns-then-not-acked-k c = sym (all_below_fails _ _ c.loop-k.k (omega arith) (c.if-not-acked-k.true))
-
-pub loop-k-preserved : goal.loop-k-preserved
-loop-k-preserved c = (omega arith, all_below_more c.loop-k.k _ c.loop-k.invariant.1 (c.if-not-acked-k.false))
 
 pub returns : goal.returns
 returns c =
-    let e : c.loop-k.k ≡ c.args.n = omega arith in
-    sym (rw e at c.loop-k.invariant.1)
+    let n = c.args.n in
+    let acked = c.args.acked.now in
+    all_from_yields_List (λ (b : Bool). b) _ _ c.all.result c.all.ensures.ran (YieldsList-from_slice (take n acked) cc) (λ x b r k. search (rules, tests))
+    ∙ sym (all_below_take (λ (b : Bool). b) false acked n (omega arith))

@@ -1,6 +1,0 @@
--- What the group's fresh call answers is put into the buffer.
-use Rattle.group_calls.proofs.Group.{fresh_answered}
-use Rattle.group_calls.proofs.fresh_limited.Goals as goal
-
-pub returns : goal.returns
-returns c = fresh_answered _ _ _ _ _ c.fresh_limited-made.ensures c.put_fresh.ensures

@@ -1,9 +1,0 @@
--- `turns::parts::lane_with` meets its contract.
-use mathlib.Core.Path.{sym, ◌∙◌}
-use Rattle.turns.proofs.parts.lane_with.Goals as goal
-
-pub returns-then-is_empty : goal.returns-then-is_empty
-returns-then-is_empty c = rw (sym c.is_empty.ensures ∙ c.if-is_empty.true)
-
-pub returns : goal.returns
-returns c = rw (sym c.is_empty.ensures ∙ c.if-is_empty.false) c.pushed.ensures
