@@ -6,7 +6,7 @@ use mathlib.Core.List.{List}
 use mathlib.Core.Path.{◌≡◌, refl, sym, ap, ◌∙◌}
 use native.Mathlib.Omega.{arith}
 use lib.Dec.{eqb}
-use lib.ListN.{replicate, length, get_or-replicate}
+use lib.ListN.{replicate, get_or-replicate}
 use borrow.Author.Tests.{eqb-true, eq-eqb}
 use Rattle.lists.specs.Below.{all_below}
 use Rattle.lists.proofs.Laws.{and_both, and_left, and_right, all_below_at, all_below_make, length-set_below, set_below_inside}
@@ -20,6 +20,7 @@ use Rattle.station_spec.proofs.Setters.{Shaped, fresh_self, fresh_shaped}
 use Rattle.station_spec.proofs.StationLimits.{Inside, inside_open, inside_make}
 use Rattle.station_spec.proofs.LimitsFresh.{fresh_holds}
 use Rattle.group_spec.specs.State.{no_station, station_at, size_of, edition_of, member_inside, group_inside, fresh_group}
+use Rattle.group_spec.specs.Inner.Shape.{GroupShaped}
 use Rattle.group_spec.proofs.Setups.{Accepts}
 
 -- station k is a member of the group of n
@@ -28,11 +29,6 @@ pub record Member (n : ℕ) (g : List Station) (k : ℕ) : Type 0 where
   pub size : (station_at g k).n ≡ n
   pub edition : (station_at g k).edition ≡ edition_of g
   pub own : (station_at g k).own ≡ k
-
--- the lengths that a group's arrays have by type
-pub record GroupShaped (g : List Station) : Type 0 where
-  pub places : length g ≡ 16
-  pub stations : (k : ℕ) → k < 16 → Shaped (station_at g k)
 
 -- a group of n, inside its limits
 pub record Members (n : ℕ) (g : List Station) : Type 0 where

@@ -24,7 +24,8 @@ use Rattle.station_spec.proofs.LimitsFresh.{posted_holds}
 use Rattle.group_spec.specs.declared.Post.{Post}
 use Rattle.group_spec.specs.State.{no_station, station_at, size_of, group_inside}
 use Rattle.group_spec.specs.Calls.{group_post_refusal, after_post, group_post_call}
-use Rattle.group_spec.proofs.Members.{Member, GroupShaped, Members, members_open, members_inside}
+use Rattle.group_spec.specs.Inner.Shape.{GroupShaped}
+use Rattle.group_spec.proofs.Members.{Member, Members, members_open, members_inside}
 
 -- what an accepted post shows
 pub record Accepted (g : List Station) (x : Post) : Type 0 where

@@ -29,8 +29,9 @@ use Rattle.station_spec.proofs.LimitsTurn.{turn_holds}
 use Rattle.station_spec.proofs.TurnCells.{turn_n, turn_own, turn_edition, after_turn-shaped}
 use Rattle.group_spec.specs.State.{no_station, station_at, size_of, group_inside}
 use Rattle.group_spec.specs.Calls.{heard_below, heard, first_refusal, round_refusal, after_round, round_call}
+use Rattle.group_spec.specs.Inner.Shape.{GroupShaped}
 use Rattle.group_spec.proofs.FirstRefusal.{first_done}
-use Rattle.group_spec.proofs.Members.{Member, GroupShaped, Members, members_open, members_inside}
+use Rattle.group_spec.proofs.Members.{Member, Members, members_open, members_inside}
 
 -- a round puts at each place of the group the station as it heard and took its turn
 pub round_at :

@@ -5,3 +5,4 @@ pub mod Demand
 pub mod Desks
 pub mod Replies
 pub mod Conflicts
+pub mod Inner

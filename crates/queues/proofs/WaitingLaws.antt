@@ -22,6 +22,10 @@ use Rattle.queues.specs.Waiting.{is_desk, other_desk, limit_inside, none_waiting
 use Rattle.queues.proofs.QueueLaws.{bodies_empty, length-queue_bodies, bodies_queued, bodies_unqueued, queued_slots, unqueued_slots}
 use Rattle.queues.proofs.QueueLimits.{queue_most, queue_waiting, queue_slots, queued_len, unqueued_len, queued_inside, unqueued_inside, oldest_waiting}
 
+-- the array of a queue has its length by its type
+abbrev pub QueueSized : Queue → Type 0
+QueueSized q = length q.slots ≡ queue_capacity
+
 -- the arrays have their length by their type
 pub record WaitingSized (w : Waiting) : Type 0 where
   pub slots : (d : ℕ) → length (queue_of w d).slots ≡ queue_capacity
@@ -54,6 +58,9 @@ each_queue P w z o d = go (eqb d 0)
     go : (t : Bool) → P (cond t w.queue0 w.queue1)
     go true = z
     go false = o
+
+pub both_sized : (w : Waiting) → QueueSized w.queue0 → QueueSized w.queue1 → WaitingSized w
+both_sized w z o = record { slots = each_queue QueueSized w z o }
 
 -- another queue of a desk, and another desk that goes first
 queue_here : (w : Waiting) (d : ℕ) (q : Queue) → queue_of (with_queue w d q) d ≡ q

@@ -12,7 +12,7 @@ use Rattle.station_spec.specs.declared.Station.{Station}
 use Rattle.station_spec.specs.contracts.Station as Declared
 use Rattle.station_spec.proofs.Lengths.{each_at, lengths_at}
 use Rattle.group_spec.specs.State.{no_station, station_at}
-use Rattle.group_spec.proofs.Members.{GroupShaped}
+use Rattle.group_spec.specs.Inner.Shape.{GroupShaped}
 
 -- what owning a group tells
 abbrev pub OwnedGroup : List Station → List Val → Type 0

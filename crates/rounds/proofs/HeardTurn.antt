@@ -25,7 +25,8 @@ use Rattle.listening.specs.Listened.{heard_notes, takings_at, Listens}
 use Rattle.listening.specs.Listening.{MayListen, mask_heard}
 use Rattle.group_spec.specs.State.{station_at, size_of}
 use Rattle.group_spec.specs.Calls.{heard, report_of}
-use Rattle.group_spec.proofs.Members.{Member, GroupShaped, member_at, members_open}
+use Rattle.group_spec.specs.Inner.Shape.{GroupShaped}
+use Rattle.group_spec.proofs.Members.{Member, member_at, members_open}
 use Rattle.group_spec.proofs.MembersRound.{hears_all}
 use Rattle.rounds.specs.Frames.{FramesAt}
 use Rattle.rounds.proofs.WrittenFrames.{AllSent}

@@ -27,7 +27,8 @@ use Rattle.group_spec.specs.declared.Report.{Report}
 use Rattle.group_spec.specs.declared.RoundDone.{RoundDone}
 use Rattle.group_spec.specs.State.{no_station, station_at, size_of}
 use Rattle.group_spec.specs.Calls.{heard, no_report, report_of, after_round, round_call}
-use Rattle.group_spec.proofs.Members.{GroupShaped, group_high}
+use Rattle.group_spec.specs.Inner.Shape.{GroupShaped}
+use Rattle.group_spec.proofs.Members.{group_high}
 use Rattle.group_spec.proofs.CallSteps.{round_stopped, round_done}
 use Rattle.rounds.specs.Reported.{heard_report}
 use Rattle.rounds.proofs.WrittenFrames.{AllSent, SentBelow, all_sent}

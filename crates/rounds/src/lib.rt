@@ -11,8 +11,8 @@ ghost use Rattle.station_spec.specs.Turn.{after_turn};
 ghost use Rattle.hearing_spec.specs.Buffer.{size_in};
 ghost use Rattle.hearing_spec.specs.StandsFor.{acts_on};
 ghost use Rattle.listening.specs.Listened.{heard_notes, Readable};
-ghost use Rattle.group_spec.proofs.Members.{GroupShaped};
 ghost use Rattle.group_spec.specs.Calls.{no_report, round_call};
+ghost use Rattle.group_spec.specs.Inner.Shape.{GroupShaped};
 ghost use Rattle.rounds.specs.Reported.{heard_report};
 
 use bodies::Body;

@@ -4,7 +4,7 @@ ghost use Rattle.std.specs.Prelude.{◌≡◌, true, ◌≤◌, length, replicat
 ghost use Rattle.bodies.specs.Refusals.{number};
 ghost use Rattle.station_spec.specs.Limits.{station_inside};
 ghost use Rattle.station_spec.specs.Calls.{write_call, buffer_after, sources_of, hear_call};
-ghost use Rattle.station_spec.proofs.WriteSteps.{as_written};
+ghost use Rattle.station_spec.specs.Inner.Writing.{as_written};
 ghost use Rattle.hearing_spec.specs.Buffer.{frame_room};
 ghost use Rattle.hearing_spec.specs.Room.{takings_room};
 ghost use Rattle.listening.specs.Listened.{takings_at, TakenRoom};

@@ -5,8 +5,6 @@ use mathlib.Core.Bool.{Bool, true, false, cond, ◌&&◌}
 use mathlib.Core.Path.{◌≡◌, refl}
 use lib.Dec.{eqb, ltb}
 use lib.ListN.{length}
-use Rattle.queues.specs.declared.Queue.{Queue}
-use Rattle.queues.specs.Queue.{queue_capacity}
 use borrow.Author.Tests.{ltb-true}
 use Rattle.bodies.specs.declared.Body.{Body}
 use Rattle.bodies.specs.Body.{is_empty}
@@ -16,7 +14,7 @@ use Rattle.lists.proofs.Keeps.{cond_keeps}
 use Rattle.queues.specs.Lane.{popped}
 use Rattle.queues.specs.Waiting.{waiting_count, with_posted, without_next}
 use Rattle.queues.proofs.WaitingLaws as laws
-use Rattle.queues.proofs.WaitingLaws.{WaitingSized}
+use Rattle.queues.proofs.WaitingLaws.{QueueSized, WaitingSized}
 use Rattle.station_spec.specs.declared.Station.{Station}
 use Rattle.station_spec.specs.State.{lane_at, with_broadcast, with_cell, with_acked, with_lanes}
 use Rattle.station_spec.specs.Hearing.{heard_newer}
@@ -87,7 +85,7 @@ with_own_record-shaped s c = cell_shaped s s.own _ c
 -- the lengths that the arrays of a station have by their types
 pub shaped :
     (s : Station) → length s.acked ≡ 16 → length s.labels ≡ 16 → length s.held ≡ 16 → length s.table ≡ 16 → length s.lanes ≡ 16 →
-    length s.waiting.queue0.slots ≡ queue_capacity → length s.waiting.queue1.slots ≡ queue_capacity → Shaped s
+    QueueSized s.waiting.queue0 → QueueSized s.waiting.queue1 → Shaped s
 shaped s a l h t n z o =
     record {
       acked = a;
@@ -95,5 +93,5 @@ shaped s a l h t n z o =
       held = h;
       table = t;
       lanes = n;
-      waiting = record { slots = laws.each_queue (λ (q : Queue). length q.slots ≡ queue_capacity) s.waiting z o };
+      waiting = laws.both_sized s.waiting z o;
     }

@@ -1,6 +1,5 @@
 -- Writing the frame of a station: its numbers can be written, and the answers of the definition
 -- with the tests on their way decided.
-use Rattle.std.specs.Prelude.{Result, Ok, Err}
 use Prim.Native.Nat.{ℕ, ◌≤◌, ◌<◌}
 use native.Mathlib.Omega.{arith}
 use mathlib.Core.Path.{◌≡◌, refl}
@@ -8,15 +7,13 @@ use mathlib.Core.Bool.{Bool, true, false}
 use mathlib.Core.List.{List}
 use lib.ListN.{length}
 use lib.Dec.{ltb}
-use Rattle.bodies.specs.Refusals.{done, number}
-use Rattle.bodies.specs.declared.refusals.Refusal.{Refusal}
-use Rattle.frame_spec.specs.declared.Written.{Written}
 use Rattle.frame_spec.specs.Frame.{frame_bytes}
 use Rattle.frame_spec.specs.Calls.{table_records, written, buffer_with}
 use Rattle.station_spec.specs.declared.Station.{Station}
 use Rattle.station_spec.specs.State.{cell_of, sent_records}
 use Rattle.station_spec.specs.Limits.{station_inside}
 use Rattle.station_spec.specs.Calls.{own_count_inside, frame_of, write_refusal, write_call, buffer_after}
+use Rattle.station_spec.specs.Inner.Writing.{as_written}
 use Rattle.station_spec.proofs.StationLimits.{Inside}
 
 -- the numbers of a station inside its limits are bytes
@@ -27,11 +24,6 @@ writable s c = (c.high, omega (arith, c.own, c.high), omega (arith, c.known))
 pub frame_is : (s : Station) → frame_bytes s.edition s.n s.own (table_records s.n s.held s.table) ≡ frame_of s
 unfolding cell_of table_records sent_records frame_of
 frame_is s = refl
-
--- what the writer of tables answers, with the refusal by its number
-abbrev pub as_written : Result ℕ Refusal → Written
-as_written (Ok len) = record { refusal = done; len = len }
-as_written (Err refusal) = record { refusal = number refusal; len = 0 }
 
 module _ (s : Station) (b : List ℕ) where
   pub write_outside : station_inside s ≡ false → record { refusal = 2; len = 0 } ≡ write_call s (length b)

@@ -5,3 +5,4 @@ pub mod Bodies
 pub mod Hearing
 pub mod Turn
 pub mod Calls
+pub mod Inner

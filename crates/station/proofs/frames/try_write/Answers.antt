@@ -3,8 +3,9 @@ use Rattle.std.proofs.Common.{◌≡◌, true, ◌∙◌, List, ℕ, length, ap,
 use Rattle.frame_spec.specs.Calls.{written, buffer_with}
 use Rattle.station_spec.specs.State.{cell_of}
 use Rattle.station_spec.specs.Limits.{station_inside}
+use Rattle.station_spec.specs.Inner.Writing.{as_written}
 use Rattle.station_spec.proofs.StationLimits.{inside_open}
-use Rattle.station_spec.proofs.WriteSteps.{as_written, writable, frame_is, write_outside, kept_outside, write_count, kept_count, write_frame, buffer_frame}
+use Rattle.station_spec.proofs.WriteSteps.{writable, frame_is, write_outside, kept_outside, write_count, kept_count, write_frame, buffer_frame}
 use Rattle.station.proofs.frames.try_write.Goals as goal
 
 pub returns-then-not-station_inside : goal.returns-then-not-station_inside
