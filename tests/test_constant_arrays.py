@@ -19,13 +19,6 @@ ALLOWED = {
         "KINDS": "the table of kinds: the least and the most of each kind's event and argument",
     },
     "crates/listing_lines/src/lib.rt": {r'b"END\n"': "the last line of a listing"},
-    "crates/script/src/lib.rt": {'b"P"': "the letter with which the line of a post begins"},
-    "crates/station_encoder/src/lib.rt": {
-        "[body.kind() as u8, body.channel(), 0, 0]": "the first four bytes of a body, two of which are 0",
-    },
-    "crates/station_encoder/src/reports.rt": {
-        "[u8::from(turn.aired), u8::from(turn.ended), 0, 0]": "the flags of a turn, with two bytes that are 0",
-    },
 }
 
 # The crate in which successors and the packing of labels are worked out. No list can allow an array here.

@@ -156,7 +156,7 @@ pub fn read_line(line: &[u8], n: usize) -> Command
 {
     let command = if n == 0 {
         size_line(line)
-    } else if line.starts_with(b"P") {
+    } else if line.first() == Some(&b'P') {
         post_line(line)
     } else {
         round_line(line, n)

@@ -51,7 +51,10 @@ pub fn put_body(bytes: &mut [u8], at: usize, body: Body)
     requires { at + body_width ≤ length bytes.old }
     ensures { bytes.new ≡ sets bytes.old at (encode_body body) }
 {
-    put_four(bytes, at, [body.kind() as u8, body.channel(), 0, 0]);
+    let mut head = [0; 4];
+    head[0] = body.kind() as u8;
+    head[1] = body.channel();
+    put_four(bytes, at, head);
     put_word(bytes, at + 4, body.event());
     put_word(bytes, at + 8, body.argument().cast_unsigned());
 }

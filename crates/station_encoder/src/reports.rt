@@ -34,11 +34,10 @@ pub fn put_turn(bytes: &mut [u8], at: usize, turn: &TurnReport)
     requires { at + turn_width ≤ length bytes.old }
     ensures { bytes.new ≡ sets bytes.old at (encode_turn turn.now) }
 {
-    put_four(
-        bytes,
-        at,
-        [u8::from(turn.aired), u8::from(turn.ended), 0, 0],
-    );
+    let mut head = [0; 4];
+    head[0] = u8::from(turn.aired);
+    head[1] = u8::from(turn.ended);
+    put_four(bytes, at, head);
     put_body(bytes, at + 4, turn.ended_body);
     put_body(bytes, at + 16, turn.started_body);
     for k in 0..16 {
