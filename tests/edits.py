@@ -11,7 +11,7 @@ import re
 from typing import NamedTuple
 
 ROOT = pathlib.Path(__file__).resolve().parent.parent
-FUNCTION = re.compile(r'^((?:    )?)(?:pub )?(?:extern "C" )?fn (\w+)', re.MULTILINE)  # a method stands further in
+FUNCTION = re.compile(r'^((?:    )?)(pub )?(?:extern "C" )?fn (\w+)', re.MULTILINE)  # a method stands further in
 IMPL = re.compile(r"^(?:impl|(?:pub )?trait)\b(?:<[^{]*?>(?= ))?(?: *(?:\w+::)*(\w+)[^{\n]* for\b)? *(?:\w+::)*(\w+)", re.MULTILINE)
 CYCLE = re.compile(r'^#\[cycle\((\w+)\)\]\n(?:#\[.*\]\n)*(?:pub )?(?:extern "C" )?fn (\w+)', re.MULTILINE)
 CONSTANT = re.compile(r" *(?:pub )?const (\w+):")
@@ -88,20 +88,31 @@ def edits():
     return [read(path) for path in sorted(ROOT.glob("crates/*/must-fail/*.edit"))]
 
 
-def bodies_in(file, crate):
-    """Where the body of each function in a file of code begins and ends, by the function's module and name; by its type and name where it is a method, or by its
-    type, its trait and its name, as the prover writes them."""
-    text = (crate / file).read_text(encoding="utf-8")
+def heads_in(file, text):
+    """The head of each function in a file of code, with the function's module and name; with its type and name where it is a method, or with its type, its trait
+    and its name, as the prover writes them."""
     module = "" if pathlib.Path(file).stem in ("lib", "main") else pathlib.Path(file).stem
-    found = {}
     types = [(head.start(), head[2][0].upper() + head[2][1:] + (head[1] or "")) for head in IMPL.finditer(text)]
     for head in FUNCTION.finditer(text):
-        inner, name = head.groups()
-        owner = next((type for place, type in reversed(types) if place < head.start()), module) if inner else module
+        inner, _, name = head.groups()
+        yield (next((type for place, type in reversed(types) if place < head.start()), module) if inner else module, name), head
+
+
+def bodies_in(file, crate):
+    """Where the body of each function in a file of code begins and ends, by the function's place and name."""
+    text = (crate / file).read_text(encoding="utf-8")
+    found = {}
+    for function, head in heads_in(file, text):
+        inner = head[1]
         ends = text.find(f"\n{inner}}}\n", head.start())
         begins = text.find(f"\n{inner}{{\n", head.start(), ends)  # behind the contract; without one the brace stands in the head
-        found[owner, name] = (max(begins, head.start()), ends)
+        found[function] = (max(begins, head.start()), ends)
     return text, found
+
+
+def public_in(file, crate):
+    """The public functions in a file of code, methods among them, each by its place and name."""
+    return [function for function, head in heads_in(file, (crate / file).read_text(encoding="utf-8")) if head[2]]
 
 
 def cycles_of(crate):

@@ -4,24 +4,25 @@ import collections
 import importlib.machinery
 import importlib.util
 import pathlib
-import re
 import tempfile
 import unittest
 
-from edits import ROOT, cycles_of, definitions_of, edits, functions_of, read
+from edits import ROOT, cycles_of, definitions_of, edits, functions_of, public_in, read
 from laws import Crate
 
 LOADER = importlib.machinery.SourceFileLoader("check_edits", str(ROOT / "tests" / "check-edits"))
 CHECK = importlib.util.module_from_spec(importlib.util.spec_from_loader("check_edits", LOADER))
 LOADER.exec_module(CHECK)
 
-PUBLIC = re.compile(r'^pub (?:extern "C" )?fn (\w+)', re.MULTILINE)
 NOT_JUDGED = {"relay_bench", "relay_listing"}  # the first promises nothing but safety, the second is a program
 
 # The public functions with fewer than two faults, and why.
 FEWER = {
     ("bulletins", "showing", "none_shown"): "sixteen times what the one function of its type gives",
 }
+
+# The names that stand twice in a crate, in two files: the like fault of a station's call and of a group's.
+TWICE = {("relay", name) for name in ("fresh_limited_edition_1", "fresh_edition_is_limit", "fresh_limited_edition_is_limit")}
 
 FACT = "./proofs/f/Answers.antt:14:13: error: `returns`: expected type `x`, but this has type `y`"
 NAME = "./proofs/f/Answers.antt:9:12: error: `cast`: `goal.cast`: module `Rattle.c.proofs.f.Goals` has no `cast` that can be named from here"
@@ -164,6 +165,8 @@ class TestEdits(unittest.TestCase):
                         texts[file] = texts[file].replace(old, new)
 
     def test_each_has_a_name_of_its_own(self):
+        names = collections.Counter((edit.crate.name, fault.name) for edit in edits() for fault in edit.faults)
+        self.assertEqual({name for name, times in names.items() if times > 1}, TWICE)
         names = collections.Counter((edit.name, fault.name) for edit in edits() for fault in edit.faults)
         self.assertEqual([name for name, times in names.items() if times > 1], [])
 
@@ -184,9 +187,9 @@ class TestEdits(unittest.TestCase):
                     faults[edit.crate.name, *places.pop()] += 1
         fewer = set()
         for file in sorted(ROOT.glob("crates/*/src/*.rt")):
-            crate, module = file.parent.parent.name, "" if file.stem == "lib" else file.stem
-            if crate not in NOT_JUDGED:
-                functions = [(crate, module, name) for name in PUBLIC.findall(file.read_text(encoding="utf-8"))]
+            crate = file.parent.parent
+            if crate.name not in NOT_JUDGED:
+                functions = [(crate.name, *function) for function in public_in(file.relative_to(crate).as_posix(), crate)]
                 fewer.update(function for function in functions if faults[function] < 2)
         self.assertEqual(sorted(fewer), sorted(FEWER))
 

@@ -46,7 +46,7 @@ class Layout(unittest.TestCase):
 
     def test_comments(self):
         files = [*ROOT.glob("crates/*/src/**/*.rt"), *ROOT.glob("crates/*/specs/**/*.antt"), *ROOT.glob("crates/*/proofs/**/*.antt")]
-        self.assertGreater(len(files), 700)
+        self.assertGreater(len(files), 800)
         self.check_width(files, lambda text: [(number, line) for number, line in enumerate(text.splitlines(), 1) if COMMENT.match(line)], PROSE_WIDTH)
 
     def test_prose(self):
