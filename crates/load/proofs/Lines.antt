@@ -1,7 +1,6 @@
 -- A letter, numbers and a line end, put one behind the other, are a line; posts and a line of masks
 -- are a round.
-use Rattle.std.proofs.Common.{◌≡◌, ℕ, ◌+◌, ◌-◌, ◌<◌, ◌≤◌, false, List, [], ◌∷◌, ◌++◌, length, take, get_or, set, refl, ap, ◌∙◌, append-nil, add-one, arith}
-use Rattle.std.proofs.lemmas.List.{take_more, take_more_set}
+use Rattle.std.proofs.Common.{◌≡◌, ℕ, ◌+◌, ◌-◌, ◌<◌, ◌≤◌, false, List, [], ◌∷◌, ◌++◌, length, set, sym, refl, ap, ◌∙◌, append_assoc, append-nil, add-one, arith}
 use Rattle.columns.specs.Writing.{nat_columns}
 use Rattle.columns.proofs.Fields.{length-columns}
 use Rattle.listing_lines.specs.Lines.{placed, Put}
@@ -31,25 +30,14 @@ module _
       put_more l₀ l₂ l₃ at e f (letter ∷ fields numbers) (10 ∷ []) inside
       (put_more l₀ l₁ l₂ at a e (letter ∷ []) (fields numbers) inside first middle) last
 
--- no number, and one number more
-pub numbers_none : (l : List ℕ) (at : ℕ) (numbers : List ℕ) → Put l l at at (fields (take 0 numbers))
+pub one_field : (v : ℕ) → nat_columns 9 v ≡ fields (v ∷ [])
 unfolding fields
-numbers_none l at numbers = put_none l at
+one_field v = sym (append-nil (nat_columns 9 v))
 
-fields_more : (numbers : List ℕ) (k : ℕ) → k < length numbers → fields (take (k + 1) numbers) ≡ fields (take k numbers) ++ nat_columns 9 (get_or numbers k 0)
+pub four_fields :
+    (a b c d : ℕ) → ((nat_columns 9 a ++ nat_columns 9 b) ++ nat_columns 9 c) ++ nat_columns 9 d ≡ fields (a ∷ b ∷ c ∷ d ∷ [])
 unfolding fields
-fields_more numbers k h =
-    ap fields (take_more numbers k 0 h)
-    ∙ fields-append (take k numbers) (get_or numbers k 0 ∷ [])
-    ∙ ap (λ (l : List ℕ). fields (take k numbers) ++ l) (append-nil _)
-
-pub numbers_more :
-    (numbers l₀ l₁ l₂ : List ℕ) (k at mid end : ℕ) → k < length numbers → at ≤ length l₀ →
-    Put l₀ l₁ at mid (fields (take k numbers)) → Put l₁ l₂ mid end (nat_columns 9 (get_or numbers k 0)) →
-    Put l₀ l₂ at end (fields (take (k + 1) numbers))
-numbers_more numbers l₀ l₁ l₂ k at mid end k_in h first next =
-    rw (fields_more numbers k k_in)
-    (put_more l₀ l₁ l₂ at mid end (fields (take k numbers)) (nat_columns 9 (get_or numbers k 0)) h first next)
+four_fields a b c d = simp (append_assoc, append-nil)
 
 -- the posts of no station, and of one station more
 pub posts_put_none : (s : ℕ) (l : List ℕ) → Put l l 0 0 (text_of (post_lines s 0))
@@ -63,19 +51,35 @@ posts_put_more s p d l₀ l₁ l₂ mid end e first next =
     rw posts_more
     (put_more l₀ l₁ l₂ 0 mid end (text_of (post_lines s p)) (post_if p (post_draw s p)) (omega arith) first (rw e at next))
 
+-- the masks of no station, and of one station more
+pub masks_put_none : (s : ℕ) (l : List ℕ) (at : ℕ) → Put l l at at (fields (tabulate 0 (mask_draw s)))
+unfolding fields tabulate
+masks_put_none s l at = put_none l at
+
+fields_tabulate : (p : ℕ) (f : ℕ → ℕ) → fields (tabulate (p + 1) f) ≡ fields (tabulate p f) ++ nat_columns 9 (f p)
+unfolding fields tabulate
+fields_tabulate p f =
+    rw add-one
+    (fields-append (tabulate p f) (f p ∷ [])
+    ∙ ap (λ (l : List ℕ). fields (tabulate p f) ++ l) (append-nil _))
+
+pub masks_put_more :
+    (s p d : ℕ) (l₀ l₁ l₂ : List ℕ) (at mid end : ℕ) → at ≤ length l₀ → d ≡ mask_draw s p →
+    Put l₀ l₁ at mid (fields (tabulate p (mask_draw s))) → Put l₁ l₂ mid end (nat_columns 9 d) →
+    Put l₀ l₂ at end (fields (tabulate (p + 1) (mask_draw s)))
+masks_put_more s p d l₀ l₁ l₂ at mid end h e first next =
+    rw fields_tabulate
+    (put_more l₀ l₁ l₂ at mid end (fields (tabulate p (mask_draw s))) (nat_columns 9 (mask_draw s p)) h first (rw e at next))
+
 -- posts, and behind them a line of masks, are a round
 pub round_made :
-    (s n : ℕ) (l₀ l₁ l₂ numbers : List ℕ) (at end : ℕ) → numbers ≡ tabulate n (mask_draw s) →
-    Put l₀ l₁ 0 at (text_of (post_lines s n)) → Put l₁ l₂ at end (text_of (line_of 82 numbers ∷ [])) →
-    l₂ ≡ placed l₀ 0 (text_of (round_lines s n))
+    (s n : ℕ) (l₀ l₁ l₂ l₃ l₄ : List ℕ) (at end : ℕ) → at ≤ length l₁ →
+    Put l₀ l₁ 0 at (text_of (post_lines s n)) → Put l₁ l₂ at (at + 1) (82 ∷ []) →
+    Put l₂ l₃ (at + 1) end (fields (tabulate n (mask_draw s))) → Put l₃ l₄ end (end + 1) (10 ∷ []) →
+    l₄ ≡ placed l₀ 0 (text_of (round_lines s n))
 unfolding round_lines mask_line
-round_made s n l₀ l₁ l₂ numbers at end e posts line =
+round_made s n l₀ l₁ l₂ l₃ l₄ at end h posts letter masks last =
+    let numbers = tabulate n (mask_draw s) in
+    let line = line_made l₁ l₂ l₃ l₄ at (at + 1) end (end + 1) 82 h letter numbers masks last in
     rw text_append
-    (put_more l₀ l₁ l₂ 0 at end (text_of (post_lines s n)) (text_of (line_of 82 (tabulate n (mask_draw s)) ∷ [])) (omega arith) posts (rw e at line)).holds
-
--- the mask of one station more
-pub masks_more :
-    (s p d : ℕ) (masks : List ℕ) → p < length masks → d ≡ mask_draw s p → take p masks ≡ tabulate p (mask_draw s) →
-    take (p + 1) (set masks p d) ≡ tabulate (p + 1) (mask_draw s)
-unfolding tabulate
-masks_more s p d masks h e f = take_more_set masks p d h ∙ rw (f, e, add-one)
+    (put_more l₀ l₁ l₄ 0 at (end + 1) (text_of (post_lines s n)) (text_of (line_of 82 numbers ∷ [])) (omega arith) posts line).holds

@@ -7,7 +7,7 @@ ghost use Rattle.std.specs.Prelude.{◌≡◌, ◌+◌, ◌*◌, ◌%◌, ◌^�
 ghost use Rattle.columns.specs.Writing.{nat_columns};
 ghost use Rattle.listing_lines.specs.Lines.{placed, Put};
 ghost use Rattle.load_spec.specs.Draws.{next_state, posts, after_round};
-ghost use Rattle.load_spec.specs.Script.{text_of, line_of, size_line, post_line, post_lines, round_lines};
+ghost use Rattle.load_spec.specs.Script.{text_of, size_line, post_line, post_lines, round_lines};
 ghost use Rattle.load_spec.specs.Script.{field_width, size_length, post_length};
 ghost use Rattle.load_spec.specs.Calls.{numbers_fit, generated, buffer_after, Writes};
 ghost use Rattle.load.specs.Inner.{answer_of};
@@ -75,9 +75,11 @@ struct Generator {
 }
 
 impl Generator {
-    ghost use Rattle.std.specs.Prelude.{◌≡◌, ◌≤◌, take};
+    ghost use Rattle.std.specs.Prelude.{◌≡◌, ◌+◌, ◌*◌, ◌≤◌, length};
     ghost use Rattle.lists.specs.Below.{tabulate};
+    ghost use Rattle.listing_lines.specs.Lines.{Put};
     ghost use Rattle.load_spec.specs.Draws.{next_state, draw_of, mask_draw, after_round};
+    ghost use Rattle.load_spec.specs.Script.{fields, field_width};
 
     // What is drawn with the next state.
     fn draw(&mut self) -> u32
@@ -99,17 +101,20 @@ impl Generator {
         Drawn { post, mask }
     }
 
-    // The masks of a round of n stations, and 0 behind them.
-    fn masks(&mut self, n: usize) -> [u64; MOST_STATIONS]
-        requires { n ≤ 16 }
-        ensures masks { take n result ≡ tabulate n (mask_draw self.old.state) }
+    // The masks of a round of n stations put into their columns, each as it is drawn. Returns the
+    // place behind them.
+    fn put_masks(&mut self, out: &mut [u8], at: usize, n: usize) -> usize
+        requires few { n ≤ 16 }
+        requires room { at + field_width * n ≤ length out.old }
+        ensures masks { Put out.old out.new at result (fields (tabulate n (mask_draw self.old.state))) }
+        ensures behind { result ≡ at + field_width * n }
         ensures after { self.new.state ≡ after_round n self.old.state }
     {
-        let mut masks = [0; MOST_STATIONS];
+        let mut end = at;
         for p in 0..n {
-            masks[p] = self.station().mask as u64;
+            end = put_field(out, end, self.station().mask as u64);
         }
-        masks
+        end
     }
 }
 
@@ -151,32 +156,20 @@ fn put_field(out: &mut [u8], at: usize, value: u64) -> usize
     at + FIELD
 }
 
-// A line put into the buffer: a letter, numbers and the line end. Returns the place behind it.
-fn put_line(out: &mut [u8], at: usize, letter: u8, numbers: &[u64]) -> usize
-    requires { at + (field_width * length numbers.now + 2) ≤ length out.old }
-    ensures { Put out.old out.new at result (text_of (line_of letter numbers.now ∷ [])) }
-{
-    out[at] = letter;
-    let mut end = at + 1;
-    for value in numbers {
-        end = put_field(out, end, *value);
-    }
-    out[end] = LINE_END;
-    end + 1
-}
-
-// The line of a post put into the buffer. Returns the place behind it.
-#[tactic(auto, unfolding(load_spec::specs::Script::post_line))]
+// The line of a post put into the buffer. Returns the place behind it. Its numbers are put one by
+// one: a loop over them as a slice took a tenth longer for a whole round, since what is known of
+// their size is lost there.
 fn put_post_line(out: &mut [u8], at: usize, station: usize, draw: u32) -> usize
     requires { at + post_length ≤ length out.old }
     ensures { Put out.old out.new at result (text_of (post_line station draw ∷ [])) }
 {
-    put_line(
-        out,
-        at,
-        POST,
-        &[station as u64, INSERT, draw as u64 + 1, draw as u64],
-    )
+    out[at] = POST;
+    let kind = put_field(out, at + 1, station as u64);
+    let event = put_field(out, kind, INSERT);
+    let start = put_field(out, event, draw as u64 + 1);
+    let end = put_field(out, start, draw as u64);
+    out[end] = LINE_END;
+    end + 1
 }
 
 // The same where the draw posts.
@@ -214,19 +207,21 @@ fn put_round(out: &mut [u8], state: u32, n: usize) -> u32
     ensures lines { out.new ≡ placed out.old 0 (text_of (round_lines state n)) }
 {
     let at = put_posts(out, state, n);
+    out[at] = ROUND;
     let mut generator = Generator { state };
-    let masks = generator.masks(n);
-    put_line(out, at, ROUND, &masks[..n]);
+    let last = generator.put_masks(out, at + 1, n);
+    out[last] = LINE_END;
     generator.state
 }
 
 // The `N` line put at the front of the buffer.
-#[tactic(auto, unfolding(load_spec::specs::Script::size_line))]
 fn put_size(out: &mut [u8], n: usize)
     requires { size_length ≤ length out.old }
     ensures { out.new ≡ placed out.old 0 (text_of (size_line n ∷ [])) }
 {
-    put_line(out, 0, SIZE, &[n as u64]);
+    out[0] = SIZE;
+    let end = put_field(out, 1, n as u64);
+    out[end] = LINE_END;
 }
 
 /// Is n a group's size, and is the number of rounds due one that a listing can number?

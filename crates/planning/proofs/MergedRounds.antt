@@ -5,7 +5,7 @@ use mathlib.Core.List.{List}
 use mathlib.Core.Path.{◌≡◌, refl, sym, ap, ◌∙◌}
 use Prim.Native.Nat.{ℕ, zero, suc, ◌+◌, ◌*◌, ◌/◌, ◌%◌, ◌<◌, ◌≤◌}
 use native.Mathlib.Decide.{dec_le}
-use native.Mathlib.Nat.{div-add-mod', mod-add-mod, mod-eq_of_lt, mul-le-mul_right, add-zero, zero-add}
+use native.Mathlib.Nat.{div-add-mod', mod-add-mod, add-mod_right, mod-eq_of_lt, mul-le-mul_right, add-zero, zero-add}
 use native.Mathlib.Numerals.{add-one}
 use native.Mathlib.Omega.{arith}
 use lib.ListN.{length, set, length-set}
@@ -44,6 +44,10 @@ round_fits n r at len z e h =
       | yes l ↦ omega (arith, round_inside (at / n) r n l)
       | no g ↦ (let l : r ≤ at / n = omega arith in absurd (omega (arith, mul-le-mul_right n l)))
     ]
+
+-- where a round begins, the next one begins n places later
+pub next_round : (n at : ℕ) → at % n ≡ 0 → (at + n) % n ≡ 0
+next_round n at z = add-mod_right at n ∙ z
 
 pub station_of : (n at p : ℕ) → at % n ≡ 0 → p < n → (at + p) % n ≡ p
 station_of n at p z h =

@@ -67,6 +67,15 @@ module _ (n : ℕ) (first second others : List ℕ) (at : ℕ) (taken : logs_ref
       let none : get_or second (at + p) 0 ≡ 0 = get_or-eq_default second 0 (omega arith) in
       ap (λ (v : ℕ). bit_and v (get_or others p 0)) (or_self x ∙ sym (or_zero_r x) ∙ ap (λ (y : ℕ). bit_or x y) (sym none)) ∙ written p h)
 
+-- A round that begins inside the merged log ends inside it.
+pub count_fits : (n : ℕ) (first second : List ℕ) (at : ℕ) → logs_refusal n (length first) (length second) ≡ 0 → at % n ≡ 0
+    → at < max (length first) (length second) → at + n ≤ max (length first) (length second)
+count_fits n first second at taken z =
+    let t = both_accepted n (length first) (length second) taken in
+    round_fits n (max (length first / n) (length second / n)) at (max (length first) (length second)) z
+    (sym (merged_length n first second)
+    ∙ merged_whole n (length first / n) (length second / n) first second t.one.whole t.two.whole)
+
 -- The merged log is whole rounds.
 pub count_whole : (n : ℕ) (first second : List ℕ) → logs_refusal n (length first) (length second) ≡ 0
     → max (length first) (length second) / n * n ≡ max (length first) (length second)

@@ -2,8 +2,9 @@
 -- later (`settled_reply`), and what the sets and ends say that a station has received is the
 -- number that it has got to (`received_got`). So the replies after each round are those of the
 -- answers within it.
-use mathlib.Core.Bool.{Bool, true, false, cond, ◌||◌}
+use mathlib.Core.Bool.{Bool, true, false, cond, true≢false, ◌||◌}
 use Rattle.std.specs.Prelude.{Some, None}
+use Rattle.std.specs.Option.{is_some}
 use mathlib.Core.List.{List}
 use mathlib.Core.Option.{Option, none, some}
 use mathlib.Core.Path.{◌≡◌, refl, sym, ap, ap₂, ◌∙◌}
@@ -34,10 +35,33 @@ settled_reply none k received u = go (leb k received)
     go false = refl
 settled_reply (some v) k received u = refl
 
+-- What is replied stays.
+settled_some : (a : Arrival) (k received u : ℕ) → is_some a ≡ true → a ≡ settled a k received u
+unfolding settled
+settled_some None k received u h = absurd (true≢false (sym h))
+settled_some (Some v) k received u h = refl
+
 -- All replies of a round.
 module _ (page sets ends : List ℕ) (u : ℕ) (before : List Arrival) where
   pub settled_start : Settled 0 page sets ends u before before
   settled_start = record { size = refl; first = λ i h. absurd (omega arith); rest = λ i h. refl }
+
+  pub settled_kept : (mid : List Arrival) (i : ℕ) → is_some (get_or mid i never) ≡ true
+      → Settled i page sets ends u before mid → Settled (i + 1) page sets ends u before mid
+  settled_kept mid i replied g =
+      record {
+        size = g.size;
+        first =
+            λ j h.
+            elim (ℕ_discrete j i) [
+              | yes q ↦
+                  rw q
+                  (let same = g.rest i (omega arith) in
+                  same ∙ settled_some (get_or before i never) _ _ u (ap is_some (sym same) ∙ replied))
+              | no d ↦ g.first j (omega arith)
+            ];
+        rest = λ j h. g.rest j (omega arith);
+      }
 
   pub settled_more : (mid : List Arrival) (i : ℕ) (v : Arrival) (received : ℕ) → i < length before
       → received ≡ received_in sets ends (get_or page (3 * i + 1) 0) (get_or page (3 * i) 0)

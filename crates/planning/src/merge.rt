@@ -92,8 +92,8 @@ fn write_masks(first: &[u16], second: &[u16], n: usize, count: usize, merged: &m
         ≡ set_below count (merged_mask n first.now second.now) merged.old }
 {
     let others = all_others(n);
-    for round in 0..count / n {
-        write_round(first, second, &others, round * n, n, merged);
+    for at in (0..count).step_by(n) {
+        write_round(first, second, &others, at, n, merged);
     }
 }
 

@@ -66,6 +66,10 @@ fn settle_all(
     ensures { Settled count page.now sets.now ends.now round replies.old replies.new }
 {
     for i in 0..count {
+        // What is replied stays, whatever the sets say.
+        if replies[i].is_some() {
+            continue;
+        }
         let s = page[PARTS * i] as usize;
         let r = page[PARTS * i + 1] as usize;
         let number = page[PARTS * i + 2];
