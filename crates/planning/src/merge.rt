@@ -1,6 +1,6 @@
 //! Two link logs merged: a hearing is there in a round if either log has it (document 02, A10).
 
-ghost use Rattle.std.specs.Prelude.{◌≡◌, max, ◌+◌, ◌-◌, ◌*◌, ◌/◌, ◌%◌, ◌^◌, ◌<◌, ◌≤◌, length, replicate, slice_index};
+ghost use Rattle.std.specs.Prelude.{◌≡◌, ℕ, List, max, ◌+◌, ◌-◌, ◌*◌, ◌/◌, ◌%◌, ◌^◌, ◌<◌, ◌≤◌, length, replicate, slice_index};
 ghost use Rattle.std.specs.Int.Bits.{bit_and, bit_or, bit_xor};
 ghost use Rattle.bodies.specs.Refusals.{number_of};
 ghost use Rattle.lists.specs.Below.{set_below};
@@ -56,34 +56,38 @@ fn unite_round(
     }
 }
 
-// Writes the round at place `at` of the merged log. A log that has ended is silent, so that the
-// other one is taken twice.
-fn write_round(
+// Writes the rounds from one place to another, whose masks stand in both logs. Where the masks before
+// them are those of f, and theirs are, all are.
+fn unite_rounds(
     first: &[u16],
     second: &[u16],
     others: &[u16; 16],
-    at: usize,
+    from: usize,
+    to: usize,
     n: usize,
     merged: &mut [u16],
 )
-    requires accepted { logs_refusal n (length first.now) (length second.now) ≡ 0 }
-    requires begins { at % n ≡ 0 }
-    requires inside { at < max (length first.now) (length second.now) }
-    requires room { max (length first.now) (length second.now) ≤ length merged.old }
-    requires table { others.now ≡ set_below n (λ p. bit_xor (2 ^ n - 1) (2 ^ p)) (replicate 16 0) }
-    ensures { merged.new ≡ fill_from at n (λ p.
-        merged_mask n first.now second.now (at + p)) merged.old }
+    requires some { 0 < n }
+    requires few { n ≤ 16 }
+    requires begins { from % n ≡ 0 }
+    requires ends { to % n ≡ 0 }
+    requires order { from ≤ to }
+    requires in_first { to ≤ length first.now }
+    requires in_second { to ≤ length second.now }
+    requires in_merged { to ≤ length merged.old }
+    ensures { (f : ℕ → ℕ) → (l : List ℕ) → ((i : ℕ) → from ≤ i → i < to →
+        bit_and (bit_or (slice_index first.now i) (slice_index second.now i))
+        (slice_index others.now (i % n)) ≡ f i) →
+        merged.old ≡ set_below from f l → merged.new ≡ set_below to f l }
 {
-    if first.len() <= at {
-        unite_round(second, second, others, at, n, merged);
-    } else if second.len() <= at {
-        unite_round(first, first, others, at, n, merged);
-    } else {
+    for at in (from..to).step_by(n) {
         unite_round(first, second, others, at, n, merged);
     }
 }
 
-// Writes the masks of the merged log to the front of a buffer, round by round.
+// Writes the masks of the merged log to the front of a buffer: the rounds that both logs have, and
+// then the others of the longer one. A log that has ended is silent, so that the other one is taken
+// twice. No round looks at which log it is in, which was slower.
 fn write_masks(first: &[u16], second: &[u16], n: usize, count: usize, merged: &mut [u16])
     requires accepted { logs_refusal n (length first.now) (length second.now) ≡ 0 }
     requires longer { count ≡ max (length first.now) (length second.now) }
@@ -92,8 +96,12 @@ fn write_masks(first: &[u16], second: &[u16], n: usize, count: usize, merged: &m
         ≡ set_below count (merged_mask n first.now second.now) merged.old }
 {
     let others = all_others(n);
-    for at in (0..count).step_by(n) {
-        write_round(first, second, &others, at, n, merged);
+    if first.len() < second.len() {
+        unite_rounds(first, second, &others, 0, first.len(), n, merged);
+        unite_rounds(second, second, &others, first.len(), count, n, merged);
+    } else {
+        unite_rounds(first, second, &others, 0, second.len(), n, merged);
+        unite_rounds(first, first, &others, second.len(), count, n, merged);
     }
 }
 
