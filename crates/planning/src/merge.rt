@@ -1,6 +1,6 @@
 //! Two link logs merged: a hearing is there in a round if either log has it (document 02, A10).
 
-ghost use Rattle.std.specs.Prelude.{◌≡◌, ℕ, List, max, ◌+◌, ◌-◌, ◌*◌, ◌/◌, ◌%◌, ◌^◌, ◌<◌, ◌≤◌, length, replicate, slice_index};
+ghost use Rattle.std.specs.Prelude.{◌≡◌, ℕ, List, max, ◌+◌, ◌-◌, ◌%◌, ◌^◌, ◌<◌, ◌≤◌, length, replicate, slice_index};
 ghost use Rattle.std.specs.Int.Bits.{bit_and, bit_or, bit_xor};
 ghost use Rattle.bodies.specs.Refusals.{number_of};
 ghost use Rattle.lists.specs.Below.{set_below};
@@ -56,8 +56,8 @@ fn unite_round(
     }
 }
 
-// Writes the rounds from one place to another, whose masks stand in both logs. Where the masks before
-// them are those of f, and theirs are, all are.
+// Writes the rounds from one place to another, whose masks stand in both logs. Where what is
+// written before them is f of its places, and what they unite is, all of it is.
 fn unite_rounds(
     first: &[u16],
     second: &[u16],
