@@ -41,14 +41,23 @@ unfolding settled
 settled_some None k received u h = absurd (true≢false (sym h))
 settled_some (Some v) k received u h = refl
 
+-- Where nothing is replied yet, and nothing is now.
+pub not_settled : (a b : Arrival) → is_some a ≡ false → is_some b ≡ false → a ≡ b
+not_settled None None h l = refl
+not_settled None (Some w) h l = absurd (true≢false l)
+not_settled (Some v) b h l = absurd (true≢false h)
+
 -- All replies of a round.
 module _ (page sets ends : List ℕ) (u : ℕ) (before : List Arrival) where
   pub settled_start : Settled 0 page sets ends u before before
   settled_start = record { size = refl; first = λ i h. absurd (omega arith); rest = λ i h. refl }
 
-  pub settled_kept : (mid : List Arrival) (i : ℕ) → is_some (get_or mid i never) ≡ true
+  -- a reply that is as it would be settled
+  pub settled_same : (mid : List Arrival) (i received : ℕ) → received ≡ received_in sets ends (get_or page (3 * i + 1) 0) (get_or page (3 * i) 0)
+      → get_or mid i never ≡ settled (get_or mid i never) (get_or page (3 * i + 2) 0) received u
       → Settled i page sets ends u before mid → Settled (i + 1) page sets ends u before mid
-  settled_kept mid i replied g =
+  unfolding question_at
+  settled_same mid i received f e g =
       record {
         size = g.size;
         first =
@@ -56,12 +65,15 @@ module _ (page sets ends : List ℕ) (u : ℕ) (before : List Arrival) where
             elim (ℕ_discrete j i) [
               | yes q ↦
                   rw q
-                  (let same = g.rest i (omega arith) in
-                  same ∙ settled_some (get_or before i never) _ _ u (ap is_some (sym same) ∙ replied))
+                  (e ∙ ap₂ (λ (x : Arrival) (y : ℕ). settled x (question_at page i).number y u) (g.rest i (omega arith)) f)
               | no d ↦ g.first j (omega arith)
             ];
         rest = λ j h. g.rest j (omega arith);
       }
+
+  pub settled_kept : (mid : List Arrival) (i : ℕ) → is_some (get_or mid i never) ≡ true
+      → Settled i page sets ends u before mid → Settled (i + 1) page sets ends u before mid
+  settled_kept mid i replied = settled_same mid i _ refl (settled_some (get_or mid i never) _ _ u replied)
 
   pub settled_more : (mid : List Arrival) (i : ℕ) (v : Arrival) (received : ℕ) → i < length before
       → received ≡ received_in sets ends (get_or page (3 * i + 1) 0) (get_or page (3 * i) 0)

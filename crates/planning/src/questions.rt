@@ -66,14 +66,18 @@ fn settle_all(
     ensures { Settled count page.now sets.now ends.now round replies.old replies.new }
 {
     for i in 0..count {
-        // What is replied stays, whatever the sets say.
+        // What is replied stays, so nothing is looked up for it.
         if replies[i].is_some() {
             continue;
         }
         let s = page[PARTS * i] as usize;
         let r = page[PARTS * i + 1] as usize;
         let number = page[PARTS * i + 2];
-        replies[i] = settle(replies[i], number, received(sets, ends, r, s), round);
+        let reply = settle(replies[i], number, received(sets, ends, r, s), round);
+        if reply.is_none() {
+            continue;
+        }
+        replies[i] = reply;
     }
 }
 

@@ -1,8 +1,9 @@
 -- The loop keeps `Settled`: the replies before its counter are settled in the round, and the others
 -- are as they were.
 use native.Mathlib.Omega.{arith}
-use mathlib.Core.Path.{sym, ◌∙◌}
-use Rattle.planning.proofs.QuestionPage.{settled_start, settled_kept, settled_more, named}
+use mathlib.Core.Bool.{not}
+use mathlib.Core.Path.{sym, ap, ◌∙◌}
+use Rattle.planning.proofs.QuestionPage.{not_settled, settled_start, settled_same, settled_kept, settled_more, named}
 use Rattle.planning.proofs.questions.settle_all.Goals as goal
 
 pub loop-i-init : goal.loop-i-init
@@ -27,9 +28,14 @@ received-requires c =
 
 pub loop-i-preserved : goal.loop-i-preserved
 loop-i-preserved c =
-    settled_more _ _ _ _ _ _ c.loop-i.i _ _ (omega (arith, c.requires.asked.few, c.requires.size)) c.received.ensures c.settle.ensures
+    settled_more _ _ _ _ _ _ c.loop-i.i _ _ (omega (arith, c.requires.asked.few, c.requires.size)) c.received.ensures c.settle-reply.ensures
     c.loop-i.invariant
 
 pub loop-i-preserved-then-is_some : goal.loop-i-preserved-then-is_some
 loop-i-preserved-then-is_some c =
     settled_kept _ _ _ _ _ _ c.loop-i.i (sym c.is_some.ensures ∙ c.if-is_some.true) c.loop-i.invariant
+
+pub loop-i-preserved-then-is_none : goal.loop-i-preserved-then-is_none
+loop-i-preserved-then-is_none c =
+    let none = not_settled _ _ (sym c.is_some.ensures ∙ c.if-is_some.false) (c.is_none.ensures ∙ ap not c.if-is_none.true) in
+    settled_same _ _ _ _ _ _ c.loop-i.i _ c.received.ensures (none ∙ c.settle-reply.ensures) c.loop-i.invariant
