@@ -2,7 +2,7 @@
 
 #![tactic(auto)]
 
-ghost use Rattle.std.specs.Prelude.{ℕ, ◌≤◌, [], length, take, OnOk, IfOk};
+ghost use Rattle.std.specs.Prelude.{ℕ, ◌≤◌, [], length, take, OnOk, OnErr, IfOk};
 ghost use Rattle.std.specs.Io.KnownBytes.{Appends, Consumes};
 ghost use Rattle.listing_lines.specs.Reports.{round_room};
 ghost use Rattle.listing_spec.specs.Listing.{closing_room};
@@ -71,11 +71,13 @@ fn pass<W: Write>(to: &mut W, r: Reader, part: &[u8], out: &mut [u8]) -> Result<
     Ok(reader)
 }
 
-// Reads the next bytes of the script into the part: none at its end.
+// Reads the next bytes of the script into the part: none at its end, and none where the reading
+// failed.
 fn read_part<I: Read>(input: &mut I, part: &mut [u8]) -> Result<usize, Failure>
     ensures bound { IfOk result (λ (len : ℕ). len ≤ length part.new) }
     ensures bytes { IfOk result (λ (len : ℕ). Consumes
         (I.remaining input.old) (I.remaining input.new) (take len part.new)) }
+    ensures none { OnErr result (Consumes (I.remaining input.old) (I.remaining input.new) []) }
 {
     match input.read(part) {
         Ok(len) => Ok(len),
